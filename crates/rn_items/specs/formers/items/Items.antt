@@ -1,0 +1,52 @@
+-- `Items` in a type that contains itself through it: how the list holds its elements.
+use mathlib.Core.Path.{◌≡◌, refl, sym}
+use mathlib.Core.List.{List, []}
+use mathlib.Core.Former.{Former, this, list, via, children}
+use base.Stored.{code_map}
+use denote.RattleType.{RattleType}
+use denote.HoleLaws.{Alike}
+use denote.HolePlaces.{Recodes, struct_places, laid}
+use denote.Hole.Carrier.{listed, list-listed}
+use denote.Hole.Fix.{over}
+use denote.Param.Weighed.{Weighed, w_list}
+use denote.Model.Placed.{view_places}
+use Rattle.std.specs.formers.vec.Vec as vec
+use Rattle.std.specs.declared.alloc.Global.{Global}
+use Rattle.std.specs.contracts.alloc.Global as heap
+use Rattle.std.specs.contracts.impls.GlobalAllocator.TheImpl.{ghosts}
+use Rattle.rn_items.specs.declared.items.Items.TheInside.{Inside}
+use Rattle.rn_items.specs.declared.items.Items.TheView.{view, invariant}
+use Rattle.rn_items.specs.contracts.items.Items as outside
+use Rattle.rn_items.specs.contracts.items.Items.TheInside as inside
+
+-- as a value it is a list
+abbrev pub the_former : Former {0} → Former {0}
+the_former element = list element
+
+abbrev pub the_weighed : {element : Former {0}} → Weighed element → Weighed (the_former element)
+the_weighed weighed = w_list weighed
+
+abbrev pub the_empty : List ⊥
+the_empty = []
+
+-- its elements are that list
+abbrev pub the_items : (T : Type 0) → List T → List T
+the_items T elements = elements
+
+pub the_items_listed : (T : Type 0) (elements : List T) → listed _ (children (the_former this) T elements) ≡ the_items T elements
+the_items_listed T elements = list-listed T elements
+
+-- its one field is a vector
+abbrev field : Former {0}
+field = via (vec.the_former this Global) Inside (λ T a. a.elements) (λ T v. record { elements = v }) (λ T a. refl) (λ T v. refl)
+
+module _ (R S : RattleType) (h : R.Denot → S.Denot) where
+  -- it lies, owns and lends as that vector does
+  pub the_places : Alike R S h → Alike (outside.the_row R) (outside.the_row S) ((the_former this).map R.Denot S.Denot h)
+  the_places alike = view_places field (list this) view (λ X Y k u. refl) (λ X u. refl) R.Denot S.Denot h (outside.the_row R).coded (outside.the_row S).coded
+      (invariant R.Denot) (invariant S.Denot) (λ u p q. refl) (λ u p q. refl) (λ u e. tt) (λ u e. tt)
+      (over (inside.the_row R)) (over (inside.the_row S))
+      (struct_places (inside.the_type R) (inside.the_type S) (vec.mapped h, tt) _ (λ d. refl) refl (laid _ _ _ (vec.the_places heap.the_row ghosts R S h alike), tt))
+
+  pub the_codes_placed : Recodes R S h → Recodes (outside.the_row R) (outside.the_row S) ((the_former this).map R.Denot S.Denot h)
+  the_codes_placed recodes elements = sym (code_map R.coded.code S.coded.code h (λ x. sym (recodes x)) elements)
