@@ -1,3 +1,5 @@
+ghost use Rattle.rn_value.specs.Order.{value_cmp};
+ghost use Rattle.rn_value.specs.Sorting.{SortsOneWay, SortsByCounts};
 ghost use Rattle.rn_value.specs.TextLaws.{GrammarIsWritten, TextsTellValues, OneSpelling};
 
 /// What a reader of texts of values may rely on.
@@ -10,4 +12,11 @@ pub fn text_laws()
     ensures exact { GrammarIsWritten }
     ensures tells { TextsTellValues }
     ensures one_spelling { OneSpelling }
+{}
+
+/// An ascending list of values is determined by the multiset of its values: by what it is a
+/// permutation of, and by how often it holds each value.
+pub fn sorting_laws()
+    ensures one_way { SortsOneWay value_cmp }
+    ensures by_counts { SortsByCounts value_cmp }
 {}
