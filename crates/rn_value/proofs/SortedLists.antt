@@ -35,11 +35,12 @@ module _ {A : Type 0} (cmp : A → A → Ordering) (total : IsTotalOrder cmp) (a
   counted : (P : A → Type 0) (z : A) (xs : List A) → AllByRecursion P xs → 0 < count_of cmp z xs → P z
   counted P z [] all low = absurd (omega arith)
   counted P z (x ∷ xs) all low = elim (is_eq (cmp z x)) as (λ t. is_eq (cmp z x) ≡ t → P z) [
-      true ↦ λ e. subst P (sym (apart z x ((Equal-is (cmp z x)).0 e))) all.0
+    | true ↦ λ e. subst P (sym (apart z x ((Equal-is (cmp z x)).0 e))) all.0
     | false ↦ λ e. counted P z xs all.1
         (let none : one_if (is_eq (cmp z x)) ≡ 0 = ap one_if e in
         let more : count_of cmp z (x ∷ xs) ≡ one_if (is_eq (cmp z x)) + count_of cmp z xs = count_of-cons z x xs in
-        omega arith) ] refl
+        omega arith)
+  ] refl
 
   counts_itself : (x : A) (xs : List A) → 0 < count_of cmp x (x ∷ xs)
   counts_itself x xs =
@@ -77,11 +78,11 @@ module _ {A : Type 0} (cmp : A → A → Ordering) (total : IsTotalOrder cmp) (a
       let below = counted (λ z. is_lt (cmp z x) ≡ false) y (x ∷ xs) (first_least x xs up) (subst (λ n. 0 < n) (sym (same y)) (counts_itself y ys)) in
       let first : x ≡ y = neither_less x y above below in
       let rest : xs ≡ ys = by_counts xs ys (rest_sorted x xs up) (rest_sorted y ys down) (λ z.
-          let alike : one_if (is_eq (cmp z x)) ≡ one_if (is_eq (cmp z y)) = ap (λ x. one_if (is_eq (cmp z x))) first in
-          let here : count_of cmp z (x ∷ xs) ≡ one_if (is_eq (cmp z x)) + count_of cmp z xs = count_of-cons z x xs in
-          let there : count_of cmp z (y ∷ ys) ≡ one_if (is_eq (cmp z y)) + count_of cmp z ys = count_of-cons z y ys in
-          let both : count_of cmp z (x ∷ xs) ≡ count_of cmp z (y ∷ ys) = same z in
-          omega arith) in
+      let alike : one_if (is_eq (cmp z x)) ≡ one_if (is_eq (cmp z y)) = ap (λ x. one_if (is_eq (cmp z x))) first in
+      let here : count_of cmp z (x ∷ xs) ≡ one_if (is_eq (cmp z x)) + count_of cmp z xs = count_of-cons z x xs in
+      let there : count_of cmp z (y ∷ ys) ≡ one_if (is_eq (cmp z y)) + count_of cmp z ys = count_of-cons z y ys in
+      let both : count_of cmp z (x ∷ xs) ≡ count_of cmp z (y ∷ ys) = same z in
+      omega arith) in
       cc
 
   pub one_way : SortsOneWay cmp
