@@ -1,0 +1,51 @@
+-- Pieces that a source gives and a sink takes one after another.
+use Rattle.std.proofs.Common.{◌≡◌, ℕ, ◌+◌, ◌<◌, ◌≤◌, List, [], ◌++◌, length, take, drop, Option, Some, None, sym, refl, ap, ◌∙◌, subst, append_assoc, append-nil, length-append, arith}
+use Rattle.std.proofs.Math.Seq.{take-add, take-append-add}
+use Rattle.std.proofs.lemmas.List.{take-append-le}
+use Rattle.std.specs.Option.{option_map}
+use Rattle.rn_outside.specs.Bytes.{Gives, GivesFront, Appends, AppendsPrefix}
+
+-- two pieces that a source gave are one
+pub Gives-append : (a : Option (List ℕ)) (xs : List ℕ) (b : Option (List ℕ)) (ys : List ℕ) (c : Option (List ℕ)) → Gives a xs b → Gives b ys c → Gives a (xs ++ ys) c
+Gives-append a xs b ys None first second = first ∙ ap (option_map (λ rest. xs ++ rest)) second
+Gives-append a xs b ys (Some rest) first second =
+    first ∙ ap (option_map (λ r. xs ++ r)) second ∙ ap Some (sym (append_assoc xs ys rest))
+
+-- where a source's bytes are told, what it gave is their front
+pub Gives-told : (all front : List ℕ) (after : Option (List ℕ)) → Gives (Some all) front after → (rest : List ℕ) × (all ≡ front ++ rest) × (after ≡ Some rest)
+Gives-told all front None gives = absurd cc
+Gives-told all front (Some rest) gives = (rest, cc, refl)
+
+-- a piece, and then some front of the rest, are some front
+pub GivesFront-append : (a : Option (List ℕ)) (xs : List ℕ) (b c : Option (List ℕ)) → Gives a xs b → GivesFront b c → GivesFront a c
+GivesFront-append a xs b c first second = (xs ++ second.0, Gives-append a xs b second.0 c first second.1)
+
+-- two pieces are some front
+pub GivesFront-from_two : (a : Option (List ℕ)) (xs : List ℕ) (b : Option (List ℕ)) (ys : List ℕ) (c : Option (List ℕ)) → Gives a xs b → Gives b ys c → GivesFront a c
+GivesFront-from_two a xs b ys c first second = (xs ++ ys, Gives-append a xs b ys c first second)
+
+-- two pieces that a sink took are one
+pub Appends-append : (a : Option (List ℕ)) (xs : List ℕ) (b : Option (List ℕ)) (ys : List ℕ) (c : Option (List ℕ)) → Appends a xs b → Appends b ys c → Appends a (xs ++ ys) c
+Appends-append None xs b ys c first second = second ∙ ap (option_map (λ held. held ++ ys)) first
+Appends-append (Some held) xs b ys c first second =
+    second ∙ ap (option_map (λ h. h ++ ys)) first ∙ ap Some (append_assoc held xs ys)
+
+-- a front of the bytes, and then a front of the others, are one front
+pub Appends-take : (a b c : Option (List ℕ)) (bytes : List ℕ) (m n : ℕ) → Appends a (take m bytes) b → Appends b (take n (drop m bytes)) c → Appends a (take (m + n) bytes) c
+Appends-take a b c bytes m n first second =
+    subst (λ piece. Appends a piece c) (sym (take-add m n bytes)) (Appends-append a (take m bytes) b (take n (drop m bytes)) c first second)
+
+-- a piece, and then a prefix of the next one, are a prefix of both
+pub AppendsPrefix-append : (a : Option (List ℕ)) (xs : List ℕ) (b : Option (List ℕ)) (ys : List ℕ) (c : Option (List ℕ)) → Appends a xs b → AppendsPrefix b ys c → AppendsPrefix a (xs ++ ys) c
+AppendsPrefix-append a xs b ys c first second =
+    let n = second.0 in
+    (length xs + n, omega (arith, length-append xs ys, second.1),
+     subst (λ piece. Appends a piece c) (sym (take-append-add xs ys n)) (Appends-append a xs b (take n ys) c first second.2))
+
+-- a prefix of a piece is one of the piece with more after it
+pub AppendsPrefix-longer : (a : Option (List ℕ)) (xs ys : List ℕ) (b : Option (List ℕ)) → AppendsPrefix a xs b → AppendsPrefix a (xs ++ ys) b
+AppendsPrefix-longer a xs ys b prefix =
+    let n = prefix.0 in
+    let within : n ≤ length xs = omega (arith, prefix.1) in
+    (n, omega (arith, length-append xs ys, prefix.1),
+     subst (λ piece. Appends a piece b) (sym (take-append-le n xs ys within)) prefix.2)

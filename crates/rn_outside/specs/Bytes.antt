@@ -1,0 +1,29 @@
+-- What a source gives and what a sink takes. The bytes left in a source, and those held by a sink, are told or not:
+-- `Some bytes`, or `None` where they aren't.
+use Rattle.std.specs.Prelude.{◌≡◌, ℕ, ◌<◌, List, [], ◌++◌, length, take, Option}
+use Rattle.std.specs.Option.{option_map}
+
+-- A source gave `front`: what was left is `front`, and then what is left now. What isn't told stays untold.
+abbrev pub Gives : Option (List ℕ) → List ℕ → Option (List ℕ) → Type 0
+Gives before front after = before ≡ option_map (λ rest. front ++ rest) after
+
+-- A source gave some front of what was left.
+abbrev pub GivesFront : Option (List ℕ) → Option (List ℕ) → Type 0
+GivesFront before after = (front : List ℕ) × Gives before front after
+
+-- No byte is left, where that is told.
+abbrev pub IsAtEnd : Option (List ℕ) → Type 0
+IsAtEnd left = left ≡ option_map (λ _. []) left
+
+-- A source gave `bytes`, and these were all.
+pub record GivesAll (before : Option (List ℕ)) (bytes : List ℕ) (after : Option (List ℕ)) : Type 0 where
+  pub all : before ≡ option_map (λ _. bytes) before
+  pub none_left : after ≡ option_map (λ _. []) before
+
+-- A sink took `piece`: it holds what it held, and then `piece`. What isn't told stays untold.
+abbrev pub Appends : Option (List ℕ) → List ℕ → Option (List ℕ) → Type 0
+Appends before piece after = after ≡ option_map (λ held. held ++ piece) before
+
+-- A sink took the first of these bytes, and not all of them.
+abbrev pub AppendsPrefix : Option (List ℕ) → List ℕ → Option (List ℕ) → Type 0
+AppendsPrefix before bytes after = (n : ℕ) × (n < length bytes) × Appends before (take n bytes) after

@@ -1,0 +1,23 @@
+//! Where bytes come from and where they go: sources and sinks, in memory and over the system's, each with a count of
+//! its faults; reading a source to its end, and writing all of a piece.
+#![tactic(auto)]
+
+mod mem_sink;
+mod mem_source;
+mod reading;
+mod sink;
+mod source;
+mod std_sink;
+mod std_source;
+#[cfg(test)]
+mod tests;
+mod writing;
+
+pub use mem_sink::MemSink;
+pub use mem_source::MemSource;
+pub use reading::{ReadAllFault, read_all};
+pub use sink::{Sink, SinkFailed};
+pub use source::{Source, SourceFailed};
+pub use std_sink::StdSink;
+pub use std_source::StdSource;
+pub use writing::{WriteFault, write_all};

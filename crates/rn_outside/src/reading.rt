@@ -1,0 +1,90 @@
+ghost use Rattle.std.specs.Prelude.{◌≡◌, ◌+◌, ◌<◌, ◌≤◌, length, vec_len, IfOk, IfSome, IsErr, OnErr, IsErrOf, OnOk};
+ghost use Rattle.rn_outside.specs.Bytes.{Gives, GivesFront, GivesAll};
+ghost use Rattle.rn_outside.specs.Faults.{Rose};
+
+use crate::source::Source;
+use std::alloc::{AllocError, Global};
+
+/// Why not all bytes of a source were read.
+#[derive(Clone, Copy, Debug, PartialEq, Eq)]
+pub enum ReadAllFault {
+    /// A read failed.
+    ReadFault,
+    /// There were more bytes than allowed.
+    TooLong,
+    NoMemory,
+}
+
+impl From<AllocError> for ReadAllFault {
+    ghost use Rattle.std.specs.Prelude.{◌≡◌};
+    ghost use Rattle.rn_outside.specs.declared.reading.ReadAllFault.TheVariants.{NoMemory};
+
+    ghost from_gives = { λ _ e. e ≡ NoMemory };
+
+    fn from(_error: AllocError) -> ReadAllFault {
+        ReadAllFault::NoMemory
+    }
+}
+
+// How many bytes are asked for at once, at most.
+const PIECE: usize = 8192;
+
+/// Reads a source to its end, where at most `limit` bytes are left in it. It stops at the first read that fails and
+/// at the first byte past the limit.
+pub fn read_all<S: Source>(
+    alloc: Global,
+    source: &mut S,
+    limit: usize,
+) -> Result<Vec<u8>, ReadAllFault>
+    ensures all { IfOk result (λ bytes. GivesAll (S.left source.old) bytes.items (S.left source.new)) }
+    ensures within { IfOk result (λ bytes. length bytes.items ≤ limit) }
+
+    // `TooLong` comes exactly where more than `limit` bytes are left, unless a read failed or memory ran out before.
+    ensures too_long { IsErrOf result ReadAllFault.TooLong → IfSome (S.left source.old) (λ all. limit < length all) }
+    ensures longer { IfSome (S.left source.old) (λ all. limit < length all → IsErr result) }
+
+    ensures cause { IsErrOf result ReadAllFault.ReadFault → Rose (S.faults source.old) (S.faults source.new) }
+    ensures front { OnErr result (GivesFront (S.left source.old) (S.left source.new)) }
+
+    ensures never_falls { S.faults source.old ≤ S.faults source.new }
+    ensures reads { S.reads source.new ≤ S.reads source.old + (limit + 2) }
+{
+    let mut buf = [0u8; PIECE];
+    read_in_pieces(alloc, source, limit, &mut buf)
+}
+
+// Reads all bytes of a source through a buffer.
+fn read_in_pieces<S: Source>(
+    alloc: Global,
+    source: &mut S,
+    limit: usize,
+    buf: &mut [u8],
+) -> Result<Vec<u8>, ReadAllFault>
+    requires { 0 < length buf.old }
+    ensures all { IfOk result (λ bytes. GivesAll (S.left source.old) bytes.items (S.left source.new)) }
+    ensures within { IfOk result (λ bytes. length bytes.items ≤ limit) }
+    ensures too_long { IsErrOf result ReadAllFault.TooLong → IfSome (S.left source.old) (λ all. limit < length all) }
+    ensures longer { IfSome (S.left source.old) (λ all. limit < length all → IsErr result) }
+    ensures cause { IsErrOf result ReadAllFault.ReadFault → Rose (S.faults source.old) (S.faults source.new) }
+    ensures front { OnErr result (GivesFront (S.left source.old) (S.left source.new)) }
+    ensures never_falls { S.faults source.old ≤ S.faults source.new }
+    ensures reads { S.reads source.new ≤ S.reads source.old + (limit + 2) }
+{
+    let mut bytes = Vec::new(alloc);
+    'pieces: loop {
+        // One more than there is room for, so that a byte too many is seen.
+        let room = limit - bytes.len();
+        let asked = room.min(buf.len() - 1) + 1;
+        let piece = &mut buf[..asked];
+        let Ok(n) = source.read(piece) else {
+            return Err(ReadAllFault::ReadFault);
+        };
+        if n == 0 {
+            return Ok(bytes);
+        }
+        if n > room {
+            return Err(ReadAllFault::TooLong);
+        }
+        bytes.extend_from_slice(&piece[..n])?;
+    }
+}

@@ -1,0 +1,27 @@
+ghost use Rattle.std.specs.Prelude.{◌≤◌, OnOk, OnErr};
+ghost use Rattle.rn_outside.specs.Bytes.{Appends, AppendsPrefix};
+ghost use Rattle.rn_outside.specs.Faults.{Rose};
+
+use crate::sink::Sink;
+
+/// Not all bytes were written, since a write failed.
+#[derive(Clone, Copy, Debug, PartialEq, Eq)]
+pub struct WriteFault;
+
+/// Writes all the bytes. After a short write the rest is offered again; after a failed one nothing is. For no bytes
+/// no write is made.
+pub fn write_all<O: Sink>(sink: &mut O, bytes: &[u8]) -> Result<(), WriteFault>
+    ensures all { OnOk result (Appends (O.held sink.old) bytes.now (O.held sink.new)) }
+    ensures front { OnErr result (AppendsPrefix (O.held sink.old) bytes.now (O.held sink.new)) }
+    ensures cause { OnErr result (Rose (O.faults sink.old) (O.faults sink.new)) }
+    ensures never_falls { O.faults sink.old ≤ O.faults sink.new }
+{
+    let mut taken = 0;
+    while taken < bytes.len() {
+        match sink.write(&bytes[taken..]) {
+            Ok(n) => taken += n,
+            Err(_) => return Err(WriteFault),
+        }
+    }
+    Ok(())
+}
