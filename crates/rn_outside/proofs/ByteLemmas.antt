@@ -38,14 +38,18 @@ Appends-take a b c bytes m n first second =
 -- a piece, and then a prefix of the next one, are a prefix of both
 pub AppendsPrefix-append : (a : Option (List ℕ)) (xs : List ℕ) (b : Option (List ℕ)) (ys : List ℕ) (c : Option (List ℕ)) → Appends a xs b → AppendsPrefix b ys c → AppendsPrefix a (xs ++ ys) c
 AppendsPrefix-append a xs b ys c first second =
-    let n = second.0 in
-    (length xs + n, omega (arith, length-append xs ys, second.1),
-     subst (λ piece. Appends a piece c) (sym (take-append-add xs ys n)) (Appends-append a xs b (take n ys) c first second.2))
+    let n = second.0 in (
+      length xs + n,
+      omega (arith, length-append xs ys, second.1),
+      subst (λ piece. Appends a piece c) (sym (take-append-add xs ys n)) (Appends-append a xs b (take n ys) c first second.2),
+    )
 
 -- a prefix of a piece is one of the piece with more after it
 pub AppendsPrefix-longer : (a : Option (List ℕ)) (xs ys : List ℕ) (b : Option (List ℕ)) → AppendsPrefix a xs b → AppendsPrefix a (xs ++ ys) b
 AppendsPrefix-longer a xs ys b prefix =
     let n = prefix.0 in
-    let within : n ≤ length xs = omega (arith, prefix.1) in
-    (n, omega (arith, length-append xs ys, prefix.1),
-     subst (λ piece. Appends a piece b) (sym (take-append-le n xs ys within)) prefix.2)
+    let within : n ≤ length xs = omega (arith, prefix.1) in (
+      n,
+      omega (arith, length-append xs ys, prefix.1),
+      subst (λ piece. Appends a piece b) (sym (take-append-le n xs ys within)) prefix.2,
+    )

@@ -3,14 +3,14 @@ use Rattle.std.proofs.Common.{ℕ, ◌+◌, ◌≤◌, arith, inl, inr}
 use Rattle.rn_outside.specs.Faults.{Rose, risen}
 
 -- what rose before a call has risen after it
-pub Rose-before : (a b c : ℕ) → Rose a b → b ≤ c → Rose a c
-Rose-before a b c (inl rose) later = inl (omega arith)
-Rose-before a b c (inr last) later = inr (omega arith)
+pub Rose-later : (a b c : ℕ) → Rose a b → b ≤ c → Rose a c
+Rose-later a b c (inl rose) later = inl (omega arith)
+Rose-later a b c (inr last) later = inr (omega arith)
 
 -- what rose in a call has risen since any earlier one
-pub Rose-after : (a b c : ℕ) → a ≤ b → Rose b c → Rose a c
-Rose-after a b c earlier (inl rose) = inl (omega arith)
-Rose-after a b c earlier (inr last) = inr last
+pub Rose-earlier : (a b c : ℕ) → a ≤ b → Rose b c → Rose a c
+Rose-earlier a b c earlier (inl rose) = inl (omega arith)
+Rose-earlier a b c earlier (inr last) = inr last
 
 -- one more fault is a rise
 pub Rose-risen : (count : ℕ) → Rose count (risen count)

@@ -1,6 +1,6 @@
 -- What a source gives and what a sink takes. The bytes left in a source, and those held by a sink, are told or not:
 -- `Some bytes`, or `None` where they aren't.
-use Rattle.std.specs.Prelude.{◌≡◌, ℕ, ◌<◌, List, [], ◌++◌, length, take, Option}
+use Rattle.std.specs.Prelude.{◌≡◌, ℕ, ◌<◌, List, [], ◌++◌, length, take, Option, IfSome}
 use Rattle.std.specs.Option.{option_map}
 
 -- A source gave `front`: what was left is `front`, and then what is left now. What isn't told stays untold.
@@ -13,11 +13,11 @@ GivesFront before after = (front : List ℕ) × Gives before front after
 
 -- No byte is left, where that is told.
 abbrev pub IsAtEnd : Option (List ℕ) → Type 0
-IsAtEnd left = left ≡ option_map (λ _. []) left
+IsAtEnd left = IfSome left (λ bytes. bytes ≡ [])
 
 -- A source gave `bytes`, and these were all.
 pub record GivesAll (before : Option (List ℕ)) (bytes : List ℕ) (after : Option (List ℕ)) : Type 0 where
-  pub all : before ≡ option_map (λ _. bytes) before
+  pub all : IfSome before (λ all. bytes ≡ all)
   pub none_left : after ≡ option_map (λ _. []) before
 
 -- A sink took `piece`: it holds what it held, and then `piece`. What isn't told stays untold.

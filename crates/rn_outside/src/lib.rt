@@ -2,6 +2,7 @@
 //! its faults; reading a source to its end, and writing all of a piece.
 #![tactic(auto)]
 
+mod calls;
 mod mem_sink;
 mod mem_source;
 mod reading;

@@ -2,7 +2,7 @@ ghost use Rattle.std.specs.Prelude.{◌≡◌, ◌↔◌, ◌⊎◌, ◌+◌, �
 ghost use Rattle.rn_outside.specs.Bytes.{Appends};
 ghost use Rattle.rn_outside.specs.Faults.{Rose, risen};
 
-use crate::mem_source::is_listed;
+use crate::calls::is_listed;
 use crate::sink::{Sink, SinkFailed};
 use rn_value::NoMemory;
 use std::alloc::Global;
@@ -34,7 +34,12 @@ impl Model for MemSink {
 impl MemSink {
     /// An empty sink that can hold `capacity` bytes and takes at most `most` a call. Its calls numbered in `fails`,
     /// from 1, fail and take nothing.
-    pub fn new(alloc: Global, capacity: usize, most: usize, fails: Vec<u64>) -> Result<MemSink, NoMemory>
+    pub fn new(
+        alloc: Global,
+        capacity: usize,
+        most: usize,
+        fails: Vec<u64>,
+    ) -> Result<MemSink, NoMemory>
         requires { 1 ≤ most }
         ensures { IfOk result (λ sink. sink ≡ record { held = []; capacity = capacity; most = most; calls = 0; fails = fails.items; faults = 0 }) }
     {

@@ -1,7 +1,8 @@
-ghost use Rattle.std.specs.Prelude.{◌≡◌, ◌↔◌, ◌+◌, ◌<◌, ◌≤◌, ℕ, List, [], ◌++◌, length, take, drop, min, Some, IfOk, IsErr, IsTrue, OnOk, OnErr, Contains};
+ghost use Rattle.std.specs.Prelude.{◌≡◌, ◌↔◌, ◌+◌, ◌<◌, ◌≤◌, ℕ, List, [], ◌++◌, length, take, drop, min, Some, IfOk, IsErr, OnOk, OnErr, Contains};
 ghost use Rattle.rn_outside.specs.Bytes.{Gives, IsAtEnd};
 ghost use Rattle.rn_outside.specs.Faults.{Rose, risen};
 
+use crate::calls::is_listed;
 use crate::source::{Source, SourceFailed};
 use std::marker::Model;
 
@@ -80,14 +81,4 @@ fn copy_front(bytes: &[u8], buf: &mut [u8]) -> usize
     let n = bytes.len().min(buf.len());
     buf[..n].copy_from_slice(&bytes[..n]);
     n
-}
-
-// Whether the call after so many is one of those listed.
-pub(crate) fn is_listed(numbers: &[u64], calls: u64) -> bool
-    ensures { IsTrue result ↔ Contains numbers.now (calls + 1) }
-{
-    match calls.checked_add(1) {
-        Some(number) => numbers.contains(&number),
-        None => false,
-    }
 }

@@ -47,29 +47,9 @@ pub fn read_all<S: Source>(
     ensures front { OnErr result (GivesFront (S.left source.old) (S.left source.new)) }
 
     ensures never_falls { S.faults source.old ≤ S.faults source.new }
-    ensures reads { S.reads source.new ≤ S.reads source.old + (limit + 2) }
+    ensures reads { S.reads source.new ≤ S.reads source.old + (limit + 1) }
 {
     let mut buf = [0u8; PIECE];
-    read_in_pieces(alloc, source, limit, &mut buf)
-}
-
-// Reads all bytes of a source through a buffer.
-fn read_in_pieces<S: Source>(
-    alloc: Global,
-    source: &mut S,
-    limit: usize,
-    buf: &mut [u8],
-) -> Result<Vec<u8>, ReadAllFault>
-    requires { 0 < length buf.old }
-    ensures all { IfOk result (λ bytes. GivesAll (S.left source.old) bytes.items (S.left source.new)) }
-    ensures within { IfOk result (λ bytes. length bytes.items ≤ limit) }
-    ensures too_long { IsErrOf result ReadAllFault.TooLong → IfSome (S.left source.old) (λ all. limit < length all) }
-    ensures longer { IfSome (S.left source.old) (λ all. limit < length all → IsErr result) }
-    ensures cause { IsErrOf result ReadAllFault.ReadFault → Rose (S.faults source.old) (S.faults source.new) }
-    ensures front { OnErr result (GivesFront (S.left source.old) (S.left source.new)) }
-    ensures never_falls { S.faults source.old ≤ S.faults source.new }
-    ensures reads { S.reads source.new ≤ S.reads source.old + (limit + 2) }
-{
     let mut bytes = Vec::new(alloc);
     'pieces: loop {
         // One more than there is room for, so that a byte too many is seen.

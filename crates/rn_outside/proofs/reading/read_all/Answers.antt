@@ -1,6 +1,6 @@
 use Rattle.std.proofs.Common.{Result, Ok, Err, OnErr}
 use Rattle.rn_outside.proofs.ByteLemmas.{GivesFront-from_two}
-use Rattle.rn_outside.proofs.reading.read_in_pieces.Goals as goal
+use Rattle.rn_outside.proofs.reading.read_all.Goals as goal
 
 -- what holds after any answer holds after an error
 OnErr-from_fact : {T E P : Type 0} (r : Result T E) → P → OnErr r P
