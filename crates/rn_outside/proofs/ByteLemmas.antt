@@ -1,9 +1,14 @@
 -- Pieces that a source gives and a sink takes one after another.
-use Rattle.std.proofs.Common.{◌≡◌, ℕ, ◌+◌, ◌<◌, ◌≤◌, List, [], ◌++◌, length, take, drop, Option, Some, None, sym, refl, ap, ◌∙◌, subst, append_assoc, append-nil, length-append, arith}
+use Rattle.std.proofs.Common.{◌≡◌, ℕ, ◌+◌, ◌-◌, ◌≤◌, List, [], ◌++◌, length, take, drop, Option, Some, None, sym, refl, ap, ◌∙◌, subst, append_assoc, append-nil, length-append, arith}
 use Rattle.std.proofs.Math.Seq.{take-add, take-append-add}
-use Rattle.std.proofs.lemmas.List.{take-append-le}
+use Rattle.std.proofs.lemmas.List.{take-append-le, take_rest}
 use Rattle.std.specs.Option.{option_map}
 use Rattle.rn_outside.specs.Bytes.{Gives, GivesFront, Appends, AppendsPrefix}
+
+-- a source that gave nothing is as it was
+pub Gives-nothing : (left : Option (List ℕ)) → Gives left [] left
+Gives-nothing None = refl
+Gives-nothing (Some bytes) = refl
 
 -- two pieces that a source gave are one
 pub Gives-append : (a : Option (List ℕ)) (xs : List ℕ) (b : Option (List ℕ)) (ys : List ℕ) (c : Option (List ℕ)) → Gives a xs b → Gives b ys c → Gives a (xs ++ ys) c
@@ -23,6 +28,11 @@ GivesFront-append a xs b c first second = (xs ++ second.0, Gives-append a xs b s
 -- two pieces are some front
 pub GivesFront-from_two : (a : Option (List ℕ)) (xs : List ℕ) (b : Option (List ℕ)) (ys : List ℕ) (c : Option (List ℕ)) → Gives a xs b → Gives b ys c → GivesFront a c
 GivesFront-from_two a xs b ys c first second = (xs ++ ys, Gives-append a xs b ys c first second)
+
+-- a sink that took nothing is as it was
+pub Appends-nothing : (held : Option (List ℕ)) → Appends held [] held
+Appends-nothing None = refl
+Appends-nothing (Some bytes) = ap Some (sym (append-nil bytes))
 
 -- two pieces that a sink took are one
 pub Appends-append : (a : Option (List ℕ)) (xs : List ℕ) (b : Option (List ℕ)) (ys : List ℕ) (c : Option (List ℕ)) → Appends a xs b → Appends b ys c → Appends a (xs ++ ys) c
@@ -53,3 +63,10 @@ AppendsPrefix-longer a xs ys b prefix =
       omega (arith, length-append xs ys, prefix.1),
       subst (λ piece. Appends a piece b) (sym (take-append-le n xs ys within)) prefix.2,
     )
+
+-- what was offered after the first m bytes, and then taken, is a front of all
+pub Appends-offered : (a b c : Option (List ℕ)) (bytes : List ℕ) (m n : ℕ) → Appends a (take m bytes) b → Appends b (take n (take (length bytes - m) (drop m bytes))) c → Appends a (take (m + n) bytes) c
+Appends-offered a b c bytes m n first second =
+    Appends-take a b c bytes m n first (rw (sym (take_rest bytes m)) second)
+
+pub ruleset offered = (Appends-offered)

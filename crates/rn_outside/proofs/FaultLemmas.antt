@@ -1,13 +1,13 @@
--- A count that has risen has risen after every later call too.
-use Rattle.std.proofs.Common.{ℕ, ◌+◌, ◌≤◌, arith, inl, inr}
+-- What rose in one call rose in all of those around it.
+use Rattle.std.proofs.Common.{ℕ, ◌≤◌, arith, inl, inr}
 use Rattle.rn_outside.specs.Faults.{Rose, risen}
 
--- what rose before a call has risen after it
+-- later calls don't undo it
 pub Rose-later : (a b c : ℕ) → Rose a b → b ≤ c → Rose a c
 Rose-later a b c (inl rose) later = inl (omega arith)
 Rose-later a b c (inr last) later = inr (omega arith)
 
--- what rose in a call has risen since any earlier one
+-- nor do earlier ones
 pub Rose-earlier : (a b c : ℕ) → a ≤ b → Rose b c → Rose a c
 Rose-earlier a b c earlier (inl rose) = inl (omega arith)
 Rose-earlier a b c earlier (inr last) = inr last
@@ -15,3 +15,5 @@ Rose-earlier a b c earlier (inr last) = inr last
 -- one more fault is a rise
 pub Rose-risen : (count : ℕ) → Rose count (risen count)
 Rose-risen count = grind arith
+
+pub ruleset rises = (Rose-later, Rose-earlier, Rose-risen)

@@ -1,6 +1,7 @@
--- A source over a reader of the standard library, and a sink over a writer.
+-- A source over a reader of the standard library, and a sink over a writer. Some readers and
+-- writers tell their bytes, in the library's words.
 use Rattle.std.specs.Prelude.{ℕ, ◌≤◌, List, length, take, Option, Result, MatchResult}
-use Rattle.std.specs.Io.KnownBytes.{Appends as Grows}
+use Rattle.std.specs.Io.KnownBytes as known
 
 -- A source: the reader, and how often it has failed.
 pub record ReaderState (R : Type 0) : Type 0 where
@@ -12,7 +13,9 @@ pub record WriterState (W : Type 0) : Type 0 where
   pub writer : W
   pub faults : ℕ
 
--- A writer that tells its bytes took the n that were answered, or after an error some front of the piece.
-abbrev pub WritesThrough : {E : Type 0} → Option (List ℕ) → Option (List ℕ) → Result ℕ E → List ℕ → Type 0
-WritesThrough old new result piece =
-    MatchResult result (λ n. Grows old new (take n piece)) (λ _. (n : ℕ) × (n ≤ length piece) × Grows old new (take n piece))
+-- The writer took the first n bytes of the piece, where n was answered, and after an error some
+-- first bytes of it.
+abbrev pub TakesPiece : {E : Type 0} → Option (List ℕ) → Option (List ℕ) → Result ℕ E → List ℕ → Type 0
+TakesPiece before after result piece =
+    MatchResult result (λ n. known.Appends before after (take n piece))
+    (λ _. (n : ℕ) × (n ≤ length piece) × known.Appends before after (take n piece))

@@ -1,5 +1,5 @@
-//! Where bytes come from and where they go: sources and sinks, in memory and over the system's, each with a count of
-//! its faults; reading a source to its end, and writing all of a piece.
+//! Sources and sinks of bytes, in memory and over readers and writers of the standard library. Each
+//! counts its faults. A source is read to its end, and a sink takes all of a piece.
 #![tactic(auto)]
 
 mod calls;

@@ -8,8 +8,8 @@ use rn_value::NoMemory;
 use std::alloc::Global;
 use std::marker::Model;
 
-/// A sink in memory with a capacity, whose calls of given numbers fail, and those on a full sink too. Its memory is
-/// taken when it is made, and writes take none.
+/// A sink in memory with a capacity, whose calls of given numbers fail, as do those on a full sink.
+/// Its memory is taken when it is made. No other call takes any.
 #[derive(Debug, Drop)]
 pub struct MemSink {
     bytes: Vec<u8>,
@@ -26,14 +26,22 @@ impl Model for MemSink {
 
     ghost Value = { SinkState };
 
-    ghost view = { λ s. record { held = s.bytes.items; capacity = s.capacity; most = s.most; calls = s.calls; fails = s.fails.items; faults = s.faults } };
+    ghost view = { λ s. record {
+      held = s.bytes.items;
+      capacity = s.capacity;
+      most = s.most;
+      calls = s.calls;
+      fails = s.fails.items;
+      faults = s.faults;
+    } };
 
-    ghost invariant = { λ s. HasRoom (length s.bytes.items) s.capacity (vec_capacity s.bytes) s.most };
+    ghost invariant = { λ s.
+        HasRoom (length s.bytes.items) s.capacity (vec_capacity s.bytes) s.most };
 }
 
 impl MemSink {
-    /// An empty sink that can hold `capacity` bytes and takes at most `most` a call. Its calls numbered in `fails`,
-    /// from 1, fail and take nothing.
+    /// An empty sink that can hold `capacity` bytes and takes at most `most` of them a call. Its
+    /// calls numbered in `fails`, from 1, fail and take nothing.
     pub fn new(
         alloc: Global,
         capacity: usize,
@@ -41,7 +49,14 @@ impl MemSink {
         fails: Vec<u64>,
     ) -> Result<MemSink, NoMemory>
         requires { 1 ≤ most }
-        ensures { IfOk result (λ sink. sink ≡ record { held = []; capacity = capacity; most = most; calls = 0; fails = fails.items; faults = 0 }) }
+        ensures { IfOk result (λ sink. sink ≡ record {
+          held = [];
+          capacity = capacity;
+          most = most;
+          calls = 0;
+          fails = fails.items;
+          faults = 0;
+        }) }
     {
         Ok(MemSink {
             bytes: Vec::with_capacity(alloc, capacity)?,
@@ -68,11 +83,24 @@ impl Sink for MemSink {
     ghost faults = { λ s. s.faults };
 
     fn write(&mut self, piece: &[u8]) -> Result<usize, SinkFailed>
-        // A full sink fails at an empty piece too.
-        ensures fails { IsErr result ↔ (Contains self.old.fails (self.old.calls + 1) ⊎ (length self.old.held ≡ self.old.capacity)) }
-        ensures count { IfOk result (λ n. n ≡ min (min self.old.most (length piece.now)) (self.old.capacity - length self.old.held)) }
-        ensures ok { IfOk result (λ n. self.new ≡ record self.old { held = self.old.held ++ take n piece.now; calls = risen self.old.calls }) }
-        ensures err { OnErr result (self.new ≡ record self.old { calls = risen self.old.calls; faults = risen self.old.faults }) }
+        // A full sink fails, also at an empty piece. No call after number 2^64 - 1 fails by its
+        // number, since no `u64` is that.
+        ensures fails { IsErr result ↔ (Contains self.old.fails (self.old.calls + 1)
+            ⊎ (length self.old.held ≡ self.old.capacity)) }
+        ensures count { IfOk result (λ n. n ≡ min (min self.old.most (length piece.now))
+            (self.old.capacity - length self.old.held)) }
+        ensures ok { IfOk result (λ n. self.new ≡ record self.old {
+          held = self.old.held ++ take n piece.now;
+          calls = risen self.old.calls;
+        }) }
+
+        // A failure takes nothing, and is counted.
+        ensures err { OnErr result (self.new ≡ record self.old {
+          calls = risen self.old.calls;
+          faults = risen self.old.faults;
+        }) }
+
+        // What each sink ensures besides.
         ensures takes_some { IfOk result (λ n. 0 < length piece.now → 0 < n) }
         ensures never_falls { self.old.faults ≤ self.new.faults }
     {

@@ -6,9 +6,8 @@ use crate::calls::is_listed;
 use crate::source::{Source, SourceFailed};
 use std::marker::Model;
 
-/// A source over bytes in memory, whose calls of given numbers fail. It takes no memory.
-///
-/// Each other call gives as many bytes as are left and fit the buffer.
+/// A source over bytes in memory, whose calls of given numbers fail. Each other call gives as many
+/// bytes as are left and fit the buffer. No call takes memory.
 #[derive(Debug, Drop)]
 pub struct MemSource {
     bytes: Vec<u8>,
@@ -24,15 +23,26 @@ impl Model for MemSource {
 
     ghost Value = { SourceState };
 
-    ghost view = { λ s. record { left = drop s.start s.bytes.items; calls = s.calls; fails = s.fails.items; faults = s.faults } };
+    ghost view = { λ s. record {
+      left = drop s.start s.bytes.items;
+      calls = s.calls;
+      fails = s.fails.items;
+      faults = s.faults;
+    } };
 
     ghost invariant = { λ s. s.start ≤ length s.bytes.items };
 }
 
 impl MemSource {
-    /// A source that gives these bytes. Its calls numbered in `fails`, from 1, fail and take nothing.
+    /// A source of these bytes. Its calls numbered in `fails`, from 1, fail and take nothing: with
+    /// `fails` of 2 the second call does, and the third goes on where the first ended.
     pub fn new(bytes: Vec<u8>, fails: Vec<u64>) -> MemSource
-        ensures { result ≡ record { left = bytes.items; calls = 0; fails = fails.items; faults = 0 } }
+        ensures { result ≡ record {
+          left = bytes.items;
+          calls = 0;
+          fails = fails.items;
+          faults = 0;
+        } }
     {
         MemSource {
             bytes,
@@ -52,12 +62,20 @@ impl Source for MemSource {
     ghost reads = { λ s. s.calls };
 
     fn read(&mut self, buf: &mut [u8]) -> Result<usize, SourceFailed>
-        // A call past number 2^64 - 1 has a number that no list of `u64` contains.
+        // No call after number 2^64 - 1 fails, since no `u64` is its number.
         ensures fails { IsErr result ↔ Contains self.old.fails (self.old.calls + 1) }
         ensures count { IfOk result (λ n. n ≡ min (length self.old.left) (length buf.old)) }
         ensures filled { IfOk result (λ n. buf.new ≡ take n self.old.left ++ drop n buf.old) }
-        ensures ok { IfOk result (λ n. self.new ≡ record self.old { left = drop n self.old.left; calls = risen self.old.calls }) }
-        ensures err { OnErr result (self.new ≡ record self.old { calls = risen self.old.calls; faults = risen self.old.faults }) }
+        ensures ok { IfOk result (λ n. self.new ≡ record self.old {
+          left = drop n self.old.left;
+          calls = risen self.old.calls;
+        }) }
+
+        // A failure takes nothing, and is counted.
+        ensures err { OnErr result (self.new ≡ record self.old {
+          calls = risen self.old.calls;
+          faults = risen self.old.faults;
+        }) }
         ensures unfilled { OnErr result (buf.new ≡ buf.old) }
         ensures never_falls { self.old.faults ≤ self.new.faults }
     {

@@ -5,12 +5,12 @@ ghost use Rattle.rn_outside.specs.Faults.{Rose};
 use crate::source::Source;
 use std::alloc::{AllocError, Global};
 
-/// Why not all bytes of a source were read.
+/// Why a source wasn't read to its end.
 #[derive(Clone, Copy, Debug, PartialEq, Eq)]
 pub enum ReadAllFault {
     /// A read failed.
     ReadFault,
-    /// There were more bytes than allowed.
+    /// More bytes were left than the limit.
     TooLong,
     NoMemory,
 }
@@ -29,24 +29,32 @@ impl From<AllocError> for ReadAllFault {
 // How many bytes are asked for at once, at most.
 const PIECE: usize = 8192;
 
-/// Reads a source to its end, where at most `limit` bytes are left in it. It stops at the first read that fails and
-/// at the first byte past the limit.
+/// Reads a source to its end, where at most `limit` bytes are left in it. It stops at the first
+/// read that fails, and as soon as there is a byte more than `limit`.
 pub fn read_all<S: Source>(
     alloc: Global,
     source: &mut S,
     limit: usize,
 ) -> Result<Vec<u8>, ReadAllFault>
-    ensures all { IfOk result (λ bytes. GivesAll (S.left source.old) bytes.items (S.left source.new)) }
+    ensures all { IfOk result (λ bytes.
+        GivesAll (S.left source.old) bytes.items (S.left source.new)) }
     ensures within { IfOk result (λ bytes. length bytes.items ≤ limit) }
 
-    // `TooLong` comes exactly where more than `limit` bytes are left, unless a read failed or memory ran out before.
-    ensures too_long { IsErrOf result ReadAllFault.TooLong → IfSome (S.left source.old) (λ all. limit < length all) }
-    ensures longer { IfSome (S.left source.old) (λ all. limit < length all → IsErr result) }
+    // Where more than `limit` bytes are left it fails, by `TooLong` unless something else failed
+    // first, and nowhere else by `TooLong`.
+    ensures longer { IfSome (S.left source.old) (λ left. limit < length left → IsErr result) }
+    ensures too_long { IsErrOf result ReadAllFault.TooLong →
+        IfSome (S.left source.old) (λ left. limit < length left) }
 
-    ensures cause { IsErrOf result ReadAllFault.ReadFault → Rose (S.faults source.old) (S.faults source.new) }
+    ensures cause { IsErrOf result ReadAllFault.ReadFault →
+        Rose (S.faults source.old) (S.faults source.new) }
+
+    // After each error the source has given some front of its bytes.
     ensures front { OnErr result (GivesFront (S.left source.old) (S.left source.new)) }
 
     ensures never_falls { S.faults source.old ≤ S.faults source.new }
+
+    // Each read but the last gives a byte at least.
     ensures reads { S.reads source.new ≤ S.reads source.old + (limit + 1) }
 {
     let mut buf = [0u8; PIECE];

@@ -2,14 +2,14 @@ ghost use Rattle.std.specs.Prelude.{◌≡◌, ◌+◌, ◌<◌, ◌≤◌, ℕ,
 ghost use Rattle.rn_outside.specs.Bytes.{Gives, IsAtEnd};
 ghost use Rattle.rn_outside.specs.Faults.{Rose};
 
-/// The answer of a read that failed. It has taken nothing.
+/// A read failed. It has taken nothing.
 #[derive(Clone, Copy, Debug, PartialEq, Eq)]
 pub struct SourceFailed;
 
 /// Where bytes come from.
 ///
-/// A source may tell its bytes, so that contracts can speak of them, as one in memory does. One over the system's
-/// files tells none, and promises the sizes of its answers and its count of faults alone.
+/// A source tells its bytes or doesn't. One in memory tells them, and contracts say what is read.
+/// One over the system's files tells none: for it they speak of counts alone.
 pub trait Source {
     /// The bytes left, where they are told.
     ghost left: { Self → Option (List ℕ) };
@@ -20,8 +20,9 @@ pub trait Source {
     /// How often it was read, where it counts that.
     ghost reads: { Self → ℕ };
 
-    /// Puts the next bytes into the front of `buf`, and answers how many. `Ok(0)` into a buffer that isn't empty is
-    /// the end. What stands behind the front, and in the whole buffer after an error, is left open.
+    /// Puts the next bytes into the front of `buf`, and answers how many. `Ok(0)` into a buffer
+    /// that isn't empty is the end. What stands behind them in `buf`, and after an error in all
+    /// of it, is left open.
     fn read(&mut self, buf: &mut [u8]) -> Result<usize, SourceFailed>
         ensures within { IfOk result (λ n. n ≤ length buf.new) }
         ensures gives { IfOk result (λ n. Gives (left self.old) (take n buf.new) (left self.new)) }

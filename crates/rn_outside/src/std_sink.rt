@@ -1,5 +1,5 @@
 ghost use Rattle.std.specs.Prelude.{◌≡◌, ◌<◌, ◌≤◌, ℕ, length, take, None, IfOk, OnOk, OnErr};
-ghost use Rattle.rn_outside.specs.OverStd.{WritesThrough};
+ghost use Rattle.rn_outside.specs.OverStd.{TakesPiece};
 ghost use Rattle.rn_outside.specs.Bytes.{Appends};
 ghost use Rattle.rn_outside.specs.Faults.{Rose, risen};
 
@@ -7,12 +7,13 @@ use crate::sink::{Sink, SinkFailed};
 use std::io::Write;
 use std::marker::Model;
 
-/// A sink over a writer of the standard library, as standard output. Contracts see it as its count of faults.
+/// A sink over a writer of the standard library, as standard output.
 ///
-/// It tells no bytes: which bytes reach the system is outside every proof. Each error of the writer is a fault, and so
-/// is a write that takes nothing of a piece that isn't empty. Each write is flushed before it counts as taken, so that
-/// no buffer of the writer's can lose it unseen. Where the flush fails the write has failed, though the writer may hold
-/// some of its bytes.
+/// It tells no bytes, since no proof knows what reaches the system. Each error of the writer is a
+/// fault, and so is a write that takes nothing of a piece that isn't empty.
+///
+/// A write is flushed before it is answered, so that none is lost in a buffer of the writer. Where
+/// the flush fails the write has failed, though the writer has taken bytes of the piece.
 #[derive(Drop)]
 pub struct StdSink<W: Write> {
     writer: W,
@@ -44,7 +45,10 @@ impl<W: Write> Sink for StdSink<W> {
     fn write(&mut self, piece: &[u8]) -> Result<usize, SinkFailed>
         ensures ok { OnOk result (self.new.faults ≡ self.old.faults) }
         ensures err { OnErr result (self.new.faults ≡ risen self.old.faults) }
-        ensures bytes { WritesThrough (W.contents self.old.writer) (W.contents self.new.writer) result piece.now }
+        ensures bytes { TakesPiece (W.contents self.old.writer) (W.contents self.new.writer)
+            result piece.now }
+
+        // What each sink ensures besides.
         ensures within { IfOk result (λ n. n ≤ length piece.now) }
         ensures takes_some { IfOk result (λ n. 0 < length piece.now → 0 < n) }
         ensures never_falls { self.old.faults ≤ self.new.faults }
@@ -59,11 +63,11 @@ impl<W: Write> Sink for StdSink<W> {
     }
 }
 
-// One write, and a flush of what it took.
+// One write, and a flush of what it took. To take nothing is a failure, unless there is nothing.
 fn write_through<W: Write>(writer: &mut W, piece: &[u8]) -> Result<usize, SinkFailed>
     ensures within { IfOk result (λ n. n ≤ length piece.now) }
     ensures takes_some { IfOk result (λ n. 0 < length piece.now → 0 < n) }
-    ensures bytes { WritesThrough (W.contents writer.old) (W.contents writer.new) result piece.now }
+    ensures bytes { TakesPiece (W.contents writer.old) (W.contents writer.new) result piece.now }
 {
     let Ok(n) = writer.write(piece) else {
         return Err(SinkFailed);

@@ -7,10 +7,10 @@ use crate::source::{Source, SourceFailed};
 use std::io::Read;
 use std::marker::Model;
 
-/// A source over a reader of the standard library, as standard input. Contracts see it as its count of faults.
+/// A source over a reader of the standard library, as standard input.
 ///
-/// It tells no bytes: which bytes the system gives is outside every proof. Each error of the reader is a fault,
-/// also an interrupted read, which isn't tried again.
+/// It tells no bytes, since no proof knows what the system gives. Each error of the reader is a
+/// fault, also a read that a signal interrupted: it isn't tried again.
 #[derive(Drop)]
 pub struct StdSource<R: Read> {
     reader: R,
@@ -45,8 +45,11 @@ impl<R: Read> Source for StdSource<R> {
         ensures ok { OnOk result (self.new.faults ≡ self.old.faults) }
         ensures err { OnErr result (self.new.faults ≡ risen self.old.faults) }
 
-        // A reader that tells its bytes lost those that were given.
-        ensures bytes { ReadConsumes (R.remaining self.old.reader) (R.remaining self.new.reader) result buf.new }
+        // The bytes are the reader's, where it tells them.
+        ensures bytes { ReadConsumes (R.remaining self.old.reader) (R.remaining self.new.reader)
+            result buf.new }
+
+        // What each source ensures besides.
         ensures within { IfOk result (λ n. n ≤ length buf.new) }
         ensures never_falls { self.old.faults ≤ self.new.faults }
     {

@@ -4,12 +4,13 @@ ghost use Rattle.rn_outside.specs.Faults.{Rose};
 
 use crate::sink::Sink;
 
-/// Not all bytes were written, since a write failed.
+/// A write failed before all bytes were written.
 #[derive(Clone, Copy, Debug, PartialEq, Eq)]
 pub struct WriteFault;
 
-/// Writes all the bytes. After a short write the rest is offered again; after a failed one nothing is. For no bytes
-/// no write is made.
+/// Writes all the bytes. After a short write the rest is offered again. It stops at the first write
+/// that fails. For no bytes no write is made. It takes no memory.
+#[tactic(auto, using(crate::proofs::ByteLemmas::offered))]
 pub fn write_all<O: Sink>(sink: &mut O, bytes: &[u8]) -> Result<(), WriteFault>
     ensures all { OnOk result (Appends (O.held sink.old) bytes.now (O.held sink.new)) }
     ensures front { OnErr result (AppendsPrefix (O.held sink.old) bytes.now (O.held sink.new)) }
