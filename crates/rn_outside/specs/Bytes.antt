@@ -8,10 +8,11 @@ abbrev pub Gives : Option (List ℕ) → List ℕ → Option (List ℕ) → Type
 Gives before front after = before ≡ option_map (λ rest. front ++ rest) after
 
 -- A source gave some front of what was left.
-abbrev pub GivesFront : Option (List ℕ) → Option (List ℕ) → Type 0
-GivesFront before after = (front : List ℕ) × Gives before front after
+pub record GivesFront (before after : Option (List ℕ)) : Type 0 where
+  pub front : List ℕ
+  pub gives : Gives before front after
 
--- No byte is left.
+-- No byte is left, where that is told.
 abbrev pub IsAtEnd : Option (List ℕ) → Type 0
 IsAtEnd left = IfSome left (λ bytes. bytes ≡ [])
 
@@ -25,5 +26,7 @@ abbrev pub Appends : Option (List ℕ) → List ℕ → Option (List ℕ) → Ty
 Appends before piece after = after ≡ option_map (λ held. held ++ piece) before
 
 -- A sink took the first of these bytes, and not all of them.
-abbrev pub AppendsPrefix : Option (List ℕ) → List ℕ → Option (List ℕ) → Type 0
-AppendsPrefix before bytes after = (n : ℕ) × (n < length bytes) × Appends before (take n bytes) after
+pub record AppendsPrefix (before : Option (List ℕ)) (bytes : List ℕ) (after : Option (List ℕ)) : Type 0 where
+  pub taken : ℕ
+  pub short : taken < length bytes
+  pub appends : Appends before (take taken bytes) after

@@ -1,6 +1,5 @@
-ghost use Rattle.std.specs.Prelude.{◌≡◌, ◌↔◌, ◌⊎◌, ◌+◌, ◌-◌, ◌<◌, ◌≤◌, ℕ, List, [], ◌++◌, length, take, min, Some, IfOk, IsErr, OnOk, OnErr, Contains};
-ghost use Rattle.rn_outside.specs.Bytes.{Appends};
-ghost use Rattle.rn_outside.specs.Faults.{Rose, risen};
+ghost use Rattle.std.specs.Prelude.{◌≡◌, ◌↔◌, ◌⊎◌, ◌+◌, ◌-◌, ◌<◌, ◌≤◌, [], ◌++◌, length, take, min, Some, IfOk, IsErr, OnErr, Contains};
+ghost use Rattle.rn_outside.specs.Faults.{risen};
 
 use crate::calls::is_listed;
 use crate::sink::{Sink, SinkFailed};

@@ -1,6 +1,5 @@
-ghost use Rattle.std.specs.Prelude.{◌≡◌, ◌↔◌, ◌+◌, ◌<◌, ◌≤◌, ℕ, List, [], ◌++◌, length, take, drop, min, Some, IfOk, IsErr, OnOk, OnErr, Contains};
-ghost use Rattle.rn_outside.specs.Bytes.{Gives, IsAtEnd};
-ghost use Rattle.rn_outside.specs.Faults.{Rose, risen};
+ghost use Rattle.std.specs.Prelude.{◌≡◌, ◌↔◌, ◌+◌, ◌≤◌, ◌++◌, length, take, drop, min, Some, IfOk, IsErr, OnErr, Contains};
+ghost use Rattle.rn_outside.specs.Faults.{risen};
 
 use crate::calls::is_listed;
 use crate::source::{Source, SourceFailed};
@@ -77,6 +76,8 @@ impl Source for MemSource {
           faults = risen self.old.faults;
         }) }
         ensures unfilled { OnErr result (buf.new ≡ buf.old) }
+
+        // What each source ensures besides.
         ensures never_falls { self.old.faults ≤ self.new.faults }
     {
         let fails = is_listed(&self.fails, self.calls);

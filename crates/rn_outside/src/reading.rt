@@ -1,5 +1,5 @@
-ghost use Rattle.std.specs.Prelude.{◌≡◌, ◌+◌, ◌<◌, ◌≤◌, length, vec_len, IfOk, IfSome, IsErr, OnErr, IsErrOf, OnOk};
-ghost use Rattle.rn_outside.specs.Bytes.{Gives, GivesFront, GivesAll};
+ghost use Rattle.std.specs.Prelude.{◌+◌, ◌<◌, ◌≤◌, length, IfOk, IfSome, IsErr, IsErrOf, OnErr};
+ghost use Rattle.rn_outside.specs.Bytes.{GivesAll, GivesFront};
 ghost use Rattle.rn_outside.specs.Faults.{Rose};
 
 use crate::source::Source;
@@ -31,6 +31,7 @@ const PIECE: usize = 8192;
 
 /// Reads a source to its end, where at most `limit` bytes are left in it. It stops at the first
 /// read that fails, and as soon as there is a byte more than `limit`.
+#[tactic(auto, using(crate::proofs::ByteLemmas::pieces))]
 pub fn read_all<S: Source>(
     alloc: Global,
     source: &mut S,
@@ -40,11 +41,10 @@ pub fn read_all<S: Source>(
         GivesAll (S.left source.old) bytes.items (S.left source.new)) }
     ensures within { IfOk result (λ bytes. length bytes.items ≤ limit) }
 
-    // Where more than `limit` bytes are left it fails, by `TooLong` unless something else failed
-    // first, and nowhere else by `TooLong`.
-    ensures longer { IfSome (S.left source.old) (λ left. limit < length left → IsErr result) }
+    // `TooLong` comes only where more than `limit` bytes are left, and then no answer is Ok.
     ensures too_long { IsErrOf result ReadAllFault.TooLong →
         IfSome (S.left source.old) (λ left. limit < length left) }
+    ensures longer { IfSome (S.left source.old) (λ left. limit < length left → IsErr result) }
 
     ensures cause { IsErrOf result ReadAllFault.ReadFault →
         Rose (S.faults source.old) (S.faults source.new) }

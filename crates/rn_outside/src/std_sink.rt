@@ -1,7 +1,6 @@
-ghost use Rattle.std.specs.Prelude.{◌≡◌, ◌<◌, ◌≤◌, ℕ, length, take, None, IfOk, OnOk, OnErr};
+ghost use Rattle.std.specs.Prelude.{◌≡◌, ◌<◌, ◌≤◌, length, None, IfOk, OnOk, OnErr};
+ghost use Rattle.rn_outside.specs.Faults.{risen};
 ghost use Rattle.rn_outside.specs.OverStd.{TakesPiece};
-ghost use Rattle.rn_outside.specs.Bytes.{Appends};
-ghost use Rattle.rn_outside.specs.Faults.{Rose, risen};
 
 use crate::sink::{Sink, SinkFailed};
 use std::io::Write;

@@ -1,7 +1,6 @@
-ghost use Rattle.std.specs.Prelude.{◌≡◌, ◌+◌, ◌<◌, ◌≤◌, ℕ, length, take, None, IfOk, OnOk, OnErr};
+ghost use Rattle.std.specs.Prelude.{◌≡◌, ◌≤◌, length, None, IfOk, OnOk, OnErr};
 ghost use Rattle.std.specs.Io.KnownBytes.{ReadConsumes};
-ghost use Rattle.rn_outside.specs.Bytes.{Gives, IsAtEnd};
-ghost use Rattle.rn_outside.specs.Faults.{Rose, risen};
+ghost use Rattle.rn_outside.specs.Faults.{risen};
 
 use crate::source::{Source, SourceFailed};
 use std::io::Read;

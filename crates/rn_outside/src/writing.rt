@@ -10,10 +10,10 @@ pub struct WriteFault;
 
 /// Writes all the bytes. After a short write the rest is offered again. It stops at the first write
 /// that fails. For no bytes no write is made. It takes no memory.
-#[tactic(auto, using(crate::proofs::ByteLemmas::offered))]
+#[tactic(auto, using(crate::proofs::ByteLemmas::pieces))]
 pub fn write_all<O: Sink>(sink: &mut O, bytes: &[u8]) -> Result<(), WriteFault>
     ensures all { OnOk result (Appends (O.held sink.old) bytes.now (O.held sink.new)) }
-    ensures front { OnErr result (AppendsPrefix (O.held sink.old) bytes.now (O.held sink.new)) }
+    ensures prefix { OnErr result (AppendsPrefix (O.held sink.old) bytes.now (O.held sink.new)) }
     ensures cause { OnErr result (Rose (O.faults sink.old) (O.faults sink.new)) }
     ensures never_falls { O.faults sink.old ≤ O.faults sink.new }
 {
