@@ -1,0 +1,75 @@
+-- Pieces that a source gives and a sink takes one after another.
+use Rattle.std.proofs.Common.{◌≡◌, ℕ, ◌+◌, ◌-◌, ◌≤◌, List, [], ◌++◌, length, take, drop, Option, Some, None, sym, refl, ap, ◌∙◌, subst, append_assoc, append-nil, length-append, arith}
+use Rattle.std.proofs.Math.Seq.{take-add, take-append-add}
+use Rattle.std.proofs.lemmas.List.{take-append-le, take_rest}
+use Rattle.std.specs.Option.{option_map}
+use Rattle.rn_outside.specs.Bytes.{Gives, GivesFront, Appends, AppendsPrefix}
+
+-- a source that gave nothing is as it was
+pub Gives-nothing : (left : Option (List ℕ)) → Gives left [] left
+Gives-nothing None = refl
+Gives-nothing (Some bytes) = refl
+
+-- two pieces that a source gave are one
+pub Gives-append : (a : Option (List ℕ)) (xs : List ℕ) (b : Option (List ℕ)) (ys : List ℕ) (c : Option (List ℕ)) → Gives a xs b → Gives b ys c → Gives a (xs ++ ys) c
+Gives-append a xs b ys None first second = first ∙ ap (option_map (λ rest. xs ++ rest)) second
+Gives-append a xs b ys (Some rest) first second =
+    first ∙ ap (option_map (λ r. xs ++ r)) second ∙ ap Some (sym (append_assoc xs ys rest))
+
+-- where the bytes left were told, what was given is their front, and what is left is told too
+pub Gives-told : (all front : List ℕ) (after : Option (List ℕ)) → Gives (Some all) front after → (rest : List ℕ) × (all ≡ front ++ rest) × (after ≡ Some rest)
+Gives-told all front None gives = absurd cc
+Gives-told all front (Some rest) gives = (rest, cc, refl)
+
+-- a piece, and then some front of the rest, are some front
+pub GivesFront-append : (a : Option (List ℕ)) (xs : List ℕ) (b c : Option (List ℕ)) → Gives a xs b → GivesFront b c → GivesFront a c
+GivesFront-append a xs b c first second = record {
+  front = xs ++ second.front;
+  gives = Gives-append a xs b second.front c first second.gives;
+}
+
+-- two pieces are some front
+pub GivesFront-from_two : (a : Option (List ℕ)) (xs : List ℕ) (b : Option (List ℕ)) (ys : List ℕ) (c : Option (List ℕ)) → Gives a xs b → Gives b ys c → GivesFront a c
+GivesFront-from_two a xs b ys c first second = record { front = xs ++ ys; gives = Gives-append a xs b ys c first second }
+
+-- a sink that took nothing is as it was
+pub Appends-nothing : (held : Option (List ℕ)) → Appends held [] held
+Appends-nothing None = refl
+Appends-nothing (Some bytes) = ap Some (sym (append-nil bytes))
+
+-- two pieces that a sink took are one
+pub Appends-append : (a : Option (List ℕ)) (xs : List ℕ) (b : Option (List ℕ)) (ys : List ℕ) (c : Option (List ℕ)) → Appends a xs b → Appends b ys c → Appends a (xs ++ ys) c
+Appends-append None xs b ys c first second = second ∙ ap (option_map (λ held. held ++ ys)) first
+Appends-append (Some held) xs b ys c first second =
+    second ∙ ap (option_map (λ h. h ++ ys)) first ∙ ap Some (append_assoc held xs ys)
+
+-- the first m of the bytes, and then the n after them, are the first m + n
+pub Appends-take : (a b c : Option (List ℕ)) (bytes : List ℕ) (m n : ℕ) → Appends a (take m bytes) b → Appends b (take n (drop m bytes)) c → Appends a (take (m + n) bytes) c
+Appends-take a b c bytes m n first second =
+    subst (λ piece. Appends a piece c) (sym (take-add m n bytes)) (Appends-append a (take m bytes) b (take n (drop m bytes)) c first second)
+
+-- a piece, and then a prefix of the next one, are a prefix of both
+pub AppendsPrefix-append : (a : Option (List ℕ)) (xs : List ℕ) (b : Option (List ℕ)) (ys : List ℕ) (c : Option (List ℕ)) → Appends a xs b → AppendsPrefix b ys c → AppendsPrefix a (xs ++ ys) c
+AppendsPrefix-append a xs b ys c first second = record {
+  taken = length xs + second.taken;
+  short = omega (arith, length-append xs ys);
+  appends = subst (λ piece. Appends a piece c) (sym (take-append-add xs ys second.taken)) (Appends-append a xs b (take second.taken ys) c first second.appends);
+}
+
+-- a prefix of a piece is one of the piece with more after it
+pub AppendsPrefix-longer : (a : Option (List ℕ)) (xs ys : List ℕ) (b : Option (List ℕ)) → AppendsPrefix a xs b → AppendsPrefix a (xs ++ ys) b
+AppendsPrefix-longer a xs ys b prefix =
+    let within : prefix.taken ≤ length xs = omega arith in
+    record {
+      taken = prefix.taken;
+      short = omega (arith, length-append xs ys);
+      appends = subst (λ piece. Appends a piece b) (sym (take-append-le prefix.taken xs ys within)) prefix.appends;
+    }
+
+-- the same, where all bytes after the first m were offered and n of them taken
+pub Appends-offered : (a b c : Option (List ℕ)) (bytes : List ℕ) (m n : ℕ) → Appends a (take m bytes) b → Appends b (take n (take (length bytes - m) (drop m bytes))) c → Appends a (take (m + n) bytes) c
+Appends-offered a b c bytes m n first second =
+    Appends-take a b c bytes m n first (rw (sym (take_rest bytes m)) second)
+
+-- for functions that read or write several times
+pub ruleset pieces = (Gives-nothing, Gives-append, GivesFront-append, GivesFront-from_two, Appends-nothing, Appends-append, Appends-offered, AppendsPrefix-append, AppendsPrefix-longer)

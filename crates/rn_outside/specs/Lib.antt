@@ -1,0 +1,4 @@
+pub mod Bytes
+pub mod Faults
+pub mod InMemory
+pub mod OverStd

@@ -1,0 +1,78 @@
+ghost use Rattle.std.specs.Prelude.{◌+◌, ◌<◌, ◌≤◌, length, IfOk, IfSome, IsErr, IsErrOf, OnErr};
+ghost use Rattle.rn_outside.specs.Bytes.{GivesAll, GivesFront};
+ghost use Rattle.rn_outside.specs.Faults.{Rose};
+
+use crate::source::Source;
+use std::alloc::{AllocError, Global};
+
+/// Why a source wasn't read to its end.
+#[derive(Clone, Copy, Debug, PartialEq, Eq)]
+pub enum ReadAllFault {
+    /// A read failed.
+    ReadFault,
+    /// More bytes were left than the limit.
+    TooLong,
+    NoMemory,
+}
+
+impl From<AllocError> for ReadAllFault {
+    ghost use Rattle.std.specs.Prelude.{◌≡◌};
+    ghost use Rattle.rn_outside.specs.declared.reading.ReadAllFault.TheVariants.{NoMemory};
+
+    ghost from_gives = { λ _ e. e ≡ NoMemory };
+
+    fn from(_error: AllocError) -> ReadAllFault {
+        ReadAllFault::NoMemory
+    }
+}
+
+// How many bytes are asked for at once, at most.
+const PIECE: usize = 8192;
+
+/// Reads a source to its end, where at most `limit` bytes are left in it. It stops at the first
+/// read that fails, and as soon as there is a byte more than `limit`.
+#[tactic(auto, using(crate::proofs::ByteLemmas::pieces))]
+pub fn read_all<S: Source>(
+    alloc: Global,
+    source: &mut S,
+    limit: usize,
+) -> Result<Vec<u8>, ReadAllFault>
+    ensures all { IfOk result (λ bytes.
+        GivesAll (S.left source.old) bytes.items (S.left source.new)) }
+    ensures within { IfOk result (λ bytes. length bytes.items ≤ limit) }
+
+    // `TooLong` comes only where more than `limit` bytes are left, and then no answer is Ok.
+    ensures too_long { IsErrOf result ReadAllFault.TooLong →
+        IfSome (S.left source.old) (λ left. limit < length left) }
+    ensures longer { IfSome (S.left source.old) (λ left. limit < length left → IsErr result) }
+
+    ensures cause { IsErrOf result ReadAllFault.ReadFault →
+        Rose (S.faults source.old) (S.faults source.new) }
+
+    // After each error the source has given some front of its bytes.
+    ensures front { OnErr result (GivesFront (S.left source.old) (S.left source.new)) }
+
+    ensures never_falls { S.faults source.old ≤ S.faults source.new }
+
+    // Each read but the last gives a byte at least.
+    ensures reads { S.reads source.new ≤ S.reads source.old + (limit + 1) }
+{
+    let mut buf = [0u8; PIECE];
+    let mut bytes = Vec::new(alloc);
+    'pieces: loop {
+        // One more than there is room for, so that a byte too many is seen.
+        let room = limit - bytes.len();
+        let asked = room.min(buf.len() - 1) + 1;
+        let piece = &mut buf[..asked];
+        let Ok(n) = source.read(piece) else {
+            return Err(ReadAllFault::ReadFault);
+        };
+        if n == 0 {
+            return Ok(bytes);
+        }
+        if n > room {
+            return Err(ReadAllFault::TooLong);
+        }
+        bytes.extend_from_slice(&piece[..n])?;
+    }
+}

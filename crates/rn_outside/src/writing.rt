@@ -1,0 +1,28 @@
+ghost use Rattle.std.specs.Prelude.{◌≤◌, OnOk, OnErr};
+ghost use Rattle.rn_outside.specs.Bytes.{Appends, AppendsPrefix};
+ghost use Rattle.rn_outside.specs.Faults.{Rose};
+
+use crate::sink::Sink;
+
+/// A write failed before all bytes were written.
+#[derive(Clone, Copy, Debug, PartialEq, Eq)]
+pub struct WriteFault;
+
+/// Writes all the bytes. After a short write the rest is offered again. It stops at the first write
+/// that fails. For no bytes no write is made. It takes no memory.
+#[tactic(auto, using(crate::proofs::ByteLemmas::pieces))]
+pub fn write_all<O: Sink>(sink: &mut O, bytes: &[u8]) -> Result<(), WriteFault>
+    ensures all { OnOk result (Appends (O.held sink.old) bytes.now (O.held sink.new)) }
+    ensures prefix { OnErr result (AppendsPrefix (O.held sink.old) bytes.now (O.held sink.new)) }
+    ensures cause { OnErr result (Rose (O.faults sink.old) (O.faults sink.new)) }
+    ensures never_falls { O.faults sink.old ≤ O.faults sink.new }
+{
+    let mut taken = 0;
+    while taken < bytes.len() {
+        match sink.write(&bytes[taken..]) {
+            Ok(n) => taken += n,
+            Err(_) => return Err(WriteFault),
+        }
+    }
+    Ok(())
+}
