@@ -1,0 +1,27 @@
+//! Reference nets: their plain data, and what their runs are.
+#![tactic(auto)]
+
+mod binding;
+mod copying;
+mod expr;
+mod laws;
+mod log;
+mod ordering;
+mod sharing;
+mod system;
+#[cfg(test)]
+mod tests;
+
+pub use binding::{Binding, Node, Nodes};
+pub use copying::{copy_binding, copy_entry};
+pub use expr::{Alts, CompareKind, Cond, Conds, Expr, Exprs, OpKind, Pairs, Simple, Simples};
+pub use laws::{
+    dead_runs_stop, forced_is_own, fronts_are_logs, fronts_are_runs, lists_of_values,
+    logs_end_once, next_number_is_free, own_values_satisfy, runs_grow,
+};
+pub use log::{Entries, Entry, FaultKind, MarkLine, MarkLines, Options, Reason, Told};
+pub use ordering::{binding_order_is_total, compare_bindings, same_binding};
+pub use system::{
+    Action, Actions, ArcKind, Channel, Channels, Creation, Creations, Downlink, Downlinks, Net,
+    NetArc, NetArcs, Nets, Nums, Place, Places, System, Transition, Transitions, Uplink, Var, Vars,
+};
