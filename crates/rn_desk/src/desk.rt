@@ -1,0 +1,31 @@
+//! The desk, a worker's pass, and its turn.
+ghost use Rattle.std.specs.Prelude.{◌≡◌, ◌≤◌};
+
+use crate::kept::Kept;
+use crate::rule::{Board, Place};
+
+mod steps;
+mod turns;
+
+/// It keeps the state. The workers share it by reference.
+#[derive(Drop)]
+pub struct Desk<S: Kept> {
+    pub(crate) table: Board<S>,
+    pub(crate) ghost sized: { (table.shared.table_id.words ≡ 3) × (table.shared.table_id.slots ≡ 1) × (1 ≤ table.shared.key.seats) },
+}
+
+/// What one worker takes its turns with.
+///
+/// It has a number from 1 to the number of seats, the entries that it has seen, and those that it authored.
+#[derive(Drop)]
+pub struct Pass<S: Kept> {
+    pub(crate) place: Place<S>,
+}
+
+/// The state, while a pass has the turn.
+///
+/// It is not `Drop`: `Desk::give` is the one way to be rid of it.
+pub struct Turn<S> {
+    pub(crate) state: S,
+    pub(crate) length: u64,
+}
