@@ -9,7 +9,7 @@ StartsWith {A} xs ys = (rest : List A) × (xs ≡ ys ++ rest)
 abbrev pub authored : {I : Type 0} → (I → ℕ) → ℕ → List I → List I
 authored author n = filter (λ e. author e == n)
 
--- the entries are those from before, or they have one more at the end, which this number authored or none
+-- the entries are those from before, or one more at the end, which this number authored or none
 abbrev pub AddsAtMostOne : {I : Type 0} → (I → ℕ) → ℕ → List I → List I → Type 0
 AddsAtMostOne {I} author n before after = (after ≡ before)
     ⊎ ((e : I) × (after ≡ before ++ e ∷ []) × ((author e ≡ n) ⊎ (author e ≡ 0)))
@@ -17,4 +17,5 @@ AddsAtMostOne {I} author n before after = (after ≡ before)
 -- what this number authored grows by the new entry where it is the author, and else stays
 abbrev pub GrowsOwn : {I : Type 0} → (I → ℕ) → ℕ → List I → List I → List I → List I → Type 0
 GrowsOwn {I} author n before after own own' = (after ≡ before → own' ≡ own)
-    × ((e : I) → after ≡ before ++ e ∷ [] → (author e ≡ n → own' ≡ own ++ e ∷ []) × (author e ≢ n → own' ≡ own))
+    × ((e : I) → after ≡ before ++ e ∷ []
+    → (author e ≡ n → own' ≡ own ++ e ∷ []) × (author e ≢ n → own' ≡ own))

@@ -45,6 +45,6 @@ module _ {S I F : Type 0} where
   abbrev pub IsFresh : (S → F) → Desk S I F → ℕ → Pass S I F → Type 0
   IsFresh fixed d n p = seat.IsFresh d.table.shared.table_id (fixed_of fixed d) n p.place
 
-  -- the entries begin with what the pass has seen, and those that this number authored are just its own
+  -- the entries begin with what the pass has seen, and what this number authored is just its own
   abbrev pub IsIn : (I → ℕ) → List I → ℕ → Pass S I F → Type 0
   IsIn author all n p = seat.IsIn author all n p.place

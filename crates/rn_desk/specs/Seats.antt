@@ -26,7 +26,8 @@ module _ {S I F : Type 0} where
 
   -- the seat has a turn that began with so many entries, and its state was taken out
   abbrev pub HasTurn : Seat (Option S) (View I F) → ℕ → Type 0
-  HasTurn p n = ((t : ℕ) × (p.me.0.role ≡ Holds t)) × (p.me.1 ≡ (0, None) ∷ []) × (n ≡ length p.me.0.own.seen)
+  HasTurn p n = ((t : ℕ) × (p.me.0.role ≡ Holds t)) × (p.me.1 ≡ (0, None) ∷ [])
+      × (n ≡ length p.me.0.own.seen)
 
   -- the seat has this number and no turn
   abbrev pub IsBack : TableId → F → ℕ → Seat (Option S) (View I F) → Type 0
@@ -36,6 +37,6 @@ module _ {S I F : Type 0} where
   abbrev pub IsFresh : TableId → F → ℕ → Seat (Option S) (View I F) → Type 0
   IsFresh z f n p = (number p ≡ n) × IsAt z f p × IsFree p × (seen p ≡ []) × (mine p ≡ [])
 
-  -- the entries begin with what the seat has seen, and those that this number authored are just its own
+  -- the entries begin with what the seat has seen, and what this number authored is just its own
   abbrev pub IsIn : (I → ℕ) → List I → ℕ → Seat (Option S) (View I F) → Type 0
   IsIn author all n p = StartsWith all (seen p) × (authored author n all ≡ mine p)

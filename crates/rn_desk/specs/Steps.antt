@@ -1,5 +1,5 @@
 -- The kinds of step at the desk, and what each tells its seat.
--- A seat is its view and the slots that it holds, each with its value. The one slot of the desk is slot 0.
+-- A seat is its view and the slots that it holds, each with its value. The desk's one slot is slot 0.
 use Rattle.std.specs.Prelude.{◌≡◌, ◌≢◌, ℕ, ◌+◌, drop, List, [], ◌∷◌, ◌++◌, length, Option, Some, None}
 use mathlib.Core.Option as maybe
 use Rattle.atomic_table.specs.Table.{Me, Step}
@@ -7,7 +7,7 @@ use Rattle.rn_desk.specs.declared.view.Role.{Role}
 use Rattle.rn_desk.specs.declared.view.Role.TheVariants.{Spent, Maker, Idle, Waits, Holds}
 use Rattle.rn_desk.specs.declared.view.Part.{Part}
 use Rattle.rn_desk.specs.declared.view.View.{View}
-use Rattle.rn_desk.specs.Entries.{StartsWith, authored}
+use Rattle.rn_desk.specs.Entries.{StartsWith, authored, AddsAtMostOne}
 use Rattle.rn_desk.specs.Turns.{wrapped}
 
 module _ {I : Type 0} where
@@ -17,7 +17,11 @@ module _ {I : Type 0} where
 
   -- the part has seen all these entries, and what its number authored among the new ones is its own
   abbrev pub grown : (I → ℕ) → Part I → List I → Part I
-  grown author p all = record { number = p.number; seen = all; mine = p.mine ++ authored author p.number (drop (length p.seen) all) }
+  grown author p all = record {
+    number = p.number;
+    seen = all;
+    mine = p.mine ++ authored author p.number (drop (length p.seen) all);
+  }
 
 module _ {I F : Type 0} where
   -- the seat that makes the others, when it has made so many
@@ -29,7 +33,12 @@ module _ {I F : Type 0} where
 
   -- the seat has the turn by this ticket, with these entries in hand
   abbrev pub with_turn : ℕ → List I → View I F → View I F
-  with_turn t all v = record { role = Holds t; own = record { number = v.own.number; seen = all; mine = v.own.mine }; others = v.others; fixed = v.fixed }
+  with_turn t all v = record {
+    role = Holds t;
+    own = record { number = v.own.number; seen = all; mine = v.own.mine };
+    others = v.others;
+    fixed = v.fixed;
+  }
 
   -- the seat has these entries in hand, and its own among them
   abbrev pub with_entries : (I → ℕ) → List I → View I F → View I F
@@ -45,11 +54,13 @@ module _ {S I F : Type 0} (entries : S → List I) (author : I → ℕ) (fixed :
 
   -- the seat has the turn and the slot, whose state has what the seat had seen, and more
   abbrev pub GetsTurn : Sat → Sat → Type 0
-  GetsTurn m m' = (t : ℕ) × (y : S) × (m.0.role ≡ Waits t) × StartsWith (entries y) m.0.own.seen × (m.0.fixed ≡ Some (fixed y)) × (m' ≡ (with_turn t (entries y) m.0, (0, Some y) ∷ m.1))
+  GetsTurn m m' = (t : ℕ) × (y : S) × (m.0.role ≡ Waits t) × StartsWith (entries y) m.0.own.seen
+      × (m.0.fixed ≡ Some (fixed y)) × (m' ≡ (with_turn t (entries y) m.0, (0, Some y) ∷ m.1))
 
   -- look at serving: where it is its ticket the seat gets the turn, and else nothing
   abbrev pub Looks : Step (Option S) → Sat → ℕ → Sat → Type 0
-  Looks st m found m' = (t : ℕ) → m.0.role ≡ Waits t → (found ≡ wrapped t → GetsTurn m m') × (found ≢ wrapped t → m' ≡ m)
+  Looks st m found m' = (t : ℕ) → m.0.role ≡ Waits t
+      → (found ≡ wrapped t → GetsTurn m m') × (found ≢ wrapped t → m' ≡ m)
 
   -- count an entry: the seat has the entries of the state that it announced, and its own among them
   abbrev pub Counts : Step (Option S) → Sat → ℕ → Sat → Type 0
@@ -59,9 +70,18 @@ module _ {S I F : Type 0} (entries : S → List I) (author : I → ℕ) (fixed :
   abbrev pub PassesOn : Step (Option S) → Sat → ℕ → Sat → Type 0
   PassesOn st m found m' = m' ≡ (in_role Idle m.0, [])
 
-  -- the turn has this slot's state, or None once it is taken out
-  abbrev pub HasInHand : Option S → Sat → Type 0
-  HasInHand o m = ((t : ℕ) × (m.0.role ≡ Holds t)) × (m.1 ≡ (0, o) ∷ [])
+  -- the seat has the turn, and in the slot is this state, or None while it is taken out
+  abbrev pub HasTurnWith : Option S → Sat → Type 0
+  HasTurnWith o m = ((t : ℕ) × (m.0.role ≡ Holds t)) × (m.1 ≡ (0, o) ∷ [])
+
+  -- the state has the entries with which the turn began, or one more, by this seat or by none
+  abbrev pub MayCount : ℕ → Option S → Sat → Type 0
+  MayCount began o m = HasTurnWith None m × (began ≡ length m.0.own.seen)
+      × ((y : S) × (o ≡ Some y) × AddsAtMostOne author m.0.own.number m.0.own.seen (entries y))
+
+  -- the state is back in the slot, with just the entries in hand
+  abbrev pub MayPassOn : Sat → Type 0
+  MayPassOn m = (y : S) × HasTurnWith (Some y) m × (entries y ≡ m.0.own.seen) × (m.0.fixed ≡ Some (fixed y))
 
 abbrev pub one_more : Role → Role
 one_more (Maker n) = Maker (n + 1)

@@ -1,5 +1,5 @@
 -- The rule of the desk: what holds between any two atomic steps, in every schedule.
--- Word 0 is the next ticket, word 1 the ticket that is served, and word 2 the length of the history.
+-- Word 0 is the next ticket, word 1 the ticket that is served, word 2 the length of the history.
 use Rattle.std.specs.Prelude.{◌≡◌, ◌⊎◌, ℕ, ◌+◌, ◌%◌, ◌<◌, ◌≤◌, ◌==◌, Bool, true, false, List, [], ◌∷◌, length, Option, Some, None, if◌then◌else◌}
 use mathlib.Core.Option as maybe
 use lib.ListN.{get_elem?}
@@ -81,14 +81,16 @@ module _ {I F : Type 0} where
 
   -- this seat has this ticket
   abbrev pub HasTicket : List (View I F) → ℕ → ℕ → Type 0
-  HasTicket views seat t = (v : View I F) × (get_elem? views seat ≡ maybe.some v) × (ticket_of v.role ≡ Some t)
+  HasTicket views seat t = (v : View I F) × (get_elem? views seat ≡ maybe.some v)
+      × (ticket_of v.role ≡ Some t)
 
   -- this seat has the turn, by this ticket
   abbrev pub HasTurn : List (View I F) → ℕ → ℕ → Type 0
   HasTurn views seat t = (v : View I F) × (get_elem? views seat ≡ maybe.some v) × (v.role ≡ Holds t)
 
 module _ {I : Type 0} (out : Type 0) (log : List I) (made drawn served : ℕ) (seat_of : ℕ → ℕ) (seat : ℕ) (own : Part I) where
-  -- what holds of a seat in this role, where `out` says that the slot is out
+  -- What holds of a seat in this role, where `out` says that the slot is out.
+  -- A ticket is from `served` up to but not `drawn`, and just one seat has it, since `seat_of` names that seat.
   abbrev pub RoleFits : Role → Type 0
   RoleFits Spent = Unit {0}
   RoleFits (Maker n) = (n ≡ made) × (seat ≡ 0)
@@ -106,7 +108,7 @@ module _ {S I F : Type 0} (entries : S → List I) (author : I → ℕ) (fixed :
   Away served seat views homes = (homes ≡ maybe.none ∷ []) × HasTurn views seat served
 
   pub record Turns (s : State (Option S) (View I F)) : Type 0 where
-    -- the history, the numbers made, the tickets drawn, the turns passed on, and the seat that drew each ticket
+    -- the history, the numbers made, the tickets drawn, the turns passed on, and who drew each ticket
     pub log : List I
     pub made : ℕ
     pub drawn : ℕ
@@ -114,21 +116,25 @@ module _ {S I F : Type 0} (entries : S → List I) (author : I → ℕ) (fixed :
     pub seat_of : ℕ → ℕ
     -- what the words say, modulo 2^64
     pub words : s.words ≡ wrapped drawn ∷ wrapped served ∷ wrapped (length log) ∷ []
-    -- a seat that waits or has the turn has a ticket from `served` up to but not `drawn`, and no other seat has that one. Who has the turn has the ticket `served` and the history in hand
-    pub roles : (j : ℕ) (v : View I F) → get_elem? s.views j ≡ maybe.some v → RoleFits (s.homes ≡ maybe.none ∷ []) log made drawn served seat_of j v.own v.role
-    -- each of these tickets is out, and no more seats have one than there are tickets out
+    -- what each seat knows of its ticket, and who has the turn of the history and the slot
+    pub roles : (j : ℕ) (v : View I F) → get_elem? s.views j ≡ maybe.some v
+        → RoleFits (s.homes ≡ maybe.none ∷ []) log made drawn served seat_of j v.own v.role
+    -- each ticket from `served` up to but not `drawn` is out, and there are as many seats that have one
     pub queue : (t : ℕ) → served ≤ t → t < drawn → HasTicket s.views (seat_of t) t
     pub waiting : drawn ≡ served + total tickets_in s.views
-    -- the slot is at home with the history, or it is out and the seat whose ticket is served has the turn
+    -- the slot is at home with the history, or the seat whose ticket is served has it and the turn
     pub slot : AtHome log s.homes ⊎ Away served (seat_of served) s.views s.homes
     -- a view that isn't spent has what the state keeps fixed
-    pub same : (j : ℕ) (v : View I F) → get_elem? s.views j ≡ maybe.some v → is_spent v.role ≡ false → v.fixed ≡ Some (fixed start)
+    pub same : (j : ℕ) (v : View I F) → get_elem? s.views j ≡ maybe.some v
+        → is_spent v.role ≡ false → v.fixed ≡ Some (fixed start)
     -- each number made stands in just one view, and no other number in any
     pub few : (made ≤ seats) × (seats ≤ 64)
     pub all_parts : total parts_count s.views ≡ made
     pub once : (n : ℕ) → 0 < n → n ≤ made → total (number_count n) s.views ≡ 1
     pub no_zero : total (number_count 0) s.views ≡ 0
     pub unmade : (n : ℕ) → made < n → total (number_count n) s.views ≡ 0
-    -- the history begins with what each view has seen, what a number authored is its own in its view, and a number that isn't made authored nothing
-    pub fits : (j : ℕ) (v : View I F) → get_elem? s.views j ≡ maybe.some v → Every (PartFits author log) (parts_of v)
+    -- the history begins with what each view has seen; what a number authored is its own in its view,
+    -- also after that seat was joined into another; and a number that isn't made authored nothing
+    pub fits : (j : ℕ) (v : View I F) → get_elem? s.views j ≡ maybe.some v
+        → Every (PartFits author log) (parts_of v)
     pub unwritten : (n : ℕ) → made < n → authored author n log ≡ []

@@ -11,12 +11,14 @@ mod turns;
 #[derive(Drop)]
 pub struct Desk<S: Kept> {
     pub(crate) table: Board<S>,
-    pub(crate) ghost sized: { (table.shared.table_id.words ≡ 3) × (table.shared.table_id.slots ≡ 1) × (1 ≤ table.shared.key.seats) },
+    pub(crate) ghost words: { table.shared.table_id.words ≡ 3 },
+    pub(crate) ghost slots: { table.shared.table_id.slots ≡ 1 },
+    pub(crate) ghost seats: { 1 ≤ table.shared.key.seats },
 }
 
 /// What one worker takes its turns with.
 ///
-/// It has a number from 1 to the number of seats, the entries that it has seen, and those that it authored.
+/// It has a number from 1 to the number of seats, what it has seen, and what it authored.
 #[derive(Drop)]
 pub struct Pass<S: Kept> {
     pub(crate) place: Place<S>,

@@ -1,4 +1,4 @@
-//! A desk: a ticket lock that keeps one state, whose list of entries grows by at most one each turn.
+//! A desk: a ticket lock that keeps one state, whose entries grow by at most one a turn.
 #![tactic(auto)]
 
 mod closing;

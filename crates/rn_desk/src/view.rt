@@ -1,4 +1,4 @@
-//! What a seat at the desk's table knows. These types are plain data of the proofs: no value of a view is made.
+//! What a seat at the desk's table knows, as plain data of the proofs. No value of a view is made.
 use std::collections::LinkedList;
 use std::snapshot::Snapshot;
 

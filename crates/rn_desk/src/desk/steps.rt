@@ -2,9 +2,8 @@
 ghost use Rattle.std.specs.Prelude.{◌≡◌, ℕ, ◌<◌, [], ◌∷◌, length, Option, Some, None};
 ghost use Rattle.std.specs.Bool.{OnTrue, OnFalse};
 ghost use Rattle.rn_desk.specs.declared.view.Role.TheVariants.{Maker, Idle, Waits};
-ghost use Rattle.rn_desk.specs.Entries.{AddsAtMostOne};
 ghost use Rattle.rn_desk.specs.Turns.{wrapped};
-ghost use Rattle.rn_desk.specs.Steps.{maker_after, made_seat, in_role, GetsTurn, with_entries, HasInHand, joined};
+ghost use Rattle.rn_desk.specs.Steps.{maker_after, made_seat, in_role, GetsTurn, with_entries, MayCount, MayPassOn, joined};
 
 use super::Desk;
 use crate::kept::Kept;
@@ -58,9 +57,7 @@ impl<S: Kept> Desk<S> {
     // Where the turn added an entry. The state is read by the step, and not yet put back.
     pub(crate) fn count_entry(&self, place: &mut Place<S>, began: u64, full: &Option<S>)
         requires here { place.old.table_id ≡ self.now.table.shared.table_id }
-        requires turn { HasInHand S.entries S.author S.fixed None place.old.me }
-        requires began { began ≡ length place.old.me.0.own.seen }
-        requires entries { (y : S) × (full.now ≡ Some y) × AddsAtMostOne S.author place.old.me.0.own.number place.old.me.0.own.seen (S.entries y) }
+        requires turn { MayCount S.entries S.author S.fixed began full.now place.old.me }
         ensures here { place.new.table_id ≡ place.old.table_id }
         ensures counted { (y : S) → full.now ≡ Some y → place.new.me ≡ (with_entries S.author (S.entries y) place.old.me.0, place.old.me.1) }
     {
@@ -84,7 +81,7 @@ impl<S: Kept> Desk<S> {
 
     pub(crate) fn pass_turn_on(&self, place: &mut Place<S>)
         requires here { place.old.table_id ≡ self.now.table.shared.table_id }
-        requires turn { (y : S) × HasInHand S.entries S.author S.fixed (Some y) place.old.me × (S.entries y ≡ place.old.me.0.own.seen) × (place.old.me.0.fixed ≡ Some (S.fixed y)) }
+        requires turn { MayPassOn S.entries S.author S.fixed place.old.me }
         ensures here { place.new.table_id ≡ place.old.table_id }
         ensures idle { place.new.me ≡ (in_role Idle place.old.me.0, []) }
     {

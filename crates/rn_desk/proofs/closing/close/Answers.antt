@@ -13,7 +13,7 @@ loop-rest-init g c = let A : Type 0 = Pass g.row.S.Denot g.row.S-Item.Denot g.ro
     let P : ℕ → A → Type 0 = λ n p. IsBack z.table_id (g.S.Kept.fixed z.key.state.value) n p.place in
     let own : A → Part g.row.S-Item.Denot = λ p. p.place.me.0.own in
     let x : A = c.remove-whole.result in let xs = c.args.passes.items in let rest = c.remove-whole.new.self.items in
-    let a = c.requires.seats in let b = c.args.desk.sized.2 in let l = c.args.passes.ok.0 in
+    let a = c.requires.seats in let b = c.args.desk.seats in let l = c.args.passes.ok.0 in
     let split : xs ≡ x ∷ rest = first_removed xs x (omega (arith, a, b, l)) c.remove-whole.ensures.value ∙ ap (λ r. x ∷ r) (sym c.remove-whole.ensures.items) in
     let all : AllFrom P 1 (x ∷ rest) = subst (AllFrom P 1) split (all_of P xs c.requires.passes) in
     (all.0.1.0, all.0.2.0, (2, all.1), first_joined own xs rest x _ split all.0.1.2)
