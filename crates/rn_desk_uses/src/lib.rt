@@ -10,5 +10,5 @@ mod worker;
 
 pub use post::Tally;
 pub use sheet::{Line, Sheet};
-pub use turns::{all_look, look, write_note};
+pub use turns::{Sight, look, look_all, write_note};
 pub use worker::{work, write_sheet};

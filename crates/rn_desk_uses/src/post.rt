@@ -1,19 +1,20 @@
 //! A worker's pass together with its tally.
-ghost use Rattle.std.specs.Prelude.{◌≡◌, ◌^◌, ◌<◌, IfOk, vec_len};
+ghost use Rattle.std.specs.Prelude.{◌≡◌, ◌^◌, ◌<◌, IfOk, map, vec_len};
 ghost use Rattle.rn_desk.specs.Numbered.{EachAt};
-ghost use Rattle.rn_desk.specs.Passes.{IsFresh, IsBack};
-ghost use Rattle.rn_desk_uses.specs.Posts.{IsAtWork, IsDone, AreTold};
+ghost use Rattle.rn_desk.specs.Passes.{IsFresh};
+ghost use Rattle.rn_desk_uses.specs.Posts.{IsAtWork};
 
 use crate::sheet::Sheet;
 use rn_desk::{Desk, Kept, Pass};
 use rn_value::NoMemory;
 use std::alloc::Global;
 
-/// How often a worker wrote.
+/// In how many rounds a worker wrote, and in how many it found no memory.
 #[derive(Drop)]
 pub struct Tally {
     pub worker: u32,
     pub fired: u64,
+    pub refused: u64,
 }
 
 #[derive(Drop)]
@@ -40,22 +41,20 @@ pub fn posts_of(
         worker += 1;
         posts.push_reserved(Post {
             pass,
-            tally: Tally { worker, fired: 0 },
+            tally: Tally {
+                worker,
+                fired: 0,
+                refused: 0,
+            },
         });
     }
     Ok(posts)
 }
 
 /// The passes and the tallies, each in order.
-pub fn parted(
-    alloc: Global,
-    desk: &Desk<Sheet>,
-    posts: Vec<Post>,
-) -> Result<(Vec<Pass<Sheet>>, Vec<Tally>), NoMemory>
-    requires { EachAt (IsDone desk.now) posts.items }
-    ensures count { IfOk result (λ r. (vec_len r.0 ≡ vec_len posts) × (vec_len r.1 ≡ vec_len posts)) }
-    ensures back { IfOk result (λ r. EachAt (IsBack ⟦<Sheet as Kept>⟧.fixed desk.now) r.0.items) }
-    ensures tallies { IfOk result (λ r. AreTold r.0.items r.1.items) }
+pub fn parted(alloc: Global, posts: Vec<Post>) -> Result<(Vec<Pass<Sheet>>, Vec<Tally>), NoMemory>
+    ensures passes { IfOk result (λ r. r.0.items ≡ map (λ p. p.pass) posts.items) }
+    ensures tallies { IfOk result (λ r. r.1.items ≡ map (λ p. p.tally) posts.items) }
 {
     let mut passes = Vec::with_capacity(alloc, posts.len())?;
     let mut tallies = Vec::with_capacity(alloc, posts.len())?;

@@ -1,5 +1,5 @@
 //! What several threads leave on the sheet.
-use crate::{Line, Sheet, all_look, write_note, write_sheet};
+use crate::{Line, Sheet, Sight, look, look_all, write_note, write_sheet};
 use rn_desk::{Closed, close, open_desk};
 use std::test::Fail;
 
@@ -39,12 +39,27 @@ fn each_worker_leaves_its_lines(rt: HostRuntime) -> Result<(), Fail> {
 }
 
 #[test]
-fn looks_and_notes_author_nothing(rt: HostRuntime) -> Result<(), Fail> {
-    let (desk, mut passes) = open_desk(rt.alloc(), Sheet::new(rt.alloc(), 7), 4)?;
-    all_look(&rt, &desk, passes.as_mut_slice());
-    write_note(&rt, &desk, &mut passes[0], 5);
-    all_look(&rt, &desk, passes.as_mut_slice());
+fn a_note_has_no_author(rt: HostRuntime) -> Result<(), Fail> {
+    let (desk, mut passes) = open_desk(rt.alloc(), Sheet::new(rt.alloc(), 7), 2)?;
+    let written = write_note(&rt, &desk, &mut passes[0], 5);
+    let entries = look(&rt, &desk, &mut passes[1]);
     let Closed { state } = close(desk, passes);
+    assert!(rt; written && entries == 1);
     assert!(rt; state.lines.len() == 1 && state.lines[0].worker == 0 && state.lines[0].round == 5);
+    Ok(())
+}
+
+#[test]
+fn passes_look_side_by_side(rt: HostRuntime) -> Result<(), Fail> {
+    let (desk, mut passes) = open_desk(rt.alloc(), Sheet::new(rt.alloc(), 7), 2)?;
+    let pass = passes.remove(0);
+    let mut sights = Vec::with_capacity(rt.alloc(), 2)?;
+    sights.push(Sight { pass, entries: 9 })?;
+    let pass = passes.remove(0);
+    sights.push(Sight { pass, entries: 9 })?;
+    look_all(&rt, &desk, sights.as_mut_slice());
+    for sight in &sights {
+        assert_eq!(rt; sight.entries, 0);
+    }
     Ok(())
 }

@@ -1,8 +1,11 @@
 //! Turns that add nothing of the pass's own.
-ghost use Rattle.std.specs.Prelude.{◌≡◌, ◌+◌, ◌<◌, ◌≤◌, length};
-ghost use Rattle.rn_desk.specs.Entries.{StartsWith};
+ghost use Rattle.std.specs.Prelude.{◌≡◌, ◌<◌, ◌≤◌, ◌+◌, ◌++◌, ◌∷◌, [], length, List};
+ghost use Rattle.std.specs.Bool.{OnTrue};
 ghost use Rattle.rn_desk.specs.Numbered.{EachAt};
-ghost use Rattle.rn_desk.specs.Passes.{IsOf, IsFree, IsBack, number, seen, mine};
+ghost use Rattle.rn_desk.specs.Passes.{number, seen, mine};
+ghost use Rattle.rn_desk_uses.specs.Looks.{IsReady, HasLooked};
+ghost use Rattle.rn_desk_uses.specs.Sights.{IsToLook, IsShown};
+ghost use Rattle.rn_desk_uses.specs.declared.sheet.Line.{Line as AnyLine};
 
 use crate::sheet::{Line, Sheet};
 use rn_desk::{Desk, Kept, Pass};
@@ -10,53 +13,57 @@ use std::sync::Wait;
 use std::thread;
 use std::thread::Threads;
 
-/// Takes a turn and gives it back as it was.
-pub fn look<S: Kept, R: Wait>(rt: &R, desk: &Desk<S>, pass: &mut Pass<S>)
-    requires here { IsOf S.fixed desk.now pass.old }
-    requires free { IsFree pass.old }
-    ensures here { IsOf S.fixed desk.now pass.new }
-    ensures free { IsFree pass.new }
-    ensures number { number pass.new ≡ number pass.old }
-    ensures seen { StartsWith (seen pass.new) (seen pass.old) }
-    ensures mine { mine pass.new ≡ mine pass.old }
-{
-    let turn = desk.take(rt, pass);
-    desk.give(pass, turn);
+/// A pass, and how many entries it saw when it last looked.
+#[derive(Drop)]
+pub struct Sight<S: Kept> {
+    pub pass: Pass<S>,
+    pub entries: u64,
 }
 
-/// Each pass takes a turn, in a thread of its own where one can be made.
-pub fn all_look<S: Kept + Send, R: Threads + Wait + Sync>(
+/// The number of entries now, as a turn that adds none finds it.
+pub fn look<S: Kept, R: Wait>(rt: &R, desk: &Desk<S>, pass: &mut Pass<S>) -> u64
+    requires { IsReady S.fixed desk.now pass.old }
+    ensures { HasLooked S.fixed desk.now pass.old pass.new result }
+{
+    let mut turn = desk.take(rt, pass);
+    let entries = turn.state().length();
+    desk.give(pass, turn);
+    entries
+}
+
+/// Each pass looks, in a thread of its own where one can be made.
+pub fn look_all<S: Kept + Send, R: Threads + Wait + Sync>(
     rt: &R,
     desk: &Desk<S>,
-    passes: &mut [Pass<S>],
+    views: &mut [Sight<S>],
 )
-    requires some { 0 < length passes.old }
-    requires back { EachAt (IsBack S.fixed desk.now) passes.old }
-    ensures { EachAt (IsBack S.fixed desk.now) passes.new }
+    requires some { 0 < length views.old }
+    requires ready { EachAt (IsToLook S.fixed desk.now) views.old }
+    ensures { EachAt (IsShown S.fixed desk.now) views.new }
 {
-    let threads = passes.len();
+    let threads = views.len();
     thread::for_each_mut(
         rt,
-        passes,
+        views,
         threads,
-        &|i: usize, pass: &mut Pass<S>|
-            requires { IsBack S.fixed desk.now (i + 1) pass.old }
-            ensures { IsBack S.fixed desk.entry.now (i + 1) pass.new }
-        { look(rt, desk, pass) },
+        &|i: usize, view: &mut Sight<S>|
+            requires { IsToLook S.fixed desk.now (i + 1) view.old }
+            ensures { IsShown S.fixed desk.entry.now (i + 1) view.new }
+        { view.entries = look(rt, desk, &mut view.pass) },
     );
 }
 
-/// Adds a line that no worker authored, while memory is left.
-pub fn write_note<R: Wait>(rt: &R, desk: &Desk<Sheet>, pass: &mut Pass<Sheet>, round: u32)
-    requires here { IsOf ⟦<Sheet as Kept>⟧.fixed desk.now pass.old }
-    requires free { IsFree pass.old }
+/// Adds a line that no worker authored, and answers whether there was memory for it.
+pub fn write_note<R: Wait>(rt: &R, desk: &Desk<Sheet>, pass: &mut Pass<Sheet>, round: u32) -> bool
+    requires ready { IsReady ⟦<Sheet as Kept>⟧.fixed desk.now pass.old }
     requires numbered { 1 ≤ number pass.old }
-    ensures here { IsOf ⟦<Sheet as Kept>⟧.fixed desk.now pass.new }
-    ensures free { IsFree pass.new }
+    ensures ready { IsReady ⟦<Sheet as Kept>⟧.fixed desk.now pass.new }
     ensures number { number pass.new ≡ number pass.old }
+    ensures note { OnTrue result ((before : List AnyLine) × (seen pass.new ≡ before ++ record { worker = 0; round = round } ∷ [])) }
     ensures mine { mine pass.new ≡ mine pass.old }
 {
     let mut turn = desk.take(rt, pass);
-    turn.state().write(Line { worker: 0, round });
+    let written = turn.state().write(Line { worker: 0, round });
     desk.give(pass, turn);
+    written
 }

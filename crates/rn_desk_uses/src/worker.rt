@@ -23,13 +23,13 @@ pub fn write_sheet<R: Threads + Wait + Sync>(
 ) -> Result<(Sheet, Vec<Tally>), NoMemory>
     requires { (1 ≤ workers) × (workers ≤ 64) }
     ensures title { IfOk result (λ r. r.0.title ≡ 7) }
-    ensures tallies { IfOk result (λ r. (vec_len r.1 ≡ workers) × EachAt (FiredBy r.0.lines.items) r.1.items) }
+    ensures tallies { IfOk result (λ r. (vec_len r.1 ≡ workers) × EachAt (FiredBy r.0.lines.items rounds) r.1.items) }
     ensures others { IfOk result (λ r. (n : ℕ) → workers < n → authored ⟦<Sheet as Kept>⟧.author n r.0.lines.items ≡ []) }
 {
     let (desk, passes) = open_desk(alloc, Sheet::new(alloc, 7), workers)?;
     let mut posts = posts_of(alloc, &desk, passes)?;
     all_work(rt, &desk, posts.as_mut_slice(), rounds);
-    let (passes, tallies) = parted(alloc, &desk, posts)?;
+    let (passes, tallies) = parted(alloc, posts)?;
     let Closed { state } = close(desk, passes);
     Ok((state, tallies))
 }
@@ -38,7 +38,7 @@ pub fn write_sheet<R: Threads + Wait + Sync>(
 fn all_work<R: Threads + Wait + Sync>(rt: &R, desk: &Desk<Sheet>, posts: &mut [Post], rounds: u32)
     requires count { 0 < length posts.old }
     requires back { EachAt (IsAtWork desk.now) posts.old }
-    ensures { EachAt (IsDone desk.now) posts.new }
+    ensures { EachAt (IsDone desk.now rounds) posts.new }
 {
     let threads = posts.len();
     thread::for_each_mut(
@@ -47,7 +47,7 @@ fn all_work<R: Threads + Wait + Sync>(rt: &R, desk: &Desk<Sheet>, posts: &mut [P
         threads,
         &|i: usize, post: &mut Post|
             requires { IsAtWork desk.now (i + 1) post.old }
-            ensures { IsDone desk.entry.now (i + 1) post.new }
+            ensures { IsDone desk.entry.now rounds (i + 1) post.new }
         { work(rt, desk, &mut post.pass, &mut post.tally, rounds) },
     );
 }
@@ -63,11 +63,12 @@ pub fn work<R: Wait>(
     requires here { IsOf ⟦<Sheet as Kept>⟧.fixed desk.now pass.old }
     requires free { IsFree pass.old }
     requires worker { number pass.old ≡ tally.old.worker }
-    requires new { (mine pass.old ≡ []) × (tally.old.fired ≡ 0) }
+    requires new { (mine pass.old ≡ []) × (tally.old.fired ≡ 0) × (tally.old.refused ≡ 0) }
     ensures here { IsOf ⟦<Sheet as Kept>⟧.fixed desk.now pass.new }
     ensures free { IsFree pass.new }
     ensures worker { (number pass.new ≡ number pass.old) × (tally.new.worker ≡ tally.old.worker) }
     ensures fired { tally.new.fired ≡ length (mine pass.new) }
+    ensures rounds { tally.new.fired + tally.new.refused ≡ rounds }
 {
     for round in 0..rounds {
         let mut turn = desk.take(rt, pass);
@@ -79,6 +80,8 @@ pub fn work<R: Wait>(
         desk.give(pass, turn);
         if written {
             tally.fired += 1;
+        } else {
+            tally.refused += 1;
         }
     }
 }
