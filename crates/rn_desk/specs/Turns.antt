@@ -90,7 +90,8 @@ module _ {I F : Type 0} where
 
 module _ {I : Type 0} (out : Type 0) (log : List I) (made drawn served : ℕ) (seat_of : ℕ → ℕ) (seat : ℕ) (own : Part I) where
   -- What holds of a seat in this role, where `out` says that the slot is out.
-  -- A ticket is from `served` up to but not `drawn`, and just one seat has it, since `seat_of` names that seat.
+  -- A ticket is from `served` up to but not `drawn`, and no two seats have one, since `seat_of` names its seat.
+  -- Who has the turn has the ticket `served`, so one seat at most has it; its list in hand is the history.
   abbrev pub RoleFits : Role → Type 0
   RoleFits Spent = Unit {0}
   RoleFits (Maker n) = (n ≡ made) × (seat ≡ 0)
@@ -116,7 +117,7 @@ module _ {S I F : Type 0} (entries : S → List I) (author : I → ℕ) (fixed :
     pub seat_of : ℕ → ℕ
     -- what the words say, modulo 2^64
     pub words : s.words ≡ wrapped drawn ∷ wrapped served ∷ wrapped (length log) ∷ []
-    -- what each seat knows of its ticket, and who has the turn of the history and the slot
+    -- what each seat knows of its ticket, and who has the turn knows of the history and the slot
     pub roles : (j : ℕ) (v : View I F) → get_elem? s.views j ≡ maybe.some v
         → RoleFits (s.homes ≡ maybe.none ∷ []) log made drawn served seat_of j v.own v.role
     -- each ticket from `served` up to but not `drawn` is out, and there are as many seats that have one

@@ -8,6 +8,14 @@ mod steps;
 mod turns;
 
 /// It keeps the state. The workers share it by reference.
+///
+/// ```
+/// let (desk, mut passes) = open_desk(alloc, state, 4)?;
+/// let mut turn = desk.take(&rt, &mut passes[0]);
+/// turn.state().add(entry);
+/// desk.give(&mut passes[0], turn);
+/// let Closed { state } = close(desk, passes);
+/// ```
 #[derive(Drop)]
 pub struct Desk<S: Kept> {
     pub(crate) table: Board<S>,

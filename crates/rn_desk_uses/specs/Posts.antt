@@ -1,5 +1,5 @@
 -- What holds of a worker's post, and of its tally.
-use Rattle.std.specs.Prelude.{◌≡◌, ℕ, ◌+◌, List, [], length}
+use Rattle.std.specs.Prelude.{◌≡◌, ℕ, ◌+◌, List, [], ◌∷◌, ◌++◌, length}
 use Rattle.rn_desk.specs.declared.desk.Desk.{Desk}
 use Rattle.rn_desk.specs.Entries.{authored}
 use Rattle.rn_desk.specs.Passes.{IsBack, mine}
@@ -22,3 +22,7 @@ IsDone d rounds n p = IsBack (λ s. s.title) d n p.pass × (p.tally.worker ≡ n
 abbrev pub FiredBy : List Line → ℕ → ℕ → Tally → Type 0
 FiredBy lines rounds n t = (t.worker ≡ n) × (t.fired ≡ length (authored (λ l. l.worker) n lines))
     × (t.fired + t.refused ≡ rounds)
+
+-- the last line is of this round, and no worker authored it
+abbrev pub EndsWithNote : List Line → ℕ → Type 0
+EndsWithNote lines round = (before : List Line) × (lines ≡ before ++ record { worker = 0; round = round } ∷ [])

@@ -1,11 +1,11 @@
 //! Turns that add nothing of the pass's own.
-ghost use Rattle.std.specs.Prelude.{◌≡◌, ◌<◌, ◌≤◌, ◌+◌, ◌++◌, ◌∷◌, [], length, List};
+ghost use Rattle.std.specs.Prelude.{◌≡◌, ◌<◌, ◌≤◌, ◌+◌, length};
 ghost use Rattle.std.specs.Bool.{OnTrue};
 ghost use Rattle.rn_desk.specs.Numbered.{EachAt};
 ghost use Rattle.rn_desk.specs.Passes.{number, seen, mine};
 ghost use Rattle.rn_desk_uses.specs.Looks.{IsReady, HasLooked};
+ghost use Rattle.rn_desk_uses.specs.Posts.{EndsWithNote};
 ghost use Rattle.rn_desk_uses.specs.Sights.{IsToLook, IsShown};
-ghost use Rattle.rn_desk_uses.specs.declared.sheet.Line.{Line as AnyLine};
 
 use crate::sheet::{Line, Sheet};
 use rn_desk::{Desk, Kept, Pass};
@@ -35,21 +35,21 @@ pub fn look<S: Kept, R: Wait>(rt: &R, desk: &Desk<S>, pass: &mut Pass<S>) -> u64
 pub fn look_all<S: Kept + Send, R: Threads + Wait + Sync>(
     rt: &R,
     desk: &Desk<S>,
-    views: &mut [Sight<S>],
+    sights: &mut [Sight<S>],
 )
-    requires some { 0 < length views.old }
-    requires ready { EachAt (IsToLook S.fixed desk.now) views.old }
-    ensures { EachAt (IsShown S.fixed desk.now) views.new }
+    requires some { 0 < length sights.old }
+    requires ready { EachAt (IsToLook S.fixed desk.now) sights.old }
+    ensures { EachAt (IsShown S.fixed desk.now) sights.new }
 {
-    let threads = views.len();
+    let threads = sights.len();
     thread::for_each_mut(
         rt,
-        views,
+        sights,
         threads,
-        &|i: usize, view: &mut Sight<S>|
-            requires { IsToLook S.fixed desk.now (i + 1) view.old }
-            ensures { IsShown S.fixed desk.entry.now (i + 1) view.new }
-        { view.entries = look(rt, desk, &mut view.pass) },
+        &|i: usize, sight: &mut Sight<S>|
+            requires { IsToLook S.fixed desk.now (i + 1) sight.old }
+            ensures { IsShown S.fixed desk.entry.now (i + 1) sight.new }
+        { sight.entries = look(rt, desk, &mut sight.pass) },
     );
 }
 
@@ -59,7 +59,7 @@ pub fn write_note<R: Wait>(rt: &R, desk: &Desk<Sheet>, pass: &mut Pass<Sheet>, r
     requires numbered { 1 ≤ number pass.old }
     ensures ready { IsReady ⟦<Sheet as Kept>⟧.fixed desk.now pass.new }
     ensures number { number pass.new ≡ number pass.old }
-    ensures note { OnTrue result ((before : List AnyLine) × (seen pass.new ≡ before ++ record { worker = 0; round = round } ∷ [])) }
+    ensures note { OnTrue result (EndsWithNote (seen pass.new) round) }
     ensures mine { mine pass.new ≡ mine pass.old }
 {
     let mut turn = desk.take(rt, pass);
