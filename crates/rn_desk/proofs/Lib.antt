@@ -1,0 +1,14 @@
+pub mod Sums
+pub mod Histories
+pub mod Roles
+pub mod Views
+pub mod Keeping
+pub mod Drawing
+pub mod Looking
+pub mod Counting
+pub mod Passing
+pub mod Splitting
+pub mod Joining
+pub mod Starting
+pub mod Ending
+pub mod Numbering

@@ -1,0 +1,9 @@
+use Rattle.std.proofs.Common.{◌≡◌, ℕ, []}
+use Rattle.rn_desk.specs.declared.view.Role.TheVariants.{Waits}
+use Rattle.rn_desk.specs.Turns.{wrapped}
+use Rattle.rn_desk.specs.Steps.{in_role}
+use Rattle.rn_desk.proofs.desk.Desk.take.Given as goal
+
+abbrev pub invariant-loop : goal.invariant-loop
+invariant-loop g l = (l.pass.place.table_id ≡ l.fn.pass.place.table_id)
+    × ((t : ℕ) × (wrapped t ≡ l.ticket) × (l.pass.place.me ≡ (in_role (Waits t) l.fn.pass.place.me.0, [])))

@@ -1,0 +1,41 @@
+//! The desk, a worker's pass, and its turn.
+ghost use Rattle.std.specs.Prelude.{◌≡◌, ◌≤◌};
+
+use crate::kept::Kept;
+use crate::rule::{Board, Place};
+
+mod steps;
+mod turns;
+
+/// It keeps the state. The workers share it by reference.
+///
+/// ```
+/// let (desk, mut passes) = open_desk(alloc, state, 4)?;
+/// let mut turn = desk.take(&rt, &mut passes[0]);
+/// turn.state().add(entry);
+/// desk.give(&mut passes[0], turn);
+/// let Closed { state } = close(desk, passes);
+/// ```
+#[derive(Drop)]
+pub struct Desk<S: Kept> {
+    pub(crate) table: Board<S>,
+    pub(crate) ghost words: { table.shared.table_id.words ≡ 3 },
+    pub(crate) ghost slots: { table.shared.table_id.slots ≡ 1 },
+    pub(crate) ghost seats: { 1 ≤ table.shared.key.seats },
+}
+
+/// What one worker takes its turns with.
+///
+/// It has a number from 1 to the number of seats, what it has seen, and what it authored.
+#[derive(Drop)]
+pub struct Pass<S: Kept> {
+    pub(crate) place: Place<S>,
+}
+
+/// The state, while a pass has the turn.
+///
+/// It is not `Drop`: `Desk::give` is the one way to be rid of it.
+pub struct Turn<S> {
+    pub(crate) state: S,
+    pub(crate) length: u64,
+}

@@ -1,0 +1,60 @@
+//! Taking a turn, and giving it back.
+ghost use Rattle.std.specs.Prelude.{◌≡◌};
+ghost use Rattle.rn_desk.specs.Entries.{StartsWith, AddsAtMostOne, GrowsOwn};
+ghost use Rattle.rn_desk.specs.Taken.{state_of};
+ghost use Rattle.rn_desk.specs.Passes.{fixed_of, number, seen, mine, IsOf, IsFree, HasTurn};
+
+use super::{Desk, Pass, Turn};
+use crate::kept::Kept;
+use std::sync::Wait;
+use std::thread;
+
+impl<S: Kept> Desk<S> {
+    /// Draws a ticket, waits until it is served, and takes the state out. It may wait forever.
+    pub fn take<R: Wait>(&self, rt: &R, pass: &mut Pass<S>) -> Turn<S>
+        requires here { IsOf S.fixed self.now pass.old }
+        requires free { IsFree pass.old }
+
+        // The turn.
+        ensures entries { StartsWith (S.entries (state_of result)) (seen pass.old) }
+        ensures fixed { S.fixed (state_of result) ≡ fixed_of S.fixed self.now }
+        ensures turn { HasTurn pass.new result }
+
+        // The pass.
+        ensures here { IsOf S.fixed self.now pass.new }
+        ensures number { number pass.new ≡ number pass.old }
+        ensures seen { seen pass.new ≡ S.entries (state_of result) }
+        ensures mine { mine pass.new ≡ mine pass.old }
+    {
+        let ticket = self.draw_ticket(&mut pass.place);
+        for _ in rt.forever() {
+            if self.look_at_serving(&mut pass.place, ticket) {
+                let state = self.take_state_out(&mut pass.place);
+                let length = state.length();
+                return Turn { state, length };
+            }
+            thread::yield_now();
+        }
+        unreachable!()
+    }
+
+    /// Puts the state back, with at most one entry more, and passes the turn on.
+    pub fn give(&self, pass: &mut Pass<S>, turn: Turn<S>)
+        requires here { IsOf S.fixed self.now pass.old }
+        requires turn { HasTurn pass.old turn }
+        requires fixed { S.fixed (state_of turn) ≡ fixed_of S.fixed self.now }
+        requires entries { AddsAtMostOne S.author (number pass.old) (seen pass.old) (S.entries (state_of turn)) }
+
+        ensures here { IsOf S.fixed self.now pass.new }
+        ensures free { IsFree pass.new }
+        ensures number { number pass.new ≡ number pass.old }
+        ensures seen { seen pass.new ≡ S.entries (state_of turn) }
+        ensures mine { GrowsOwn S.author (number pass.old) (seen pass.old) (S.entries (state_of turn)) (mine pass.old) (mine pass.new) }
+    {
+        let Turn { state, length } = turn;
+        let full = Some(state);
+        self.count_entry(&mut pass.place, length, &full);
+        self.put_state_back(&mut pass.place, full);
+        self.pass_turn_on(&mut pass.place);
+    }
+}

@@ -1,0 +1,25 @@
+//! What a desk can keep.
+ghost use Rattle.std.specs.Prelude.{◌≡◌, ℕ, List, length};
+
+/// A state with a list of entries, of which each has an author or none.
+///
+/// Where no memory is left for a desk, the state is dropped with it.
+pub trait Kept: Drop {
+    /// An entry.
+    type Item;
+    /// What stays the same while the state lies in a desk.
+    type Fixed;
+
+    /// The entries, in order.
+    ghost entries: { Self → List Self.Item };
+
+    /// The number of the pass that authored an entry, or 0 for none.
+    ghost author: { Self.Item → ℕ };
+
+    /// What stays the same.
+    ghost fixed: { Self → Self.Fixed };
+
+    /// The number of entries.
+    fn length(&self) -> u64
+        ensures { result ≡ length (entries self.now) };
+}

@@ -1,0 +1,18 @@
+//! A desk: a ticket lock that keeps one state, whose entries grow by at most one a turn.
+#![tactic(auto)]
+
+mod closing;
+mod desk;
+mod kept;
+mod kinds;
+mod lent;
+mod opening;
+mod rule;
+#[cfg(test)]
+mod tests;
+mod view;
+
+pub use closing::{Closed, close};
+pub use desk::{Desk, Pass, Turn};
+pub use kept::Kept;
+pub use opening::open_desk;

@@ -1,0 +1,58 @@
+//! How a desk is opened.
+ghost use Rattle.std.specs.Prelude.{◌≡◌, ◌≤◌, [], IfOk, vec_len};
+ghost use Rattle.rn_desk.specs.Numbered.{EachAt};
+ghost use Rattle.rn_desk.specs.Steps.{maker};
+ghost use Rattle.rn_desk.specs.Passes.{seats_of, fixed_of, IsFresh};
+
+use crate::desk::{Desk, Pass};
+use crate::kept::Kept;
+use crate::rule::Place;
+use crate::view::About;
+use atomic_table::Table;
+use rn_value::NoMemory;
+use std::alloc::Global;
+use std::snapshot::Snapshot;
+
+/// Opens a desk that keeps this state, with a pass for each seat.
+///
+/// The pass with number `k` stands at place `k - 1`. At `NoMemory` the state is dropped.
+pub fn open_desk<S: Kept>(
+    alloc: Global,
+    state: S,
+    seats: u32,
+) -> Result<(Desk<S>, Vec<Pass<S>>), NoMemory>
+    requires seats { (1 ≤ seats) × (seats ≤ 64) }
+    requires blank { S.entries state ≡ [] }
+    ensures seats { IfOk result (λ r. (seats_of r.0 ≡ seats) × (vec_len r.1 ≡ seats)) }
+    ensures fixed { IfOk result (λ r. fixed_of S.fixed r.0 ≡ S.fixed state) }
+    ensures passes { IfOk result (λ r. EachAt (IsFresh S.fixed r.0) r.1.items) }
+{
+    let mut passes = Vec::with_capacity(alloc, seats as usize)?;
+    let (desk, mut maker) = lay(alloc, state, seats)?;
+    for _ in 0..seats {
+        let place = desk.split_seat(&mut maker);
+        passes.push_reserved(Pass { place });
+    }
+    Ok((desk, passes))
+}
+
+// The desk with the state, and the seat that makes the others.
+fn lay<S: Kept>(alloc: Global, state: S, seats: u32) -> Result<(Desk<S>, Place<S>), NoMemory>
+    requires seats { (1 ≤ seats) × (seats ≤ 64) }
+    requires blank { S.entries state ≡ [] }
+    ensures seats { IfOk result (λ r. seats_of r.0 ≡ seats) }
+    ensures fixed { IfOk result (λ r. fixed_of S.fixed r.0 ≡ S.fixed state) }
+    ensures here { IfOk result (λ r. r.1.table_id ≡ r.0.table.shared.table_id) }
+    ensures maker { IfOk result (λ r. r.1.me ≡ (maker 0 (S.fixed state), [])) }
+{
+    let about = About {
+        seats,
+        state: Snapshot::of(&state),
+    };
+    let mut slots = Vec::new(alloc);
+    slots.push(Some(state))?;
+    match Table::new(alloc, &[0, 0, 0], slots, &about) {
+        Ok((table, maker)) => Ok((Desk { table }, maker)),
+        Err(_) => Err(NoMemory),
+    }
+}

@@ -1,0 +1,14 @@
+//! Workers that write on one sheet, kept in a desk.
+#![tactic(auto)]
+
+mod post;
+mod sheet;
+#[cfg(test)]
+mod tests;
+mod turns;
+mod worker;
+
+pub use post::Tally;
+pub use sheet::{Line, Sheet};
+pub use turns::{Sight, look, look_all, write_note};
+pub use worker::{work, write_sheet};
