@@ -1,4 +1,5 @@
 pub mod ActionsAndNumbers
+pub mod BindingOrder
 pub mod CallsWhatItMakes
 pub mod DerivationLemmas
 pub mod EnablingLemmas
@@ -12,6 +13,7 @@ pub mod NamingRules
 pub mod NextNumber
 pub mod NotDerived
 pub mod ReadingLemmas
+pub mod RunLemmas
 pub mod SingleNodes
 pub mod SumForces
 pub mod TokenForces

@@ -1,7 +1,35 @@
 //! Laws over the definitions, each the contract of a function that does nothing.
-ghost use Rattle.rn_model.specs.Laws.{NextIsFree};
+ghost use Rattle.rn_model.specs.Laws.{NextIsFree, FrontsAreRuns, FrontsAreLogs, RunsGrow};
+ghost use Rattle.rn_model.specs.Laws.{EndsFollow, DeadRunsStop, LogsEndOnce};
 
 /// Whether a binding is enabled doesn't depend on the number that the next instance gets.
 pub fn next_number_is_free()
     ensures { NextIsFree }
+{}
+
+/// A front of a run is a run.
+pub fn fronts_are_runs()
+    ensures { FrontsAreRuns }
+{}
+
+/// The first firings of a log are a log that hasn't ended.
+pub fn fronts_are_logs()
+    ensures { FrontsAreLogs }
+{}
+
+/// Firings with one more are a run exactly where they are a run and the last one fires at their
+/// end; and what their end then is.
+pub fn runs_grow()
+    ensures run { RunsGrow }
+    ensures end { EndsFollow }
+{}
+
+/// Where no binding is enabled at the end of firings, no run goes on from there.
+pub fn dead_runs_stop()
+    ensures { DeadRunsStop }
+{}
+
+/// No two of the ends Dead, Steps and Fault are true after the same firings.
+pub fn logs_end_once()
+    ensures { LogsEndOnce }
 {}

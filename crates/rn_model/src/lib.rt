@@ -2,6 +2,7 @@
 #![tactic(auto)]
 
 mod binding;
+mod copying;
 mod expr;
 mod laws;
 mod log;
@@ -9,10 +10,13 @@ mod ordering;
 mod system;
 
 pub use binding::{Binding, Node, Nodes};
+pub use copying::{copy_binding, copy_entry};
 pub use expr::{Alts, CompareKind, Cond, Conds, Expr, Exprs, OpKind, Pairs, Simple, Simples};
-pub use laws::next_number_is_free;
+pub use laws::{
+    dead_runs_stop, fronts_are_logs, fronts_are_runs, logs_end_once, next_number_is_free, runs_grow,
+};
 pub use log::{Entries, Entry, FaultKind, MarkLine, MarkLines, Options, Reason, Told};
-pub use ordering::compare_bindings;
+pub use ordering::{binding_order_is_total, compare_bindings, same_binding};
 pub use system::{
     Action, Actions, ArcKind, Channel, Channels, Creation, Creations, Downlink, Downlinks, Net,
     NetArc, NetArcs, Nets, Nums, Place, Places, System, Transition, Transitions, Uplink, Var, Vars,
