@@ -34,13 +34,13 @@ use Rattle.rn_model.proofs.DerivationLemmas.{hole_rules}
 use Rattle.rn_model.proofs.KindRules.{kind_rules}
 use Rattle.rn_model.proofs.EnablingLemmas.{not_in_nil, idle, the_one}
 
-abbrev sys : System
+abbrev pub sys : System
 sys = one_net [] (place_of (Kind.Tuple []) (black ∷ []) ∷ place_of (Kind.Tuple []) [] ∷ []) (only_arcs [] (arc_of Input 0 (E.Tuple []) ∷ arc_of Output 1 (E.Tuple []) ∷ []))
 
-abbrev n : Node
+abbrev pub n : Node
 n = record { path = []; inst = Old 1; net = 0; transition = 0; values = [] }
 
-abbrev b : Binding
+abbrev pub b : Binding
 b = record { nodes = n ∷ [] }
 
 taken_first : taken_at sys b (Old 1) 0 ≡ black ∷ []
@@ -55,7 +55,7 @@ taken_second = simp example_rules
 begins : initial_marking sys ≡ record { next = 2; instances = record { number = 1; net = 0; places = (black ∷ []) ∷ [] ∷ [] } ∷ [] }
 begins = refl
 
-abbrev then_m : Marking
+abbrev pub then_m : Marking
 then_m = record { next = 2; instances = record { number = 1; net = 0; places = [] ∷ (black ∷ []) ∷ [] } ∷ [] }
 
 fired : fire sys (initial_marking sys) b 1 ≡ Ok (record { marking = then_m; outs = [] })
@@ -67,7 +67,7 @@ no_calls caller i d h e =
     let here : slice_get (transition_of sys n).downlinks i ≡ Some d = rw (sym same) at e in
     let no : ⊥ = cc in no
 
-shape : Shape sys b 4
+pub shape : Shape sys b 4
 shape = record {
   ascending = λ k d h. let no : ⊥ = omega (arith, h) in absurd no;
   start = (n, refl, record { exists = (1, refl); uplink = refl });
@@ -97,7 +97,7 @@ in_p = arc_of Input 0 (E.Tuple [])
 abbrev out_q : NetArc
 out_q = arc_of Output 1 (E.Tuple [])
 
-agrees : Agrees sys b
+pub agrees : Agrees sys b
 agrees = record {
   nodes = All-cons (NodeAgrees sys) n [] (record {
     kinds = tt;
@@ -132,7 +132,7 @@ derived = record {
   forced = All-cons AllForced n [] (All-nil (IsVarForced sys b (In (length (items_of sys b))) n)) (All-nil AllForced);
 }
 
-abbrev m : Marking
+abbrev pub m : Marking
 m = initial_marking sys
 
 -- no arc asks anything of another instance or another place
@@ -164,11 +164,11 @@ fits = record {
   places = λ inst place. at_inst inst place (is_eq (inst_cmp (Old 1) inst)) refl;
 }
 
-enabled : Enabled sys m b 4
+pub enabled : Enabled sys m b 4
 enabled = record { shape = shape; agrees = agrees; derived = derived; fits = fits }
 
 -- the run of this one firing, by worker 1
-abbrev first : Firing
+abbrev pub first : Firing
 first = record { worker = 1; binding = b; outs = [] }
 
 led : after_firing sys 1 (initial_marking sys) first ≡ then_m
@@ -177,15 +177,15 @@ led = ap (λ r. marking_or r (initial_marking sys)) fired
 defined : fire sys (initial_marking sys) b 1 ≡ Ok (record { marking = after_firing sys 1 (initial_marking sys) first; outs = [] })
 defined = fired ∙ ap (λ after. Ok (record { marking = after; outs = [] })) (sym led)
 
-run : Run sys 4 (first ∷ [])
+pub run : Run sys 4 (first ∷ [])
 run = (record { enabled = enabled; fired = defined; worker = (omega arith, omega arith) }, tt)
 
-ends : end_of sys (first ∷ []) ≡ then_m
+pub ends : end_of sys (first ∷ []) ≡ then_m
 ends = led
 
 -- after it, the same binding isn't enabled
-not_again : ¬ Enabled sys then_m b 4
-not_again e =
+pub not_again : (depth : ℕ) → ¬ Enabled sys then_m b depth
+not_again depth e =
     let enough = (e.fits.places (Old 1) 0).enough black in
     let one : count_of black (taken_at sys b (Old 1) 0) ≡ 1 = rw taken_first (simp example_rules) in
     let none : count_of black (tokens then_m (Old 1) 0) ≡ 0 = refl in

@@ -3,6 +3,7 @@ pub mod BindingOrder
 pub mod CallsWhatItMakes
 pub mod DerivationLemmas
 pub mod EnablingLemmas
+pub mod EndsOfLogs
 pub mod EvaluationLemmas
 pub mod ExampleSystems
 pub mod ExpressionExamples
@@ -18,4 +19,5 @@ pub mod SingleNodes
 pub mod SumForces
 pub mod TokenForces
 pub mod TruthLemmas
+pub mod UndefinedFiring
 pub mod WhatArcsAsk
