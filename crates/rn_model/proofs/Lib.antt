@@ -1,6 +1,7 @@
 pub mod ActionsAndNumbers
 pub mod BindingOrder
 pub mod CallsWhatItMakes
+pub mod ChainOfCalls
 pub mod DerivationLemmas
 pub mod EnablingLemmas
 pub mod EndsOfLogs
