@@ -11,6 +11,7 @@ pub mod ExpressionExamples
 pub mod FiresOnce
 pub mod GoodSystem
 pub mod KindRules
+pub mod LiveInstances
 pub mod NamingRules
 pub mod NextNumber
 pub mod NotDerived

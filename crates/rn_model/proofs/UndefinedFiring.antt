@@ -26,7 +26,6 @@ use Rattle.rn_model.specs.Enabling.{PlaceFits, Fits, Enabled}
 use Rattle.rn_model.specs.Firing.{fire}
 use Rattle.rn_model.specs.Runs.{Log, IsTrueEnd}
 use Rattle.rn_model.proofs.ExampleSystems.{one_net, int_var, one_node, example_rules}
-use Rattle.rn_model.proofs.NamingRules.{naming_rules}
 use Rattle.rn_model.proofs.EnablingLemmas.{idle, the_one}
 
 abbrev sys : System
@@ -102,7 +101,7 @@ enabled = record {
 }
 
 undefined : fire sys m b 1 ≡ Err Cause.Action
-undefined = simp (example_rules, naming_rules)
+undefined = simp example_rules
 
 abbrev up_to : ℕ → Options
 up_to steps = record { workers = 1; steps = steps; depth = 0; sweep_every = 0 }
