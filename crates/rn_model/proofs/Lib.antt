@@ -3,6 +3,7 @@ pub mod BindingOrder
 pub mod CallsWhatItMakes
 pub mod ChainOfCalls
 pub mod DerivationLemmas
+pub mod EachElement
 pub mod EnablingLemmas
 pub mod EndsOfLogs
 pub mod EvaluationLemmas
@@ -14,6 +15,7 @@ pub mod KindRules
 pub mod LiveInstances
 pub mod NamingRules
 pub mod NextNumber
+pub mod NodesByPath
 pub mod NotDerived
 pub mod ReadingLemmas
 pub mod RunLemmas
