@@ -10,6 +10,7 @@ pub mod EvaluationLemmas
 pub mod ExampleSystems
 pub mod ExpressionExamples
 pub mod FiresOnce
+pub mod FormsAtWays
 pub mod GoodSystem
 pub mod KindRules
 pub mod LiveInstances
@@ -17,6 +18,7 @@ pub mod NamingRules
 pub mod NextNumber
 pub mod NodesByPath
 pub mod NotDerived
+pub mod OwnValues
 pub mod ReadingLemmas
 pub mod RunLemmas
 pub mod SingleNodes

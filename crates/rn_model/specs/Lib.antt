@@ -2,6 +2,7 @@ pub mod Agreement
 pub mod Bindings
 pub mod Demands
 pub mod Derivation
+pub mod DerivationLaws
 pub mod Enabling
 pub mod Evaluation
 pub mod Firing

@@ -1,5 +1,6 @@
 //! Laws over the definitions, each the contract of a function that does nothing.
 ghost use Rattle.rn_model.specs.Laws.{NextIsFree, FrontsAreRuns, FrontsAreLogs, RunsGrow};
+ghost use Rattle.rn_model.specs.DerivationLaws.{OwnValuesSatisfy, ForcedIsOwn, ForcedStays};
 ghost use Rattle.rn_model.specs.Laws.{EndsFollow, DeadRunsStop, LogsEndOnce};
 
 /// Whether a binding is enabled doesn't depend on the number that the next instance gets.
@@ -32,4 +33,17 @@ pub fn dead_runs_stop()
 /// No two of the ends Dead, Steps and Fault are true after the same firings.
 pub fn logs_end_once()
     ensures { LogsEndOnce }
+{}
+
+/// Where a binding of the shape agrees, some assignment gives its variables their own values and
+/// satisfies the equations of all its items.
+pub fn own_values_satisfy()
+    ensures { OwnValuesSatisfy }
+{}
+
+/// A variable of such a binding that is forced has no other value than its own; and what is forced
+/// stays so as further items come in.
+pub fn forced_is_own()
+    ensures own { ForcedIsOwn }
+    ensures stays { ForcedStays }
 {}
