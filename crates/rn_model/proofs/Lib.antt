@@ -23,6 +23,7 @@ pub mod ReadingLemmas
 pub mod RunLemmas
 pub mod SingleNodes
 pub mod SumForces
+pub mod ThreadSafety
 pub mod TokenForces
 pub mod TruthLemmas
 pub mod UndefinedFiring

@@ -7,7 +7,10 @@ mod expr;
 mod laws;
 mod log;
 mod ordering;
+mod sharing;
 mod system;
+#[cfg(test)]
+mod tests;
 
 pub use binding::{Binding, Node, Nodes};
 pub use copying::{copy_binding, copy_entry};
