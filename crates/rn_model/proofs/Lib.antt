@@ -6,6 +6,7 @@ pub mod DerivationLemmas
 pub mod EachElement
 pub mod EnablingLemmas
 pub mod EndsOfLogs
+pub mod EqualitiesAreSolved
 pub mod EvaluationLemmas
 pub mod ExampleSystems
 pub mod ExpressionExamples
