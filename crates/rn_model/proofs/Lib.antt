@@ -1,5 +1,6 @@
 pub mod ActionsAndNumbers
 pub mod BindingOrder
+pub mod CallsNeedTargets
 pub mod CallsWhatItMakes
 pub mod ChainOfCalls
 pub mod DerivationLemmas
@@ -16,6 +17,7 @@ pub mod GoodSystem
 pub mod KindRules
 pub mod LiveInstances
 pub mod NamingRules
+pub mod NewPlacesAreEmpty
 pub mod NextNumber
 pub mod NodesByPath
 pub mod NotDerived
@@ -23,6 +25,7 @@ pub mod OwnValues
 pub mod ReadingLemmas
 pub mod RunLemmas
 pub mod SingleNodes
+pub mod StrictGuards
 pub mod SumForces
 pub mod ThreadSafety
 pub mod TokenForces
