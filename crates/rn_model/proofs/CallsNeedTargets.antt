@@ -1,16 +1,13 @@
 -- A call can't find its own target, also where the binding agrees.
 -- channel h(net); net main { var x: net; trans s { x:h(x); } trans u { :h(this); } }
-use Rattle.std.proofs.Common.{◌≡◌, ℕ, zero, suc, pos, ◌⊎◌, List, [], ◌∷◌, ◌++◌, length, refl, sym, ap, ◌∙◌, subst, inl, inr, arith}
-use Rattle.std.specs.Prelude.{Some, None, All, Contains, slice_get, codes}
+use Rattle.std.proofs.Common.{◌≡◌, ℕ, zero, suc, pos, ◌⊎◌, List, [], ◌∷◌, ◌++◌, length, sym, ap, ◌∙◌, subst, inl, inr, arith}
+use Rattle.std.specs.Prelude.{Some, All, Contains, slice_get, codes}
 use Rattle.rn_value.specs.declared.value.InstRef.TheVariants.{Old}
 use Rattle.rn_value.specs.declared.value.Kind.TheVariants as Kind
 use Rattle.rn_value.specs.declared.value.Value.{Value}
-use Rattle.rn_value.specs.declared.value.Value.TheVariants as Value
-use Rattle.rn_model.specs.declared.expr.Expr.{Expr}
 use Rattle.rn_model.specs.declared.expr.Expr.TheVariants as E
 use Rattle.rn_model.specs.declared.system.System.{System}
 use Rattle.rn_model.specs.declared.system.Transition.{Transition}
-use Rattle.rn_model.specs.declared.system.Creation.{Creation}
 use Rattle.rn_model.specs.declared.system.Downlink.{Downlink}
 use Rattle.rn_model.specs.declared.binding.Node.{Node}
 use Rattle.rn_model.specs.declared.binding.Binding.{Binding}

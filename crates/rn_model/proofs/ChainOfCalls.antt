@@ -1,13 +1,13 @@
 -- A chain of two calls: its binding has three nodes, the last of depth 2.
 -- channel c(); net main { trans start { this:c(); } trans down { :c(); this:c(); } trans base { :c(); } }
-use Rattle.std.proofs.Common.{◌≡◌, ℕ, zero, suc, ◌≤◌, List, [], ◌∷◌, ◌++◌, length, refl, sym, ap, ◌∙◌, subst, arith}
-use Rattle.std.specs.Prelude.{◌≢◌, Some, None, All, Contains, codes, slice_get}
+use Rattle.std.proofs.Common.{◌≡◌, ℕ, zero, suc, ◌≤◌, List, [], ◌∷◌, length, refl, sym, ap, ◌∙◌, subst, arith}
+use Rattle.std.specs.Prelude.{◌≢◌, Some, Contains, codes, slice_get}
 use Rattle.std.specs.List.{AllAdjacentBelow}
 use Rattle.std.specs.Cmp.Lexicographic.{slice_cmp}
 use Rattle.std.specs.Ordering.{nat_cmp}
 use Rattle.std.specs.declared.cmp.Ordering.TheVariants.{Less}
 use Rattle.std.proofs.lemmas.List.Elements.{All-nil, All-cons}
-use Rattle.rn_value.specs.declared.value.InstRef.TheVariants.{Old, New}
+use Rattle.rn_value.specs.declared.value.InstRef.TheVariants.{Old}
 use Rattle.rn_model.specs.declared.expr.Expr.TheVariants as E
 use Rattle.rn_model.specs.declared.system.System.{System}
 use Rattle.rn_model.specs.declared.system.Transition.{Transition}

@@ -1,5 +1,5 @@
 -- What holds of each element of a list that is made from others.
-use Rattle.std.proofs.Common.{◌≡◌, ℕ, zero, suc, ◌+◌, Bool, true, false, List, [], ◌∷◌, ◌++◌, map, length, get_or, refl, sym, ap, subst, arith}
+use Rattle.std.proofs.Common.{◌≡◌, ℕ, zero, suc, ◌+◌, Bool, true, false, List, [], ◌∷◌, ◌++◌, map, refl, subst, arith}
 use Rattle.std.specs.Prelude.{Some, filter, flat_map, slice_get, if◌then◌else◌}
 use Rattle.std.specs.List.{All, AllZip, AllByRecursion, enumerate_from}
 

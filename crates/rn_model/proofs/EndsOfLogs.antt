@@ -1,27 +1,23 @@
 -- The ends of a log: of the system that fires once, and of one whose only firing is undefined.
 -- net main { place p = []; place q; trans t { in p; out q; } }
-use Rattle.std.proofs.Common.{◌≡◌, ℕ, zero, suc, ◌<◌, ◌≤◌, Bool, true, false, List, [], ◌∷◌, length, refl, sym, ap, ◌∙◌, subst, arith}
-use Rattle.std.specs.Prelude.{Option, Some, None, Contains, nat_eq}
+use Rattle.std.proofs.Common.{◌≡◌, ℕ, zero, suc, ◌<◌, Bool, true, false, List, [], ◌∷◌, length, refl, sym, ap, ◌∙◌, subst, arith}
+use Rattle.std.specs.Prelude.{Some, None, Contains, nat_eq}
 use Rattle.std.proofs.lemmas.List.Elements.{All-contains}
 use Rattle.std.proofs.Math.Dec.{T, eqb→eq}
 use Rattle.rn_value.specs.declared.value.InstRef.{InstRef}
 use Rattle.rn_value.specs.declared.value.InstRef.TheVariants.{Old}
 use Rattle.rn_value.specs.declared.value.Value.{Value}
-use Rattle.rn_model.specs.declared.system.System.{System}
-use Rattle.rn_model.specs.declared.system.Net.{Net}
-use Rattle.rn_model.specs.declared.system.Transition.{Transition}
-use Rattle.rn_model.specs.declared.system.Downlink.{Downlink}
 use Rattle.rn_model.specs.declared.binding.Node.{Node}
 use Rattle.rn_model.specs.declared.binding.Binding.{Binding}
 use Rattle.rn_model.specs.declared.log.Options.{Options}
 use Rattle.rn_model.specs.declared.log.Reason.TheVariants.{Dead, Steps, Memory}
 use Rattle.rn_model.specs.Systems.{net_at, transition_of}
 use Rattle.rn_model.specs.Markings.{net_of}
-use Rattle.rn_model.specs.Bindings.{IsNodeOf, IsStart, Shape, node_at}
+use Rattle.rn_model.specs.Bindings.{IsNodeOf, node_at}
 use Rattle.rn_model.specs.Enabling.{Enabled, DeadAt}
 use Rattle.rn_model.specs.Runs.{Run, Log, IsTrueEnd}
 use Rattle.rn_model.proofs.SingleNodes.{single_node}
-use Rattle.rn_model.proofs.FiresOnce.{sys, b, n, m, then_m, first, enabled, run, ends, not_again}
+use Rattle.rn_model.proofs.FiresOnce.{sys, b, n, then_m, first, enabled, run, ends, not_again}
 
 below_one : (k : ℕ) → k < 1 → k ≡ 0
 below_one zero h = refl

@@ -31,4 +31,5 @@ pub mod ThreadSafety
 pub mod TokenForces
 pub mod TruthLemmas
 pub mod UndefinedFiring
+pub mod ValueLists
 pub mod WhatArcsAsk

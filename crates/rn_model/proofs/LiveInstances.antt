@@ -1,9 +1,9 @@
 -- A marking in which one instance is live by its net, one by a token of a live one, and one isn't.
-use Rattle.std.proofs.Common.{◌≡◌, ℕ, zero, suc, ◌<◌, ◌+◌, ◌⊎◌, Bool, true, false, List, [], ◌∷◌, length, refl, sym, ap, ◌∙◌, subst, inl, inr, arith}
-use Rattle.std.specs.Prelude.{◌≢◌, Option, Some, None, All, Contains, IsTrue, codes, nat_eq}
+use Rattle.std.proofs.Common.{◌≡◌, ℕ, zero, suc, ◌<◌, ◌⊎◌, Bool, true, false, [], ◌∷◌, length, refl, sym, ap, ◌∙◌, subst, inl, inr, arith}
+use Rattle.std.specs.Prelude.{◌≢◌, Some, None, All, Contains, IsTrue, codes, nat_eq}
 use Rattle.std.specs.List.{AllAdjacentBelow}
 use Rattle.std.specs.List.Sorted.{IsSorted, IsStrictlyIncreasing}
-use Rattle.std.proofs.lemmas.List.Elements.{All-nil, All-cons, All-contains}
+use Rattle.std.proofs.lemmas.List.Elements.{All-nil, All-cons}
 use Rattle.std.proofs.Math.Dec.{T, eqb→eq}
 use Rattle.rn_value.specs.Order.{value_cmp}
 use Rattle.rn_value.specs.declared.value.InstRef.TheVariants.{Old}
@@ -11,7 +11,6 @@ use Rattle.rn_value.specs.declared.value.Kind.TheVariants as Kind
 use Rattle.rn_value.specs.declared.value.Value.{Value, fold_out-Value}
 use Rattle.rn_value.specs.declared.value.Value.TheVariants as Value
 use Rattle.rn_model.specs.declared.system.System.{System}
-use Rattle.rn_model.specs.declared.system.Net.{Net}
 use Rattle.rn_model.specs.declared.log.MarkLine.{MarkLine}
 use Rattle.rn_model.specs.Systems.{empty_transition, net_at, may_start}
 use Rattle.rn_model.specs.Markings.{Marking, Instance, IsMarking, IsThere, instance_at, net_of, tokens_at}

@@ -1,6 +1,6 @@
 -- The initial tokens of a new instance don't serve in the firing that makes it.
 -- net main { var n: net; trans t { n: new w; n:c(); } } net w { place s = []; trans u { :c(); in s; } }
-use Rattle.std.proofs.Common.{◌≡◌, ℕ, [], ◌∷◌, refl, arith}
+use Rattle.std.proofs.Common.{◌≡◌, [], ◌∷◌, refl, arith}
 use Rattle.std.specs.Prelude.{Some, codes}
 use Rattle.rn_value.specs.declared.value.InstRef.TheVariants.{Old, New}
 use Rattle.rn_value.specs.declared.value.Kind.TheVariants as Kind
@@ -15,7 +15,7 @@ use Rattle.rn_model.specs.Lists.{count_of}
 use Rattle.rn_model.specs.Systems.{empty_transition}
 use Rattle.rn_model.specs.Markings.{initial_marking, tokens, fresh_instance}
 use Rattle.rn_model.specs.Demands.{taken_at}
-use Rattle.rn_model.specs.Enabling.{PlaceFits, Fits}
+use Rattle.rn_model.specs.Enabling.{Fits}
 use Rattle.rn_model.proofs.ExampleSystems.{black, arc_of, place_of, example_rules}
 
 abbrev t : Transition

@@ -1,5 +1,5 @@
 -- Where a binding of the shape agrees, its own values satisfy the equations of all its items.
-use Rattle.std.proofs.Common.{◌≡◌, ℕ, zero, suc, Bool, true, false, ◌&&◌, List, [], ◌∷◌, ◌++◌, map, refl, sym, ap, ◌∙◌, subst, inl, inr}
+use Rattle.std.proofs.Common.{◌≡◌, ℕ, zero, suc, true, false, List, [], ◌∷◌, ◌++◌, map, refl, sym, ap, ◌∙◌, subst, inl, inr}
 use Rattle.std.specs.Prelude.{Option, Some, None, option_map, option_and_then, unwrap_or, slice_get, Contains, filter, flat_map}
 use Rattle.std.specs.List.{AllZip, AllByRecursion, enumerate_from}
 use Rattle.std.specs.Option.{option_map_or}
@@ -14,17 +14,15 @@ use Rattle.rn_model.specs.declared.system.Transition.{Transition}
 use Rattle.rn_model.specs.declared.system.ArcKind.{ArcKind}
 use Rattle.rn_model.specs.declared.system.ArcKind.TheVariants.{Input, Output, Test, Reserve, FlexInput, FlexOutput, Inhibit, Clear}
 use Rattle.rn_model.specs.declared.system.NetArc.{NetArc}
-use Rattle.rn_model.specs.declared.system.Creation.{Creation}
 use Rattle.rn_model.specs.declared.system.Uplink.{Uplink}
-use Rattle.rn_model.specs.declared.system.Downlink.{Downlink}
 use Rattle.rn_model.specs.declared.binding.Node.{Node}
 use Rattle.rn_model.specs.declared.binding.Binding.{Binding}
 use Rattle.rn_model.specs.Lists.{HaveOneValue, value_beside}
 use Rattle.rn_model.specs.Systems.{transition_of, uplink_args, awaits_action, place_kind, channel_kinds}
 use Rattle.rn_model.specs.Evaluation.{Env, worth}
-use Rattle.rn_model.specs.Bindings.{Shape, Calls, env_of, node_at}
+use Rattle.rn_model.specs.Bindings.{Shape, env_of, node_at}
 use Rattle.rn_model.specs.Agreement.{Agrees, NodeAgrees, HasValueOf, HaveKindsOf, inscribed_kind}
-use Rattle.rn_model.specs.Derivation.{Site, left, right, uplink_arg, target, downlink_arg, arc, Hole, holes_in, Assignment, Unknowns, Item, entry, found, computed, finds_values, finds_token, sides_of, args_of, sites_of, node_items, items_of, EntryHolds, Holds, Satisfies, InBy, term_value_at}
+use Rattle.rn_model.specs.Derivation.{Site, left, right, uplink_arg, target, downlink_arg, arc, Hole, holes_in, Assignment, Unknowns, Item, found, computed, finds_values, finds_token, sides_of, args_of, sites_of, node_items, items_of, EntryHolds, Holds, Satisfies, InBy, term_value_at}
 use Rattle.rn_model.specs.DerivationLaws.{AreOwnValues, OwnValuesSatisfy, ForcedIsOwn, ForcedStays}
 use Rattle.rn_model.proofs.EachElement.{each_append, each_map, each_flat_map, each_weaker, each_filter, each_place, at_place, at_places}
 use Rattle.rn_model.proofs.NodesByPath.{node_at-path}

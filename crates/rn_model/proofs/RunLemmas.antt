@@ -1,12 +1,8 @@
 -- Fronts of runs, and what follows their ends.
 use Rattle.std.proofs.Common.{◌≡◌, ℕ, suc, ◌+◌, ◌≤◌, List, [], ◌∷◌, ◌++◌, length, length-append, sym, ◌∙◌, subst, ap, arith}
-use Rattle.std.specs.Prelude.{Option}
 use Rattle.rn_model.specs.declared.system.System.{System}
-use Rattle.rn_model.specs.declared.log.Reason.{Reason}
-use Rattle.rn_model.specs.declared.log.Options.{Options}
 use Rattle.rn_model.specs.Markings.{Marking, initial_marking}
-use Rattle.rn_model.specs.Enabling.{DeadAt}
-use Rattle.rn_model.specs.Runs.{Firing, Fires, Run, RunFrom, Log, after_firing, end_from, end_of}
+use Rattle.rn_model.specs.Runs.{Firing, Fires, RunFrom, after_firing, end_from, end_of}
 use Rattle.rn_model.specs.Laws.{FrontsAreRuns, FrontsAreLogs, RunsGrow, EndsFollow, DeadRunsStop, LogsEndOnce}
 
 front_from : (system : System) (depth step : ℕ) (m : Marking) (fs gs : List Firing) → RunFrom system depth step m (fs ++ gs) → RunFrom system depth step m fs

@@ -11,7 +11,6 @@ use Rattle.rn_model.specs.declared.expr.OpKind.TheVariants.{Add}
 use Rattle.rn_model.specs.declared.system.System.{System}
 use Rattle.rn_model.specs.declared.system.ArcKind.TheVariants.{Input}
 use Rattle.rn_model.specs.declared.binding.Node.{Node}
-use Rattle.rn_model.specs.declared.binding.Binding.{Binding}
 use Rattle.rn_model.specs.Systems.{empty_transition}
 use Rattle.rn_model.specs.Evaluation.{truth}
 use Rattle.rn_model.specs.Bindings.{env_of}

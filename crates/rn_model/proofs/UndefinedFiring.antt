@@ -1,12 +1,12 @@
 -- A binding that is enabled, and whose firing is undefined: the log ends in a fault.
 -- net main { var y: int; trans t { action y = 1 / 0; } }
 use Rattle.std.proofs.Common.{◌≡◌, ℕ, ◌≤◌, Bool, true, false, pos, [], ◌∷◌, length, refl, sym, subst, inl, arith}
-use Rattle.std.specs.Prelude.{Some, None, Err, All, Contains, slice_get}
+use Rattle.std.specs.Prelude.{Some, Err, All, Contains, slice_get}
 use Rattle.std.specs.Ordering.{is_eq}
 use Rattle.std.proofs.lemmas.List.Elements.{All-nil, All-cons}
 use Rattle.rn_value.specs.Order.{inst_cmp}
 use Rattle.rn_value.specs.declared.value.InstRef.{InstRef}
-use Rattle.rn_value.specs.declared.value.InstRef.TheVariants.{Old, New}
+use Rattle.rn_value.specs.declared.value.InstRef.TheVariants.{Old}
 use Rattle.rn_model.specs.declared.expr.Expr.TheVariants as E
 use Rattle.rn_model.specs.declared.expr.OpKind.TheVariants.{Div}
 use Rattle.rn_model.specs.declared.system.System.{System}
@@ -22,10 +22,10 @@ use Rattle.rn_model.specs.Markings.{Marking, initial_marking, net_of}
 use Rattle.rn_model.specs.Bindings.{Shape, IsNodeOf, IsOfCreation, IsCalled}
 use Rattle.rn_model.specs.Agreement.{Agrees, NodeAgrees}
 use Rattle.rn_model.specs.Derivation.{entry, items_of, InBy, Derived, IsVarForced}
-use Rattle.rn_model.specs.Enabling.{PlaceFits, Fits, Enabled}
+use Rattle.rn_model.specs.Enabling.{PlaceFits, Enabled}
 use Rattle.rn_model.specs.Firing.{fire}
 use Rattle.rn_model.specs.Runs.{Log, IsTrueEnd}
-use Rattle.rn_model.proofs.ExampleSystems.{one_net, int_var, one_node, example_rules}
+use Rattle.rn_model.proofs.ExampleSystems.{one_net, int_var, example_rules}
 use Rattle.rn_model.proofs.EnablingLemmas.{idle, the_one}
 
 abbrev sys : System

@@ -9,6 +9,7 @@ pub mod Firing
 pub mod Good
 pub mod Kinds
 pub mod Laws
+pub mod ListLaws
 pub mod Lists
 pub mod Liveness
 pub mod MarkingCodes

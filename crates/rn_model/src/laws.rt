@@ -1,5 +1,6 @@
 //! Laws over the definitions, each the contract of a function that does nothing.
 ghost use Rattle.rn_model.specs.Laws.{NextIsFree, FrontsAreRuns, FrontsAreLogs, RunsGrow};
+ghost use Rattle.rn_model.specs.ListLaws.{OrderedValuesAscend, OrderedValuesStay, OthersAreTaken};
 ghost use Rattle.rn_model.specs.DerivationLaws.{OwnValuesSatisfy, ForcedIsOwn, ForcedStays};
 ghost use Rattle.rn_model.specs.Laws.{EndsFollow, DeadRunsStop, LogsEndOnce};
 
@@ -46,4 +47,12 @@ pub fn own_values_satisfy()
 pub fn forced_is_own()
     ensures own { ForcedIsOwn }
     ensures stays { ForcedStays }
+{}
+
+/// Ordered values ascend and are the same as before; and what values are left without others, by
+/// how often each is there.
+pub fn lists_of_values()
+    ensures ascend { OrderedValuesAscend }
+    ensures stay { OrderedValuesStay }
+    ensures taken { OthersAreTaken }
 {}
