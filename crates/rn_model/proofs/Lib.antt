@@ -16,6 +16,8 @@ pub mod FormsAtWays
 pub mod GoodSystem
 pub mod KindRules
 pub mod LiveInstances
+pub mod MarkingsOfRuns
+pub mod MarkingsStay
 pub mod NamingRules
 pub mod NewPlacesAreEmpty
 pub mod NextNumber

@@ -13,6 +13,7 @@ pub mod ListLaws
 pub mod Lists
 pub mod Liveness
 pub mod MarkingCodes
+pub mod MarkingLaws
 pub mod Markings
 pub mod Names
 pub mod Order

@@ -1,6 +1,8 @@
 //! Laws over the definitions, each the contract of a function that does nothing.
 ghost use Rattle.rn_model.specs.Laws.{NextIsFree, FrontsAreRuns, FrontsAreLogs, RunsGrow};
 ghost use Rattle.rn_model.specs.ListLaws.{OrderedValuesAscend, OrderedValuesStay, OthersAreTaken};
+ghost use Rattle.rn_model.specs.MarkingLaws.{InitialIsMarking, FiringsKeepMarkings};
+ghost use Rattle.rn_model.specs.MarkingLaws.{RunsEndInMarkings};
 ghost use Rattle.rn_model.specs.DerivationLaws.{OwnValuesSatisfy, ForcedIsOwn, ForcedStays};
 ghost use Rattle.rn_model.specs.Laws.{EndsFollow, DeadRunsStop, LogsEndOnce};
 
@@ -55,4 +57,12 @@ pub fn lists_of_values()
     ensures ascend { OrderedValuesAscend }
     ensures stay { OrderedValuesStay }
     ensures taken { OthersAreTaken }
+{}
+
+/// The initial marking of a good system is a marking: its numbers ascend below the next one, each
+/// instance has its net's places, and tokens ascend. Firings of enabled bindings keep that.
+pub fn runs_end_in_markings()
+    ensures initial { InitialIsMarking }
+    ensures kept { FiringsKeepMarkings }
+    ensures ends { RunsEndInMarkings }
 {}
