@@ -1,3 +1,4 @@
+-- A system that fires once: its binding is enabled at first, and not after its firing.
 -- net main { place p = []; place q; trans t { in p; out q; } }
 use Rattle.std.proofs.Common.{◌≡◌, ℕ, ◌≤◌, Bool, true, false, [], ◌∷◌, length, refl, sym, ◌∙◌, ap, subst, inl, inr, arith}
 use Rattle.std.specs.Prelude.{Some, Ok, All, Contains, slice_get, nat_eq}

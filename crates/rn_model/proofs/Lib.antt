@@ -14,6 +14,7 @@ pub mod ExpressionExamples
 pub mod FiresOnce
 pub mod FormsAtWays
 pub mod GoodSystem
+pub mod InitialTokens
 pub mod KindRules
 pub mod LiveInstances
 pub mod MarkingsOfRuns

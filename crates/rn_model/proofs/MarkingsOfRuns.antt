@@ -1,37 +1,30 @@
 -- The markings of the runs of good systems.
-use Rattle.std.proofs.Common.{◌≡◌, ℕ, zero, suc, ◌<◌, Bool, true, false, cond, List, [], ◌∷◌, map, length, get_or, refl, sym, ap, ◌∙◌, subst, arith}
-use Rattle.std.specs.Prelude.{Option, Some, None, Result, Ok, Err, All, Contains, find, count_by, position, slice_get, unwrap_or, if◌then◌else◌, codes, nat_eq}
+use Rattle.std.proofs.Common.{◌≡◌, ℕ, suc, ◌<◌, Bool, true, false, cond, List, [], ◌∷◌, length, refl, sym, subst, arith}
+use Rattle.std.specs.Prelude.{Option, Some, None, Ok, All, Contains, find, count_by, position, unwrap_or, codes, nat_eq}
 use Rattle.std.specs.Cmp.Lexicographic.{pointwise}
 use Rattle.std.specs.List.{AllByRecursion, enumerate_from}
-use Rattle.std.proofs.lemmas.List.{length-map}
-use Rattle.std.proofs.lemmas.List.Elements.{All-nil, All-cons, All-contains, recursion_from_All, All-contains_itself}
+use Rattle.std.proofs.lemmas.List.Elements.{All-contains, recursion_from_All}
 use Rattle.std.proofs.lemmas.List.Quantifiers.{position-Some}
 use Rattle.std.proofs.lemmas.Option.{unwrap_or-slice_get}
 use Rattle.rn_value.specs.declared.value.InstRef.TheVariants.{Old}
 use Rattle.rn_value.specs.declared.value.Kind.TheVariants as Kind
 use Rattle.rn_model.specs.declared.system.System.{System}
-use Rattle.rn_model.specs.declared.system.Net.{Net}
-use Rattle.rn_model.specs.declared.system.Transition.{Transition}
-use Rattle.rn_model.specs.declared.binding.Node.{Node}
 use Rattle.rn_model.specs.declared.binding.Binding.{Binding}
-use Rattle.rn_model.specs.declared.log.FaultKind.{FaultKind}
-use Rattle.rn_model.specs.Lists.{ordered_values}
-use Rattle.rn_model.specs.Systems.{net_at, transition_at, transition_of, var_kind_in, main_net, net_named, empty_net, empty_transition}
+use Rattle.rn_model.specs.Systems.{net_at, transition_at, transition_of, var_kind_in, main_net, empty_net, empty_transition}
 use Rattle.rn_model.specs.Good.{Good, IsGoodNet, IsGoodTransition}
-use Rattle.rn_model.specs.Bindings.{Shape, IsNodeOf}
+use Rattle.rn_model.specs.Bindings.{IsNodeOf}
 use Rattle.rn_model.specs.Markings.{Instance, Marking, IsMarking, initial_marking, net_of}
-use Rattle.rn_model.specs.Enabling.{Enabled}
-use Rattle.rn_model.specs.Firing.{Made, Effects, Fired, fire, firing_result, effects, creations_of, made_by, named, marking_after, too_many}
-use Rattle.rn_model.specs.Runs.{Firing, RunFrom, Run, after_firing, end_from, end_of}
+use Rattle.rn_model.specs.Firing.{Made, Effects, Fired, firing_result, effects, creations_of, made_by, named, marking_after, too_many}
+use Rattle.rn_model.specs.Runs.{Firing, RunFrom, after_firing, end_from}
 use Rattle.rn_model.specs.MarkingLaws.{InitialIsMarking, FiringsKeepMarkings, RunsEndInMarkings}
 use Rattle.rn_model.proofs.EachElement.{each_map, each_flat_map, each_weaker, each_place, at_place}
-use Rattle.rn_model.proofs.MarkingsStay.{HasForm, of_forms, after_is_marking, fresh_form}
+use Rattle.rn_model.proofs.MarkingsStay.{of_forms, after_is_marking, fresh_form}
 
 -- A net of a good system by its number, and a transition of it.
-good_net : (system : System) (n : ℕ) → Good system → n < length system.nets → IsGoodNet system (net_at system n)
+pub good_net : (system : System) (n : ℕ) → Good system → n < length system.nets → IsGoodNet system (net_at system n)
 good_net system n good h = subst (IsGoodNet system) (sym (unwrap_or-slice_get system.nets n empty_net)) (good.nets n empty_net h)
 
-good_transition : (system : System) (n t : ℕ) → Good system → n < length system.nets → t < length (net_at system n).transitions → IsGoodTransition system (net_at system n) (transition_at system n t)
+pub good_transition : (system : System) (n t : ℕ) → Good system → n < length system.nets → t < length (net_at system n).transitions → IsGoodTransition system (net_at system n) (transition_at system n t)
 good_transition system n t good h k =
     subst (IsGoodTransition system (net_at system n)) (sym (unwrap_or-slice_get (net_at system n).transitions t empty_transition)) ((good_net system n good h).transitions t empty_transition k)
 
@@ -96,7 +89,7 @@ place_of test x xs None e = omega arith
 place_of test x xs (Some k) e = (position-Some test (x ∷ xs) k x e).0
 
 -- the place of what passes a test, where something does
-place_within : {X : Type 0} (test : X → Bool) (xs : List X) → count_by test xs ≡ 1 → unwrap_or (position test xs) 0 < length xs
+pub place_within : {X : Type 0} (test : X → Bool) (xs : List X) → count_by test xs ≡ 1 → unwrap_or (position test xs) 0 < length xs
 place_within test [] e = absurd (let no : ⊥ = omega (arith, e) in no)
 place_within test (x ∷ xs) e = place_of test x xs (position test (x ∷ xs)) refl
 

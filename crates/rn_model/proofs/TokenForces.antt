@@ -1,4 +1,4 @@
--- What is derived, and what isn't, in systems of one transition.
+-- A token forces the variable of its arc: place p: int = 5; in p: x;
 use Rattle.std.proofs.Common.{◌≡◌, ℕ, List, [], ◌∷◌, length, refl, sym, ◌∙◌, subst, inl, inr, arith}
 use Rattle.std.specs.Prelude.{Some, Contains, All}
 use Rattle.std.proofs.lemmas.List.Elements.{All-nil, All-cons}

@@ -19,4 +19,5 @@ pub mod Names
 pub mod Order
 pub mod OrderLaws
 pub mod Runs
+pub mod SoundTokens
 pub mod Systems

@@ -4,6 +4,7 @@ use Rattle.rn_model.specs.declared.system.System.{System}
 use Rattle.rn_model.specs.declared.binding.Binding.{Binding}
 use Rattle.rn_model.specs.Good.{Good}
 use Rattle.rn_model.specs.Markings.{Marking, IsMarking, initial_marking}
+use Rattle.rn_model.specs.SoundTokens.{HasSoundTokens}
 use Rattle.rn_model.specs.Enabling.{Enabled}
 use Rattle.rn_model.specs.Firing.{Fired, fire}
 use Rattle.rn_model.specs.Runs.{Firing, Run, end_of}
@@ -22,3 +23,8 @@ FiringsKeepMarkings = (system : System) (m : Marking) (b : Binding) (depth step 
 abbrev pub RunsEndInMarkings : Type 0
 RunsEndInMarkings = (system : System) (depth : ℕ) (fs : List Firing) → Good system →
     Run system depth fs → IsMarking system (end_of system fs)
+
+-- the initial tokens of a good system are sound
+abbrev pub InitialTokensAreSound : Type 0
+InitialTokensAreSound = (system : System) → Good system →
+    HasSoundTokens system (initial_marking system)

@@ -2,7 +2,7 @@
 ghost use Rattle.rn_model.specs.Laws.{NextIsFree, FrontsAreRuns, FrontsAreLogs, RunsGrow};
 ghost use Rattle.rn_model.specs.ListLaws.{OrderedValuesAscend, OrderedValuesStay, OthersAreTaken};
 ghost use Rattle.rn_model.specs.MarkingLaws.{InitialIsMarking, FiringsKeepMarkings};
-ghost use Rattle.rn_model.specs.MarkingLaws.{RunsEndInMarkings};
+ghost use Rattle.rn_model.specs.MarkingLaws.{RunsEndInMarkings, InitialTokensAreSound};
 ghost use Rattle.rn_model.specs.DerivationLaws.{OwnValuesSatisfy, ForcedIsOwn, ForcedStays};
 ghost use Rattle.rn_model.specs.Laws.{EndsFollow, DeadRunsStop, LogsEndOnce};
 
@@ -65,4 +65,9 @@ pub fn runs_end_in_markings()
     ensures initial { InitialIsMarking }
     ensures kept { FiringsKeepMarkings }
     ensures ends { RunsEndInMarkings }
+{}
+
+/// The initial tokens of a good system have their places' kinds and name no instance.
+pub fn initial_tokens_are_sound()
+    ensures { InitialTokensAreSound }
 {}
