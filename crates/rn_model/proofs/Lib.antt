@@ -24,6 +24,7 @@ pub mod NewPlacesAreEmpty
 pub mod NextNumber
 pub mod NodesByPath
 pub mod NotDerived
+pub mod OwnInstances
 pub mod OwnValues
 pub mod ReadingLemmas
 pub mod RunLemmas

@@ -4,11 +4,16 @@ ghost use Rattle.rn_model.specs.ListLaws.{OrderedValuesAscend, OrderedValuesStay
 ghost use Rattle.rn_model.specs.MarkingLaws.{InitialIsMarking, FiringsKeepMarkings};
 ghost use Rattle.rn_model.specs.MarkingLaws.{RunsEndInMarkings, InitialTokensAreSound};
 ghost use Rattle.rn_model.specs.DerivationLaws.{OwnValuesSatisfy, ForcedIsOwn, ForcedStays};
-ghost use Rattle.rn_model.specs.Laws.{EndsFollow, DeadRunsStop, LogsEndOnce};
+ghost use Rattle.rn_model.specs.Laws.{EndsFollow, DeadRunsStop, LogsEndOnce, LooksAtItsOwn};
 
 /// Whether a binding is enabled doesn't depend on the number that the next instance gets.
 pub fn next_number_is_free()
     ensures { NextIsFree }
+{}
+
+/// Whether a binding is enabled depends on those instances alone on which its nodes stand.
+pub fn bindings_look_at_their_own()
+    ensures { LooksAtItsOwn }
 {}
 
 /// A front of a run is a run.
