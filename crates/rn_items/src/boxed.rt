@@ -46,6 +46,7 @@ impl<T> Boxed<T> {
         Box::into_inner(content)
     }
 
+    /// The content, in its box.
     pub fn get(&self) -> &T
         ensures { result.now ≡ self.now }
     {

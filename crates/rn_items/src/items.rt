@@ -31,7 +31,7 @@ impl<T> Model for Items<T> {
 }
 
 impl<T> Items<T> {
-    /// The empty list.
+    /// The empty list, which takes no memory.
     pub fn new(alloc: Global) -> Items<T>
         ensures { result ≡ [] }
     {
@@ -55,6 +55,7 @@ impl<T> Items<T> {
         elements
     }
 
+    /// The elements, for all that slices can do.
     pub fn as_slice(&self) -> &[T]
         ensures { result.now ≡ self.now }
     {

@@ -12,7 +12,7 @@ enum Tree {
     Branch(Items<Tree>),
 }
 
-#[derive(Debug, Drop)]
+#[derive(Debug, Drop, PartialEq, Eq)]
 enum Chain {
     End,
     Link(Boxed<Chain>),
@@ -67,6 +67,8 @@ fn chains(rt: HostRuntime) -> Result<(), Fail> {
     assert!(rt; matches!(boxed.get(), Chain::End));
     let link = Chain::Link(boxed);
     let outer = Boxed::new(rt.alloc(), link)?;
+    assert!(rt; *outer == Chain::Link(Boxed::new(rt.alloc(), Chain::End)?));
+    assert!(rt; *outer != Chain::End);
     assert!(rt; matches!(&*outer, Chain::Link(_)));
     assert!(rt; matches!(outer.into_inner(), Chain::Link(_)));
     Ok(())

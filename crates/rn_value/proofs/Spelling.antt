@@ -68,7 +68,7 @@ letter_form c d =
 letter_in_name : (c : ℕ) → is_ascii_alphabetic c ≡ true → is_name_byte c ≡ true
 letter_in_name c d = grind (arith, nat_tests)
 
-name_bytes : (name : List ℕ) → IsName name → list_all is_name_byte name ≡ true
+pub name_bytes : (name : List ℕ) → IsName name → list_all is_name_byte name ≡ true
 name_bytes [] is = absurd is
 name_bytes (c ∷ cs) is =
     rw (letter_in_name c (and_left (is_ascii_alphabetic c) (list_all is_name_byte cs) is)) (and_right (is_ascii_alphabetic c) (list_all is_name_byte cs) is)
@@ -78,7 +78,7 @@ name_at [] are place name e = cc
 name_at (n ∷ names) are zero name e = let same : n ≡ name = cc in subst IsName same are.0
 name_at (n ∷ names) are (suc place) name e = name_at names are.1 place name e
 
-named_is : (names : List (List ℕ)) → AreNames names → (k : ℕ) (name : List ℕ) → name_of names k ≡ Some name → IsName name
+pub named_is : (names : List (List ℕ)) → AreNames names → (k : ℕ) (name : List ℕ) → name_of names k ≡ Some name → IsName name
 named_is names are k name = elim (eqb k 0) as (λ t. cond t None (slice_get names (k - 1)) ≡ Some name → IsName name) [
   | true ↦ λ e. cc
   | false ↦ λ e. name_at names are (k - 1) name e

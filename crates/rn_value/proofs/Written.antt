@@ -2,23 +2,23 @@
 use Rattle.std.proofs.Common.{◌≡◌, ◌≢◌, ℕ, suc, ◌-◌, ◌<◌, ◌≤◌, Bool, true, false, cond, eqb, leb, ℤ, pos, negsuc, List, [], ◌∷◌, ◌++◌, map, length, Some, None, unwrap_or, refl, sym, ap, ◌∙◌, subst, arith}
 use Rattle.std.proofs.lemmas.Bool.{false≢true}
 use Rattle.std.proofs.lemmas.Option.{slice_get_within, slice_get-get_or}
-use Rattle.std.specs.List.{list_all, slice_get, flat_map, join_by}
+use Rattle.std.specs.List.{list_all, slice_get, flat_map}
 use Rattle.rn_value.specs.Grammar.{IsWholeNumber, IsEscaped, IsInside, IsText, IsRow, IsTail}
 use Rattle.rn_value.specs.Names.{name_of, inst_within, within_step, instances_within}
-use Rattle.rn_value.specs.Text.{numeral, whole_number, escaped, text_step, value_text}
+use Rattle.rn_value.specs.Text.{numeral, whole_number, escaped, row_text, text_step, value_text}
 use Rattle.rn_value.specs.declared.value.InstRef.TheVariants.{Old, New}
 use Rattle.rn_value.specs.declared.value.Value.{Value, out-Value, roll-Value, out-roll-Value, map-Value, fold_out-Value, ind-Value, roll-out-Value}
 use Rattle.rn_value.specs.declared.value.Value.TheOpen as V
 use Rattle.rn_value.specs.declared.value.Value.TheVariants as Value
-use Rattle.rn_value.specs.TextLaws.{GrammarIsWritten, TextsTellValues, OneSpelling}
+use Rattle.rn_value.specs.TextLaws.{GrammarIsWritten, TextsTellValues, WrittenTextsTellValues, OneSpelling}
 use Rattle.rn_value.proofs.Spelling.{same_value}
 use Rattle.rn_value.proofs.Numerals.{IsNumeral-numeral, numeral_only}
 use borrow.Author.Tests.{ne_eqb, eq-eqb, eqb-true, eqb-false, le-leb, leb-true}
 use Rattle.rn_value.proofs.Spans.{and_left, and_right}
 
 -- the texts of items with commas between, and of those that follow another
-abbrev row_text : List (List ℕ) → List Value → List ℕ
-row_text names vs = join_by (λ text. text names) (44 ∷ []) (map value_text vs)
+abbrev items_text : List (List ℕ) → List Value → List ℕ
+items_text names vs = row_text (map value_text vs) names
 
 abbrev tail_text : List (List ℕ) → List Value → List ℕ
 tail_text names vs = flat_map (λ text. (44 ∷ []) ++ text names) (map value_text vs)
@@ -27,10 +27,11 @@ tail_text names vs = flat_map (λ text. (44 ∷ []) ++ text names) (map value_te
 abbrev all_named : List (List ℕ) → List Value → Bool
 all_named names vs = list_all (λ within. within (length names)) (map instances_within vs)
 
-text_layer : (names : List (List ℕ)) (v : Value) (x : V.Value-F Value) → out-Value v ≡ x → value_text v names ≡ text_step (map-Value Value (List (List ℕ) → List ℕ) value_text x) names
+-- one layer of what is written, and of the test of instances
+pub text_layer : (names : List (List ℕ)) (v : Value) (x : V.Value-F Value) → out-Value v ≡ x → value_text v names ≡ text_step (map-Value Value (List (List ℕ) → List ℕ) value_text x) names
 text_layer names v x is = ap (λ f. f names) (fold_out-Value (List (List ℕ) → List ℕ) text_step v) ∙ ap (λ x. text_step (map-Value Value (List (List ℕ) → List ℕ) value_text x) names) is
 
-named_layer : (last : ℕ) (v : Value) (x : V.Value-F Value) → out-Value v ≡ x → instances_within v last ≡ within_step (map-Value Value (ℕ → Bool) instances_within x) last
+pub named_layer : (last : ℕ) (v : Value) (x : V.Value-F Value) → out-Value v ≡ x → instances_within v last ≡ within_step (map-Value Value (ℕ → Bool) instances_within x) last
 named_layer last v x is = ap (λ f. f last) (fold_out-Value (ℕ → Bool) within_step v) ∙ ap (λ x. within_step (map-Value Value (ℕ → Bool) instances_within x) last) is
 
 whole_only : {n : ℤ} {a : List ℕ} → IsWholeNumber n a → a ≡ whole_number n
@@ -124,7 +125,7 @@ mutual
         ∙ sym (text_layer names (Value.Inst (Old k)) (V.Inst (Old k)) (Value.outs-Inst (Old k))),
   )
 
-  row_only : {names : List (List ℕ)} {vs : List Value} {a : List ℕ} → IsRow names vs a → (all_named names vs ≡ true) × (a ≡ row_text names vs)
+  row_only : {names : List (List ℕ)} {vs : List Value} {a : List ℕ} → IsRow names vs a → (all_named names vs ≡ true) × (a ≡ items_text names vs)
   row_only IsRow.none = (refl, refl)
   row_only {names} (IsRow.some {v = v} {vs = vs} {bytes = a} {rest = b} t tails) =
       let here = text_only t in
@@ -150,7 +151,7 @@ module _ (names : List (List ℕ)) where
       let rest = and_right (instances_within e.0 (length names)) (all_named names (map (λ e. e.0) es)) named in
       IsTail.comma (e.1 first) (tail_is es rest)
 
-  row_is : (es : List ((v : Value) × Written names v)) → all_named names (map (λ e. e.0) es) ≡ true → IsRow names (map (λ e. e.0) es) (row_text names (map (λ e. e.0) es))
+  row_is : (es : List ((v : Value) × Written names v)) → all_named names (map (λ e. e.0) es) ≡ true → IsRow names (map (λ e. e.0) es) (items_text names (map (λ e. e.0) es))
   row_is [] named = IsRow.none
   row_is (e ∷ es) named =
       let first = and_left (instances_within e.0 (length names)) (all_named names (map (λ e. e.0) es)) named in
@@ -185,17 +186,18 @@ module _ (names : List (List ℕ)) where
   text_is = ind-Value (Written names) (λ x y is. layer_is y (roll-Value x) (out-roll-Value x ∙ sym is))
 
 -- the texts of the grammar are just those that are written
-pub exact : GrammarIsWritten
-exact names v bytes =
+pub grammar_written : GrammarIsWritten
+grammar_written names v bytes =
     (λ t. text_only t, λ h. subst (IsText names v) (sym h.1) (text_is names v h.0))
 
 -- the bytes of a text tell the value, and where its text ends
-pub tells : TextsTellValues
-tells names v w a b x y are t u p q e = same_value names are t u x y p q e
+pub texts_tell : TextsTellValues
+texts_tell names v w a b x y are t u p q e = same_value names are t u x y p q e
+
+-- and so do the texts that are written
+pub written_tell : WrittenTextsTellValues
+written_tell names v w x y are p q = same_value names are (text_is names v p) (text_is names w q) x y
 
 -- of values whose instances have names, equal texts mean equal values
-pub one : OneSpelling
-one names v w are p q e =
-    (same_value names are (text_is names v p) (text_is names w q) [] [] tt tt (ap (λ a. a ++ []) e)).0
-
-pub ruleset text_laws = (exact, tells, one)
+pub one_spelling : OneSpelling
+one_spelling names v w are p q e = (written_tell names v w [] [] are p q tt tt (ap (λ a. a ++ []) e)).0

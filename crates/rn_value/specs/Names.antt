@@ -15,7 +15,8 @@ abbrev pub inst_within : InstRef → ℕ → Bool
 inst_within (Old number) last = nat_le 1 number && nat_le number last
 inst_within (New path place) last = false
 
--- One value, with the test of each item in its place.
+-- All instances in the items are within. (This is one layer, with the tests of the items in place of
+-- the items.)
 abbrev pub within_step : V.Value-F (ℕ → Bool) → ℕ → Bool
 within_step (V.Int n) last = true
 within_step (V.Text s) last = true

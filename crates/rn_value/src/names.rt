@@ -41,6 +41,12 @@ impl Names {
         self.names.len()
     }
 
+    pub fn is_empty(&self) -> bool
+        ensures { IsTrue result ↔ (self.now ≡ []) }
+    {
+        self.names.is_empty()
+    }
+
     /// The name of the instance with this number.
     pub fn get(&self, number: u32) -> Option<&Str>
         ensures { option_copied result ≡ name_of self.now number }
