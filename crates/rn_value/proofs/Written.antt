@@ -60,7 +60,7 @@ whole_is (pos n) = IsWholeNumber.positive (IsNumeral-numeral n)
 whole_is (negsuc n) = IsWholeNumber.negative (IsNumeral-numeral (suc n))
 
 -- two numbers are equal, or they are not
-on_equal : {P : Type 0} (c k : ℕ) → (c ≡ k → P) → (c ≢ k → P) → P
+pub on_equal : {P : Type 0} (c k : ℕ) → (c ≡ k → P) → (c ≢ k → P) → P
 on_equal {P} c k same apart = elim (eqb c k) as (λ t. eqb c k ≡ t → P) [
   | true ↦ λ e. same (eqb-true c k e)
   | false ↦ λ e. apart (eqb-false c k e)
@@ -79,10 +79,10 @@ inside_is : (s : List ℕ) → IsInside s (flat_map escaped s)
 inside_is [] = IsInside.empty
 inside_is (c ∷ s) = IsInside.byte (escaped_is c) (inside_is s)
 
-name_of_none : (names : List (List ℕ)) (k : ℕ) → k ≡ 0 → name_of names k ≡ None
+pub name_of_none : (names : List (List ℕ)) (k : ℕ) → k ≡ 0 → name_of names k ≡ None
 name_of_none names k e = ap (λ t. cond t None (slice_get names (k - 1))) (eq-eqb k 0 e)
 
-name_of_some : (names : List (List ℕ)) (k : ℕ) → k ≢ 0 → name_of names k ≡ slice_get names (k - 1)
+pub name_of_some : (names : List (List ℕ)) (k : ℕ) → k ≢ 0 → name_of names k ≡ slice_get names (k - 1)
 name_of_some names k apart = ap (λ t. cond t None (slice_get names (k - 1))) (ne_eqb k 0 apart)
 
 -- an instance with a name has a number from 1 to the number of names, and the other way round

@@ -57,3 +57,8 @@ OneSpelling = (names : List (List ℕ)) (v w : Value) →
 abbrev pub TextsStayOnOneLine : Type 0
 TextsStayOnOneLine = (names : List (List ℕ)) (v : Value) (bytes : List ℕ) →
     AreNames names → IsText names v bytes → All (λ c. c ≢ 10) bytes
+
+-- A text of a value stays one as names are added, and by the exactness above no other comes.
+abbrev pub TextsStayAsNamesGrow : Type 0
+TextsStayAsNamesGrow = (names more : List (List ℕ)) (v : Value) (bytes : List ℕ) →
+    IsText names v bytes → IsText (names ++ more) v bytes

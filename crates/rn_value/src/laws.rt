@@ -1,19 +1,21 @@
 ghost use Rattle.rn_value.specs.Order.{value_cmp};
 ghost use Rattle.rn_value.specs.Sorting.{SortsOneWay, SortsByCounts};
 ghost use Rattle.rn_value.specs.TextLaws.{GrammarIsWritten, TextsTellValues, WrittenTextsTellValues};
-ghost use Rattle.rn_value.specs.TextLaws.{OneSpelling, TextsStayOnOneLine};
+ghost use Rattle.rn_value.specs.TextLaws.{OneSpelling, TextsStayOnOneLine, TextsStayAsNamesGrow};
 
 /// What a reader of texts of values may rely on, where names are made of letters, digits and `_`.
 ///
 /// The texts that `write_value` writes are just those of the grammar of values. A text tells its
 /// value, also where other bytes follow it that begin with a space, a newline, a comma or a closing
-/// bracket: no other value has a text there, and the text ends nowhere else. It holds no newline.
+/// bracket: no other value has a text there, and the text ends nowhere else. It holds no newline,
+/// and stays the value's text as names are added.
 pub fn text_laws()
     ensures exact { GrammarIsWritten }
     ensures tell { TextsTellValues }
     ensures written_tell { WrittenTextsTellValues }
     ensures one_spelling { OneSpelling }
     ensures one_line { TextsStayOnOneLine }
+    ensures stay { TextsStayAsNamesGrow }
 {}
 
 /// An ascending list of values is determined by the multiset of its values: by what it is a

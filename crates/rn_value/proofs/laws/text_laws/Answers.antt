@@ -1,3 +1,4 @@
+use Rattle.rn_value.proofs.GrowingNames.{texts_stay}
 use Rattle.rn_value.proofs.OneLine.{on_one_line}
 use Rattle.rn_value.proofs.Written.{grammar_written, texts_tell, written_tell, one_spelling}
 use Rattle.rn_value.proofs.laws.text_laws.Goals as goal
@@ -9,4 +10,5 @@ returns c = record {
   written_tell = written_tell;
   one_spelling = one_spelling;
   one_line = on_one_line;
+  stay = texts_stay;
 }
