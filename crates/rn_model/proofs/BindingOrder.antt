@@ -33,11 +33,7 @@ lists_apart compare apart (x ∷ xs) (y ∷ ys) e =
     let rest : xs ≡ ys = lists_apart compare apart xs ys both.1 in
     cc
 
-<<<<<<< HEAD
-insts_apart : TellsApart inst_cmp
-=======
 pub insts_apart : TellsApart inst_cmp
->>>>>>> 85241cb31eecabf802d0a9192ca163cc0a53c6b3
 insts_apart (Old m) (Old n) e = ap Old (exact_unsigned m n e)
 insts_apart (Old m) (New p i) e = cc
 insts_apart (New p i) (Old n) e = cc

@@ -1,7 +1,4 @@
-<<<<<<< HEAD
-=======
 -- A transition that makes an instance and calls it in the same firing.
->>>>>>> 85241cb31eecabf802d0a9192ca163cc0a53c6b3
 -- net main { var n: net; place go = []; place keep: net; trans t { in go; n: new w; n:init(7); out keep: n; } }
 -- net w { var x: int; place v: int; place s = []; trans init { :init(x); out v: x; } }
 use Rattle.std.proofs.Common.{◌≡◌, ℕ, pos, List, [], ◌∷◌, length, refl, sym, ap, ◌∙◌, subst, inl, inr, arith}

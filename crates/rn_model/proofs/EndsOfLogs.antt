@@ -1,8 +1,4 @@
-<<<<<<< HEAD
--- The ends of a log: of the system that fires once, and of one whose only firing is undefined.
-=======
 -- The ends of a log of the system that fires once.
->>>>>>> 85241cb31eecabf802d0a9192ca163cc0a53c6b3
 -- net main { place p = []; place q; trans t { in p; out q; } }
 use Rattle.std.proofs.Common.{◌≡◌, ℕ, zero, suc, ◌<◌, Bool, true, false, List, [], ◌∷◌, length, refl, sym, ap, ◌∙◌, subst, arith}
 use Rattle.std.specs.Prelude.{Some, None, Contains, nat_eq}

@@ -1,7 +1,4 @@
-<<<<<<< HEAD
-=======
 -- A system that fires once: its binding is enabled at first, and not after its firing.
->>>>>>> 85241cb31eecabf802d0a9192ca163cc0a53c6b3
 -- net main { place p = []; place q; trans t { in p; out q; } }
 use Rattle.std.proofs.Common.{◌≡◌, ℕ, ◌≤◌, Bool, true, false, [], ◌∷◌, length, refl, sym, ◌∙◌, ap, subst, inl, inr, arith}
 use Rattle.std.specs.Prelude.{Some, Ok, All, Contains, slice_get, nat_eq}

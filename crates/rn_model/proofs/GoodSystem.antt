@@ -1,8 +1,4 @@
-<<<<<<< HEAD
--- net main { place p = []; place q; trans t { in p; out q; } } is good.
-=======
 -- A system that is good: net main { place p = []; place q; trans t { in p; out q; } }
->>>>>>> 85241cb31eecabf802d0a9192ca163cc0a53c6b3
 use Rattle.std.proofs.Common.{◌≡◌, ℕ, zero, suc, ◌<◌, ◌≤◌, Bool, false, [], ◌∷◌, length, get_or, refl, sym, ap, ◌∙◌, subst, arith}
 use Rattle.std.specs.Prelude.{◌≢◌, All, AllPairs, Contains, IsTrue, codes}
 use Rattle.std.proofs.lemmas.List.Elements.{All-nil, All-cons}

@@ -1,8 +1,4 @@
-<<<<<<< HEAD
--- 3 = y + 1 agrees with y = 2, and isn't derived: nothing forces y.
-=======
 -- A binding that agrees and isn't derived: 3 = y + 1 agrees with y = 2, and nothing forces y.
->>>>>>> 85241cb31eecabf802d0a9192ca163cc0a53c6b3
 use Rattle.std.proofs.Common.{◌≡◌, ℕ, zero, suc, pos, ◌⊎◌, [], ◌∷◌, length, sym, ap, ◌∙◌, subst, inl, inr, arith}
 use Rattle.std.specs.Prelude.{Some, None, Contains, All, slice_get}
 use Rattle.rn_value.specs.declared.value.InstRef.TheVariants.{Old}

@@ -18,17 +18,10 @@ use Rattle.rn_model.specs.declared.system.Uplink.{Uplink}
 use Rattle.rn_model.specs.declared.binding.Node.{Node}
 use Rattle.rn_model.specs.declared.binding.Binding.{Binding}
 use Rattle.rn_model.specs.Lists.{HaveOneValue, value_beside}
-<<<<<<< HEAD
-use Rattle.rn_model.specs.Systems.{transition_of, uplink_args, awaits_action, place_kind, channel_kinds}
-use Rattle.rn_model.specs.Evaluation.{Env, worth}
-use Rattle.rn_model.specs.Bindings.{Shape, env_of, node_at}
-use Rattle.rn_model.specs.Agreement.{Agrees, NodeAgrees, HasValueOf, HaveKindsOf, inscribed_kind}
-=======
 use Rattle.rn_model.specs.Systems.{transition_of, uplink_args, awaits_action, channel_kinds}
 use Rattle.rn_model.specs.Evaluation.{Env, worth}
 use Rattle.rn_model.specs.Bindings.{Shape, env_of, node_at}
 use Rattle.rn_model.specs.Agreement.{Agrees, ArcAgrees, NodeAgrees, HasValueOf, HaveKindsOf}
->>>>>>> 85241cb31eecabf802d0a9192ca163cc0a53c6b3
 use Rattle.rn_model.specs.Derivation.{Site, left, right, uplink_arg, target, downlink_arg, arc, Hole, holes_in, Assignment, Unknowns, Item, found, computed, finds_values, finds_token, sides_of, args_of, sites_of, node_items, items_of, EntryHolds, Holds, Satisfies, InBy, term_value_at}
 use Rattle.rn_model.specs.DerivationLaws.{AreOwnValues, OwnValuesSatisfy, ForcedIsOwn, ForcedStays}
 use Rattle.rn_model.proofs.EachElement.{each_append, each_map, each_flat_map, each_weaker, each_filter, each_place, at_place, at_places}
@@ -144,18 +137,9 @@ module _ (system : System) (b : Binding) where
       (each_place (λ e. Stands node (downlink_arg i e.0, e.1)) d.args (λ k e here.
       (rw (there, here) refl, value_of (env_of system node) d.args (channel_kinds system d.channel) k e kinds here)))))
 
-<<<<<<< HEAD
-  abbrev ArcAgrees : Node → NetArc → Type 0
-  ArcAgrees node x = awaits_action (transition_of system node) x ≡ false → HasValueOf (env_of system node) x.inscription (inscribed_kind x.kind (place_kind system node.net x.place))
-
-  arc_value : (node : Node) → NodeAgrees system node → (k : ℕ) (x : NetArc) → slice_get (transition_of system node).arcs k ≡ Some x → finds_values x.kind ≡ true → (v : Value) × (worth x.inscription (env_of system node) ≡ Some v)
-  arc_value node agrees k x there finds =
-      let valued = at_place (ArcAgrees node) (transition_of system node).arcs k x agrees.arcs there (not_awaiting (transition_of system node) x x.kind refl finds) in
-=======
   arc_value : (node : Node) → NodeAgrees system node → (k : ℕ) (x : NetArc) → slice_get (transition_of system node).arcs k ≡ Some x → finds_values x.kind ≡ true → (v : Value) × (worth x.inscription (env_of system node) ≡ Some v)
   arc_value node agrees k x there finds =
       let valued = at_place (ArcAgrees system node) (transition_of system node).arcs k x agrees.arcs there (not_awaiting (transition_of system node) x x.kind refl finds) in
->>>>>>> 85241cb31eecabf802d0a9192ca163cc0a53c6b3
       (valued.0, valued.1)
 
   arcs_stand : (node : Node) → NodeAgrees system node → AllByRecursion (Stands node) (map (λ e. (arc e.0, e.1.inscription)) (filter (λ e. finds_token e.1.kind) (enumerate_from 0 (transition_of system node).arcs)))

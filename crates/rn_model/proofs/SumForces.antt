@@ -1,9 +1,5 @@
-<<<<<<< HEAD
--- place p: int = 5; in p: x; y = x + 1; out q: y; the sum's value comes in once x is forced, and forces y.
-=======
 -- A sum's value comes in once its variable is forced, and then forces the other side of an equality.
 -- place p: int = 5; in p: x; y = x + 1; out q: y;
->>>>>>> 85241cb31eecabf802d0a9192ca163cc0a53c6b3
 use Rattle.std.proofs.Common.{◌≡◌, ℕ, pos, [], ◌∷◌, length, refl, sym, ◌∙◌, subst, inl, inr, arith}
 use Rattle.std.specs.Prelude.{Some, Contains, All}
 use Rattle.std.proofs.lemmas.List.Elements.{All-nil, All-cons}

@@ -1,8 +1,4 @@
-<<<<<<< HEAD
--- What is derived, and what isn't, in systems of one transition.
-=======
 -- A token forces the variable of its arc: place p: int = 5; in p: x;
->>>>>>> 85241cb31eecabf802d0a9192ca163cc0a53c6b3
 use Rattle.std.proofs.Common.{◌≡◌, ℕ, List, [], ◌∷◌, length, refl, sym, ◌∙◌, subst, inl, inr, arith}
 use Rattle.std.specs.Prelude.{Some, Contains, All}
 use Rattle.std.proofs.lemmas.List.Elements.{All-nil, All-cons}

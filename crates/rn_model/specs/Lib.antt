@@ -13,17 +13,11 @@ pub mod ListLaws
 pub mod Lists
 pub mod Liveness
 pub mod MarkingCodes
-<<<<<<< HEAD
-=======
 pub mod MarkingLaws
->>>>>>> 85241cb31eecabf802d0a9192ca163cc0a53c6b3
 pub mod Markings
 pub mod Names
 pub mod Order
 pub mod OrderLaws
 pub mod Runs
-<<<<<<< HEAD
-=======
 pub mod SoundTokens
->>>>>>> 85241cb31eecabf802d0a9192ca163cc0a53c6b3
 pub mod Systems

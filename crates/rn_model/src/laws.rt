@@ -1,29 +1,21 @@
 //! Laws over the definitions, each the contract of a function that does nothing.
 ghost use Rattle.rn_model.specs.Laws.{NextIsFree, FrontsAreRuns, FrontsAreLogs, RunsGrow};
 ghost use Rattle.rn_model.specs.ListLaws.{OrderedValuesAscend, OrderedValuesStay, OthersAreTaken};
-<<<<<<< HEAD
-ghost use Rattle.rn_model.specs.DerivationLaws.{OwnValuesSatisfy, ForcedIsOwn, ForcedStays};
-ghost use Rattle.rn_model.specs.Laws.{EndsFollow, DeadRunsStop, LogsEndOnce};
-=======
 ghost use Rattle.rn_model.specs.MarkingLaws.{InitialIsMarking, FiringsKeepMarkings};
 ghost use Rattle.rn_model.specs.MarkingLaws.{RunsEndInMarkings, InitialTokensAreSound};
 ghost use Rattle.rn_model.specs.DerivationLaws.{OwnValuesSatisfy, ForcedIsOwn, ForcedStays};
 ghost use Rattle.rn_model.specs.Laws.{EndsFollow, DeadRunsStop, LogsEndOnce, LooksAtItsOwn};
->>>>>>> 85241cb31eecabf802d0a9192ca163cc0a53c6b3
 
 /// Whether a binding is enabled doesn't depend on the number that the next instance gets.
 pub fn next_number_is_free()
     ensures { NextIsFree }
 {}
 
-<<<<<<< HEAD
-=======
 /// Whether a binding is enabled depends on those instances alone on which its nodes stand.
 pub fn bindings_look_at_their_own()
     ensures { LooksAtItsOwn }
 {}
 
->>>>>>> 85241cb31eecabf802d0a9192ca163cc0a53c6b3
 /// A front of a run is a run.
 pub fn fronts_are_runs()
     ensures { FrontsAreRuns }
@@ -71,8 +63,6 @@ pub fn lists_of_values()
     ensures stay { OrderedValuesStay }
     ensures taken { OthersAreTaken }
 {}
-<<<<<<< HEAD
-=======
 
 /// The initial marking of a good system is a marking: its numbers ascend below the next one, each
 /// instance has its net's places, and tokens ascend. Firings of enabled bindings keep that.
@@ -86,4 +76,3 @@ pub fn runs_end_in_markings()
 pub fn initial_tokens_are_sound()
     ensures { InitialTokensAreSound }
 {}
->>>>>>> 85241cb31eecabf802d0a9192ca163cc0a53c6b3
