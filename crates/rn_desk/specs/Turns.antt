@@ -90,8 +90,9 @@ module _ {I F : Type 0} where
 
 module _ {I : Type 0} (out : Type 0) (log : List I) (made drawn served : ℕ) (seat_of : ℕ → ℕ) (seat : ℕ) (own : Part I) where
   -- What holds of a seat in this role, where `out` says that the slot is out.
-  -- A ticket is from `served` up to but not `drawn`, and no two seats have one, since `seat_of` names its seat.
-  -- Who has the turn has the ticket `served`, so one seat at most has it; its list in hand is the history.
+  -- A ticket is from `served` up to but not `drawn`, and no two seats have one, as `seat_of` names
+  -- its seat. Who has the turn has the ticket `served`, so one seat at most has it; its list in hand
+  -- is the history.
   abbrev pub RoleFits : Role → Type 0
   RoleFits Spent = Unit {0}
   RoleFits (Maker n) = (n ≡ made) × (seat ≡ 0)
@@ -109,7 +110,7 @@ module _ {S I F : Type 0} (entries : S → List I) (author : I → ℕ) (fixed :
   Away served seat views homes = (homes ≡ maybe.none ∷ []) × HasTurn views seat served
 
   pub record Turns (s : State (Option S) (View I F)) : Type 0 where
-    -- the history, the numbers made, the tickets drawn, the turns passed on, and who drew each ticket
+    -- the history, the numbers made, the tickets drawn and served, and which seat drew each ticket
     pub log : List I
     pub made : ℕ
     pub drawn : ℕ
@@ -120,7 +121,7 @@ module _ {S I F : Type 0} (entries : S → List I) (author : I → ℕ) (fixed :
     -- what each seat knows of its ticket, and who has the turn knows of the history and the slot
     pub roles : (j : ℕ) (v : View I F) → get_elem? s.views j ≡ maybe.some v
         → RoleFits (s.homes ≡ maybe.none ∷ []) log made drawn served seat_of j v.own v.role
-    -- each ticket from `served` up to but not `drawn` is out, and there are as many seats that have one
+    -- each ticket from `served` up to but not `drawn` is out, and as many seats have one
     pub queue : (t : ℕ) → served ≤ t → t < drawn → HasTicket s.views (seat_of t) t
     pub waiting : drawn ≡ served + total tickets_in s.views
     -- the slot is at home with the history, or the seat whose ticket is served has it and the turn
@@ -134,8 +135,8 @@ module _ {S I F : Type 0} (entries : S → List I) (author : I → ℕ) (fixed :
     pub once : (n : ℕ) → 0 < n → n ≤ made → total (number_count n) s.views ≡ 1
     pub no_zero : total (number_count 0) s.views ≡ 0
     pub unmade : (n : ℕ) → made < n → total (number_count n) s.views ≡ 0
-    -- the history begins with what each view has seen; what a number authored is its own in its view,
-    -- also after that seat was joined into another; and a number that isn't made authored nothing
+    -- the history begins with what each view has seen; what a number authored is its own in its
+    -- view, also after that seat was joined into another; a number not yet made authored nothing
     pub fits : (j : ℕ) (v : View I F) → get_elem? s.views j ≡ maybe.some v
         → Every (PartFits author log) (parts_of v)
     pub unwritten : (n : ℕ) → made < n → authored author n log ≡ []

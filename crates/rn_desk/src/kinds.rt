@@ -1,5 +1,5 @@
-//! The kinds of step that read or change a word. The two others, which take the state out of its slot
-//! and put it back, need none.
+//! The kinds of step that read or change a word. The two others, which take the state out of its
+//! slot and put it back, need none.
 use crate::kept::Kept;
 use crate::view::View;
 use atomic_table::{Join, Play, Split};

@@ -14,7 +14,7 @@ use std::sync::Wait;
 use std::thread;
 use std::thread::Threads;
 
-/// A sheet on which so many workers write a line in each round, while memory is left, and what each did.
+/// A sheet on which so many workers write a line in each round, while memory is left.
 pub fn write_sheet<R: Threads + Wait + Sync>(
     rt: &R,
     alloc: Global,
@@ -23,7 +23,8 @@ pub fn write_sheet<R: Threads + Wait + Sync>(
 ) -> Result<(Sheet, Vec<Tally>), NoMemory>
     requires { (1 ≤ workers) × (workers ≤ 64) }
     ensures title { IfOk result (λ r. r.0.title ≡ 7) }
-    ensures tallies { IfOk result (λ r. (vec_len r.1 ≡ workers) × EachAt (FiredBy r.0.lines.items rounds) r.1.items) }
+    ensures count { IfOk result (λ r. vec_len r.1 ≡ workers) }
+    ensures tallies { IfOk result (λ r. EachAt (FiredBy r.0.lines.items rounds) r.1.items) }
     ensures others { IfOk result (λ r. (n : ℕ) → workers < n → authored ⟦<Sheet as Kept>⟧.author n r.0.lines.items ≡ []) }
 {
     let (desk, passes) = open_desk(alloc, Sheet::new(alloc, 7), workers)?;

@@ -26,7 +26,8 @@ impl<S: Kept> Desk<S> {
         requires here { place.old.table_id ≡ self.now.table.shared.table_id }
         requires idle { place.old.me.0.role ≡ Idle }
         ensures here { place.new.table_id ≡ place.old.table_id }
-        ensures waits { (t : ℕ) × (wrapped t ≡ result) × (place.new.me ≡ (in_role (Waits t) place.old.me.0, place.old.me.1)) }
+        ensures waits { (t : ℕ) × (wrapped t ≡ result)
+            × (place.new.me ≡ (in_role (Waits t) place.old.me.0, place.old.me.1)) }
     {
         self.table
             .shared
@@ -59,7 +60,8 @@ impl<S: Kept> Desk<S> {
         requires here { place.old.table_id ≡ self.now.table.shared.table_id }
         requires turn { MayCount S.entries S.author S.fixed began full.now place.old.me }
         ensures here { place.new.table_id ≡ place.old.table_id }
-        ensures counted { (y : S) → full.now ≡ Some y → place.new.me ≡ (with_entries S.author (S.entries y) place.old.me.0, place.old.me.1) }
+        ensures counted { (y : S) → full.now ≡ Some y
+            → place.new.me ≡ (with_entries S.author (S.entries y) place.old.me.0, place.old.me.1) }
     {
         let Some(state) = full else { unreachable!() };
         if state.length() > began {
@@ -92,7 +94,8 @@ impl<S: Kept> Desk<S> {
 
     // The first seat has the parts of both.
     pub(crate) fn join_seat(&self, place: &mut Place<S>, other: Place<S>)
-        requires here { (place.old.table_id ≡ self.now.table.shared.table_id) × (other.table_id ≡ self.now.table.shared.table_id) }
+        requires here { (place.old.table_id ≡ self.now.table.shared.table_id)
+            × (other.table_id ≡ self.now.table.shared.table_id) }
         requires idle { (place.old.me.0.role ≡ Idle) × (other.me.0.role ≡ Idle) × (other.me.1 ≡ []) }
         ensures here { place.new.table_id ≡ place.old.table_id }
         ensures both { place.new.me ≡ (joined place.old.me.0 other.me.0, place.old.me.1) }

@@ -49,7 +49,8 @@ impl<S: Kept> Desk<S> {
         ensures free { IsFree pass.new }
         ensures number { number pass.new ≡ number pass.old }
         ensures seen { seen pass.new ≡ S.entries (state_of turn) }
-        ensures mine { GrowsOwn S.author (number pass.old) (seen pass.old) (S.entries (state_of turn)) (mine pass.old) (mine pass.new) }
+        ensures mine { GrowsOwn S.author (number pass.old) (seen pass.old) (S.entries (state_of turn))
+            (mine pass.old) (mine pass.new) }
     {
         let Turn { state, length } = turn;
         let full = Some(state);
