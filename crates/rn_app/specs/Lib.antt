@@ -1,0 +1,9 @@
+pub mod Limits
+pub mod Reading
+pub mod RunText
+pub mod SmallNets
+pub mod SmallRuns
+pub mod SmallText
+pub mod TextLaws
+pub mod Tokens
+pub mod TopCall

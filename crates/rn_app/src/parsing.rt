@@ -1,0 +1,317 @@
+//! From tokens to a net of the small notation.
+ghost use Rattle.std.specs.Prelude.{◌≡◌, ◌≢◌, ◌<◌, ◌++◌, ◌∷◌, [], ℕ, List, length, IfOk, IfSome, IfNone, MatchOption};
+ghost use Rattle.std.specs.Prelude.{◌↔◌, IsTrue, nat_eq, false, map, flat_map, All, codes};
+ghost use Rattle.std.specs.List.{list_any};
+ghost use Rattle.std.specs.Cmp.Lexicographic.{pointwise};
+ghost use Rattle.rn_app.specs.Tokens.{word as word_of, sign as sign_of, Token as Seen};
+ghost use Rattle.rn_app.specs.Reading.{seen, seen_all, place_seen, arc_seen, transition_seen, net_seen, begins_with, begins_arc};
+ghost use Rattle.rn_model.specs.Names.{is_reserved};
+ghost use Rattle.rn_app.specs.SmallNets.{IsFree, IsFreeTransition, blacks_spelled, initial_spelled, place_spelled, arc_spelled, transition_spelled, net_spelled, IsNamed};
+ghost use Rattle.rn_app.specs.SmallNets.{SmallPlace as Place, SmallArc as Arc, SmallTransition as Transition, SmallNet as Net};
+
+use crate::lexing::Token;
+use crate::small::{SmallArc, SmallNet, SmallPlace, SmallTransition};
+use rn_value::NoMemory;
+use std::alloc::Global;
+
+/// The first token and the others.
+fn first(tokens: &[Token]) -> Option<(&Token, &[Token])>
+    ensures { MatchOption result (tokens.now ≡ []) (λ found. tokens.now ≡ found.0.now ∷ found.1.now) }
+{
+    tokens.split_first()
+}
+
+/// What comes behind this sign, where the tokens begin with it.
+fn sign(tokens: &[Token], wanted: u8) -> Option<&[Token]>
+    ensures found { IfSome result (λ rest. seen_all tokens.now ≡ sign_of wanted ∷ seen_all rest.now) }
+    ensures none { IfNone result ((rest : List Seen) → seen_all tokens.now ≢ sign_of wanted ∷ rest) }
+{
+    match first(tokens)? {
+        (Token::Sign(sign), others) if *sign == wanted => Some(others),
+        _ => None,
+    }
+}
+
+/// What comes behind this word, where the tokens begin with it.
+fn word<'t>(tokens: &'t [Token], wanted: &[u8]) -> Option<&'t [Token]>
+    ensures found { IfSome result (λ rest. seen_all tokens.now ≡ word_of wanted.now ∷ seen_all rest.now) }
+    ensures none { IfNone result ((rest : List Seen) → seen_all tokens.now ≢ word_of wanted.now ∷ rest) }
+{
+    match first(tokens)? {
+        (Token::Word(word), others) if word.as_slice() == wanted => Some(others),
+        _ => None,
+    }
+}
+
+/// Whether a word is one of these.
+fn is_among(word: &[u8], words: &[&[u8]]) -> bool
+    ensures { result ≡ list_any (λ other. pointwise nat_eq word.now other.now) words.now }
+{
+    for other in words {
+        if word == *other {
+            return true;
+        }
+    }
+    false
+}
+
+/// Whether a word is no name.
+fn is_reserved(word: &[u8]) -> bool
+    ensures { result ≡ is_reserved word.now }
+{
+    const RESERVED: [&[u8]; 20] = [
+        b"net", b"place", b"trans", b"channel", b"var", b"in", b"out", b"test", b"reserve",
+        b"flexin", b"flexout", b"inhibit", b"clear", b"guard", b"action", b"print", b"new",
+        b"this", b"int", b"text",
+    ];
+    is_among(word, &RESERVED)
+}
+
+/// A name and what comes behind it, where the tokens begin with one.
+fn name(tokens: &[Token]) -> Option<(&[u8], &[Token])>
+    ensures found { IfSome result (λ found. seen_all tokens.now ≡ word_of found.0.now ∷ seen_all found.1.now) }
+    ensures free { IfSome result (λ found. IsFree found.0.now) }
+    ensures none { IfNone result ((name : List ℕ) (rest : List Seen) → IsFree name → seen_all tokens.now ≢ word_of name ∷ rest) }
+{
+    match first(tokens)? {
+        (Token::Word(word), others) if !is_reserved(word) => Some((word.as_slice(), others)),
+        _ => None,
+    }
+}
+
+/// What comes behind `[]`.
+fn black(tokens: &[Token]) -> Option<&[Token]>
+    ensures found { IfSome result (λ rest. seen_all tokens.now ≡ sign_of 91 ∷ sign_of 93 ∷ seen_all rest.now) }
+    ensures none { IfNone result ((rest : List Seen) → seen_all tokens.now ≢ sign_of 91 ∷ sign_of 93 ∷ rest) }
+{
+    sign(sign(tokens, b'[')?, b']')
+}
+
+/// How many black tokens follow the first one, up to `;`, and what comes behind that.
+fn blacks(tokens: &[Token]) -> Option<(usize, &[Token])>
+    ensures found { IfSome result (λ found. seen_all tokens.now ≡ blacks_spelled found.0 ++ sign_of 59 ∷ seen_all found.1.now) }
+    ensures few { IfSome result (λ found. found.0 < length tokens.now) }
+    ensures none { IfNone result ((count : ℕ) (rest : List Seen) → seen_all tokens.now ≢ blacks_spelled count ++ sign_of 59 ∷ rest) }
+{
+    let mut count = 0;
+    let mut rest = black(tokens)?;
+    while let Some(after) = sign(rest, b',') {
+        rest = black(after)?;
+        count += 1;
+    }
+    Some((count, sign(rest, b';')?))
+}
+
+/// With how many black tokens a place begins, and what comes behind the `;`.
+fn initial(tokens: &[Token]) -> Option<(usize, &[Token])>
+    ensures found { IfSome result (λ found. seen_all tokens.now ≡ initial_spelled found.0 ++ sign_of 59 ∷ seen_all found.1.now) }
+    ensures none { IfNone result ((count : ℕ) (rest : List Seen) → seen_all tokens.now ≢ initial_spelled count ++ sign_of 59 ∷ rest) }
+{
+    match sign(tokens, b'=') {
+        Some(after) => {
+            let (others, rest) = blacks(after)?;
+            Some((others + 1, rest))
+        }
+        None => Some((0, sign(tokens, b';')?)),
+    }
+}
+
+/// The place that the tokens begin with, and what comes behind it.
+fn place(tokens: &[Token]) -> Option<(SmallPlace<'_>, &[Token])>
+    ensures found { IfSome result (λ found. seen_all tokens.now ≡ place_spelled (place_seen found.0) ++ seen_all found.1.now) }
+    ensures free { IfSome result (λ found. IsFree found.0.name.now) }
+    ensures none { IfNone result ((place : Place) (rest : List Seen) → IsFree place.name → seen_all tokens.now ≢ place_spelled place ++ rest) }
+{
+    let (name, after) = name(word(tokens, b"place")?)?;
+    let (count, rest) = initial(after)?;
+    Some((
+        SmallPlace {
+            name,
+            tokens: count,
+        },
+        rest,
+    ))
+}
+
+/// Whether the tokens begin with this word.
+fn begins(tokens: &[Token], wanted: &[u8]) -> bool
+    ensures { result ≡ begins_with wanted.now (seen_all tokens.now) }
+{
+    match first(tokens) {
+        Some((Token::Word(word), _)) => word.as_slice() == wanted,
+        _ => false,
+    }
+}
+
+/// All places that the tokens begin with, and what comes behind them.
+fn places(
+    alloc: Global,
+    tokens: &[Token],
+) -> Result<Option<(Vec<SmallPlace<'_>>, &[Token])>, NoMemory>
+    ensures found { IfOk result (λ r. IfSome r (λ found.
+        seen_all tokens.now ≡ flat_map place_spelled (map place_seen found.0.items) ++ seen_all found.1.now)) }
+    ensures free { IfOk result (λ r. IfSome r (λ found. All (λ p. IsFree p.name) (map place_seen found.0.items))) }
+    ensures ended { IfOk result (λ r. IfSome r (λ found. begins_with (codes "place") (seen_all found.1.now) ≡ false)) }
+    ensures none { IfOk result (λ r. IfNone r ((places : List Place) (rest : List Seen) → All (λ p. IsFree p.name) places →
+        begins_with (codes "place") rest ≡ false → seen_all tokens.now ≢ flat_map place_spelled places ++ rest)) }
+{
+    let mut places = Vec::new(alloc);
+    let mut rest = tokens;
+    while begins(rest, b"place") {
+        match place(rest) {
+            Some(found) => {
+                places.push(found.0)?;
+                rest = found.1;
+            }
+            None => return Ok(None),
+        }
+    }
+    Ok(Some((places, rest)))
+}
+
+/// The arc that the tokens begin with, and what comes behind it.
+fn arc(tokens: &[Token]) -> Option<(SmallArc<'_>, &[Token])>
+    ensures found { IfSome result (λ found. seen_all tokens.now ≡ arc_spelled (arc_seen found.0) ++ seen_all found.1.now) }
+    ensures free { IfSome result (λ found. IsFree found.0.place.now) }
+    ensures none { IfNone result ((arc : Arc) (rest : List Seen) → IsFree arc.place → seen_all tokens.now ≢ arc_spelled arc ++ rest) }
+{
+    let (takes, after) = match word(tokens, b"in") {
+        Some(after) => (true, after),
+        None => (false, word(tokens, b"out")?),
+    };
+    let (place, after) = name(after)?;
+    Some((SmallArc { takes, place }, sign(after, b';')?))
+}
+
+/// Whether the tokens begin as an arc does.
+fn begins_arc(tokens: &[Token]) -> bool
+    ensures { result ≡ begins_arc (seen_all tokens.now) }
+{
+    begins(tokens, b"in") || begins(tokens, b"out")
+}
+
+/// All arcs that the tokens begin with, and what comes behind them.
+fn arcs(alloc: Global, tokens: &[Token]) -> Result<Option<(Vec<SmallArc<'_>>, &[Token])>, NoMemory>
+    ensures found { IfOk result (λ r. IfSome r (λ found.
+        seen_all tokens.now ≡ flat_map arc_spelled (map arc_seen found.0.items) ++ seen_all found.1.now)) }
+    ensures free { IfOk result (λ r. IfSome r (λ found. All (λ arc. IsFree arc.place) (map arc_seen found.0.items))) }
+    ensures ended { IfOk result (λ r. IfSome r (λ found. begins_arc (seen_all found.1.now) ≡ false)) }
+    ensures none { IfOk result (λ r. IfNone r ((arcs : List Arc) (rest : List Seen) → All (λ arc. IsFree arc.place) arcs →
+        begins_arc rest ≡ false → seen_all tokens.now ≢ flat_map arc_spelled arcs ++ rest)) }
+{
+    let mut arcs = Vec::new(alloc);
+    let mut rest = tokens;
+    while begins_arc(rest) {
+        if let Some((found, after)) = arc(rest) {
+            arcs.push(found)?;
+            rest = after;
+        } else {
+            return Ok(None);
+        }
+    }
+    Ok(Some((arcs, rest)))
+}
+
+/// The transition that the tokens begin with, and what comes behind it.
+fn transition(
+    alloc: Global,
+    tokens: &[Token],
+) -> Result<Option<(SmallTransition<'_>, &[Token])>, NoMemory>
+    ensures found { IfOk result (λ r. IfSome r (λ found.
+        seen_all tokens.now ≡ transition_spelled (transition_seen found.0) ++ seen_all found.1.now)) }
+    ensures free { IfOk result (λ r. IfSome r (λ found. IsFreeTransition (transition_seen found.0))) }
+    ensures none { IfOk result (λ r. IfNone r ((transition : Transition) (rest : List Seen) → IsFreeTransition transition →
+        seen_all tokens.now ≢ transition_spelled transition ++ rest)) }
+{
+    let Some((name, after)) = transition_name(tokens) else {
+        return Ok(None);
+    };
+    let Some((arcs, after)) = arcs(alloc, after)? else {
+        return Ok(None);
+    };
+    let Some(rest) = sign(after, b'}') else {
+        return Ok(None);
+    };
+    Ok(Some((SmallTransition { name, arcs }, rest)))
+}
+
+/// The name in `trans t {`, and what comes behind that.
+fn transition_name(tokens: &[Token]) -> Option<(&[u8], &[Token])>
+    ensures found { IfSome result (λ found.
+        seen_all tokens.now ≡ word_of (codes "trans") ∷ word_of found.0.now ∷ sign_of 123 ∷ seen_all found.1.now) }
+    ensures free { IfSome result (λ found. IsFree found.0.now) }
+    ensures none { IfNone result ((name : List ℕ) (rest : List Seen) → IsFree name →
+        seen_all tokens.now ≢ word_of (codes "trans") ∷ word_of name ∷ sign_of 123 ∷ rest) }
+{
+    let (name, after) = name(word(tokens, b"trans")?)?;
+    Some((name, sign(after, b'{')?))
+}
+
+/// All transitions that the tokens begin with, and what comes behind them.
+fn transitions(
+    alloc: Global,
+    tokens: &[Token],
+) -> Result<Option<(Vec<SmallTransition<'_>>, &[Token])>, NoMemory>
+    ensures found { IfOk result (λ r. IfSome r (λ found.
+        seen_all tokens.now ≡ flat_map transition_spelled (map transition_seen found.0.items) ++ seen_all found.1.now)) }
+    ensures free { IfOk result (λ r. IfSome r (λ found. All IsFreeTransition (map transition_seen found.0.items))) }
+    ensures ended { IfOk result (λ r. IfSome r (λ found. begins_with (codes "trans") (seen_all found.1.now) ≡ false)) }
+    ensures none { IfOk result (λ r. IfNone r ((transitions : List Transition) (rest : List Seen) → All IsFreeTransition transitions →
+        begins_with (codes "trans") rest ≡ false → seen_all tokens.now ≢ flat_map transition_spelled transitions ++ rest)) }
+{
+    let mut transitions = Vec::new(alloc);
+    let mut rest = tokens;
+    while begins(rest, b"trans") {
+        if let Some((found, after)) = transition(alloc, rest)? {
+            transitions.push(found)?;
+            rest = after;
+        } else {
+            return Ok(None);
+        }
+    }
+    Ok(Some((transitions, rest)))
+}
+
+/// What comes behind `net main {`.
+fn net_start(tokens: &[Token]) -> Option<&[Token]>
+    ensures found { IfSome result (λ rest.
+        seen_all tokens.now ≡ word_of (codes "net") ∷ word_of (codes "main") ∷ sign_of 123 ∷ seen_all rest.now) }
+    ensures none { IfNone result ((rest : List Seen) →
+        seen_all tokens.now ≢ word_of (codes "net") ∷ word_of (codes "main") ∷ sign_of 123 ∷ rest) }
+{
+    sign(word(word(tokens, b"net")?, b"main")?, b'{')
+}
+
+/// Whether the tokens are just `}`.
+fn net_end(tokens: &[Token]) -> bool
+    ensures { IsTrue result ↔ (seen_all tokens.now ≡ sign_of 125 ∷ []) }
+{
+    match sign(tokens, b'}') {
+        Some(rest) => rest.is_empty(),
+        None => false,
+    }
+}
+
+/// The net that the tokens spell, or nothing where they spell none.
+pub fn parse(alloc: Global, tokens: &[Token]) -> Result<Option<SmallNet<'_>>, NoMemory>
+    ensures found { IfOk result (λ r. IfSome r (λ net. seen_all tokens.now ≡ net_spelled (net_seen net))) }
+    ensures named { IfOk result (λ r. IfSome r (λ net. IsNamed (net_seen net))) }
+    ensures none { IfOk result (λ r. IfNone r ((net : Net) → IsNamed net → seen_all tokens.now ≢ net_spelled net)) }
+{
+    let Some(after) = net_start(tokens) else {
+        return Ok(None);
+    };
+    let Some((places, after)) = places(alloc, after)? else {
+        return Ok(None);
+    };
+    let Some((transitions, after)) = transitions(alloc, after)? else {
+        return Ok(None);
+    };
+    if !net_end(after) {
+        return Ok(None);
+    }
+    Ok(Some(SmallNet {
+        places,
+        transitions,
+    }))
+}
