@@ -1,5 +1,6 @@
 -- How tokens and nets that lie in a text are seen.
-use Rattle.std.specs.Prelude.{◌≡◌, ℕ, Bool, false, ◌||◌, List, [], ◌∷◌, map, nat_eq, codes, All, Contains}
+use Rattle.std.specs.Prelude.{◌≡◌, ℕ, Bool, false, ◌||◌, List, [], ◌∷◌, map, nat_eq, codes, All}
+use Rattle.std.specs.Prelude.{Contains}
 use Rattle.std.specs.Cmp.Lexicographic.{pointwise}
 use Rattle.rn_app.specs.declared.lexing.Token.{Token as Lexed}
 use Rattle.rn_app.specs.declared.lexing.Token.TheVariants.{Word, Sign}
@@ -53,7 +54,10 @@ abbrev pub transition_seen : SmallTransition → small.SmallTransition
 transition_seen t = record { name = t.name.now; arcs = map arc_seen t.arcs.items }
 
 abbrev pub net_seen : SmallNet → small.SmallNet
-net_seen net = record { places = map place_seen net.places.items; transitions = map transition_seen net.transitions.items }
+net_seen net = record {
+  places = map place_seen net.places.items;
+  transitions = map transition_seen net.transitions.items;
+}
 
 -- each arc's place is one of these
 abbrev pub HasPlaces : List (List ℕ) → SmallTransition → Type 0

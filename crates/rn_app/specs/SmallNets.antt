@@ -1,5 +1,7 @@
 -- The small notation: one net `main`, black tokens, and transitions that take and put them.
-use Rattle.std.specs.Prelude.{ℕ, zero, suc, ◌≡◌, ◌≢◌, ◌≤◌, Bool, false, List, [], ◌∷◌, ◌++◌, length, map, replicate, unwrap_or, position, All, AllPairs, Contains, IsTrue, if◌then◌else◌, nat_eq, codes, flat_map}
+use Rattle.std.specs.Prelude.{ℕ, zero, suc, ◌≡◌, ◌≢◌, ◌≤◌, Bool, false, List, [], ◌∷◌, ◌++◌}
+use Rattle.std.specs.Prelude.{length, map, replicate, unwrap_or, position, All, AllPairs, Contains}
+use Rattle.std.specs.Prelude.{IsTrue, if◌then◌else◌, nat_eq, codes, flat_map}
 use Rattle.std.specs.Cmp.Lexicographic.{pointwise}
 use Rattle.rn_value.specs.declared.value.Kind.TheVariants as Kind
 use Rattle.rn_value.specs.declared.value.Value.{Value}
@@ -50,16 +52,19 @@ place_spelled p = word (codes "place") ∷ word p.name ∷ initial_spelled p.tok
 
 -- `in p;` or `out p;`
 abbrev pub arc_spelled : SmallArc → List Token
-arc_spelled arc = word (if arc.takes then codes "in" else codes "out") ∷ word arc.place ∷ sign 59 ∷ []
+arc_spelled arc =
+    word (if arc.takes then codes "in" else codes "out") ∷ word arc.place ∷ sign 59 ∷ []
 
 -- `trans t { .. }`
 abbrev pub transition_spelled : SmallTransition → List Token
-transition_spelled t = word (codes "trans") ∷ word t.name ∷ sign 123 ∷ flat_map arc_spelled t.arcs ++ sign 125 ∷ []
+transition_spelled t =
+    word (codes "trans") ∷ word t.name ∷ sign 123 ∷ flat_map arc_spelled t.arcs ++ sign 125 ∷ []
 
 -- `net main { .. }`, its places before its transitions
 abbrev pub net_spelled : SmallNet → List Token
 net_spelled net =
-    word (codes "net") ∷ word (codes "main") ∷ sign 123 ∷ flat_map place_spelled net.places ++ flat_map transition_spelled net.transitions ++ sign 125 ∷ []
+    word (codes "net") ∷ word (codes "main") ∷ sign 123 ∷ flat_map place_spelled net.places
+    ++ flat_map transition_spelled net.transitions ++ sign 125 ∷ []
 
 -- a reserved word is no name
 abbrev pub IsFree : List ℕ → Type 0
@@ -88,7 +93,8 @@ AreDistinct names = AllPairs (λ x y. x ≢ y) names
 pub record IsDeclared (net : SmallNet) : Type 0 where
   pub places : AreDistinct (map (λ p. p.name) net.places)
   pub transitions : AreDistinct (map (λ t. t.name) net.transitions)
-  pub arcs : All (λ t. All (λ arc. Contains (map (λ p. p.name) net.places) arc.place) t.arcs) net.transitions
+  pub arcs : All (λ t. All (λ arc. Contains (map (λ p. p.name) net.places) arc.place) t.arcs)
+      net.transitions
 
 -- The net with numbers in place of names.
 
@@ -104,7 +110,11 @@ number_among names name = unwrap_or (position (pointwise nat_eq name) names) 0
 
 -- an arc, where the places have these names
 abbrev pub arc_of : List (List ℕ) → SmallArc → NetArc
-arc_of names arc = record { kind = if arc.takes then Input else Output; place = number_among names arc.place; inscription = Expr.Tuple [] }
+arc_of names arc = record {
+  kind = if arc.takes then Input else Output;
+  place = number_among names arc.place;
+  inscription = Expr.Tuple [];
+}
 
 abbrev pub transition_of : List (List ℕ) → SmallTransition → Transition
 transition_of names t = record empty_transition { name = t.name; arcs = map (arc_of names) t.arcs }
@@ -114,10 +124,19 @@ place_names net = map (λ p. p.name) net.places
 
 -- the system of the net `main` alone
 abbrev pub main_alone : List Place → List Transition → System
-main_alone places transitions = record { nets = record { name = codes "main"; vars = []; places = places; transitions = transitions } ∷ []; channels = [] }
+main_alone places transitions = record {
+  nets = record {
+    name = codes "main";
+    vars = [];
+    places = places;
+    transitions = transitions;
+  } ∷ [];
+  channels = [];
+}
 
 abbrev pub system_of : SmallNet → System
-system_of net = main_alone (map place_of net.places) (map (transition_of (place_names net)) net.transitions)
+system_of net =
+    main_alone (map place_of net.places) (map (transition_of (place_names net)) net.transitions)
 
 -- The bytes are a net text, of this system.
 pub record Accepted (bytes : List ℕ) (system : System) : Type 0 where

@@ -1,5 +1,6 @@
 -- The lines of a run of a net with black tokens, by names and numbers.
-use Rattle.std.specs.Prelude.{ℕ, zero, suc, List, [], ◌∷◌, ◌++◌, slice_get, unwrap_or, replicate, codes, flat_map}
+use Rattle.std.specs.Prelude.{ℕ, zero, suc, List, [], ◌∷◌, ◌++◌, slice_get, unwrap_or, replicate}
+use Rattle.std.specs.Prelude.{codes, flat_map}
 use Rattle.rn_value.specs.Text.{numeral}
 use Rattle.rn_model.specs.declared.system.Place.{Place}
 use Rattle.rn_model.specs.declared.system.Transition.{Transition}
@@ -14,7 +15,9 @@ firing_line step name = numeral step ++ codes " w1 main[1]." ++ name ++ codes "\
 -- the firings of these transitions, numbered from step on
 abbrev pub firing_lines : List Transition → ℕ → List ℕ → List ℕ
 firing_lines transitions step [] = []
-firing_lines transitions step (t ∷ ts) = firing_line step (unwrap_or (slice_get transitions t) empty_transition).name ++ firing_lines transitions (suc step) ts
+firing_lines transitions step (t ∷ ts) =
+    firing_line step (unwrap_or (slice_get transitions t) empty_transition).name
+    ++ firing_lines transitions (suc step) ts
 
 -- so many black tokens, each behind a space
 abbrev pub blacks_text : ℕ → List ℕ
@@ -29,7 +32,8 @@ mark_line name (suc n) = codes "main[1]." ++ name ++ blacks_text (suc n) ++ code
 abbrev pub mark_lines : List Place → List ℕ → List ℕ
 mark_lines [] counts = []
 mark_lines (place ∷ places) [] = []
-mark_lines (place ∷ places) (count ∷ counts) = mark_line place.name count ++ mark_lines places counts
+mark_lines (place ∷ places) (count ∷ counts) =
+    mark_line place.name count ++ mark_lines places counts
 
 abbrev pub ending_line : Ending → List ℕ
 ending_line Dead = codes "end dead\n"
@@ -42,4 +46,6 @@ live_lines (t ∷ ts) places counts = mark_lines places counts
 
 -- all lines of a run: the firings, the end and the marks
 abbrev pub run_lines : List Transition → List Place → List ℕ → Ending → List ℕ → List ℕ
-run_lines transitions places fired ending counts = firing_lines transitions 1 fired ++ ending_line ending ++ live_lines transitions places counts
+run_lines transitions places fired ending counts =
+    firing_lines transitions 1 fired ++ ending_line ending
+    ++ live_lines transitions places counts

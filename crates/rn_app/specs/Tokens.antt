@@ -24,7 +24,8 @@ abbrev pub goes_on : List ℕ → Bool
 goes_on [] = false
 goes_on (c ∷ text) = is_name_byte c
 
--- The text is the token and then the rest. A word is as long as it can be: what follows it doesn't go on with a letter, a digit or `_`.
+-- The text is the token and then the rest. A word is as long as it can be: what follows it doesn't
+-- go on with a letter, a digit or `_`.
 abbrev pub Begins : List ℕ → Token → List ℕ → Type 0
 Begins text (sign c) rest = (text ≡ c ∷ rest) × IsTrue (is_sign c)
 Begins text (word w) rest = (text ≡ w ++ rest) × IsTrue (is_word w) × (goes_on rest ≡ false)

@@ -23,8 +23,8 @@ AreRunWords words = words ≡ codes "run" ∷ codes "--workers" ∷ codes "1" �
 abbrev pub IsNoNetText : List ℕ → Type 0
 IsNoNetText bytes = (system : System) → ¬ Accepted bytes system
 
--- The text is that of a run of the system of these bytes: its firings, from the initial marking, its
--- true end, and the marks of what is live then.
+-- The text is that of a run of the system of these bytes: its firings, from the initial marking,
+-- its true end, and the marks of what is live then.
 pub record IsRunOf (bytes text : List ℕ) : Type 0 where
   pub system : System
   pub accepted : Accepted bytes system
@@ -58,7 +58,8 @@ pub record WritesPartOfRun (left left_after held held_after : Option (List ℕ))
 abbrev pub HasCause : List (List ℕ) → Option (List ℕ) → ℕ → ℕ → Refusal → Type 0
 HasCause words left faults faults_after kind.Net = AreRunWords words × IfSome left IsNoNetText
 HasCause words left faults faults_after kind.Words = ¬ AreRunWords words
-HasCause words left faults faults_after kind.ReadFault = AreRunWords words × Rose faults faults_after
+HasCause words left faults faults_after kind.ReadFault =
+    AreRunWords words × Rose faults faults_after
 HasCause words left faults faults_after kind.NoMemory = AreRunWords words
 
 -- the line of a refusal
@@ -88,7 +89,8 @@ TakesLine held held_after faults faults_after line =
     Appends held line held_after ⊎ (AppendsPrefix held line held_after × Rose faults faults_after)
 
 -- A sink failed before the end of the line of the refusal that has its cause.
-pub record FailsToRefuse (words : List (List ℕ)) (left held held_after : Option (List ℕ)) : Type 0 where
+pub record FailsToRefuse (words : List (List ℕ)) (left held held_after : Option (List ℕ))
+    : Type 0 where
   pub refusal : Refusal
   pub cause : (refusal ≡ kind.Net × AreRunWords words × IfSome left IsNoNetText)
       ⊎ (refusal ≡ kind.Words × (¬ AreRunWords words))

@@ -88,8 +88,10 @@ fn token_of(alloc: Global, piece: Piece<'_>) -> Result<Token, NoMemory>
 
 /// The tokens of a text, or nothing where it is no tokens.
 pub fn lex(alloc: Global, text: &[u8]) -> Result<Option<Vec<Token>>, NoMemory>
-    ensures found { IfOk result (λ found. IfSome found (λ tokens. Tokens text.now (seen_all tokens.items))) }
-    ensures only { IfOk result (λ found. IfSome found (λ tokens. HasOnly text.now (seen_all tokens.items))) }
+    ensures found { IfOk result
+        (λ found. IfSome found (λ tokens. Tokens text.now (seen_all tokens.items))) }
+    ensures only { IfOk result
+        (λ found. IfSome found (λ tokens. HasOnly text.now (seen_all tokens.items))) }
     ensures none { IfOk result (λ found. IfNone found (IsNoTokens text.now)) }
 {
     let mut tokens = Vec::new(alloc);

@@ -1,5 +1,6 @@
 //! Names in the order of their first appearance.
-ghost use Rattle.std.specs.Prelude.{◌≡◌, ◌<◌, ◌^◌, [], ◌∷◌, ◌++◌, length, position, IfOk, OnErr, IfSome, IfNone, true, false, Contains, nat_eq};
+ghost use Rattle.std.specs.Prelude.{◌≡◌, ◌<◌, ◌^◌, [], ◌∷◌, ◌++◌, length, position, IfOk, OnErr};
+ghost use Rattle.std.specs.Prelude.{IfSome, IfNone, true, false, Contains, nat_eq};
 ghost use Rattle.std.specs.Cmp.Lexicographic.{pointwise};
 
 use indexmap::IndexSet;

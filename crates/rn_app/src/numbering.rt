@@ -1,9 +1,11 @@
 //! From a net of the small notation to its system.
-ghost use Rattle.std.specs.Prelude.{◌≡◌, ◌≢◌, ◌<◌, ◌^◌, length, map, replicate, IsTrue, IfOk, IfSome, IfNone, All, AllPairs, Contains};
+ghost use Rattle.std.specs.Prelude.{◌≡◌, ◌≢◌, ◌<◌, ◌^◌, length, map, replicate, IsTrue, IfOk};
+ghost use Rattle.std.specs.Prelude.{IfSome, IfNone, All, AllPairs, Contains};
 ghost use Rattle.std.specs.Prelude.{if◌then◌else◌};
 ghost use Rattle.rn_model.specs.Systems.{empty_transition};
 ghost use Rattle.rn_app.specs.Tokens.{is_word};
-ghost use Rattle.rn_app.specs.SmallNets.{black, place_of, arc_of, transition_of, system_of, main_alone, IsDeclared, AreWords, AreDistinct};
+ghost use Rattle.rn_app.specs.SmallNets.{black, place_of, arc_of, transition_of, system_of};
+ghost use Rattle.rn_app.specs.SmallNets.{main_alone, IsDeclared, AreWords, AreDistinct};
 ghost use Rattle.rn_app.specs.Reading.{place_seen, arc_seen, transition_seen, net_seen, HasPlaces};
 
 use crate::names::NameTable;
@@ -54,8 +56,10 @@ fn numbered_places(
     places: &[SmallPlace<'_>],
 ) -> Result<Option<(NameTable, Places)>, NoMemory>
     requires { All (λ p. IsTrue (is_word p.name.now)) places.now }
-    ensures names { IfOk result (λ r. IfSome r (λ found. found.0 ≡ map (λ p. p.name.now) places.now)) }
-    ensures places { IfOk result (λ r. IfSome r (λ found. found.1 ≡ map (λ p. place_of (place_seen p)) places.now)) }
+    ensures names { IfOk result
+        (λ r. IfSome r (λ found. found.0 ≡ map (λ p. p.name.now) places.now)) }
+    ensures places { IfOk result
+        (λ r. IfSome r (λ found. found.1 ≡ map (λ p. place_of (place_seen p)) places.now)) }
     ensures distinct { IfOk result (λ r. IfSome r (λ found. AreDistinct found.0)) }
     ensures none { IfOk result (λ r. IfNone r (¬ AreDistinct (map (λ p. p.name.now) places.now))) }
 {
@@ -102,9 +106,12 @@ fn numbered_arcs(
     arcs: &[SmallArc<'_>],
 ) -> Result<Option<NetArcs>, NoMemory>
     requires { length names.now < 2 ^ 32 }
-    ensures arcs { IfOk result (λ r. IfSome r (λ found. found ≡ map (λ arc. arc_of names.now (arc_seen arc)) arcs.now)) }
-    ensures there { IfOk result (λ r. IfSome r (λ found. All (λ arc. Contains names.now arc.place.now) arcs.now)) }
-    ensures none { IfOk result (λ r. IfNone r (¬ All (λ arc. Contains names.now arc.place.now) arcs.now)) }
+    ensures arcs { IfOk result
+        (λ r. IfSome r (λ found. found ≡ map (λ arc. arc_of names.now (arc_seen arc)) arcs.now)) }
+    ensures there { IfOk result
+        (λ r. IfSome r (λ found. All (λ arc. Contains names.now arc.place.now) arcs.now)) }
+    ensures none { IfOk result
+        (λ r. IfNone r (¬ All (λ arc. Contains names.now arc.place.now) arcs.now)) }
 {
     let mut numbered = Vec::new(alloc);
     for arc in arcs {
@@ -142,7 +149,8 @@ fn numbered_transition(
 ) -> Result<Option<Transition>, NoMemory>
     requires few { length places.now < 2 ^ 32 }
     requires word { IsTrue (is_word transition.now.name.now) }
-    ensures transition { IfOk result (λ r. IfSome r (λ t. t ≡ transition_of places.now (transition_seen transition.now))) }
+    ensures transition { IfOk result
+        (λ r. IfSome r (λ t. t ≡ transition_of places.now (transition_seen transition.now))) }
     ensures arcs { IfOk result (λ r. IfSome r (λ t. HasPlaces places.now transition.now)) }
     ensures none { IfOk result (λ r. IfNone r (¬ HasPlaces places.now transition.now)) }
 {
@@ -153,7 +161,8 @@ fn numbered_transition(
     }
 }
 
-/// The transitions with their arcs' places in numbers, or nothing where one is declared twice or an arc has no place.
+/// The transitions with their arcs' places in numbers, or nothing where one is declared twice or an
+/// arc has no place.
 fn numbered_transitions(
     alloc: Global,
     places: &NameTable,
@@ -161,10 +170,16 @@ fn numbered_transitions(
 ) -> Result<Option<Transitions>, NoMemory>
     requires few { length places.now < 2 ^ 32 }
     requires words { All (λ t. IsTrue (is_word t.name.now)) transitions.now }
-    ensures transitions { IfOk result (λ r. IfSome r (λ found. found ≡ map (λ t. transition_of places.now (transition_seen t)) transitions.now)) }
-    ensures distinct { IfOk result (λ r. IfSome r (λ found. AreDistinct (map (λ t. t.name.now) transitions.now))) }
-    ensures arcs { IfOk result (λ r. IfSome r (λ found. All (HasPlaces places.now) transitions.now)) }
-    ensures none { IfOk result (λ r. IfNone r (¬ (AreDistinct (map (λ t. t.name.now) transitions.now) × All (HasPlaces places.now) transitions.now))) }
+    ensures transitions { IfOk result
+        (λ r. IfSome r (λ found. found ≡
+        map (λ t. transition_of places.now (transition_seen t)) transitions.now)) }
+    ensures distinct { IfOk result
+        (λ r. IfSome r (λ found. AreDistinct (map (λ t. t.name.now) transitions.now))) }
+    ensures arcs { IfOk result
+        (λ r. IfSome r (λ found. All (HasPlaces places.now) transitions.now)) }
+    ensures none { IfOk result
+        (λ r. IfNone r (¬ (AreDistinct (map (λ t. t.name.now) transitions.now) ×
+        All (HasPlaces places.now) transitions.now))) }
 {
     let mut names = NameTable::new(alloc);
     let mut numbered = Vec::new(alloc);

@@ -1,13 +1,18 @@
 //! From tokens to a net of the small notation.
-ghost use Rattle.std.specs.Prelude.{◌≡◌, ◌≢◌, ◌<◌, ◌++◌, ◌∷◌, [], ℕ, List, length, IfOk, IfSome, IfNone, MatchOption};
+ghost use Rattle.std.specs.Prelude.{◌≡◌, ◌≢◌, ◌<◌, ◌++◌, ◌∷◌, [], ℕ, List, length, IfOk, IfSome};
+ghost use Rattle.std.specs.Prelude.{IfNone, MatchOption};
 ghost use Rattle.std.specs.Prelude.{◌↔◌, IsTrue, nat_eq, false, map, flat_map, All, codes};
 ghost use Rattle.std.specs.List.{list_any};
 ghost use Rattle.std.specs.Cmp.Lexicographic.{pointwise};
 ghost use Rattle.rn_app.specs.Tokens.{word as word_of, sign as sign_of, Token as Seen};
-ghost use Rattle.rn_app.specs.Reading.{seen, seen_all, place_seen, arc_seen, transition_seen, net_seen, begins_with, begins_arc};
+ghost use Rattle.rn_app.specs.Reading.{seen, seen_all, place_seen, arc_seen, transition_seen};
+ghost use Rattle.rn_app.specs.Reading.{net_seen, begins_with, begins_arc};
 ghost use Rattle.rn_model.specs.Names.{is_reserved};
-ghost use Rattle.rn_app.specs.SmallNets.{IsFree, IsFreeTransition, blacks_spelled, initial_spelled, place_spelled, arc_spelled, transition_spelled, net_spelled, IsNamed};
-ghost use Rattle.rn_app.specs.SmallNets.{SmallPlace as Place, SmallArc as Arc, SmallTransition as Transition, SmallNet as Net};
+ghost use Rattle.rn_app.specs.SmallNets.{IsFree, IsFreeTransition, blacks_spelled};
+ghost use Rattle.rn_app.specs.SmallNets.{initial_spelled, place_spelled, arc_spelled};
+ghost use Rattle.rn_app.specs.SmallNets.{transition_spelled, net_spelled, IsNamed};
+ghost use Rattle.rn_app.specs.SmallNets.{SmallPlace as Place, SmallArc as Arc};
+ghost use Rattle.rn_app.specs.SmallNets.{SmallTransition as Transition, SmallNet as Net};
 
 use crate::lexing::Token;
 use crate::small::{SmallArc, SmallNet, SmallPlace, SmallTransition};
@@ -16,15 +21,18 @@ use std::alloc::Global;
 
 /// The first token and the others.
 fn first(tokens: &[Token]) -> Option<(&Token, &[Token])>
-    ensures { MatchOption result (tokens.now ≡ []) (λ found. tokens.now ≡ found.0.now ∷ found.1.now) }
+    ensures { MatchOption result (tokens.now ≡ [])
+        (λ found. tokens.now ≡ found.0.now ∷ found.1.now) }
 {
     tokens.split_first()
 }
 
 /// What comes behind this sign, where the tokens begin with it.
 fn sign(tokens: &[Token], wanted: u8) -> Option<&[Token]>
-    ensures found { IfSome result (λ rest. seen_all tokens.now ≡ sign_of wanted ∷ seen_all rest.now) }
-    ensures none { IfNone result ((rest : List Seen) → seen_all tokens.now ≢ sign_of wanted ∷ rest) }
+    ensures found { IfSome result
+        (λ rest. seen_all tokens.now ≡ sign_of wanted ∷ seen_all rest.now) }
+    ensures none { IfNone result ((rest : List Seen) → seen_all tokens.now
+        ≢ sign_of wanted ∷ rest) }
 {
     match first(tokens)? {
         (Token::Sign(sign), others) if *sign == wanted => Some(others),
@@ -34,8 +42,10 @@ fn sign(tokens: &[Token], wanted: u8) -> Option<&[Token]>
 
 /// What comes behind this word, where the tokens begin with it.
 fn word<'t>(tokens: &'t [Token], wanted: &[u8]) -> Option<&'t [Token]>
-    ensures found { IfSome result (λ rest. seen_all tokens.now ≡ word_of wanted.now ∷ seen_all rest.now) }
-    ensures none { IfNone result ((rest : List Seen) → seen_all tokens.now ≢ word_of wanted.now ∷ rest) }
+    ensures found { IfSome result
+        (λ rest. seen_all tokens.now ≡ word_of wanted.now ∷ seen_all rest.now) }
+    ensures none { IfNone result ((rest : List Seen) → seen_all tokens.now
+        ≢ word_of wanted.now ∷ rest) }
 {
     match first(tokens)? {
         (Token::Word(word), others) if word.as_slice() == wanted => Some(others),
@@ -69,9 +79,11 @@ fn is_reserved(word: &[u8]) -> bool
 
 /// A name and what comes behind it, where the tokens begin with one.
 fn name(tokens: &[Token]) -> Option<(&[u8], &[Token])>
-    ensures found { IfSome result (λ found. seen_all tokens.now ≡ word_of found.0.now ∷ seen_all found.1.now) }
+    ensures found { IfSome result
+        (λ found. seen_all tokens.now ≡ word_of found.0.now ∷ seen_all found.1.now) }
     ensures free { IfSome result (λ found. IsFree found.0.now) }
-    ensures none { IfNone result ((name : List ℕ) (rest : List Seen) → IsFree name → seen_all tokens.now ≢ word_of name ∷ rest) }
+    ensures none { IfNone result ((name : List ℕ) (rest : List Seen) → IsFree name →
+        seen_all tokens.now ≢ word_of name ∷ rest) }
 {
     match first(tokens)? {
         (Token::Word(word), others) if !is_reserved(word) => Some((word.as_slice(), others)),
@@ -81,17 +93,21 @@ fn name(tokens: &[Token]) -> Option<(&[u8], &[Token])>
 
 /// What comes behind `[]`.
 fn black(tokens: &[Token]) -> Option<&[Token]>
-    ensures found { IfSome result (λ rest. seen_all tokens.now ≡ sign_of 91 ∷ sign_of 93 ∷ seen_all rest.now) }
-    ensures none { IfNone result ((rest : List Seen) → seen_all tokens.now ≢ sign_of 91 ∷ sign_of 93 ∷ rest) }
+    ensures found { IfSome result
+        (λ rest. seen_all tokens.now ≡ sign_of 91 ∷ sign_of 93 ∷ seen_all rest.now) }
+    ensures none { IfNone result ((rest : List Seen) → seen_all tokens.now
+        ≢ sign_of 91 ∷ sign_of 93 ∷ rest) }
 {
     sign(sign(tokens, b'[')?, b']')
 }
 
 /// How many black tokens follow the first one, up to `;`, and what comes behind that.
 fn blacks(tokens: &[Token]) -> Option<(usize, &[Token])>
-    ensures found { IfSome result (λ found. seen_all tokens.now ≡ blacks_spelled found.0 ++ sign_of 59 ∷ seen_all found.1.now) }
+    ensures found { IfSome result (λ found. seen_all tokens.now ≡ blacks_spelled found.0
+        ++ sign_of 59 ∷ seen_all found.1.now) }
     ensures few { IfSome result (λ found. found.0 < length tokens.now) }
-    ensures none { IfNone result ((count : ℕ) (rest : List Seen) → seen_all tokens.now ≢ blacks_spelled count ++ sign_of 59 ∷ rest) }
+    ensures none { IfNone result ((count : ℕ) (rest : List Seen) → seen_all tokens.now
+        ≢ blacks_spelled count ++ sign_of 59 ∷ rest) }
 {
     let mut count = 0;
     let mut rest = black(tokens)?;
@@ -104,8 +120,10 @@ fn blacks(tokens: &[Token]) -> Option<(usize, &[Token])>
 
 /// With how many black tokens a place begins, and what comes behind the `;`.
 fn initial(tokens: &[Token]) -> Option<(usize, &[Token])>
-    ensures found { IfSome result (λ found. seen_all tokens.now ≡ initial_spelled found.0 ++ sign_of 59 ∷ seen_all found.1.now) }
-    ensures none { IfNone result ((count : ℕ) (rest : List Seen) → seen_all tokens.now ≢ initial_spelled count ++ sign_of 59 ∷ rest) }
+    ensures found { IfSome result (λ found. seen_all tokens.now ≡ initial_spelled found.0
+        ++ sign_of 59 ∷ seen_all found.1.now) }
+    ensures none { IfNone result ((count : ℕ) (rest : List Seen) → seen_all tokens.now
+        ≢ initial_spelled count ++ sign_of 59 ∷ rest) }
 {
     match sign(tokens, b'=') {
         Some(after) => {
@@ -118,9 +136,11 @@ fn initial(tokens: &[Token]) -> Option<(usize, &[Token])>
 
 /// The place that the tokens begin with, and what comes behind it.
 fn place(tokens: &[Token]) -> Option<(SmallPlace<'_>, &[Token])>
-    ensures found { IfSome result (λ found. seen_all tokens.now ≡ place_spelled (place_seen found.0) ++ seen_all found.1.now) }
+    ensures found { IfSome result (λ found. seen_all tokens.now ≡ place_spelled (place_seen found.0)
+        ++ seen_all found.1.now) }
     ensures free { IfSome result (λ found. IsFree found.0.name.now) }
-    ensures none { IfNone result ((place : Place) (rest : List Seen) → IsFree place.name → seen_all tokens.now ≢ place_spelled place ++ rest) }
+    ensures none { IfNone result ((place : Place) (rest : List Seen) → IsFree place.name →
+        seen_all tokens.now ≢ place_spelled place ++ rest) }
 {
     let (name, after) = name(word(tokens, b"place")?)?;
     let (count, rest) = initial(after)?;
@@ -149,11 +169,16 @@ fn places(
     tokens: &[Token],
 ) -> Result<Option<(Vec<SmallPlace<'_>>, &[Token])>, NoMemory>
     ensures found { IfOk result (λ r. IfSome r (λ found.
-        seen_all tokens.now ≡ flat_map place_spelled (map place_seen found.0.items) ++ seen_all found.1.now)) }
-    ensures free { IfOk result (λ r. IfSome r (λ found. All (λ p. IsFree p.name) (map place_seen found.0.items))) }
-    ensures ended { IfOk result (λ r. IfSome r (λ found. begins_with (codes "place") (seen_all found.1.now) ≡ false)) }
-    ensures none { IfOk result (λ r. IfNone r ((places : List Place) (rest : List Seen) → All (λ p. IsFree p.name) places →
-        begins_with (codes "place") rest ≡ false → seen_all tokens.now ≢ flat_map place_spelled places ++ rest)) }
+        seen_all tokens.now ≡ flat_map place_spelled (map place_seen found.0.items)
+        ++ seen_all found.1.now)) }
+    ensures free { IfOk result
+        (λ r. IfSome r (λ found. All (λ p. IsFree p.name) (map place_seen found.0.items))) }
+    ensures ended { IfOk result
+        (λ r. IfSome r (λ found. begins_with (codes "place") (seen_all found.1.now) ≡ false)) }
+    ensures none { IfOk result
+        (λ r. IfNone r ((places : List Place) (rest : List Seen) → All (λ p. IsFree p.name) places →
+        begins_with (codes "place") rest ≡ false →
+        seen_all tokens.now ≢ flat_map place_spelled places ++ rest)) }
 {
     let mut places = Vec::new(alloc);
     let mut rest = tokens;
@@ -171,9 +196,11 @@ fn places(
 
 /// The arc that the tokens begin with, and what comes behind it.
 fn arc(tokens: &[Token]) -> Option<(SmallArc<'_>, &[Token])>
-    ensures found { IfSome result (λ found. seen_all tokens.now ≡ arc_spelled (arc_seen found.0) ++ seen_all found.1.now) }
+    ensures found { IfSome result (λ found. seen_all tokens.now ≡ arc_spelled (arc_seen found.0)
+        ++ seen_all found.1.now) }
     ensures free { IfSome result (λ found. IsFree found.0.place.now) }
-    ensures none { IfNone result ((arc : Arc) (rest : List Seen) → IsFree arc.place → seen_all tokens.now ≢ arc_spelled arc ++ rest) }
+    ensures none { IfNone result ((arc : Arc) (rest : List Seen) → IsFree arc.place →
+        seen_all tokens.now ≢ arc_spelled arc ++ rest) }
 {
     let (takes, after) = match word(tokens, b"in") {
         Some(after) => (true, after),
@@ -193,11 +220,16 @@ fn begins_arc(tokens: &[Token]) -> bool
 /// All arcs that the tokens begin with, and what comes behind them.
 fn arcs(alloc: Global, tokens: &[Token]) -> Result<Option<(Vec<SmallArc<'_>>, &[Token])>, NoMemory>
     ensures found { IfOk result (λ r. IfSome r (λ found.
-        seen_all tokens.now ≡ flat_map arc_spelled (map arc_seen found.0.items) ++ seen_all found.1.now)) }
-    ensures free { IfOk result (λ r. IfSome r (λ found. All (λ arc. IsFree arc.place) (map arc_seen found.0.items))) }
-    ensures ended { IfOk result (λ r. IfSome r (λ found. begins_arc (seen_all found.1.now) ≡ false)) }
-    ensures none { IfOk result (λ r. IfNone r ((arcs : List Arc) (rest : List Seen) → All (λ arc. IsFree arc.place) arcs →
-        begins_arc rest ≡ false → seen_all tokens.now ≢ flat_map arc_spelled arcs ++ rest)) }
+        seen_all tokens.now ≡ flat_map arc_spelled (map arc_seen found.0.items)
+        ++ seen_all found.1.now)) }
+    ensures free { IfOk result
+        (λ r. IfSome r (λ found. All (λ arc. IsFree arc.place) (map arc_seen found.0.items))) }
+    ensures ended { IfOk result
+        (λ r. IfSome r (λ found. begins_arc (seen_all found.1.now) ≡ false)) }
+    ensures none { IfOk result
+        (λ r. IfNone r ((arcs : List Arc) (rest : List Seen) → All (λ arc. IsFree arc.place) arcs →
+        begins_arc rest ≡ false →
+        seen_all tokens.now ≢ flat_map arc_spelled arcs ++ rest)) }
 {
     let mut arcs = Vec::new(alloc);
     let mut rest = tokens;
@@ -218,9 +250,12 @@ fn transition(
     tokens: &[Token],
 ) -> Result<Option<(SmallTransition<'_>, &[Token])>, NoMemory>
     ensures found { IfOk result (λ r. IfSome r (λ found.
-        seen_all tokens.now ≡ transition_spelled (transition_seen found.0) ++ seen_all found.1.now)) }
-    ensures free { IfOk result (λ r. IfSome r (λ found. IsFreeTransition (transition_seen found.0))) }
-    ensures none { IfOk result (λ r. IfNone r ((transition : Transition) (rest : List Seen) → IsFreeTransition transition →
+        seen_all tokens.now ≡ transition_spelled (transition_seen found.0)
+        ++ seen_all found.1.now)) }
+    ensures free { IfOk result
+        (λ r. IfSome r (λ found. IsFreeTransition (transition_seen found.0))) }
+    ensures none { IfOk result
+        (λ r. IfNone r ((transition : Transition) (rest : List Seen) → IsFreeTransition transition →
         seen_all tokens.now ≢ transition_spelled transition ++ rest)) }
 {
     let Some((name, after)) = transition_name(tokens) else {
@@ -238,7 +273,8 @@ fn transition(
 /// The name in `trans t {`, and what comes behind that.
 fn transition_name(tokens: &[Token]) -> Option<(&[u8], &[Token])>
     ensures found { IfSome result (λ found.
-        seen_all tokens.now ≡ word_of (codes "trans") ∷ word_of found.0.now ∷ sign_of 123 ∷ seen_all found.1.now) }
+        seen_all tokens.now ≡ word_of (codes "trans") ∷ word_of found.0.now
+        ∷ sign_of 123 ∷ seen_all found.1.now) }
     ensures free { IfSome result (λ found. IsFree found.0.now) }
     ensures none { IfNone result ((name : List ℕ) (rest : List Seen) → IsFree name →
         seen_all tokens.now ≢ word_of (codes "trans") ∷ word_of name ∷ sign_of 123 ∷ rest) }
@@ -253,11 +289,16 @@ fn transitions(
     tokens: &[Token],
 ) -> Result<Option<(Vec<SmallTransition<'_>>, &[Token])>, NoMemory>
     ensures found { IfOk result (λ r. IfSome r (λ found.
-        seen_all tokens.now ≡ flat_map transition_spelled (map transition_seen found.0.items) ++ seen_all found.1.now)) }
-    ensures free { IfOk result (λ r. IfSome r (λ found. All IsFreeTransition (map transition_seen found.0.items))) }
-    ensures ended { IfOk result (λ r. IfSome r (λ found. begins_with (codes "trans") (seen_all found.1.now) ≡ false)) }
-    ensures none { IfOk result (λ r. IfNone r ((transitions : List Transition) (rest : List Seen) → All IsFreeTransition transitions →
-        begins_with (codes "trans") rest ≡ false → seen_all tokens.now ≢ flat_map transition_spelled transitions ++ rest)) }
+        seen_all tokens.now ≡ flat_map transition_spelled (map transition_seen found.0.items)
+        ++ seen_all found.1.now)) }
+    ensures free { IfOk result
+        (λ r. IfSome r (λ found. All IsFreeTransition (map transition_seen found.0.items))) }
+    ensures ended { IfOk result
+        (λ r. IfSome r (λ found. begins_with (codes "trans") (seen_all found.1.now) ≡ false)) }
+    ensures none { IfOk result (λ r. IfNone r ((transitions : List Transition) (rest : List Seen) →
+        All IsFreeTransition transitions →
+        begins_with (codes "trans") rest ≡ false →
+        seen_all tokens.now ≢ flat_map transition_spelled transitions ++ rest)) }
 {
     let mut transitions = Vec::new(alloc);
     let mut rest = tokens;
@@ -275,7 +316,8 @@ fn transitions(
 /// What comes behind `net main {`.
 fn net_start(tokens: &[Token]) -> Option<&[Token]>
     ensures found { IfSome result (λ rest.
-        seen_all tokens.now ≡ word_of (codes "net") ∷ word_of (codes "main") ∷ sign_of 123 ∷ seen_all rest.now) }
+        seen_all tokens.now ≡ word_of (codes "net") ∷ word_of (codes "main")
+        ∷ sign_of 123 ∷ seen_all rest.now) }
     ensures none { IfNone result ((rest : List Seen) →
         seen_all tokens.now ≢ word_of (codes "net") ∷ word_of (codes "main") ∷ sign_of 123 ∷ rest) }
 {
@@ -294,9 +336,11 @@ fn net_end(tokens: &[Token]) -> bool
 
 /// The net that the tokens spell, or nothing where they spell none.
 pub fn parse(alloc: Global, tokens: &[Token]) -> Result<Option<SmallNet<'_>>, NoMemory>
-    ensures found { IfOk result (λ r. IfSome r (λ net. seen_all tokens.now ≡ net_spelled (net_seen net))) }
+    ensures found { IfOk result
+        (λ r. IfSome r (λ net. seen_all tokens.now ≡ net_spelled (net_seen net))) }
     ensures named { IfOk result (λ r. IfSome r (λ net. IsNamed (net_seen net))) }
-    ensures none { IfOk result (λ r. IfNone r ((net : Net) → IsNamed net → seen_all tokens.now ≢ net_spelled net)) }
+    ensures none { IfOk result
+        (λ r. IfNone r ((net : Net) → IsNamed net → seen_all tokens.now ≢ net_spelled net)) }
 {
     let Some(after) = net_start(tokens) else {
         return Ok(None);

@@ -5,8 +5,10 @@ ghost use Rattle.rn_model.specs.declared.system.System.{System as Whole};
 ghost use Rattle.rn_outside.specs.Bytes.{GivesAll, GivesFront, Appends, AppendsPrefix};
 ghost use Rattle.rn_outside.specs.Faults.{Rose};
 ghost use Rattle.rn_app.specs.SmallNets.{Accepted};
-ghost use Rattle.rn_app.specs.TopCall.{AreRunWords, IsNoNetText, IsRunOf, ReadsRun, WritesRun, WritesPartOfRun};
-ghost use Rattle.rn_app.specs.TopCall.{HasCause, FailsToRefuse, TakesLine, IsStatus, IsFault, line_of, status_of, gives_way};
+ghost use Rattle.rn_app.specs.TopCall.{AreRunWords, IsNoNetText, IsRunOf, ReadsRun, WritesRun};
+ghost use Rattle.rn_app.specs.TopCall.{WritesPartOfRun};
+ghost use Rattle.rn_app.specs.TopCall.{HasCause, FailsToRefuse, TakesLine, IsStatus, IsFault};
+ghost use Rattle.rn_app.specs.TopCall.{line_of, status_of, gives_way};
 
 use crate::reading::{self, LONGEST_TEXT};
 use crate::{firing, writing};
@@ -150,7 +152,8 @@ fn refuse<E: Sink>(err: &mut E, refusal: Refusal) -> u8
 }
 
 /// Does all that the program does: it accepts the words, reads the net text, runs its net, and
-/// writes the run. `words` are those after the program's name. It answers one of the statuses above.
+/// writes the run. `words` are those after the program's name. It answers one of the statuses
+/// above.
 pub fn renew_top<I: Source, O: Sink, E: Sink>(
     alloc: Global,
     words: &[String],
@@ -176,7 +179,8 @@ pub fn renew_top<I: Source, O: Sink, E: Sink>(
         (Rose (O.faults out.old) (O.faults out.new) × err.new ≡ err.old
         × WritesPartOfRun (I.left input.old) (I.left input.new) (O.held out.old) (O.held out.new))
         ⊎ (Rose (E.faults err.old) (E.faults err.new) × out.new ≡ out.old
-        × FailsToRefuse (map string_bytes words.now) (I.left input.old) (E.held err.old) (E.held err.new)) }
+        × FailsToRefuse (map string_bytes words.now) (I.left input.old)
+        (E.held err.old) (E.held err.new)) }
     ensures memory { result ≡ 6 →
         TakesLine (E.held err.old) (E.held err.new) (E.faults err.old) (E.faults err.new)
         (codes "memory\n") }

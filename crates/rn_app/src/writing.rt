@@ -1,9 +1,11 @@
 //! From a run to its text.
-ghost use Rattle.std.specs.Prelude.{◌≡◌, ◌+◌, ◌<◌, ℕ, length, ◌∷◌, [], ◌++◌, All, OnOk, IfOk, codes};
+ghost use Rattle.std.specs.Prelude.{◌≡◌, ◌+◌, ◌<◌, ℕ, length, ◌∷◌, [], ◌++◌, All, OnOk, IfOk};
+ghost use Rattle.std.specs.Prelude.{codes};
 ghost use Rattle.rn_model.specs.Systems.{net_at};
 ghost use Rattle.rn_app.specs.SmallRuns.{IsSmall};
 ghost use Rattle.rn_app.specs.RunText.{TellsRun};
-ghost use Rattle.rn_app.specs.SmallText.{firing_line, firing_lines, blacks_text, mark_line, mark_lines, ending_line, run_lines};
+ghost use Rattle.rn_app.specs.SmallText.{firing_line, firing_lines, blacks_text, mark_line};
+ghost use Rattle.rn_app.specs.SmallText.{mark_lines, ending_line, run_lines};
 
 use crate::firing::{Ending, Ran};
 use rn_model::{Net, Place, System, Transition};
@@ -35,7 +37,8 @@ fn put_firings(
     out: &mut Vec<u8>,
 ) -> Result<(), NoMemory>
     requires { All (λ t. t < length transitions.now) fired.now }
-    ensures { OnOk result (out.new.items ≡ out.old.items ++ firing_lines transitions.now 1 fired.now) }
+    ensures { OnOk result (out.new.items ≡ out.old.items
+        ++ firing_lines transitions.now 1 fired.now) }
 {
     for i in 0..fired.len() {
         let name = transitions[fired[i]].name.as_str().as_bytes();
@@ -111,12 +114,14 @@ fn lines_of(alloc: Global, net: &Net, ran: &Ran) -> Result<Vec<u8>, NoMemory>
     Ok(text)
 }
 
-/// The text of a run of a small system: of its firings, its end, and the marks of what is live then.
+/// The text of a run of a small system: of its firings, its end, and the marks of what is live
+/// then.
 pub fn write_run(alloc: Global, system: &System, ran: &Ran) -> Result<Vec<u8>, NoMemory>
     requires small { IsSmall system.now }
     requires fired { All (λ t. t < length (net_at system.now 0).transitions) ran.now.fired.items }
     requires counts { length ran.now.counts.items ≡ length (net_at system.now 0).places }
-    ensures { IfOk result (λ text. TellsRun system.now ran.now.fired.items ran.now.ending ran.now.counts.items text.items) }
+    ensures { IfOk result (λ text.
+        TellsRun system.now ran.now.fired.items ran.now.ending ran.now.counts.items text.items) }
 {
     match system.nets.first() {
         Some(net) => lines_of(alloc, net, ran),
