@@ -1,0 +1,6 @@
+pub mod AssignmentLemmas
+pub mod Examples
+pub mod KeepingLemmas
+pub mod LinkLemmas
+pub mod ListEnds
+pub mod TakingBack

@@ -1,0 +1,4 @@
+pub mod Assignments
+pub mod Kept
+pub mod Stores
+pub mod Undoing
