@@ -1,5 +1,6 @@
 pub mod AssignmentLemmas
 pub mod Examples
+pub mod GrowingStores
 pub mod KeepingLemmas
 pub mod LinkLemmas
 pub mod ListEnds

@@ -5,10 +5,12 @@
 //! values, one for each term, that fit its terms and its links.
 #![tactic(auto)]
 
+mod laws;
 mod store;
 mod term;
 #[cfg(test)]
 mod tests;
 
+pub use laws::terms_extend;
 pub use store::Store;
 pub use term::{Ids, Mark, Term};

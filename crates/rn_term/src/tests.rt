@@ -1,6 +1,6 @@
 ghost use Rattle.std.specs.Prelude.{◌≡◌, ◌∷◌, [], IfOk};
 
-use crate::{Ids, Store, Term};
+use crate::{Ids, Store, Term, terms_extend};
 use rn_items::Items;
 use rn_value::{NoMemory, Value, same};
 use std::alloc::Global;
@@ -42,5 +42,6 @@ fn terms_of_each_form(rt: HostRuntime) -> Result<(), Fail> {
     assert!(rt; matches!(store.term(number), Term::Atom(value) if same(value, &Value::Int(7))));
     assert!(rt; matches!(store.term(pair), Term::Tuple(ids) if ids.len() == 1));
     assert_eq!(rt; store.size(), 4);
+    terms_extend();
     Ok(())
 }
