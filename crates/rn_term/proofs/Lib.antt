@@ -4,4 +4,5 @@ pub mod GrowingStores
 pub mod KeepingLemmas
 pub mod LinkLemmas
 pub mod ListEnds
+pub mod OneValue
 pub mod TakingBack

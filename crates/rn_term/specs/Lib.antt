@@ -1,4 +1,5 @@
 pub mod Assignments
+pub mod GroundTerms
 pub mod Kept
 pub mod Laws
 pub mod Stores

@@ -11,6 +11,6 @@ mod term;
 #[cfg(test)]
 mod tests;
 
-pub use laws::terms_extend;
+pub use laws::{ground_is_forced, terms_extend};
 pub use store::Store;
 pub use term::{Ids, Mark, Term};

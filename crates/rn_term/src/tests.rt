@@ -1,6 +1,6 @@
 ghost use Rattle.std.specs.Prelude.{◌≡◌, ◌∷◌, [], IfOk};
 
-use crate::{Ids, Store, Term, terms_extend};
+use crate::{Ids, Store, Term, ground_is_forced, terms_extend};
 use rn_items::Items;
 use rn_value::{NoMemory, Value, same};
 use std::alloc::Global;
@@ -43,5 +43,6 @@ fn terms_of_each_form(rt: HostRuntime) -> Result<(), Fail> {
     assert!(rt; matches!(store.term(pair), Term::Tuple(ids) if ids.len() == 1));
     assert_eq!(rt; store.size(), 4);
     terms_extend();
+    ground_is_forced();
     Ok(())
 }
