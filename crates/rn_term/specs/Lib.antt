@@ -1,0 +1,6 @@
+pub mod Assignments
+pub mod GroundTerms
+pub mod Kept
+pub mod Laws
+pub mod Stores
+pub mod Undoing

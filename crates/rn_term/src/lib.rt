@@ -1,0 +1,16 @@
+//! A store of terms with unknown parts, and its undo trail.
+//!
+//! A term is a variable, a value, or built of terms that were added before it. Contracts see a
+//! store as its terms and the notes of its trail. What it says are its assignments: the lists of
+//! values, one for each term, that fit its terms and its links.
+#![tactic(auto)]
+
+mod laws;
+mod store;
+mod term;
+#[cfg(test)]
+mod tests;
+
+pub use laws::{ground_is_forced, terms_extend};
+pub use store::Store;
+pub use term::{Ids, Mark, Term};
