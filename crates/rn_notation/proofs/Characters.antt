@@ -1,13 +1,13 @@
 -- Characters at the front of bytes.
-use Rattle.std.proofs.Common.{◌≡◌, ◌<◌, ◌≤◌, ◌+◌, ℕ, List, [], ◌∷◌, ◌++◌, length, take, Bool, true, false, cond, ◌||◌, nat_eq, refl, sym, ap, ◌∙◌, subst, arith, true≢false, append_assoc}
+use Rattle.std.proofs.Common.{◌≡◌, ◌<◌, ◌≤◌, ◌+◌, ℕ, List, ◌∷◌, ◌++◌, length, take, Bool, true, false, cond, nat_eq, refl, sym, ap, ◌∙◌, subst, arith}
 use Rattle.std.specs.Prelude.{encode_utf8, ◌⊎◌, IsUtf8}
 use Rattle.std.specs.Char.{IsScalar}
-use Rattle.std.specs.List.{list_any, AllByRecursion}
+use Rattle.std.specs.List.{AllByRecursion}
 use Rattle.std.specs.Str.{StartsWithNoChar, IsValidUpTo}
 use Rattle.std.proofs.Math.Dec.{T, eqb→eq}
 use Rattle.std.proofs.lemmas.Str.{encode_same, encode_ascii, length-encode, len_utf8_bounds, IsUtf8-encode}
 use Rattle.std.proofs.lemmas.List.{length-append, take-take, take_at}
-use lib.Utf8.{low_scalar, next, encode}
+use lib.Utf8.{low_scalar, encode}
 use lib.Dec.{ltb}
 use mathlib.Core.Logic.{inl, inr}
 

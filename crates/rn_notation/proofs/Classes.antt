@@ -1,19 +1,19 @@
 -- What stands first in a text is determined by the text: first by the class of its first byte, and then within the class.
-use Rattle.std.proofs.Common.{◌≡◌, ◌<◌, ◌≤◌, ◌+◌, ◌-◌, ℕ, zero, suc, List, [], ◌∷◌, ◌++◌, length, Bool, true, false, cond, not, ◌&&◌, ◌||◌, nat_eq, nat_le, nat_lt, refl, sym, ap, ◌∙◌, subst, arith, true≢false, append_assoc, Option, Some, None, if◌then◌else◌, pos}
+use Rattle.std.proofs.Common.{◌≡◌, ◌<◌, ◌≤◌, ℕ, zero, suc, List, [], ◌∷◌, ◌++◌, length, Bool, true, false, not, ◌&&◌, ◌||◌, nat_eq, nat_le, nat_lt, refl, sym, ap, ◌∙◌, subst, arith, true≢false, append_assoc, Option, Some, None, if◌then◌else◌, pos}
 use Rattle.std.specs.Prelude.{encode_utf8, encode_utf8_all, ◌⊎◌}
 use Rattle.std.specs.Char.{IsScalar}
-use Rattle.std.specs.List.{list_all, list_any, AllByRecursion}
+use Rattle.std.specs.List.{list_all, AllByRecursion}
 use Rattle.std.specs.Str.{StartsWithNoChar}
 use Rattle.std.proofs.Math.Dec.{T, leb→le}
 use Rattle.rn_notation.specs.Words.{is_blank, is_letter, is_digit, is_name_byte, goes_on, is_word, are_digits, number_of, greatest, is_front, place_in, reserved_words, signs, begins_with_sign, is_longest_sign, opens_comment}
 use Rattle.rn_notation.specs.Texts.{Part, AreParts, written, meant, is_closed, IsInComment, IsBroken, IsNoEscape}
 use Rattle.rn_notation.specs.Tokens.{IsGap, IsToken}
-use Rattle.rn_notation.specs.Faults.{IsFault, begins_plainly, begins_something}
+use Rattle.rn_notation.specs.Faults.{IsFault, begins_something}
 use Rattle.rn_notation.specs.Steps.{Found, gap, token, fault, Stands}
 use Rattle.rn_notation.specs.declared.token.TokenKind.TheVariants.{Name, Word, Number, Text, Sign}
 use Rattle.rn_notation.specs.declared.token.Cause.TheVariants.{P1, P3, P4, P7}
 use Rattle.rn_notation.proofs.NumberLemmas.{both_true}
-use Rattle.rn_notation.proofs.WordLemmas.{passes, among_fronts, front_of_itself, low_name_byte, front_is, not_less, letter_passes}
+use Rattle.rn_notation.proofs.WordLemmas.{passes, among_fronts, front_of_itself, low_name_byte, letter_passes}
 use Rattle.rn_notation.proofs.Characters.{not_broken, heads, tails, some_bytes, other_number}
 use Rattle.std.proofs.lemmas.List.{length-append}
 use Rattle.rn_notation.specs.declared.token.TokenKind.{TokenKind}

@@ -3,16 +3,13 @@ use Rattle.std.proofs.Common.{◌≡◌, ◌<◌, ◌≤◌, ◌+◌, ◌-◌, �
 use Rattle.std.specs.Prelude.{encode_utf8, ◌↔◌}
 use Rattle.std.specs.List.{flat_map, AllByRecursion}
 use Rattle.std.proofs.lemmas.List.{length-append, take_at, drop_at}
-use Rattle.rn_notation.specs.Words.{are_digits}
-use Rattle.rn_notation.specs.Texts.{IsBroken, IsNoEscape}
-use Rattle.rn_notation.specs.Tokens.{IsGap, IsToken}
+use Rattle.rn_notation.specs.Tokens.{IsToken}
 use Rattle.rn_notation.specs.Faults.{IsFault}
 use Rattle.rn_notation.specs.Places.{place_after}
-use Rattle.rn_notation.specs.Reading.{Piece, gap, token, bytes_of, Fits, Pieces, tokens_behind, token_behind, BeginsWith, Tokens, FirstFault, fault_at, Reads, IsSlice, slice_of, Ascend, HasFault, IsTokens}
+use Rattle.rn_notation.specs.Reading.{Piece, gap, token, bytes_of, Fits, Pieces, tokens_behind, BeginsWith, Tokens, FirstFault, fault_at, Reads, IsSlice, Ascend, HasFault, IsTokens}
 use Rattle.rn_notation.specs.Laws.{OneReading, OneFault, NoFaultInTokens}
 use Rattle.rn_notation.specs.Steps as step
 use Rattle.rn_notation.specs.declared.token.Token.{Token}
-use Rattle.rn_notation.specs.declared.token.TokenKind.{TokenKind}
 use Rattle.rn_notation.specs.declared.token.LexFault.{LexFault}
 use Rattle.rn_notation.specs.declared.token.Cause.{Cause}
 use Rattle.rn_notation.proofs.Characters.{some_bytes}

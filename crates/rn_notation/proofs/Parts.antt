@@ -1,11 +1,9 @@
 -- The parts of a text: its bytes have one reading, and parts don't change whether it is closed.
-use Rattle.std.proofs.Common.{◌≡◌, ◌<◌, ◌≤◌, ◌+◌, ℕ, List, [], ◌∷◌, ◌++◌, length, Bool, true, false, ◌||◌, nat_eq, refl, sym, ap, ◌∙◌, subst, arith, true≢false, append_assoc, Option, Some, None, if◌then◌else◌}
+use Rattle.std.proofs.Common.{◌≡◌, ◌<◌, ◌≤◌, ℕ, List, [], ◌∷◌, ◌++◌, Bool, true, false, ◌||◌, nat_eq, refl, sym, ap, ◌∙◌, arith, true≢false, append_assoc, Option, Some, None, if◌then◌else◌}
 use Rattle.std.specs.Prelude.{encode_utf8, encode_utf8_all, ◌⊎◌}
-use Rattle.std.specs.Char.{IsScalar}
-use Rattle.std.specs.List.{list_any, AllByRecursion}
-use Rattle.std.specs.Str.{StartsWithNoChar}
+use Rattle.std.specs.List.{AllByRecursion}
 use Rattle.std.proofs.lemmas.Str.{encode_same, encode_ascii}
-use Rattle.rn_notation.specs.Texts.{Part, itself, escape, IsPart, spelled, meaning, AreParts, written, meant, escaped_byte, is_special, is_closed, IsBroken, IsNoEscape, IsInComment}
+use Rattle.rn_notation.specs.Texts.{Part, itself, escape, IsPart, spelled, meaning, AreParts, written, escaped_byte, is_special, is_closed, IsBroken, IsNoEscape, IsInComment}
 use Rattle.rn_notation.proofs.Characters.{heads, tails, other_number, byte_char, not_broken, bytes_of_char, ascii_front}
 use Rattle.std.proofs.lemmas.Bool.{eqb-true}
 use mathlib.Core.Logic.{inl, inr}

@@ -1,18 +1,15 @@
 -- A text, as it is read piece by piece.
-use Rattle.std.proofs.Common.{◌≡◌, ◌<◌, ◌≤◌, ◌+◌, ◌-◌, ◌^◌, ℕ, suc, List, [], ◌∷◌, ◌++◌, length, take, drop, reverse, Bool, true, false, cond, not, nat_eq, refl, sym, ap, ◌∙◌, subst, arith, true≢false, append_assoc, Some, None}
+use Rattle.std.proofs.Common.{◌≡◌, ◌<◌, ◌≤◌, ◌+◌, ◌-◌, ◌^◌, ℕ, List, [], ◌∷◌, ◌++◌, length, take, drop, reverse, Bool, true, false, cond, not, refl, sym, ap, ◌∙◌, subst, arith, true≢false, append_assoc}
 use Rattle.std.specs.Prelude.{count_by}
-use Rattle.std.specs.List.{flat_map, prefix_len, list_all}
+use Rattle.std.specs.List.{flat_map, prefix_len}
 use Rattle.std.proofs.lemmas.List.{append-nil, length-append, reverse-append, length-reverse, take_at, drop_at, length-take-le, take-append-drop}
 use Rattle.std.proofs.lemmas.List.Sums.{prefix_len-le-length, sum_by-append, count_by-le-length}
-use Rattle.rn_notation.specs.Words.{is_word, are_digits, is_letter, is_name_byte, is_digit, goes_on, signs, place_in}
 use Rattle.rn_notation.specs.Places.{is_line_end, place_after}
 use Rattle.rn_notation.specs.Tokens.{IsGap, IsToken}
-use Rattle.rn_notation.specs.Faults.{IsFault}
-use Rattle.rn_notation.specs.Reading.{Piece, gap, token, bytes_of, Fits, Pieces, tokens_behind, token_behind, BeginsWith, Tokens, FirstFault, fault_at, Reads}
+use Rattle.rn_notation.specs.Reading.{Piece, gap, token, bytes_of, Fits, Pieces, tokens_behind, token_behind, BeginsWith, Tokens, FirstFault, fault_at}
 use Rattle.rn_notation.specs.Steps.{Cuts, place_on, next_place}
 use Rattle.rn_notation.specs.Steps as step
 use Rattle.rn_notation.specs.declared.piece.Piece.{Piece as Read}
-use Rattle.rn_notation.specs.declared.piece.Piece.TheVariants as Read
 use Rattle.rn_notation.specs.declared.token.Spot.{Spot}
 use Rattle.rn_notation.specs.declared.token.Token.{Token}
 use Rattle.rn_notation.specs.declared.token.TokenKind.{TokenKind}

@@ -1,7 +1,7 @@
 -- Texts, as they are read.
 use Rattle.std.proofs.Common.{◌≡◌, ◌<◌, ◌≤◌, ◌+◌, ◌-◌, ℕ, List, [], ◌∷◌, ◌++◌, length, drop, Bool, true, false, nat_eq, refl, sym, ap, ◌∙◌, subst, arith, true≢false, append_assoc, if◌then◌else◌}
 use Rattle.std.specs.Prelude.{encode_utf8}
-use Rattle.std.specs.List.{flat_map, AllByRecursion}
+use Rattle.std.specs.List.{flat_map}
 use Rattle.std.proofs.lemmas.List.{append-nil, length-append}
 use Rattle.std.proofs.lemmas.Bool.{eqb-true}
 use Rattle.rn_notation.specs.Words.{goes_on}
@@ -14,7 +14,6 @@ use Rattle.rn_notation.specs.declared.token.TokenKind.TheVariants.{Text}
 use Rattle.rn_notation.specs.declared.token.Cause.{Cause}
 use Rattle.rn_notation.specs.declared.token.Cause.TheVariants.{P1, P4, P7}
 use Rattle.rn_notation.specs.declared.piece.Piece.{Piece}
-use Rattle.rn_notation.specs.declared.piece.Piece.TheVariants as Piece
 use Rattle.rn_notation.proofs.CommentLemmas.{size_of_front}
 use Rattle.rn_notation.proofs.Parts.{closed_parts}
 use Rattle.rn_notation.proofs.Characters.{some_bytes}

@@ -1,6 +1,6 @@
 -- Names, reserved words and signs, as they are read.
-use Rattle.std.proofs.Common.{◌≡◌, ◌<◌, ◌≤◌, ◌+◌, ◌-◌, ℕ, zero, suc, List, [], ◌∷◌, ◌++◌, length, take, drop, Bool, true, false, cond, not, ◌&&◌, ◌||◌, nat_eq, nat_le, nat_lt, refl, sym, ap, ◌∙◌, subst, arith, true≢false, get_or, Option, Some, None, if◌then◌else◌}
-use Rattle.std.specs.Prelude.{IsTrue, IsUtf8, IsAscii, option_map, bytes_eq}
+use Rattle.std.proofs.Common.{◌≡◌, ◌<◌, ◌≤◌, ℕ, zero, suc, List, [], ◌∷◌, ◌++◌, length, take, drop, Bool, true, false, not, ◌&&◌, ◌||◌, nat_eq, nat_le, nat_lt, refl, sym, ap, ◌∙◌, subst, arith, true≢false, Option, Some, None, if◌then◌else◌}
+use Rattle.std.specs.Prelude.{IsUtf8, IsAscii, option_map, bytes_eq}
 use Rattle.std.specs.List.{list_all, list_any, prefix_len}
 use Rattle.std.proofs.lemmas.List.{take-append-drop, length-take-le, length-append, take_at}
 use Rattle.std.proofs.lemmas.List.Sums.{prefix_len-le-length}
@@ -10,7 +10,7 @@ use Rattle.std.proofs.Math.Dec.{T, leb→le}
 use lib.Dec.{eqb_refl, ltb→lt, nltb→le}
 use mathlib.Core.Logic.{inl, inr}
 use Rattle.std.specs.Prelude.{◌⊎◌}
-use Rattle.rn_notation.specs.Words.{is_between, is_letter, is_digit, is_name_byte, goes_on, is_word, is_front, place_in, reserved_words, signs, begins_with_sign, is_longest_sign, opens_comment}
+use Rattle.rn_notation.specs.Words.{is_letter, is_name_byte, goes_on, is_word, is_front, place_in, reserved_words, signs, begins_with_sign, opens_comment}
 use Rattle.rn_notation.specs.Tokens.{IsToken}
 use Rattle.rn_notation.specs.Steps.{Cuts, token, long_sign}
 use Rattle.rn_notation.specs.declared.token.TokenKind.TheVariants.{Name, Word, Sign}

@@ -1,13 +1,10 @@
 -- What a look at a place inside a text tells.
-use Rattle.std.specs.Prelude.{◌≡◌, ℕ, ◌-◌, Bool, false, List, ◌∷◌, length, if◌then◌else◌}
+use Rattle.std.specs.Prelude.{◌≡◌, ℕ, ◌-◌, false, List, ◌∷◌, length, if◌then◌else◌}
 use Rattle.rn_notation.specs.Texts.{is_closed, IsNoEscape, IsBroken}
 use Rattle.rn_notation.specs.Steps.{HasPart}
 use Rattle.rn_notation.specs.declared.token.Cause.{Cause}
-use Rattle.rn_notation.specs.declared.token.Cause.TheVariants as Cause
 use Rattle.rn_notation.specs.declared.piece.Piece.{Piece}
-use Rattle.rn_notation.specs.declared.piece.Piece.TheVariants as Piece
 use Rattle.rn_notation.specs.declared.texts.Inside.{Inside}
-use Rattle.rn_notation.specs.declared.texts.Inside.TheVariants as Inside
 
 abbrev pub Looks : List ℕ → Inside → Type 0
 Looks text (Inside.Part c rest) = HasPart text c rest.now

@@ -8,9 +8,7 @@ use Rattle.rn_notation.specs.declared.token.Spot.{Spot}
 use Rattle.rn_notation.specs.declared.token.TokenKind.{TokenKind}
 use Rattle.rn_notation.specs.declared.token.Token.{Token}
 use Rattle.rn_notation.specs.declared.token.Cause.{Cause}
-use Rattle.rn_notation.specs.declared.token.Cause.TheVariants as Cause
 use Rattle.rn_notation.specs.declared.token.LexFault.{LexFault}
-use Rattle.rn_notation.specs.declared.token.LexFault.TheVariants as LexFault
 
 -- Bytes of a text: a blank or a comment, or a token of some kind.
 pub data Piece : Type 0 where

@@ -1,8 +1,7 @@
 -- What stands first in a text: a blank or comment, a token, or a fault.
-use Rattle.std.specs.Prelude.{◌≡◌, ℕ, suc, ◌+◌, ◌<◌, ◌≤◌, Bool, not, List, [], ◌∷◌, ◌++◌, length, nat_eq, nat_lt, encode_utf8, if◌then◌else◌, take, Option, None}
+use Rattle.std.specs.Prelude.{◌≡◌, ℕ, ◌+◌, List, [], ◌∷◌, ◌++◌, length, nat_lt, encode_utf8, if◌then◌else◌, take, Option, None}
 use Rattle.rn_notation.specs.Words.{place_in, signs}
-use Rattle.std.specs.Char.{IsScalar}
-use Rattle.rn_notation.specs.Texts.{Part, IsPart, spelled, meaning, is_closed, IsBroken, IsNoEscape}
+use Rattle.rn_notation.specs.Texts.{Part, IsPart, spelled, meaning}
 use Rattle.rn_notation.specs.Tokens.{IsGap, IsToken}
 use Rattle.rn_notation.specs.Faults.{IsFault}
 use Rattle.rn_notation.specs.Places.{is_line_end}
@@ -10,7 +9,6 @@ use Rattle.rn_notation.specs.declared.token.Spot.{Spot}
 use Rattle.rn_notation.specs.declared.token.TokenKind.{TokenKind}
 use Rattle.rn_notation.specs.declared.token.Cause.{Cause}
 use Rattle.rn_notation.specs.declared.piece.Piece.{Piece}
-use Rattle.rn_notation.specs.declared.piece.Piece.TheVariants as Piece
 
 pub data Found : Type 0 where
   gap : Found

@@ -1,6 +1,6 @@
 -- What stands between tokens, and each kind of token. In every case the bytes at the front are what
 -- is told, and the bytes behind them are the rest: a token is the longest that fits.
-use Rattle.std.specs.Prelude.{◌≡◌, ℕ, ◌≤◌, Bool, true, false, not, List, [], ◌∷◌, ◌++◌, Option, None, Some, pos, nat_eq, encode_utf8_all}
+use Rattle.std.specs.Prelude.{◌≡◌, ℕ, ◌≤◌, true, false, not, List, [], ◌∷◌, ◌++◌, None, Some, pos, nat_eq, encode_utf8_all}
 use Rattle.std.specs.List.{AllByRecursion}
 use Rattle.rn_notation.specs.Words.{is_blank, is_digit, is_name_byte, goes_on, is_word, are_digits, number_of, greatest}
 use Rattle.rn_notation.specs.Words.{place_in, reserved_words, signs, is_longest_sign, opens_comment}

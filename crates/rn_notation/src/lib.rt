@@ -9,6 +9,8 @@ mod numbers;
 mod piece;
 mod pieces;
 mod places;
+#[cfg(test)]
+mod tests;
 mod texts;
 mod token;
 mod words;

@@ -1,4 +1,4 @@
-use Rattle.std.proofs.Common.{◌≡◌, ◌++◌, ℕ, List, length, sym, ap, ◌∙◌, subst, arith}
+use Rattle.std.proofs.Common.{length, sym, ap, ◌∙◌, subst, arith}
 use Rattle.std.specs.Str.{IsValidUpTo}
 use Rattle.rn_notation.proofs.Characters.{none_at_empty, none_at_fault}
 use Rattle.rn_notation.proofs.chars.valid_front.Goals as goal

@@ -1,5 +1,4 @@
-use Rattle.std.proofs.Common.{◌≡◌, ◌<◌, ◌∷◌, ◌-◌, length, drop, nat_eq, false, refl, sym, ap, ◌∙◌, subst, arith}
-use Rattle.std.proofs.lemmas.List.{nil_from_length}
+use Rattle.std.proofs.Common.{refl, arith}
 use Rattle.rn_notation.proofs.Characters.{other_number, shorter}
 use Rattle.rn_notation.proofs.CommentLemmas.{comment_starts, comment_goes_on, comment_ends, comment_breaks, at_line_feed, at_end}
 use Rattle.rn_notation.proofs.comments.comment_piece.Goals as goal

@@ -1,4 +1,4 @@
-use Rattle.std.proofs.Common.{◌≡◌, length}
+use Rattle.std.proofs.Common.{length}
 use Rattle.rn_notation.proofs.CommentLemmas.{Commented}
 use Rattle.rn_notation.proofs.comments.comment_piece.Given as goal
 

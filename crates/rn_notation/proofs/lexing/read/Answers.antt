@@ -1,8 +1,8 @@
-use Rattle.std.proofs.Common.{◌≡◌, ◌<◌, ◌≤◌, ◌-◌, ◌+◌, [], ◌∷◌, ◌++◌, length, sym, ap, ◌∙◌, subst, arith, refl, rules}
+use Rattle.std.proofs.Common.{◌≡◌, ◌-◌, ◌+◌, [], ◌∷◌, ◌++◌, length, sym, ap, ◌∙◌, subst, arith, refl, rules}
 use Rattle.std.proofs.lemmas.List.{nil_from_length}
-use Rattle.rn_notation.specs.Steps.{Cuts, size_of, found_of}
+use Rattle.rn_notation.specs.Steps.{size_of}
 use Rattle.rn_notation.specs.Reading.{FirstFault, Tokens, fault_at}
-use Rattle.rn_notation.proofs.ReadingLemmas.{SoFar, room, room_behind, end_behind, gap_read, token_read, fault_read, whole_read, starts, gap_shortens, token_shortens, cut_within, as_gap, as_token, as_fault, as_any}
+use Rattle.rn_notation.proofs.ReadingLemmas.{SoFar, room, room_behind, end_behind, gap_read, token_read, fault_read, whole_read, starts, gap_shortens, token_shortens, as_gap, as_token, as_fault, as_any}
 use Rattle.rn_notation.proofs.lexing.read.Goals as goal
 
 pub split_at-requires : goal.split_at-requires

@@ -1,4 +1,4 @@
-use Rattle.std.proofs.Common.{◌≡◌, ◌<◌, ◌≤◌, ◌-◌, ◌+◌, drop, get_or, ◌∷◌, sym, ap, ◌∙◌, subst, arith, true, length}
+use Rattle.std.proofs.Common.{◌≡◌, ◌-◌, ◌+◌, drop, get_or, ◌∷◌, sym, ap, ◌∙◌, subst, arith}
 use Rattle.std.specs.Prelude.{IsTrue}
 use Rattle.std.specs.List.{list_all}
 use Rattle.rn_notation.specs.Words.{number_behind, greatest, is_digit}

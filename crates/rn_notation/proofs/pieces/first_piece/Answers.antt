@@ -1,4 +1,4 @@
-use Rattle.std.proofs.Common.{◌≡◌, ◌∷◌, ℕ, List, get_or, drop, sym, ap, ◌∙◌}
+use Rattle.std.proofs.Common.{get_or, drop, sym, ◌∙◌}
 use Rattle.std.proofs.lemmas.List.{drop_more}
 use Rattle.rn_notation.proofs.OtherLemmas.{blank_stands}
 use Rattle.rn_notation.proofs.pieces.first_piece.Goals as goal

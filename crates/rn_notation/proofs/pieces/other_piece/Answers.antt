@@ -1,4 +1,3 @@
-use Rattle.std.proofs.Common.{◌≡◌, sym, ap, ◌∙◌}
 use Rattle.rn_notation.proofs.OtherLemmas.{stray_stands, broken_stands}
 use Rattle.rn_notation.proofs.pieces.other_piece.Goals as goal
 

@@ -1,7 +1,6 @@
-use Rattle.std.proofs.Common.{◌≡◌, ◌++◌, ◌∷◌, ℕ, List, length, refl, sym, ap, ◌∙◌, arith}
-use Rattle.std.specs.Prelude.{option_to_list}
+use Rattle.std.proofs.Common.{◌∷◌, sym, ap, ◌∙◌}
 use Rattle.rn_notation.specs.Texts.{escape}
-use Rattle.rn_notation.proofs.Parts.{closed_parts, escape_means}
+use Rattle.rn_notation.proofs.Parts.{escape_means}
 use Rattle.rn_notation.proofs.texts.escape_at.Goals as goal
 
 pub returns-in-Some-escaped_char : goal.returns-in-Some-escaped_char

@@ -1,6 +1,6 @@
-use Rattle.std.proofs.Common.{◌≡◌, ◌++◌, ◌∷◌, ℕ, List, length, false, refl, sym, ap, ◌∙◌, arith, rules}
+use Rattle.std.proofs.Common.{◌≡◌, false, refl, sym, ◌∙◌, rules}
 use Rattle.rn_notation.specs.Texts.{itself, is_special}
-use Rattle.rn_notation.proofs.Parts.{plain_char, closed_parts}
+use Rattle.rn_notation.proofs.Parts.{plain_char}
 use Rattle.rn_notation.proofs.texts.look_inside.Goals as goal
 
 pub returns-in-Some-first_char : goal.returns-in-Some-first_char

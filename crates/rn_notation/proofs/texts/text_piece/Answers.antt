@@ -1,7 +1,6 @@
-use Rattle.std.proofs.Common.{◌≡◌, ◌<◌, length, sym, ap, ◌∙◌, arith, refl, subst, rules}
+use Rattle.std.proofs.Common.{sym, refl, subst, rules}
 use Rattle.std.specs.Prelude.{string_bytes}
-use Rattle.rn_notation.specs.Texts.{is_closed}
-use Rattle.rn_notation.proofs.TextLemmas.{ReadText, text_starts, text_goes_on, text_closes, text_is_open, text_no_escape, text_broken, no_more, part_shortens, closed_nothing}
+use Rattle.rn_notation.proofs.TextLemmas.{ReadText, text_goes_on, text_closes, text_is_open, text_no_escape, text_broken, part_shortens, closed_nothing}
 use Rattle.rn_notation.proofs.texts.text_piece.Goals as goal
 
 pub loop-rest-smaller : goal.loop-rest-smaller

@@ -1,4 +1,4 @@
-use Rattle.std.proofs.Common.{◌≡◌, ◌+◌, drop, map, Option}
+use Rattle.std.proofs.Common.{◌≡◌, ◌+◌, drop, map}
 use Rattle.std.specs.Option.{option_map}
 use Rattle.rn_notation.specs.Words.{place_in}
 use Rattle.rn_notation.proofs.words.place_in.Given as goal

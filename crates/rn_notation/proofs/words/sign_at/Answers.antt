@@ -1,4 +1,3 @@
-use Rattle.std.proofs.Common.{◌≡◌, sym, ap, ◌∙◌}
 use Rattle.rn_notation.proofs.WordLemmas.{long_sign_stands, short_sign_stands, no_sign}
 use Rattle.rn_notation.proofs.words.sign_at.Goals as goal
 

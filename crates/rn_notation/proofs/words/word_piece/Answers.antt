@@ -1,4 +1,3 @@
-use Rattle.std.proofs.Common.{◌≡◌, sym, ap, ◌∙◌}
 use Rattle.std.proofs.lemmas.List.Sums.{prefix_len-le-length}
 use Rattle.rn_notation.specs.Words.{is_name_byte}
 use Rattle.rn_notation.proofs.WordLemmas.{word_whole, reserved_stands, name_stands, word_utf8}
