@@ -13,6 +13,9 @@ Looks text Inside.Open = is_closed text ≡ false
 Looks text Inside.NoEscape = IsNoEscape text
 Looks text Inside.Broken = IsBroken text
 
--- a fault at the rest of a text that began at the front of the source, unless the text isn't closed
+-- A fault at the rest of a text that began at the front of the source. It counts only where the
+-- text is closed.
 abbrev pub fault_in_text : List ℕ → Cause → List ℕ → Piece
-fault_in_text source cause rest = if is_closed rest then Piece.Fault cause (length source - length rest) else Piece.Fault Cause.P7 0
+fault_in_text source cause rest =
+    if is_closed rest then Piece.Fault cause (length source - length rest)
+    else Piece.Fault Cause.P7 0

@@ -10,8 +10,10 @@ OneReading = (text : List ℕ) (s t : List Token) → Tokens text s → Tokens t
 
 -- a text has one first fault at most, behind one list of tokens
 abbrev pub OneFault : Type 0
-OneFault = (text : List ℕ) (s t : List Token) (f g : LexFault) → FirstFault text s f → FirstFault text t g → (s ≡ t) × (f ≡ g)
+OneFault = (text : List ℕ) (s t : List Token) (f g : LexFault) →
+    FirstFault text s f → FirstFault text t g → (s ≡ t) × (f ≡ g)
 
 -- no text is tokens and has a fault
 abbrev pub NoFaultInTokens : Type 0
-NoFaultInTokens = (text : List ℕ) (s t : List Token) (f : LexFault) → Tokens text s → ¬ FirstFault text t f
+NoFaultInTokens = (text : List ℕ) (s t : List Token) (f : LexFault) →
+    Tokens text s → ¬ FirstFault text t f

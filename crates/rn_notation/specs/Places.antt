@@ -7,8 +7,8 @@ use Rattle.rn_notation.specs.declared.token.Spot.{Spot}
 abbrev pub is_line_end : ℕ → Bool
 is_line_end c = nat_eq c 10
 
--- The place behind these bytes of a text. Lines and columns count from 1. A line feed ends its line,
--- and each byte is a column.
+-- The place behind these bytes of a text. Lines and columns count from 1. A line feed ends its
+-- line, and each byte is a column.
 abbrev pub place_after : List ℕ → Spot
 place_after before = record {
   line = count_by is_line_end before + 1;

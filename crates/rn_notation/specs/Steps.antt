@@ -1,5 +1,6 @@
 -- What stands first in a text: a blank or comment, a token, or a fault.
-use Rattle.std.specs.Prelude.{◌≡◌, ℕ, ◌+◌, List, [], ◌∷◌, ◌++◌, length, nat_lt, encode_utf8, if◌then◌else◌, take, Option, None}
+use Rattle.std.specs.Prelude.{◌≡◌, ℕ, ◌+◌, List, [], ◌∷◌, ◌++◌, length, nat_lt, encode_utf8}
+use Rattle.std.specs.Prelude.{if◌then◌else◌, take, Option, None}
 use Rattle.rn_notation.specs.Words.{place_in, signs}
 use Rattle.rn_notation.specs.Texts.{Part, IsPart, spelled, meaning}
 use Rattle.rn_notation.specs.Tokens.{IsGap, IsToken}
@@ -20,7 +21,8 @@ Stands gap front rest = IsGap front rest
 Stands (token kind) front rest = IsToken kind front rest
 Stands (fault cause) front rest = IsFault cause front rest
 
--- Behind the first n bytes of the text is the rest, and this stands there: behind its bytes, or up to its place.
+-- Behind the first n bytes of the text is the rest. These bytes are what stands there, and where
+-- that is a fault, they go up to its place.
 pub record Cuts (text : List ℕ) (n : ℕ) (found : Found) : Type 0 where
   pub front : List ℕ
   pub rest : List ℕ
@@ -44,7 +46,9 @@ Reads text piece = Cuts text (size_of piece) (found_of piece)
 
 -- the place behind one more byte
 abbrev pub next_place : Spot → ℕ → Spot
-next_place spot c = if is_line_end c then record { line = spot.line + 1; column = 1 } else record { line = spot.line; column = spot.column + 1 }
+next_place spot c =
+    if is_line_end c then record { line = spot.line + 1; column = 1 }
+    else record { line = spot.line; column = spot.column + 1 }
 
 -- the place behind more bytes
 abbrev pub place_on : Spot → List ℕ → Spot

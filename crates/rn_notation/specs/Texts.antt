@@ -1,5 +1,6 @@
 -- What stands in quotes and in comments.
-use Rattle.std.specs.Prelude.{◌≡◌, ℕ, Bool, true, false, List, [], ◌∷◌, Option, None, Some, option_to_list, nat_eq, if◌then◌else◌, encode_utf8}
+use Rattle.std.specs.Prelude.{◌≡◌, ℕ, Bool, true, false, List, [], ◌∷◌, Option, None, Some}
+use Rattle.std.specs.Prelude.{option_to_list, nat_eq, if◌then◌else◌, encode_utf8}
 use Rattle.std.specs.Char.{IsScalar}
 use Rattle.std.specs.List.{list_any, flat_map, AllByRecursion}
 use Rattle.std.specs.Str.{StartsWithNoChar}
@@ -45,8 +46,8 @@ written parts = flat_map spelled parts
 abbrev pub meant : List Part → List ℕ
 meant parts = flat_map meaning parts
 
--- Whether a quote comes before a line feed and before the end, where a backslash and the byte behind
--- it are a pair, of which neither counts.
+-- Whether a quote comes before a line feed and before the end, where a backslash and the byte
+-- behind it are a pair, of which neither counts.
 abbrev pub is_closed : List ℕ → Bool
 is_closed [] = false
 is_closed (c ∷ []) = nat_eq c 34

@@ -1,5 +1,7 @@
 -- Letters, digits, and the words and signs that are written out.
-use Rattle.std.specs.Prelude.{ℕ, suc, ◌+◌, ◌-◌, ◌*◌, Bool, true, false, not, ◌&&◌, ◌||◌, List, [], ◌∷◌, length, Option, None, Some, option_map, nat_eq, nat_le, bytes_eq, if◌then◌else◌, codes}
+use Rattle.std.specs.Prelude.{ℕ, suc, ◌+◌, ◌-◌, ◌*◌, Bool, true, false, not, ◌&&◌, ◌||◌, List, []}
+use Rattle.std.specs.Prelude.{◌∷◌, length, Option, None, Some, option_map, nat_eq, nat_le}
+use Rattle.std.specs.Prelude.{bytes_eq, if◌then◌else◌, codes}
 use Rattle.std.specs.List.{list_any, list_all}
 
 -- whether a byte is at least this and at most that
@@ -57,7 +59,8 @@ is_front (c ∷ front) (d ∷ text) = nat_eq c d && is_front front text
 -- the first place, from 0, at which a word stands among words
 abbrev pub place_in : List (List ℕ) → List ℕ → Option ℕ
 place_in [] word = None
-place_in (w ∷ words) word = if bytes_eq w word then Some 0 else option_map suc (place_in words word)
+place_in (w ∷ words) word =
+    if bytes_eq w word then Some 0 else option_map suc (place_in words word)
 
 -- the words that are no names
 unfoldable pub reserved_words : List (List ℕ)
@@ -82,7 +85,8 @@ begins_with_sign text = list_any (λ sign. is_front sign text) signs
 
 -- whether no sign that is a front of a text is longer than this
 abbrev pub is_longest_sign : List ℕ → List ℕ → Bool
-is_longest_sign sign text = list_all (λ other. not (is_front other text) || nat_le (length other) (length sign)) signs
+is_longest_sign sign text =
+    list_all (λ other. not (is_front other text) || nat_le (length other) (length sign)) signs
 
 -- `//`
 abbrev pub opens_comment : List ℕ → Bool

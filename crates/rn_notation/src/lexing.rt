@@ -1,9 +1,9 @@
 ghost use Rattle.std.specs.Prelude.{◌≡◌, ◌↔◌, ◌≤◌, List, length, IfOk, IfSome, IfNone, Some, None};
 ghost use Rattle.std.specs.List.{AllByRecursion};
 ghost use Rattle.rn_notation.specs.Places.{place_after};
-ghost use Rattle.rn_notation.specs.Reading.{Tokens, FirstFault, IsTokens, HasFault, IsSlice, Ascend, Reads, fault_at};
-ghost use Rattle.rn_notation.specs.declared.token.Token.{Token as Seen};
-ghost use Rattle.rn_notation.specs.declared.token.LexFault.{LexFault as Fault};
+ghost use Rattle.rn_notation.specs.Reading.{Tokens, FirstFault, Reads, fault_at};
+ghost use Rattle.rn_notation.specs.Reading.{NoOthers, NoOthersBefore, TellsFault, IsTokens};
+ghost use Rattle.rn_notation.specs.Reading.{IsSlice, Ascend};
 
 use crate::piece::Piece;
 use crate::pieces::first_piece;
@@ -77,12 +77,12 @@ pub fn lex(alloc: Global, bytes: &[u8]) -> Result<Lexed, NoMemory>
     requires { length bytes.now ≤ 67108864 }
     // Without a fault, the text is these tokens, and no others.
     ensures tokens { IfOk result (λ lexed. IfNone lexed.fault (Tokens bytes.now lexed.tokens)) }
-    ensures only { IfOk result (λ lexed. (others : List Seen) → Tokens bytes.now others → lexed.tokens ≡ others) }
+    ensures only { IfOk result (λ lexed. NoOthers bytes.now lexed.tokens) }
     // Where there is a fault, it is the first, behind these tokens, and no others.
     ensures fault { IfOk result (λ lexed. IfSome lexed.fault (FirstFault bytes.now lexed.tokens)) }
-    ensures only_before { IfOk result (λ lexed. (others : List Seen) (fault : Fault) → FirstFault bytes.now others fault → lexed.tokens ≡ others) }
+    ensures only_before { IfOk result (λ lexed. NoOthersBefore bytes.now lexed.tokens) }
     // A fault is told exactly where the text has it, and none exactly where the text is tokens.
-    ensures fault_exactly { IfOk result (λ lexed. (fault : Fault) → (lexed.fault ≡ Some fault) ↔ HasFault bytes.now fault) }
+    ensures fault_exactly { IfOk result (λ lexed. TellsFault bytes.now lexed.fault) }
     ensures none_exactly { IfOk result (λ lexed. (lexed.fault ≡ None) ↔ IsTokens bytes.now) }
     // Each token's text is its slice, and the slices stand one behind the other.
     ensures slices { IfOk result (λ lexed. AllByRecursion (IsSlice bytes.now) lexed.tokens) }

@@ -3,7 +3,8 @@ ghost use Rattle.rn_notation.specs.Steps.{size_of};
 
 use crate::token::{Cause, TokenKind};
 
-/// What stands first in a text, with the number of its bytes. Those of a fault stand before its place.
+/// What stands first in a text, with the number of its bytes. Those of a fault stand before its
+/// place.
 #[derive(Debug, Drop)]
 pub enum Piece {
     Gap(usize),

@@ -1,4 +1,5 @@
-ghost use Rattle.std.specs.Prelude.{◌≡◌, ◌++◌, ◌∷◌, ◌⊎◌, List, ℕ, true, false, IsTrue, IfOk, length, nat_eq, ◌≤◌};
+ghost use Rattle.std.specs.Prelude.{◌≡◌, ◌++◌, ◌∷◌, ◌⊎◌, List, ℕ, true, false, IsTrue, IfOk};
+ghost use Rattle.std.specs.Prelude.{length, nat_eq, ◌≤◌};
 ghost use Rattle.rn_notation.specs.Words.{goes_on};
 ghost use Rattle.rn_notation.specs.Texts.{escaped_byte, is_closed, IsNoEscape, IsBroken};
 ghost use Rattle.rn_notation.specs.Steps.{HasPart, Reads};
@@ -90,8 +91,8 @@ fn is_closed(text: &[u8]) -> bool
     false
 }
 
-/// A fault inside a text that begins at the front of the source, and that goes on with this rest. It
-/// counts only where the text is closed.
+/// A fault inside a text that begins at the front of the source, and that goes on with this rest.
+/// It counts only where the text is closed.
 fn faulty_text(source: &[u8], cause: Cause, rest: &[u8]) -> Piece
     requires { length rest.now ≤ length source.now }
     ensures { result ≡ fault_in_text source.now cause rest.now }

@@ -2,7 +2,8 @@ ghost use Rattle.std.specs.Prelude.{◌≡◌, ◌<◌, ◌^◌, length, map, Ma
 ghost use Rattle.std.specs.Prelude.{IsTrue, IfOk, IfSome, IfNone, OnSome, take, false};
 ghost use Rattle.std.specs.List.{prefix_len};
 ghost use Rattle.rn_notation.specs.Words.{is_blank, is_letter, is_digit, is_name_byte, goes_on};
-ghost use Rattle.rn_notation.specs.Words.{place_in, reserved_words, signs, begins_with_sign, opens_comment};
+ghost use Rattle.rn_notation.specs.Words.{place_in, reserved_words, signs, begins_with_sign};
+ghost use Rattle.rn_notation.specs.Words.{opens_comment};
 ghost use Rattle.rn_notation.specs.Steps.{Reads, Cuts, long_sign};
 ghost use Rattle.rn_notation.specs.Steps.{token as a_token};
 ghost use Rattle.rn_notation.specs.declared.token.TokenKind.TheVariants.{Sign as SignToken};
