@@ -1,0 +1,10 @@
+pub mod Characters
+pub mod Classes
+pub mod CommentLemmas
+pub mod NumberLemmas
+pub mod OneReading
+pub mod OtherLemmas
+pub mod Parts
+pub mod ReadingLemmas
+pub mod TextLemmas
+pub mod WordLemmas

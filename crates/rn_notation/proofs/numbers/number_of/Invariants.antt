@@ -1,0 +1,11 @@
+use Rattle.std.proofs.Common.{◌≡◌, ◌≤◌, IsTrue, drop}
+use Rattle.std.specs.List.{list_all}
+use Rattle.rn_notation.specs.Words.{is_digit, number_of, number_behind, greatest}
+use Rattle.rn_notation.proofs.numbers.number_of.Given as goal
+
+abbrev pub invariant-loop-digit : goal.invariant-loop-digit
+invariant-loop-digit l = record {
+  spelled : number_behind l.number (drop l.digit-index l.digits) ≡ number_of l.digits;
+  low : l.number ≤ greatest;
+  digits : IsTrue (list_all is_digit (drop l.digit-index l.digits));
+}

@@ -1,0 +1,9 @@
+pub mod Words
+pub mod Places
+pub mod Texts
+pub mod Tokens
+pub mod Faults
+pub mod Reading
+pub mod Steps
+pub mod Inside
+pub mod Laws

@@ -1,0 +1,16 @@
+-- Places in a text.
+use Rattle.std.specs.Prelude.{ℕ, ◌+◌, Bool, not, List, reverse, nat_eq, count_by}
+use Rattle.std.specs.List.{prefix_len}
+use Rattle.rn_notation.specs.declared.token.Spot.{Spot}
+
+-- whether a byte ends its line
+abbrev pub is_line_end : ℕ → Bool
+is_line_end c = nat_eq c 10
+
+-- The place behind these bytes of a text. Lines and columns count from 1. A line feed ends its
+-- line, and each byte is a column.
+abbrev pub place_after : List ℕ → Spot
+place_after before = record {
+  line = count_by is_line_end before + 1;
+  column = prefix_len (λ c. not (is_line_end c)) (reverse before) + 1;
+}

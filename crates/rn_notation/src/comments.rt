@@ -1,0 +1,32 @@
+ghost use Rattle.std.specs.Prelude.{◌≡◌, true};
+ghost use Rattle.rn_notation.specs.Words.{opens_comment};
+ghost use Rattle.rn_notation.specs.Steps.{Reads};
+
+use crate::chars::first_char;
+use crate::piece::Piece;
+use crate::token::Cause;
+
+pub fn opens_comment(text: &[u8]) -> bool
+    ensures { result ≡ opens_comment text.now }
+{
+    matches!(text, [b'/', b'/', ..])
+}
+
+/// The comment at the front of a text, up to the next line feed or the end.
+pub fn comment_piece(text: &[u8]) -> Piece
+    requires { opens_comment text.now ≡ true }
+    ensures { Reads text.now result }
+{
+    let (_, inside) = text.split_at(2);
+    let mut rest = inside;
+    while let Some((first, _)) = rest.split_first() {
+        if *first == b'\n' {
+            return Piece::Gap(text.len() - rest.len());
+        }
+        let Some((_, more)) = first_char(rest) else {
+            return Piece::Fault(Cause::P4, text.len() - rest.len());
+        };
+        rest = more;
+    }
+    Piece::Gap(text.len())
+}
