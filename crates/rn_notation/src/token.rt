@@ -13,7 +13,8 @@ pub struct Spot {
 pub enum TokenKind {
     Name(Str),
 
-    /// The reserved word with this number, from 0, in the order of [`RESERVED_WORDS`].
+    /// The reserved word with this number, from 0, in this order: `net place trans channel var in
+    /// out test reserve flexin flexout inhibit clear guard action print new this int text`.
     Word(u32),
 
     Number(i64),
@@ -21,7 +22,8 @@ pub enum TokenKind {
     /// The characters of a text, with its escapes resolved.
     Text(Str),
 
-    /// The sign with this number, from 0, in the order of [`SIGNS`].
+    /// The sign with this number, from 0, in this order: `{ } [ ] ( ) , ; : = == != < <= > >= + - * /
+    /// % && || !`.
     Sign(u32),
 }
 
