@@ -2,23 +2,25 @@
 //! to the top call, and ends with the status that this answers.
 #![tactic(auto)]
 
+ghost use Rattle.std.specs.Prelude.{◌≡◌, drop};
+
 use rn_app::{NO_MEMORY, renew_top};
 use rn_outside::{StdSink, StdSource};
-use std::alloc::{AllocError, Global};
 use std::env;
-use std::io::{self, ErrorKind};
+use std::io::ErrorKind;
 use std::process::ExitCode;
 
 /// The status where the words of the program couldn't be read.
 const NO_WORDS: u8 = 8;
 
-/// The words after the program's name.
-fn after_name(alloc: Global, words: env::Args) -> Result<Vec<String>, AllocError> {
-    let mut rest = Vec::new(alloc);
-    for word in words.skip(1) {
-        rest.push(word)?;
+/// The words after the program's name, which is the first.
+fn after_name(words: &[String]) -> &[String]
+    ensures { result.now ≡ drop 1 words.now }
+{
+    match words.split_first() {
+        Some((_, rest)) => rest,
+        None => words,
     }
-    Ok(rest)
 }
 
 fn status(rt: &HostRuntime) -> u8 {
@@ -27,13 +29,20 @@ fn status(rt: &HostRuntime) -> u8 {
         Err(error) if error.kind() == ErrorKind::OutOfMemory => return NO_MEMORY,
         Err(_) => return NO_WORDS,
     };
-    let Ok(words) = after_name(rt.alloc(), words) else {
-        return NO_MEMORY;
+    let words: Vec<String> = match words.collect(rt.alloc()) {
+        Ok(words) => words,
+        Err(_) => return NO_MEMORY,
     };
     let mut input = StdSource::new(rt.stdin());
     let mut out = StdSink::new(rt.stdout());
     let mut err = StdSink::new(rt.stderr());
-    renew_top(rt.alloc(), &words, &mut input, &mut out, &mut err)
+    renew_top(
+        rt.alloc(),
+        after_name(&words),
+        &mut input,
+        &mut out,
+        &mut err,
+    )
 }
 
 fn main(rt: HostRuntime) -> ExitCode {
