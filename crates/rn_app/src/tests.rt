@@ -107,6 +107,32 @@ fn net_texts(rt: HostRuntime) -> Result<(), Fail> {
     Ok(())
 }
 
+// Blanks behind a net text count too.
+#[test]
+fn a_text_has_at_most_its_limit(rt: HostRuntime) -> Result<(), Fail> {
+    let limit = 4_194_304;
+    let mut text = FIRES_ONCE.to_vec(rt.alloc())?;
+    text.resize(limit, b' ')?;
+    let longest = make(
+        rt.alloc(),
+        &Call {
+            text: &text,
+            ..WHOLE
+        },
+    )?;
+    assert!(rt; longest.is(0, b"1 w1 main[1].t\nend dead\nmain[1].q []\n", b""));
+    text.push(b' ')?;
+    let longer = make(
+        rt.alloc(),
+        &Call {
+            text: &text,
+            ..WHOLE
+        },
+    )?;
+    assert!(rt; longer.is(1, b"", b"P0 1:1\n"));
+    Ok(())
+}
+
 #[test]
 fn runs_end_after_a_thousand_firings(rt: HostRuntime) -> Result<(), Fail> {
     let text = b"net main { place p; trans t { out p; } }";

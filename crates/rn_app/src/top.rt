@@ -6,9 +6,8 @@ ghost use Rattle.rn_outside.specs.Bytes.{GivesAll, GivesFront, Appends, AppendsP
 ghost use Rattle.rn_outside.specs.Faults.{Rose};
 ghost use Rattle.rn_app.specs.SmallNets.{Accepted};
 ghost use Rattle.rn_app.specs.TopCall.{AreRunWords, IsNoNetText, IsRunOf, ReadsRun, WritesRun};
-ghost use Rattle.rn_app.specs.TopCall.{WritesPartOfRun};
-ghost use Rattle.rn_app.specs.TopCall.{HasCause, FailsToRefuse, TakesLine, IsStatus, IsFault};
-ghost use Rattle.rn_app.specs.TopCall.{line_of, status_of, gives_way};
+ghost use Rattle.rn_app.specs.TopCall.{WritesPartOfRun, HasCause, FailsToRefuse, TakesLine};
+ghost use Rattle.rn_app.specs.TopCall.{IsStatus, IsFault, line_of, status_of, gives_way};
 
 use crate::reading::{self, LONGEST_TEXT};
 use crate::{firing, writing};
