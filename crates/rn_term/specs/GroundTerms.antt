@@ -1,9 +1,10 @@
 -- Terms without variables that aren't bound.
-use Rattle.std.specs.Prelude.{ℕ, ◌≡◌, ◌<◌, List, length, Some, slice_index_or}
+use Rattle.std.specs.Prelude.{ℕ, ◌≡◌, ◌↔◌, ◌<◌, List, length, Some, slice_index_or}
 use Rattle.rn_value.specs.declared.value.Value.{Value}
 use Rattle.rn_term.specs.declared.term.Term.TheVariants as T
 use Rattle.rn_term.specs.Stores.{State, term_at, link_of}
-use Rattle.rn_term.specs.Assignments.{Satisfies, value_at}
+use Rattle.rn_term.specs.Assignments.{Satisfies, value_at, Keeps}
+use Rattle.rn_term.specs.Forcing.{IsForced}
 
 -- A term is ground where it is a value, is built of terms that are, or is a variable that was bound
 -- to one that is.
@@ -22,3 +23,8 @@ pub data IsGround (s : State) : ℕ → Type 0 where
 abbrev pub GroundIsForced : Type 0
 GroundIsForced = (s : State) (id : ℕ) → IsGround s id → (vs ws : List Value) →
     Satisfies s vs → Satisfies s ws → value_at vs id ≡ value_at ws id
+
+-- A term of a store that is kept is ground just where it is forced.
+abbrev pub ForcedIsGround : Type 0
+ForcedIsGround = (s : State) (id : ℕ) → Keeps s → id < length s.terms →
+    (IsGround s id ↔ ((v : Value) × IsForced s id v))

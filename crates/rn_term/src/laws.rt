@@ -1,6 +1,7 @@
 //! Laws over the definitions, each the contract of a function that does nothing.
-ghost use Rattle.rn_term.specs.GroundTerms.{GroundIsForced};
+ghost use Rattle.rn_term.specs.GroundTerms.{ForcedIsGround, GroundIsForced};
 ghost use Rattle.rn_term.specs.Laws.{TermsExtend};
+ghost use Rattle.rn_term.specs.Undoing.{MarksLeadBack};
 
 /// What a store says with one more term: the assignments from before go on with each value that the
 /// term has under them, and there are no others.
@@ -11,4 +12,16 @@ pub fn terms_extend()
 /// A term without unbound variables is forced: all assignments of the store give it one value.
 pub fn ground_is_forced()
     ensures { GroundIsForced }
+{}
+
+/// No other term is forced: where a free variable occurs in one, some assignments give it different
+/// values.
+pub fn forced_is_ground()
+    ensures { ForcedIsGround }
+{}
+
+/// Undoing to a mark gives the store as it was when the mark was taken, where no earlier mark was
+/// undone since.
+pub fn marks_lead_back()
+    ensures { MarksLeadBack }
 {}

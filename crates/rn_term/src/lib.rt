@@ -5,12 +5,14 @@
 //! values, one for each term, that fit its terms and its links.
 #![tactic(auto)]
 
+mod grounding;
 mod laws;
+mod reading;
 mod store;
 mod term;
 #[cfg(test)]
 mod tests;
 
-pub use laws::{ground_is_forced, terms_extend};
+pub use laws::{forced_is_ground, ground_is_forced, marks_lead_back, terms_extend};
 pub use store::Store;
 pub use term::{Ids, Mark, Term};

@@ -72,6 +72,22 @@ impl Store {
         self.links[id]
     }
 
+    /// The id at which the links from this one end. They never lead in a circle, as some assignment
+    /// satisfies the store.
+    pub fn follow(&self, id: usize) -> usize
+        requires within { id < length self.now.terms }
+        ensures within { result < length self.now.terms }
+        ensures leads { Leads self.now.notes id result }
+        ensures end { link_of self.now.notes result ≡ None }
+        ensures kept { Keeps self.now }
+    {
+        let mut end = id;
+        while let Some(to) = self.links[end] {
+            end = to;
+        }
+        end
+    }
+
     /// Adds a variable that isn't bound, and answers its id.
     pub fn new_var(&mut self) -> Result<usize, NoMemory>
         ensures id { IfOk result (λ id. id ≡ length self.old.terms) }

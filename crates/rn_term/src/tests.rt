@@ -1,8 +1,8 @@
 ghost use Rattle.std.specs.Prelude.{◌≡◌, ◌∷◌, [], IfOk};
 
-use crate::{Ids, Store, Term, ground_is_forced, terms_extend};
+use crate::{Ids, Store, Term, forced_is_ground, ground_is_forced, marks_lead_back, terms_extend};
 use rn_items::Items;
-use rn_value::{NoMemory, Value, same};
+use rn_value::{NoMemory, Vals, Value, same};
 use std::alloc::Global;
 use std::test::Fail;
 
@@ -15,6 +15,9 @@ fn bound_and_taken_back(rt: HostRuntime) -> Result<(), Fail> {
     store.bind(x, y)?;
     assert_eq!(rt; store.link(x), Some(1));
     assert_eq!(rt; store.link(y), None);
+    assert_eq!(rt; store.follow(x), 1);
+    assert!(rt; store.ground(rt.alloc(), x)?.is_none());
+    assert!(rt; !store.only_lists(x));
     store.undo(&before);
     assert_eq!(rt; store.link(x), None);
     assert_eq!(rt; store.size(), 2);
@@ -27,6 +30,12 @@ fn one_id(alloc: Global, id: usize) -> Result<Ids, NoMemory>
     let mut ids = Items::new(alloc);
     ids.push(id)?;
     Ok(ids)
+}
+
+fn one_value(alloc: Global, value: Value) -> Result<Vals, NoMemory> {
+    let mut values = Items::new(alloc);
+    values.push(value)?;
+    Ok(values)
 }
 
 #[test]
@@ -42,7 +51,20 @@ fn terms_of_each_form(rt: HostRuntime) -> Result<(), Fail> {
     assert!(rt; matches!(store.term(number), Term::Atom(value) if same(value, &Value::Int(7))));
     assert!(rt; matches!(store.term(pair), Term::Tuple(ids) if ids.len() == 1));
     assert_eq!(rt; store.size(), 4);
+    assert!(rt; store.only_lists(longer));
+    assert!(rt; !store.only_lists(pair));
+    let sevens = store.ground(alloc, pair)?.expect(&rt, "a value");
+    assert!(rt; same(&sevens, &Value::Tuple(one_value(alloc, Value::Int(7))?)));
+    let lists = store.ground(alloc, longer)?.expect(&rt, "a value");
+    let none = Value::List(Items::new(alloc));
+    assert!(rt; same(&lists, &Value::List(one_value(alloc, none)?)));
+    Ok(())
+}
+
+#[test]
+fn laws() {
     terms_extend();
     ground_is_forced();
-    Ok(())
+    forced_is_ground();
+    marks_lead_back();
 }

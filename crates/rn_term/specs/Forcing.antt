@@ -1,0 +1,43 @@
+-- What all assignments of a store give an id.
+use Rattle.std.specs.Prelude.{ℕ, ◌≡◌, ◌<◌, ◌++◌, Bool, true, false, List, Option, Some, None, length}
+use Rattle.std.specs.Prelude.{map, slice_index_or}
+use Rattle.rn_value.specs.declared.value.Value.{Value}
+use Rattle.rn_value.specs.declared.value.Value.TheVariants as Value
+use Rattle.rn_term.specs.declared.term.Term.TheVariants as T
+use Rattle.rn_term.specs.Stores.{State, term_at, Leads}
+use Rattle.rn_term.specs.Assignments.{Satisfies, value_at}
+use Rattle.rn_term.specs.Occurring.{HasFree}
+
+-- an id is forced to a value: all assignments give it that one
+abbrev pub IsForced : State → ℕ → Value → Type 0
+IsForced s id v = (vs : List Value) → Satisfies s vs → value_at vs id ≡ v
+
+-- a value is a list
+abbrev pub IsList : Value → Type 0
+IsList v = (items : List Value) × (v ≡ Value.List items)
+
+-- all assignments give an id a list
+abbrev pub IsAlwaysList : State → ℕ → Type 0
+IsAlwaysList s id = (vs : List Value) → Satisfies s vs → IsList (value_at vs id)
+
+-- some assignment gives an id a list
+abbrev pub MayBeList : State → ℕ → Type 0
+MayBeList s id = (vs : List Value) × Satisfies s vs × IsList (value_at vs id)
+
+-- what is told of an id: the value to which it is forced, or that a free variable occurs in it
+abbrev pub IsTold : State → ℕ → Option Value → Type 0
+IsTold s id None = HasFree s id
+IsTold s id (Some v) = IsForced s id v
+
+-- what is told of ids: their values come behind others, or a free variable occurs in one of them
+abbrev pub AreTold : State → List ℕ → List Value → List Value → Bool → Type 0
+AreTold s ids before after true =
+    (vs : List Value) → Satisfies s vs → after ≡ before ++ map (value_at vs) ids
+AreTold s ids before after false =
+    (k : ℕ) × (k < length ids) × HasFree s (slice_index_or ids k 0)
+
+-- a list ends in a variable: links lead to it from the list's tail
+abbrev pub EndsAList : State → ℕ → Type 0
+EndsAList s var =
+    (id : ℕ) × (ids : List ℕ) × (tail : ℕ) × (id < length s.terms) ×
+    (term_at s id ≡ T.Cons ids tail) × Leads s.notes tail var
