@@ -1,5 +1,5 @@
 -- Where assignments agree.
-use Rattle.std.proofs.Common.{◌≡◌, ⊎_elim, ◌<◌, ℕ, suc, List, [], ◌∷◌, ◌++◌, refl, arith}
+use Rattle.std.proofs.Common.{◌≡◌, ⊎_elim, ◌<◌, ℕ, List, [], ◌∷◌, ◌++◌, refl, arith}
 use Rattle.std.proofs.Common.{length, map, sym, ◌∙◌, ap, get_or, take, drop, take_at, drop_at}
 use Rattle.std.specs.Prelude.{Option, Some, None}
 use Rattle.std.specs.List.{Contains}
@@ -15,7 +15,7 @@ use Rattle.rn_term.specs.Assignments.{value_at, HasValue, Satisfies, Keeps}
 use Rattle.rn_term.specs.Occurring.{parts_of, Occurs, IsFree}
 use Rattle.rn_term.proofs.ValueSizes.{same_parts_of_tuples, same_parts_of_lists}
 use Rattle.rn_term.proofs.AssignmentLemmas.{link_within}
-use Rattle.rn_term.proofs.Parts.{value_among}
+use Rattle.rn_term.proofs.Parts.{same_over, value_among}
 use Rattle.rn_term.proofs.Occurrences.{part_within, by_parts}
 
 -- links lead to ids with the same value
@@ -25,15 +25,6 @@ leads-same s vs id _ sat Leads.here = refl
 leads-same s vs id end sat (Leads.next {to = to} is rest) =
     sat.links id to is ∙ leads-same s vs to end sat rest
 
--- functions that give each element of a list one value give it one list of values
-same_map : (f g : ℕ → Value) (ids : List ℕ) → ((p : ℕ) → Contains ids p → f p ≡ g p) →
-    map f ids ≡ map g ids
-same_map f g [] same = refl
-same_map f g (id ∷ ids) same =
-    ap (λ v. v ∷ map f ids) (same id (0, omega arith, refl))
-    ∙ ap (λ vs. g id ∷ vs)
-    (same_map f g ids (λ p is. same p (suc is.0, omega (arith, is.1), is.2)))
-
 -- a term whose parts have one value each under both assignments has one value
 same_built : (vs ws : List Value) (t : Term) (v w : Value) → (t ≡ T.Free → v ≡ w) →
     HasValue vs t v → HasValue ws t w →
@@ -41,12 +32,12 @@ same_built : (vs ws : List Value) (t : Term) (v w : Value) → (t ≡ T.Free →
 same_built vs ws T.Free v w free has other same = free refl
 same_built vs ws (T.Atom x) v w free has other same = has ∙ sym other
 same_built vs ws (T.Tuple ids) v w free has other same =
-    has ∙ ap (λ xs. Value.Tuple xs) (same_map (value_at vs) (value_at ws) ids same) ∙ sym other
+    has ∙ ap (λ xs. Value.Tuple xs) (same_over (value_at vs) (value_at ws) ids same) ∙ sym other
 same_built vs ws (T.List ids) v w free has other same =
-    has ∙ ap (λ xs. Value.List xs) (same_map (value_at vs) (value_at ws) ids same) ∙ sym other
+    has ∙ ap (λ xs. Value.List xs) (same_over (value_at vs) (value_at ws) ids same) ∙ sym other
 same_built vs ws (T.Cons ids tail) v w free has other same =
     has.2
-    ∙ ap (λ xs. Value.List (xs ++ has.0)) (same_map (value_at vs) (value_at ws) ids
+    ∙ ap (λ xs. Value.List (xs ++ has.0)) (same_over (value_at vs) (value_at ws) ids
     (λ p is. same p (Contains-append_left ids (tail ∷ []) p is)))
     ∙ ap (λ rest. Value.List (map (value_at ws) ids ++ rest)) (same_parts_of_lists has.0 other.0
     (sym has.1 ∙ same tail (Contains-push ids tail) ∙ other.1))

@@ -1,5 +1,5 @@
 -- Values for a store's ids, found step by step from values for its free variables.
-use Rattle.std.proofs.Common.{◌≡◌, ℕ, zero, suc, List, [], ◌∷◌, ◌++◌, refl, arith, map}
+use Rattle.std.proofs.Common.{◌≡◌, ℕ, zero, suc, List, [], ◌∷◌, ◌++◌, refl, map}
 use Rattle.std.proofs.Common.{◌∙◌, ap}
 use Rattle.std.specs.Prelude.{Option, Some, None}
 use Rattle.std.specs.List.{Contains}
@@ -11,6 +11,7 @@ use Rattle.rn_term.specs.declared.term.Term.{Term}
 use Rattle.rn_term.specs.declared.term.Term.TheVariants as T
 use Rattle.rn_term.specs.Stores.{State, term_at, link_of}
 use Rattle.rn_term.specs.Occurring.{parts_of}
+use Rattle.rn_term.proofs.Parts.{same_over}
 use Rattle.rn_term.proofs.Ranks.{IsWithin}
 
 abbrev items_step : V.Value-F Value → List Value
@@ -37,15 +38,6 @@ built_value g v None (T.Cons ids tail) = Value.List (map g ids ++ items_of (g ta
 abbrev pub fill : State → (ℕ → Value) → ℕ → ℕ → Value
 fill s f zero id = Value.Tuple []
 fill s f (suc n) id = built_value (fill s f n) (f id) (link_of s.notes id) (term_at s id)
-
--- functions that agree on the elements of a list
-pub same_over : (g h : ℕ → Value) (ids : List ℕ) →
-    ((p : ℕ) → Contains ids p → g p ≡ h p) → map g ids ≡ map h ids
-same_over g h [] same = refl
-same_over g h (id ∷ ids) same =
-    ap (λ v. v ∷ map g ids) (same id (0, omega arith, refl))
-    ∙ ap (λ vs. h id ∷ vs)
-    (same_over g h ids (λ p is. same p (suc is.0, omega (arith, is.1), is.2)))
 
 -- the value of an id changes only where that of a part or of what it was bound to does
 same_built : (g h : ℕ → Value) (v : Value) (o : Option ℕ) (t : Term) →

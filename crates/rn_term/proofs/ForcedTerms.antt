@@ -1,7 +1,6 @@
 -- Just the terms without free variables are forced.
-use Rattle.std.proofs.Common.{⊎_elim, ℕ}
-use Rattle.rn_term.specs.Stores.{State}
-use Rattle.rn_term.specs.Assignments.{value_at, Keeps}
+use Rattle.std.proofs.Common.{⊎_elim}
+use Rattle.rn_term.specs.Assignments.{value_at}
 use Rattle.rn_term.specs.GroundTerms.{ForcedIsGround}
 use Rattle.rn_term.proofs.FreeVariables.{free_is_not_forced}
 use Rattle.rn_term.proofs.Occurrences.{free_or_ground}

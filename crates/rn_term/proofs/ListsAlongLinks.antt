@@ -2,7 +2,6 @@
 use Rattle.std.proofs.Common.{◌≡◌, ◌<◌, ℕ, zero, suc, List, ◌++◌, refl, length, map, sym, ◌∙◌}
 use Rattle.std.specs.Prelude.{Option, Some, None, ⊤}
 use Rattle.rn_value.specs.declared.value.Value.{Value}
-use Rattle.rn_value.specs.declared.value.Value.TheVariants as Value
 use Rattle.rn_term.specs.declared.term.Term.{Term}
 use Rattle.rn_term.specs.declared.term.Term.TheVariants as T
 use Rattle.rn_term.specs.Stores.{State, term_at, link_of, Leads}

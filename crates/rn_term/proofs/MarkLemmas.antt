@@ -1,12 +1,12 @@
 -- What marks lead back to, as a store changes.
-use Rattle.std.proofs.Common.{◌≡◌, ⊎_elim, ◌≤◌, ℕ, List, [], ◌∷◌, refl, arith, length, ◌∙◌, ap}
-use Rattle.std.proofs.Common.{subst, take}
+use Rattle.std.proofs.Common.{◌≡◌, ⊎_elim, ℕ, List, [], ◌∷◌, refl, arith, ◌∙◌, ap}
+use Rattle.std.proofs.Common.{subst}
 use Rattle.std.proofs.lemmas.List.{length-take, take-take}
 use Rattle.std.proofs.Math.Seq.{take-length}
 use Rattle.rn_term.specs.declared.term.Mark.{Mark}
 use Rattle.rn_term.specs.declared.term.Term.{Term}
 use Rattle.rn_term.specs.Stores.{State}
-use Rattle.rn_term.specs.Undoing.{Rolled, mark_of, IsNotLater, LeavesEarlier, Changes, IsSince}
+use Rattle.rn_term.specs.Undoing.{Rolled, mark_of, IsNotLater, Changes, IsSince}
 use Rattle.rn_term.specs.Undoing.{last_of, MarksLeadBack}
 
 state_is : (terms others : List Term) (notes more : List (ℕ × ℕ)) → terms ≡ others →

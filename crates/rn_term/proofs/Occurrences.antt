@@ -12,7 +12,8 @@ use Rattle.rn_term.proofs.ValueSizes.{size_of}
 use Rattle.rn_term.proofs.LinkLemmas.{none_or_some, same_link}
 use Rattle.rn_term.proofs.AssignmentLemmas.{link_within}
 use Rattle.rn_term.proofs.Ranks.{IsWithin, all_within}
-use Rattle.rn_term.proofs.Parts.{no_parts, whole_within, part_below, smaller_value}
+use Rattle.rn_term.proofs.Parts.{no_parts, whole_within, part_below}
+use Rattle.rn_term.proofs.PartSizes.{part_smaller}
 use Rattle.rn_term.proofs.FreeOrGround.{free_or_ground_at}
 
 -- what a store's ids are built of, and what they were bound to, are ids of it
@@ -20,7 +21,7 @@ pub part_within : (s : State) → Keeps s → (id part : ℕ) →
     Contains (parts_of (term_at s id)) part → part < length s.terms
 part_within s keeps id part is =
     let small : id < length s.terms = whole_within s id part is in
-    let below : part < id = part_below id (term_at s id) part (keeps.built id small) is in
+    let below : part < id = part_below s keeps id part is in
     omega arith
 
 pub occurring_within : (s : State) → Keeps s → (id whole : ℕ) → whole < length s.terms →
@@ -87,14 +88,6 @@ pub one_end : (s : State) (id a b : ℕ) → Leads s.notes id a → Leads s.note
 one_end s id _ b Leads.here second no_first no_second = end_is_here s id b no_first second
 one_end s id a b (Leads.next {to = to} is rest) second no_first no_second =
     one_end s to a b rest (leads_past s id to b no_second is second) no_first no_second
-
-pub part_smaller : (s : State) (vs : List Value) → Keeps s → Satisfies s vs → (id part : ℕ) →
-    Contains (parts_of (term_at s id)) part →
-    size_of (value_at vs part) < size_of (value_at vs id)
-part_smaller s vs keeps sat id part is =
-    let small : id < length s.terms = whole_within s id part is in
-    smaller_value vs id (term_at s id) (value_at vs id) part (keeps.built id small)
-    (sat.terms id small) is
 
 pub occurring_smaller : (s : State) (vs : List Value) → Keeps s → Satisfies s vs →
     (id whole : ℕ) → Occurs s id whole → size_of (value_at vs id) ≤ size_of (value_at vs whole)

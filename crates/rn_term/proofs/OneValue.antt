@@ -1,27 +1,14 @@
 -- All assignments give a term without unbound variables one value.
 use Rattle.std.proofs.Common.{◌≡◌, ◌<◌, ℕ, suc, List, [], ◌∷◌, ◌++◌, refl, arith, length, map}
 use Rattle.std.proofs.Common.{sym, ◌∙◌, ap, subst, get_or}
-use Rattle.rn_value.specs.declared.value.Value.{Value, out-Value}
+use Rattle.rn_value.specs.declared.value.Value.{Value}
 use Rattle.rn_value.specs.declared.value.Value.TheVariants as Value
-use Rattle.rn_value.specs.declared.value.Value.TheOpen as V
 use Rattle.rn_term.specs.declared.term.Term.{Term}
 use Rattle.rn_term.specs.declared.term.Term.TheVariants as T
 use Rattle.rn_term.specs.Stores.{State, term_at}
 use Rattle.rn_term.specs.Assignments.{value_at, HasValue, Satisfies}
 use Rattle.rn_term.specs.GroundTerms.{IsGround, GroundIsForced}
-
-abbrev elements_step : V.Value-F Value → List Value
-elements_step (V.List vs) = vs
-elements_step _ = []
-
-abbrev elements_of : Value → List Value
-elements_of v = elements_step (out-Value v)
-
-elements_of-List : (vs : List Value) → elements_of (Value.List vs) ≡ vs
-elements_of-List vs = rw (Value.outs-List vs)
-
-same_elements : (vs ws : List Value) → Value.List vs ≡ Value.List ws → vs ≡ ws
-same_elements vs ws is = sym (elements_of-List vs) ∙ ap elements_of is ∙ elements_of-List ws
+use Rattle.rn_term.proofs.ValueSizes.{same_parts_of_lists}
 
 same_map : (f g : ℕ → Value) (ids : List ℕ) →
     ((k : ℕ) → k < length ids → f (get_or ids k 0) ≡ g (get_or ids k 0)) → map f ids ≡ map g ids
@@ -42,7 +29,7 @@ with_tail vs ws ids tail v w has other same end =
     has.2
     ∙ ap (λ xs. Value.List (xs ++ has.0)) same
     ∙ ap (λ rest. Value.List (map (value_at ws) ids ++ rest))
-    (same_elements has.0 other.0 (sym has.1 ∙ end ∙ other.1))
+    (same_parts_of_lists has.0 other.0 (sym has.1 ∙ end ∙ other.1))
     ∙ sym other.2
 
 one_value : (s : State) (vs ws : List Value) → Satisfies s vs → Satisfies s ws →

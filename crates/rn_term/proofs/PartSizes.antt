@@ -1,10 +1,9 @@
--- What a term is built of comes before it in the store, and has smaller values.
-use Rattle.std.proofs.Common.{⊎_elim, ◌<◌, ℕ, List, [], ◌++◌, arith}
+-- The values of parts are smaller.
+use Rattle.std.proofs.Common.{◌<◌, ℕ, List, [], ◌++◌, arith}
 use Rattle.std.proofs.Common.{length, map, sym, subst, get_or, length-append}
 use Rattle.std.specs.Prelude.{All}
 use Rattle.std.specs.List.{Contains}
-use Rattle.std.proofs.lemmas.Bool.{cases_lt}
-use Rattle.std.proofs.lemmas.List.{get_or_past, get_or_append_left, get_or-map, length-map}
+use Rattle.std.proofs.lemmas.List.{get_or_append_left, get_or-map, length-map}
 use Rattle.std.proofs.lemmas.List.Elements.{All-from_get_or, All-push, All-contains, All-nil}
 use Rattle.rn_value.specs.declared.value.Value.{Value}
 use Rattle.rn_value.specs.declared.value.Value.TheVariants as Value
@@ -13,32 +12,8 @@ use Rattle.rn_term.specs.declared.term.Term.TheVariants as T
 use Rattle.rn_term.specs.Stores.{State, term_at, IsBuiltBelow}
 use Rattle.rn_term.specs.Assignments.{value_at, HasValue, Satisfies, Keeps}
 use Rattle.rn_term.specs.Occurring.{parts_of}
+use Rattle.rn_term.proofs.Parts.{whole_within}
 use Rattle.rn_term.proofs.ValueSizes.{size_of, size-tuple_part, size-list_part, size-list_end}
-
-no_part : {B : Type 0} (id : ℕ) → Contains [] id → B
-no_part id has = absurd (let no : ⊥ = omega (arith, has.1) in no)
-
--- each part of a term that is built below an id is below it
-parts_below : (n : ℕ) (t : Term) → IsBuiltBelow n t → All (λ p. p < n) (parts_of t)
-parts_below n T.Free built = All-nil (λ p. p < n)
-parts_below n (T.Atom v) built = All-nil (λ p. p < n)
-parts_below n (T.Tuple ids) built = built
-parts_below n (T.List ids) built = built
-parts_below n (T.Cons ids tail) built = All-push (λ p. p < n) ids tail built.0 built.2
-
--- what stands at an id has parts only where it is an id of the store
-pub has_parts_within : (s : State) (id part : ℕ) → Contains (parts_of (term_at s id)) part →
-    id < length s.terms
-has_parts_within s id part is = ⊎_elim
-    (λ small. small)
-    (λ past. no_part part
-    (subst (λ t. Contains (parts_of t) part) (get_or_past s.terms id T.Free past) is))
-    (cases_lt id (length s.terms))
-
-pub part_below : (s : State) → Keeps s → (id part : ℕ) →
-    Contains (parts_of (term_at s id)) part → part < id
-part_below s keeps id part is = All-contains (λ p. p < id) (parts_of (term_at s id)) part
-    (parts_below id (term_at s id) (keeps.built id (has_parts_within s id part is))) is
 
 -- what a value is built of is smaller than the value
 each_smaller : (vs : List Value) (ids : List ℕ) (size : ℕ) →
@@ -83,11 +58,11 @@ parts_smaller vs n (T.Cons ids tail) v built has =
         (omega (arith, small, length-append (map (value_at vs) ids) has.0))))
 
 -- a part's value is smaller than that of the term
-pub part_is_smaller : (s : State) (vs : List Value) → Keeps s → Satisfies s vs → (id part : ℕ) →
+pub part_smaller : (s : State) (vs : List Value) → Keeps s → Satisfies s vs → (id part : ℕ) →
     Contains (parts_of (term_at s id)) part →
     size_of (value_at vs part) < size_of (value_at vs id)
-part_is_smaller s vs keeps sat id part is =
-    let within = has_parts_within s id part is in
+part_smaller s vs keeps sat id part is =
+    let within = whole_within s id part is in
     All-contains (λ p. size_of (value_at vs p) < size_of (value_at vs id))
     (parts_of (term_at s id)) part
     (parts_smaller vs id (term_at s id) (value_at vs id) (keeps.built id within)

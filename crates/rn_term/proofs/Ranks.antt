@@ -11,7 +11,8 @@ use Rattle.rn_term.specs.Assignments.{value_at, Keeps}
 use Rattle.rn_term.specs.Occurring.{parts_of}
 use Rattle.rn_term.proofs.ValueSizes.{size_of}
 use Rattle.rn_term.proofs.AssignmentLemmas.{link_within}
-use Rattle.rn_term.proofs.PartSizes.{part_below, part_is_smaller}
+use Rattle.rn_term.proofs.Parts.{part_below}
+use Rattle.rn_term.proofs.PartSizes.{part_smaller}
 use Rattle.rn_term.proofs.LinkRanks.{Rooting, link_ranks}
 
 -- parts, and what a variable was bound to, have lower ranks
@@ -41,7 +42,7 @@ module _ (s : State) (keeps : Keeps s) where
 
   part : (id p : ℕ) → Contains (parts_of (term_at s id)) p → rank p < rank id
   part id p is = earlier_row (links.most + 1) (size p) (links.rank p) (size id) (links.rank id)
-      (part_is_smaller s vs keeps keeps.satisfied.1 id p is) (omega (arith, links.bounded p))
+      (part_smaller s vs keeps keeps.satisfied.1 id p is) (omega (arith, links.bounded p))
 
   bound : (id to : ℕ) → link_of s.notes id ≡ Some to → rank to < rank id
   bound id to is =
