@@ -1,0 +1,16 @@
+pub mod AgainstValues
+pub mod EarlierMarks
+pub mod FreeNumbers
+pub mod ListFronts
+pub mod ListPlaces
+pub mod ListsOfTerms
+pub mod NewVariables
+pub mod OccurrenceSearch
+pub mod OnTheWay
+pub mod Placing
+pub mod RemainingElements
+pub mod RestExtents
+pub mod RestTerms
+pub mod SideBySide
+pub mod Tellings
+pub mod TermDifferences

@@ -1,0 +1,4 @@
+pub mod Differences
+pub mod Laws
+pub mod Rests
+pub mod Unifying

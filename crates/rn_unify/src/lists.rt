@@ -1,0 +1,130 @@
+//! The first place in which two lists differ.
+ghost use Rattle.std.specs.Prelude.{◌≡◌, ◌<◌, None, length, drop, IfOk};
+ghost use Rattle.rn_term.specs.Stores.{link_of, term_at};
+ghost use Rattle.rn_term.specs.Assignments.{Keeps, value_at};
+ghost use Rattle.rn_term.specs.Occurring.{IsFree};
+ghost use Rattle.rn_term.specs.Forcing.{IsAlwaysList};
+ghost use Rattle.rn_unify.specs.Differences.{IsRestOf, Tells};
+ghost use Rattle.rn_unify.specs.Rests.{IsRest, IsSpelled, elements_of, items_of, rest_value};
+ghost use Rattle.rn_unify.specs.Unifying.{AreOne};
+
+use crate::against::against_rest;
+use crate::difference::{Difference, Other, pairs_difference};
+use crate::rests::{Rest, advance, elements, is_spelled, items};
+use rn_items::Items;
+use rn_term::{Store, Term};
+use rn_value::NoMemory;
+use std::alloc::Global;
+
+/// What keeps two lists from having one value. They are gone through side by side, along their
+/// tails.
+#[cycle(difference)]
+pub(crate) fn lists_difference(
+    alloc: Global,
+    store: &Store,
+    a: usize,
+    b: usize,
+) -> Result<Difference, NoMemory>
+    requires kept { Keeps store.now }
+    requires a_within { a < length store.now.terms }
+    requires b_within { b < length store.now.terms }
+    requires a_end { link_of store.now.notes a ≡ None }
+    requires b_end { link_of store.now.notes b ≡ None }
+    requires a_spelled { IsSpelled (term_at store.now a) }
+    requires b_spelled { IsSpelled (term_at store.now b) }
+    ensures told { IfOk result (λ d. Tells store.now (AreOne a b) d) }
+{
+    let mut left = Rest { id: a, from: 0 };
+    let mut right = Rest { id: b, from: 0 };
+    while is_spelled(store, left.id) && is_spelled(store, right.id) {
+        let xs = remaining(store, left);
+        let ys = remaining(store, right);
+        let count = xs.len().min(ys.len());
+        if count == 0 {
+            return Ok(if xs.len() == ys.len() {
+                Difference::Nothing
+            } else {
+                Difference::Clash
+            });
+        }
+        match pairs_difference(alloc, store, &xs[..count], &ys[..count])? {
+            Difference::Nothing => {}
+            other => return Ok(other),
+        }
+        left = advance(store, left, count);
+        right = advance(store, right, count);
+    }
+    ends_difference(alloc, store, left, right)
+}
+
+/// The same of the rests of two lists, of which one is a variable or a value.
+fn ends_difference(
+    alloc: Global,
+    store: &Store,
+    left: Rest,
+    right: Rest,
+) -> Result<Difference, NoMemory>
+    requires kept { Keeps store.now }
+    requires left { IsRest store.now left }
+    requires right { IsRest store.now right }
+    requires one { IsSpelled (term_at store.now left.id) →
+        ¬ IsSpelled (term_at store.now right.id) }
+    ensures told { IfOk result
+        (λ d. Tells store.now (λ vs. rest_value vs left ≡ rest_value vs right) d) }
+{
+    match store.term(left.id) {
+        Term::Free => variable_as_rest(alloc, store, left.id, right),
+        Term::Atom(value) => against_rest(alloc, items(value), store, right),
+        _ => match store.term(right.id) {
+            Term::Atom(value) => against_rest(alloc, items(value), store, left),
+            _ => variable_as_rest(alloc, store, right.id, left),
+        },
+    }
+}
+
+/// What keeps a free variable from being the rest of a list.
+fn variable_as_rest(
+    alloc: Global,
+    store: &Store,
+    var: usize,
+    rest: Rest,
+) -> Result<Difference, NoMemory>
+    requires kept { Keeps store.now }
+    requires free { IsFree store.now var }
+    requires list { IsAlwaysList store.now var }
+    requires rest { IsRest store.now rest }
+    ensures told { IfOk result
+        (λ d. Tells store.now (λ vs. items_of (value_at vs var) ≡ rest_value vs rest) d) }
+{
+    if rest.from > 0 {
+        let term = rest_term(alloc, store, rest)?;
+        return Ok(Difference::Variable(var, Other::New(term)));
+    }
+    if rest.id == var {
+        Ok(Difference::Nothing)
+    } else {
+        Ok(Difference::Variable(var, Other::Here(rest.id)))
+    }
+}
+
+/// The rest of a list, as a term of its own.
+fn rest_term(alloc: Global, store: &Store, rest: Rest) -> Result<Term, NoMemory>
+    requires rest { IsRest store.now rest }
+    requires some { 0 < rest.from }
+    ensures spelled { IfOk result (λ term. IsRestOf rest.from (term_at store.now rest.id) term) }
+{
+    let ids = Items::from_vec(Vec::from_slice(alloc, remaining(store, rest))?);
+    Ok(match store.term(rest.id) {
+        Term::Cons(_, tail) => Term::Cons(ids, *tail),
+        _ => Term::List(ids),
+    })
+}
+
+/// The elements of a list from a place on, before its tail.
+fn remaining(store: &Store, rest: Rest) -> &[usize]
+    requires rest { IsRest store.now rest }
+    requires spelled { IsSpelled (term_at store.now rest.id) }
+    ensures { result.now ≡ drop rest.from (elements_of (term_at store.now rest.id)) }
+{
+    &elements(store, rest.id)[rest.from..]
+}
