@@ -71,23 +71,23 @@ fn put_before(
     Ok(list)
 }
 
-/// The term that a letter makes of the last ids of a stack, and of the digit behind it.
+/// The term that a maker makes of the last ids of a stack, as many as the digit says.
 fn made(
     rt: &impl Abort,
     alloc: Global,
     store: &mut Store,
     stack: &mut Vec<usize>,
-    letter: u8,
+    maker: u8,
     digit: u8,
 ) -> Result<usize, NoMemory> {
-    if letter == b'C' {
+    if maker == b'|' {
         let tail = stack.pop().expect(rt, "a tail");
         let ids = taken(rt, alloc, stack, digit)?;
         return put_before(rt, alloc, store, ids, tail);
     }
     let ids = taken(rt, alloc, stack, digit)?;
     assert!(rt; are_within(&ids, store.size()));
-    store.add(if letter == b'T' {
+    store.add(if maker == b'[' {
         Term::Tuple(ids)
     } else {
         Term::List(ids)
@@ -95,20 +95,20 @@ fn made(
 }
 
 /// The term of a form in which makers stand behind what they take: a digit is that number, `"` a
-/// text, and a small letter a variable. `T2`, `L2` and `C2` make a tuple and a list of two terms,
-/// and a list of two terms before a third. `A` makes a value of a term.
+/// text, and a letter a variable. `[2` makes a tuple of the last two terms, `{2` a list of them, and
+/// `|2` a list of two terms before a third, its tail. `!` makes a value of a term.
 fn build(rt: &impl Abort, alloc: Global, bench: &mut Bench, form: &str) -> Result<usize, NoMemory> {
     let mut stack = Vec::new(alloc);
     let mut maker = None;
     for byte in form.as_bytes() {
         let byte = *byte;
-        if let Some(letter) = maker {
+        if let Some(sign) = maker {
             maker = None;
-            let id = made(rt, alloc, &mut bench.store, &mut stack, letter, byte)?;
+            let id = made(rt, alloc, &mut bench.store, &mut stack, sign, byte)?;
             stack.push(id)?;
-        } else if byte == b'T' || byte == b'L' || byte == b'C' {
+        } else if byte == b'[' || byte == b'{' || byte == b'|' {
             maker = Some(byte);
-        } else if byte == b'A' {
+        } else if byte == b'!' {
             let id = stack.pop().expect(rt, "a term");
             assert!(rt; id < bench.store.size());
             let value = bench.store.ground(alloc, id)?.expect(rt, "a value");
@@ -152,66 +152,76 @@ fn answers(rt: &impl Abort, alloc: Global, bench: &Bench) -> Result<Vec<u8>, NoM
 
 /// Two forms, whether they can be one, and the variables then.
 const CASES: [(&str, &str, Option<&str>); 40] = [
-    ("y1T2", "2zT2", Some("y=2 z=1")),
+    ("y1[2", "2z[2", Some("y=2 z=1")),
     ("1", "1", Some("")),
     ("1", "2", None),
     ("1", "\"", None),
     ("\"", "\"", Some("")),
-    ("12T2", "123T3", None),
-    ("12T2", "12L2", None),
-    ("12T2A", "12L2", None),
-    ("1", "1T1", None),
-    ("T0", "L0", None),
-    ("T0A", "L0A", None),
+    ("12[2", "123[3", None),
+    ("12[2", "12{2", None),
+    ("12[2!", "12{2", None),
+    ("1", "1[1", None),
+    ("[0", "{0", None),
+    ("[0!", "{0!", None),
     ("x", "1", Some("x=1")),
     ("x", "x", Some("x=?")),
     ("x", "y", Some("x=? y=?")),
-    ("xxT2", "y1T2", Some("x=1 y=1")),
-    ("xyT2", "yxT2", Some("x=? y=?")),
-    ("xyzT3", "yz1T3", Some("x=1 y=1 z=1")),
-    ("xxT2", "12T2", None),
-    ("x1T2", "23T2L1A", None),
-    ("xyT2", "12T2A", Some("x=1 y=2")),
-    ("12T2A", "xyT2", Some("x=1 y=2")),
-    ("xT1xT2", "1T1A1T2", Some("x=1")),
-    ("abtC2", "123L3", Some("a=1 b=2 t={3}")),
-    ("abtC2", "123L3A", Some("a=1 b=2 t={3}")),
-    ("123L3A", "abtC2", Some("a=1 b=2 t={3}")),
-    ("abtC2", "12L2", Some("a=1 b=2 t={}")),
-    ("abtC2", "1L1", None),
-    ("abtC2", "1L1A", None),
-    ("abtC2", "cuC1", Some("a=? b=? t=? c=? u=?")),
-    ("12tC2", "cuC1", Some("t=? c=1 u=?")),
-    ("12tC2t1T2T2", "cuC1L0vT2T2", Some("t={} c=1 u={2} v=1")),
-    ("1tC1", "12tC2", None),
-    ("1tC1", "1uC1", Some("t=? u=?")),
-    ("1tC1", "12L2", Some("t={2}")),
-    ("L0", "atC1", None),
-    ("L0", "L0", Some("")),
-    ("L0A", "L0", Some("")),
-    ("x", "1xC1", None),
-    ("x", "xT1", None),
-    ("xyT2", "1yC11xC1T2", None),
+    ("xx[2", "y1[2", Some("x=1 y=1")),
+    ("xy[2", "yx[2", Some("x=? y=?")),
+    ("xyz[3", "yz1[3", Some("x=1 y=1 z=1")),
+    ("xx[2", "12[2", None),
+    ("x1[2", "23[2{1!", None),
+    ("xy[2", "12[2!", Some("x=1 y=2")),
+    ("12[2!", "xy[2", Some("x=1 y=2")),
+    ("x[1x[2", "1[1!1[2", Some("x=1")),
+    ("abt|2", "123{3", Some("a=1 b=2 t={3}")),
+    ("abt|2", "123{3!", Some("a=1 b=2 t={3}")),
+    ("123{3!", "abt|2", Some("a=1 b=2 t={3}")),
+    ("abt|2", "12{2", Some("a=1 b=2 t={}")),
+    ("abt|2", "1{1", None),
+    ("abt|2", "1{1!", None),
+    ("abt|2", "cu|1", Some("a=? b=? t=? c=? u=?")),
+    ("12t|2", "cu|1", Some("t=? c=1 u=?")),
+    ("12t|2t1[2[2", "cu|1{0v[2[2", Some("t={} c=1 u={2} v=1")),
+    ("1t|1", "12t|2", None),
+    ("1t|1", "1u|1", Some("t=? u=?")),
+    ("1t|1", "12{2", Some("t={2}")),
+    ("{0", "at|1", None),
+    ("{0", "{0", Some("")),
+    ("{0!", "{0", Some("")),
+    ("x", "1x|1", None),
+    ("x", "x[1", None),
+    ("xy[2", "1y|11x|1[2", None),
 ];
+
+/// Whether two forms can be one in this order, and the variables then.
+fn check(
+    rt: &impl Abort,
+    alloc: Global,
+    case: (&str, &str, Option<&str>),
+    turned: bool,
+) -> Result<(), NoMemory> {
+    let (left, right, expected) = case;
+    let mut bench = new_bench(alloc);
+    let a = build(rt, alloc, &mut bench, left)?;
+    let b = build(rt, alloc, &mut bench, right)?;
+    assert!(rt; a < bench.store.size());
+    assert!(rt; b < bench.store.size());
+    let (first, second) = if turned { (b, a) } else { (a, b) };
+    let yes = unify(alloc, &mut bench.store, first, second)?;
+    assert_eq!(rt; yes, expected.is_some(), "{left} and {right}");
+    if let Some(text) = expected {
+        let told = answers(rt, alloc, &bench)?;
+        assert_eq!(rt; told.as_slice(), text.as_bytes(), "{left} and {right}");
+    }
+    Ok(())
+}
 
 #[test]
 fn cases(rt: HostRuntime) -> Result<(), Fail> {
-    let alloc = rt.alloc();
-    for (left, right, expected) in CASES {
-        let mut bench = new_bench(alloc);
-        let a = build(&rt, alloc, &mut bench, left)?;
-        let b = build(&rt, alloc, &mut bench, right)?;
-        assert!(rt; a < bench.store.size());
-        assert!(rt; b < bench.store.size());
-        let yes = unify(alloc, &mut bench.store, a, b)?;
-        assert_eq!(rt; yes, expected.is_some(), "{left} and {right}");
-        if let Some(text) = expected {
-            assert_eq!(rt;
-                answers(&rt, alloc, &bench)?.as_slice(),
-                text.as_bytes(),
-                "{left} and {right}"
-            );
-        }
+    for case in CASES {
+        check(&rt, rt.alloc(), case, false)?;
+        check(&rt, rt.alloc(), case, true)?;
     }
     Ok(())
 }
@@ -228,8 +238,8 @@ fn new_bench(alloc: Global) -> Bench {
 fn pairs_and_back(rt: HostRuntime) -> Result<(), Fail> {
     let alloc = rt.alloc();
     let mut bench = new_bench(alloc);
-    let a = build(&rt, alloc, &mut bench, "y1T2")?;
-    let b = build(&rt, alloc, &mut bench, "2zT2")?;
+    let a = build(&rt, alloc, &mut bench, "y1[2")?;
+    let b = build(&rt, alloc, &mut bench, "2z[2")?;
     assert!(rt; a < bench.store.size());
     assert!(rt; b < bench.store.size());
     let before = bench.store.mark();
