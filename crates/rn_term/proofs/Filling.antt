@@ -12,9 +12,9 @@ use Rattle.rn_term.specs.declared.term.Term.TheVariants as T
 use Rattle.rn_term.specs.Stores.{State, term_at, link_of, Leads}
 use Rattle.rn_term.specs.Assignments.{value_at, HasValue, Satisfies, Keeps}
 use Rattle.rn_term.specs.Occurring.{parts_of, IsFree}
-use Rattle.rn_term.specs.Forcing.{IsList, MayBeList}
+use Rattle.rn_term.specs.Forcing.{IsList, MayBeList, items_of}
 use Rattle.rn_term.proofs.AssignmentLemmas.{link_within}
-use Rattle.rn_term.proofs.FillingSteps.{items_of, items_of-list, built_value, fill, fill_settles}
+use Rattle.rn_term.proofs.FillingSteps.{items_of-list, built_value, fill, fill_settles}
 use Rattle.rn_term.proofs.Parts.{same_over}
 use Rattle.rn_term.proofs.ListsAlongLinks.{HasItsKind, FollowsKinds, satisfying_follows}
 use Rattle.rn_term.proofs.ListsAlongLinks.{list_along_links}

@@ -4,23 +4,15 @@ use Rattle.std.proofs.Common.{◌∙◌, ap}
 use Rattle.std.specs.Prelude.{Option, Some, None}
 use Rattle.std.specs.List.{Contains}
 use Rattle.std.proofs.lemmas.List.Elements.{Contains-append_left, Contains-push}
-use Rattle.rn_value.specs.declared.value.Value.{Value, out-Value}
+use Rattle.rn_value.specs.declared.value.Value.{Value}
 use Rattle.rn_value.specs.declared.value.Value.TheVariants as Value
-use Rattle.rn_value.specs.declared.value.Value.TheOpen as V
 use Rattle.rn_term.specs.declared.term.Term.{Term}
 use Rattle.rn_term.specs.declared.term.Term.TheVariants as T
 use Rattle.rn_term.specs.Stores.{State, term_at, link_of}
 use Rattle.rn_term.specs.Occurring.{parts_of}
+use Rattle.rn_term.specs.Forcing.{items_of}
 use Rattle.rn_term.proofs.Parts.{same_over}
 use Rattle.rn_term.proofs.Ranks.{IsWithin}
-
-abbrev items_step : V.Value-F Value → List Value
-items_step (V.List vs) = vs
-items_step _ = []
-
--- the elements of a list, and none of other values
-abbrev pub items_of : Value → List Value
-items_of v = items_step (out-Value v)
 
 pub items_of-list : (vs : List Value) → items_of (Value.List vs) ≡ vs
 items_of-list vs = rw (Value.outs-List vs)

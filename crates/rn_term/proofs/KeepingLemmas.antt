@@ -73,7 +73,7 @@ kept_note terms links notes var to kept note one = record {
 }
 
 -- what lies past the terms has no link
-no_link : (s : State) (id : ℕ) → Keeps s → length s.terms ≤ id → link_of s.notes id ≡ None
+pub no_link : (s : State) (id : ℕ) → Keeps s → length s.terms ≤ id → link_of s.notes id ≡ None
 no_link s id keeps past = split (link_of s.notes id) refl where
   split : (o : Option ℕ) → link_of s.notes id ≡ o → link_of s.notes id ≡ None
   split None is = is

@@ -18,7 +18,7 @@ same_map f g (id ∷ ids) same =
     ∙ ap (λ vs. g id ∷ vs) (same_map f g ids (λ k small. same (suc k) (omega (arith, small))))
 
 -- what an assignment says of the term at an id
-said : (s : State) (vs : List Value) (id : ℕ) (t : Term) → Satisfies s vs → id < length s.terms →
+pub said : (s : State) (vs : List Value) (id : ℕ) (t : Term) → Satisfies s vs → id < length s.terms →
     term_at s id ≡ t → HasValue vs t (value_at vs id)
 said s vs id t sat within is = subst (λ u. HasValue vs u (value_at vs id)) is (sat.terms id within)
 

@@ -1,7 +1,8 @@
 -- What all assignments of a store give an id.
-use Rattle.std.specs.Prelude.{ℕ, ◌≡◌, ◌<◌, ◌++◌, Bool, true, false, List, Option, Some, None, length}
+use Rattle.std.specs.Prelude.{ℕ, ◌≡◌, ◌<◌, ◌++◌, Bool, true, false, List, [], Option, Some, None, length}
 use Rattle.std.specs.Prelude.{map, slice_index_or}
-use Rattle.rn_value.specs.declared.value.Value.{Value}
+use Rattle.rn_value.specs.declared.value.Value.{Value, out-Value}
+use Rattle.rn_value.specs.declared.value.Value.TheOpen as V
 use Rattle.rn_value.specs.declared.value.Value.TheVariants as Value
 use Rattle.rn_term.specs.declared.term.Term.TheVariants as T
 use Rattle.rn_term.specs.Stores.{State, term_at, Leads}
@@ -15,6 +16,14 @@ IsForced s id v = (vs : List Value) → Satisfies s vs → value_at vs id ≡ v
 -- a value is a list
 abbrev pub IsList : Value → Type 0
 IsList v = (items : List Value) × (v ≡ Value.List items)
+
+abbrev pub items_step : V.Value-F Value → List Value
+items_step (V.List items) = items
+items_step _ = []
+
+-- the elements of a value that is a list, and none of another
+abbrev pub items_of : Value → List Value
+items_of v = items_step (out-Value v)
 
 -- all assignments give an id a list
 abbrev pub IsAlwaysList : State → ℕ → Type 0

@@ -12,8 +12,10 @@ use Rattle.rn_term.specs.Assignments.{value_at, HasValue, Satisfies}
 use Rattle.rn_term.specs.Forcing.{IsList}
 use Rattle.rn_term.proofs.Agreement.{leads-same}
 use Rattle.rn_term.proofs.ValueSizes.{same_parts_of_tuples}
-use Rattle.rn_unify.specs.Rests.{items_of}
-use Rattle.rn_unify.proofs.ListPlaces.{said, list_of_items, items_of-list}
+use Rattle.rn_term.specs.Forcing.{items_of}
+use Rattle.rn_term.proofs.OneValue.{said}
+use Rattle.rn_term.proofs.FillingSteps.{items_of-list}
+use Rattle.rn_unify.proofs.ListPlaces.{list_of_items}
 
 -- an id has the value of the term to which links lead from it
 pub value_of_end : (s : State) (id end : ℕ) (t : Term) → Leads s.notes id end →

@@ -12,21 +12,16 @@ use Rattle.rn_term.specs.Stores.{State, term_at, link_of, Leads, IsBuiltBelow}
 use Rattle.rn_term.specs.Assignments.{value_at, HasValue, Satisfies, Keeps}
 use Rattle.rn_term.specs.Forcing.{IsList}
 use Rattle.rn_term.proofs.Agreement.{leads-same}
+use Rattle.rn_term.proofs.FillingSteps.{items_of-list}
+use Rattle.rn_term.proofs.OneValue.{said}
 use Rattle.rn_unify.specs.declared.rests.Rest.{Rest}
-use Rattle.rn_unify.specs.Rests.{IsRest, elements_of, items_of, rest_value}
-
-pub items_of-list : (vs : List Value) → items_of (Value.List vs) ≡ vs
-items_of-list vs = rw (Value.outs-List vs)
+use Rattle.rn_term.specs.Forcing.{items_of}
+use Rattle.rn_unify.specs.Rests.{IsRest, elements_of, rest_value}
 
 -- a list is that of its elements
 pub list_of_items : (v : Value) → IsList v → v ≡ Value.List (items_of v)
 list_of_items v list =
     list.1 ∙ ap (λ xs. Value.List xs) (sym (ap items_of list.1 ∙ items_of-list list.0))
-
--- what an assignment says of the term at an id
-pub said : (s : State) (vs : List Value) (id : ℕ) (t : Term) → Satisfies s vs →
-    id < length s.terms → term_at s id ≡ t → HasValue vs t (value_at vs id)
-said s vs id t sat within is = subst (λ u. HasValue vs u (value_at vs id)) is (sat.terms id within)
 
 -- what stands in a store at an id is built of what was there before
 pub built_at : (s : State) (id : ℕ) (t : Term) → Keeps s → id < length s.terms →

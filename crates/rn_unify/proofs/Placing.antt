@@ -1,7 +1,7 @@
 -- What a variable has to be, once it stands in the store.
 use Rattle.std.proofs.Common.{◌≡◌, ◌≢◌, ◌<◌, ℕ, List, [], ◌∷◌, ◌++◌, refl, arith, length, map}
 use Rattle.std.proofs.Common.{sym, ◌∙◌, ap, subst, length-append}
-use Rattle.std.specs.Prelude.{Option, Some, None, IsTrue, false, ◌↔◌}
+use Rattle.std.specs.Prelude.{None, IsTrue, false, ◌↔◌}
 use Rattle.std.proofs.lemmas.List.{get_or_append_left}
 use Rattle.rn_value.specs.declared.value.Value.{Value}
 use Rattle.rn_value.specs.declared.value.Value.TheVariants as Value
@@ -10,8 +10,8 @@ use Rattle.rn_term.specs.declared.term.Term.TheVariants as T
 use Rattle.rn_term.specs.Stores.{State, link_of, with_term, with_note}
 use Rattle.rn_term.specs.Assignments.{value_at, HasValue, Satisfies, MayBeOne, Keeps}
 use Rattle.rn_term.specs.Occurring.{IsFree}
-use Rattle.rn_term.proofs.AssignmentLemmas.{value_stays, link_within}
-use Rattle.rn_term.proofs.KeepingLemmas.{keeps_term}
+use Rattle.rn_term.proofs.AssignmentLemmas.{value_stays}
+use Rattle.rn_term.proofs.KeepingLemmas.{keeps_term, no_link}
 use Rattle.rn_term.proofs.ValueSizes.{same_parts_of_lists}
 use Rattle.rn_unify.specs.declared.difference.Difference.{Difference}
 use Rattle.rn_unify.specs.declared.difference.Difference.TheVariants as D
@@ -47,16 +47,6 @@ one_value vs (T.Cons ids tail) v w built has other =
     ∙ ap (λ rest. Value.List (map (value_at vs) ids ++ rest))
     (same_parts_of_lists has.0 other.0 (sym has.1 ∙ other.1))
     ∙ sym other.2
-
--- what lies past the terms has no link
-no_link : (s : State) → Keeps s → link_of s.notes (length s.terms) ≡ None
-no_link s keeps = split (link_of s.notes (length s.terms)) refl where
-  split : (o : Option ℕ) → link_of s.notes (length s.terms) ≡ o →
-      link_of s.notes (length s.terms) ≡ None
-  split None is = is
-  split (Some to) is =
-      let both = link_within s keeps (length s.terms) to is in
-      let none : ⊥ = omega (arith, both.0) in absurd none
 
 module _ (old s : State) (a b : ℕ) (a_within : a < length old.terms)
     (b_within : b < length old.terms) (way : IsOnTheWay old s a b) (keeps : Keeps s) (var : ℕ) where
@@ -105,7 +95,7 @@ module _ (old s : State) (a b : ℕ) (a_within : a < length old.terms)
           unbound = wanted.free.unbound;
         };
         within = omega (arith, long);
-        end = no_link s keeps;
+        end = no_link s (length s.terms) keeps (omega arith);
         apart = λ is. absurd (omega (arith, is, wanted.free.within));
         gives = given_new t wanted;
         number = free_number-term s t wanted.stands.2;

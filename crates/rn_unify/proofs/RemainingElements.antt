@@ -12,8 +12,10 @@ use Rattle.rn_term.specs.Stores.{State, term_at, IsBuiltBelow}
 use Rattle.rn_term.specs.Assignments.{value_at, HasValue, Satisfies, Keeps}
 use Rattle.rn_term.specs.Forcing.{IsAlwaysList}
 use Rattle.rn_unify.specs.declared.rests.Rest.{Rest}
-use Rattle.rn_unify.specs.Rests.{IsRest, IsSpelled, elements_of, items_of, rest_value}
-use Rattle.rn_unify.proofs.ListPlaces.{rest-List, rest-Cons, said}
+use Rattle.rn_term.specs.Forcing.{items_of}
+use Rattle.rn_unify.specs.Rests.{IsRest, IsSpelled, elements_of, rest_value}
+use Rattle.rn_term.proofs.OneValue.{said}
+use Rattle.rn_unify.proofs.ListPlaces.{rest-List, rest-Cons}
 
 -- these ids are left of a list from a place on, before its tail
 pub record AreLeft (s : State) (rest : Rest) (ids : List ℕ) : Type 0 where

@@ -16,9 +16,12 @@ use Rattle.rn_unify.specs.declared.rests.Rest.{Rest}
 use Rattle.rn_unify.specs.declared.difference.Difference.{Difference}
 use Rattle.rn_unify.specs.declared.difference.Other.TheVariants as O
 use Rattle.rn_unify.specs.Differences.{CanStand, IsRestOf, IsWanted, Tells}
-use Rattle.rn_unify.specs.Rests.{IsRest, elements_of, items_of, rest_value}
+use Rattle.rn_term.specs.Forcing.{items_of}
+use Rattle.rn_unify.specs.Rests.{IsRest, elements_of, rest_value}
 use Rattle.rn_unify.proofs.Tellings.{tells_result}
-use Rattle.rn_unify.proofs.ListPlaces.{rest-start, said, items_of-list}
+use Rattle.rn_term.proofs.OneValue.{said}
+use Rattle.rn_term.proofs.FillingSteps.{items_of-list}
+use Rattle.rn_unify.proofs.ListPlaces.{rest-start}
 use Rattle.rn_unify.proofs.ListPlaces.{list_of_items, rest-List, rest-Cons, tail_is_list}
 use Rattle.rn_unify.proofs.ListPlaces.{built_at}
 

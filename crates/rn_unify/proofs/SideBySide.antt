@@ -9,7 +9,8 @@ use Rattle.rn_term.specs.Stores.{State, term_at, link_of}
 use Rattle.rn_term.specs.Assignments.{value_at, Satisfies, Keeps}
 use Rattle.rn_term.proofs.Extents.{extent}
 use Rattle.rn_unify.specs.declared.rests.Rest.{Rest}
-use Rattle.rn_unify.specs.Rests.{IsRest, IsFurther, IsSpelled, items_of, rest_value}
+use Rattle.rn_term.specs.Forcing.{items_of}
+use Rattle.rn_unify.specs.Rests.{IsRest, IsFurther, IsSpelled, rest_value}
 use Rattle.rn_unify.specs.Unifying.{AreOne}
 use Rattle.rn_unify.proofs.ListFronts.{joined}
 use Rattle.rn_unify.proofs.TermDifferences.{AreAll, IsSameWish}

@@ -18,7 +18,8 @@ use Rattle.rn_unify.specs.declared.difference.Other.TheVariants as O
 use Rattle.rn_unify.specs.Differences.{Tells, IsWanted}
 use Rattle.rn_unify.specs.Rests.{IsComposed}
 use Rattle.rn_unify.specs.Unifying.{AreOne}
-use Rattle.rn_unify.proofs.ListPlaces.{said, built_at}
+use Rattle.rn_term.proofs.OneValue.{said}
+use Rattle.rn_unify.proofs.ListPlaces.{built_at}
 use Rattle.rn_unify.proofs.Tellings.{tells_result}
 
 -- the wish that ids have the values of others, one by one

@@ -1,13 +1,12 @@
 -- Places in lists, and what is left of a list there.
 use Rattle.std.specs.Prelude.{ℕ, ◌+◌, ⊤, ◌≡◌, ◌⊎◌, ◌<◌, ◌≤◌, Bool, true, false, IsTrue, List, []}
 use Rattle.std.specs.Prelude.{None, length, drop}
-use Rattle.rn_value.specs.declared.value.Value.{Value, out-Value}
-use Rattle.rn_value.specs.declared.value.Value.TheOpen as V
+use Rattle.rn_value.specs.declared.value.Value.{Value}
 use Rattle.rn_term.specs.declared.term.Term.{Term}
 use Rattle.rn_term.specs.declared.term.Term.TheVariants as T
 use Rattle.rn_term.specs.Stores.{State, term_at, link_of, Leads}
 use Rattle.rn_term.specs.Assignments.{value_at}
-use Rattle.rn_term.specs.Forcing.{IsAlwaysList}
+use Rattle.rn_term.specs.Forcing.{IsAlwaysList, items_of}
 use Rattle.rn_unify.specs.declared.rests.Rest.{Rest}
 
 -- a term is a list whose first elements are terms
@@ -30,14 +29,6 @@ abbrev pub elements_of : Term → List ℕ
 elements_of (T.List ids) = ids
 elements_of (T.Cons ids tail) = ids
 elements_of _ = []
-
-abbrev pub items_step : V.Value-F Value → List Value
-items_step (V.List vs) = vs
-items_step _ = []
-
--- the elements of a value that is a list
-abbrev pub items_of : Value → List Value
-items_of v = items_step (out-Value v)
 
 -- what is left of a list, under an assignment
 abbrev pub rest_value : List Value → Rest → List Value

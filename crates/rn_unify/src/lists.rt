@@ -5,7 +5,8 @@ ghost use Rattle.rn_term.specs.Assignments.{Keeps, value_at};
 ghost use Rattle.rn_term.specs.Occurring.{IsFree};
 ghost use Rattle.rn_term.specs.Forcing.{IsAlwaysList};
 ghost use Rattle.rn_unify.specs.Differences.{IsRestOf, Tells};
-ghost use Rattle.rn_unify.specs.Rests.{IsRest, IsSpelled, elements_of, items_of, rest_value};
+ghost use Rattle.rn_term.specs.Forcing.{items_of};
+ghost use Rattle.rn_unify.specs.Rests.{IsRest, IsSpelled, elements_of, rest_value};
 ghost use Rattle.rn_unify.specs.Unifying.{AreOne};
 
 use crate::against::against_rest;

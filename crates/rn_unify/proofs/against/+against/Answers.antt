@@ -12,7 +12,8 @@ use Rattle.rn_term.specs.Stores.{term_at}
 use Rattle.rn_term.specs.Assignments.{Satisfies, value_at}
 use Rattle.rn_term.proofs.Agreement.{leads-same}
 use Rattle.rn_unify.specs.Differences.{Tells}
-use Rattle.rn_unify.specs.Rests.{elements_of, items_of, rest_value}
+use Rattle.rn_term.specs.Forcing.{items_of}
+use Rattle.rn_unify.specs.Rests.{elements_of, rest_value}
 use Rattle.rn_unify.proofs.AgainstValues.{value_of_end, as_tuple, as_list, has_list}
 use Rattle.rn_unify.proofs.AgainstValues.{back_no_deeper, part_no_deeper}
 use Rattle.rn_unify.proofs.ListFronts.{from_on, from_on-drop, drop_within, front_read}
