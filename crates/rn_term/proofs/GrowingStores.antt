@@ -13,7 +13,7 @@ use Rattle.rn_term.specs.Laws.{TermsExtend}
 use Rattle.rn_term.proofs.AssignmentLemmas.{value_stays, parts_stay, link_within, satisfies_term}
 
 -- a term had its value already without the values of later ids
-has_before : (vs ws : List Value) (n : ℕ) (t : Term) (v : Value) → n ≤ length vs →
+pub has_before : (vs ws : List Value) (n : ℕ) (t : Term) (v : Value) → n ≤ length vs →
     IsBuiltBelow n t → HasValue (vs ++ ws) t v → HasValue vs t v
 has_before vs ws n T.Free v room below has = tt
 has_before vs ws n (T.Atom w) v room below has = has

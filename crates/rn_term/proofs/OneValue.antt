@@ -18,8 +18,8 @@ same_map f g (id ∷ ids) same =
     ∙ ap (λ vs. g id ∷ vs) (same_map f g ids (λ k small. same (suc k) (omega (arith, small))))
 
 -- what an assignment says of the term at an id
-pub said : (s : State) (vs : List Value) (id : ℕ) (t : Term) → Satisfies s vs → id < length s.terms →
-    term_at s id ≡ t → HasValue vs t (value_at vs id)
+pub said : (s : State) (vs : List Value) (id : ℕ) (t : Term) → Satisfies s vs →
+    id < length s.terms → term_at s id ≡ t → HasValue vs t (value_at vs id)
 said s vs id t sat within is = subst (λ u. HasValue vs u (value_at vs id)) is (sat.terms id within)
 
 with_tail : (vs ws : List Value) (ids : List ℕ) (tail : ℕ) (v w : Value) →

@@ -1,6 +1,6 @@
 -- What all assignments of a store give an id.
-use Rattle.std.specs.Prelude.{ℕ, ◌≡◌, ◌<◌, ◌++◌, Bool, true, false, List, [], Option, Some, None, length}
-use Rattle.std.specs.Prelude.{map, slice_index_or}
+use Rattle.std.specs.Prelude.{ℕ, ◌≡◌, ◌<◌, ◌++◌, Bool, true, false, List, [], Option, Some, None}
+use Rattle.std.specs.Prelude.{length, map, slice_index_or}
 use Rattle.rn_value.specs.declared.value.Value.{Value, out-Value}
 use Rattle.rn_value.specs.declared.value.Value.TheOpen as V
 use Rattle.rn_value.specs.declared.value.Value.TheVariants as Value

@@ -21,7 +21,8 @@ impl Store {
     pub fn ground(&self, alloc: Global, id: usize) -> Result<Option<Value>, NoMemory>
         requires within { id < length self.now.terms }
         ensures none { IfOk result (λ told. IsNone told ↔ HasFree self.now id) }
-        ensures some { IfOk result (λ told. (v : Value) → (told ≡ Some v) ↔ IsForced self.now id v) }
+        ensures some { IfOk result
+            (λ told. (v : Value) → (told ≡ Some v) ↔ IsForced self.now id v) }
     {
         self.value_of(alloc, id)
     }

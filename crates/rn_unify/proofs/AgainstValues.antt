@@ -1,7 +1,8 @@
 -- Where a term has the value that it is held against.
 use Rattle.std.proofs.Common.{◌≡◌, ◌≢◌, ◌<◌, ◌≤◌, ℕ, zero, suc, List, [], ◌∷◌, ◌++◌, refl}
-use Rattle.std.proofs.Common.{length, map, take, drop, sym, ◌∙◌, ap, subst, arith}
+use Rattle.std.proofs.Common.{◌+◌, length, map, take, drop, get_or, sym, ◌∙◌, ap, subst, arith}
 use Rattle.std.specs.Prelude.{◌↔◌}
+use Rattle.std.proofs.lemmas.List.{length-map, length-take, map_push, take_more}
 use denote.Param.Weighed.{most}
 use Rattle.rn_value.specs.declared.value.Value.{Value}
 use Rattle.rn_value.specs.declared.value.Value.TheVariants as Value
@@ -50,6 +51,36 @@ has_list vs (T.Atom w) v has free atom tuple = absurd (atom w refl)
 has_list vs (T.Tuple ids) v has free atom tuple = absurd (tuple ids refl)
 has_list vs (T.List ids) v has free atom tuple = (map (value_at vs) ids, has)
 has_list vs (T.Cons ids tail) v has free atom tuple = (map (value_at vs) ids ++ has.0, has.2)
+
+-- lists with one more element each are one just where the lists and these elements are
+ends_same : {X : Type 0} (xs ys : List X) (x y : X) → length xs ≡ length ys →
+    (xs ++ x ∷ [] ≡ ys ++ y ∷ []) ↔ ((xs ≡ ys) × (x ≡ y))
+ends_same [] [] x y long = (λ e. (refl, cc), λ both. ap (λ z. z ∷ []) both.1)
+ends_same [] (b ∷ ys) x y long = absurd (omega (arith, long))
+ends_same (a ∷ xs) [] x y long = absurd (omega (arith, long))
+ends_same (a ∷ xs) (b ∷ ys) x y long =
+    let rest = ends_same xs ys x y (omega (arith, long)) in (
+      λ e.
+          let tails : xs ++ x ∷ [] ≡ ys ++ y ∷ [] = cc in
+          let heads : a ≡ b = cc in
+          let both = rest.0 tails in
+          ((λ i. heads i ∷ both.0 i), both.1),
+      λ both. (λ i. both.0 i ++ both.1 i ∷ []),
+    )
+
+-- one more element of a list has the next of some values
+pub one_more : {X Y : Type 0} (f : X → Y) (xs : List X) (ys : List Y) (k : ℕ) (d : X) (e : Y) →
+    k < length xs → k < length ys →
+    (map f (take (k + 1) xs) ≡ take (k + 1) ys) ↔
+    ((map f (take k xs) ≡ take k ys) × (f (get_or xs k d) ≡ get_or ys k e))
+one_more f xs ys k d e small within =
+    let long : length (map f (take k xs)) ≡ length (take k ys) =
+    omega (arith, length-map (take k xs) f, length-take k xs, length-take k ys, small, within) in
+    let left : map f (take (k + 1) xs) ≡ map f (take k xs) ++ f (get_or xs k d) ∷ [] =
+    ap (map f) (take_more xs k d small) ∙ map_push f (take k xs) (get_or xs k d) in
+    let right : take (k + 1) ys ≡ take k ys ++ get_or ys k e ∷ [] = take_more ys k e within in
+    let same = ends_same (map f (take k xs)) (take k ys) (f (get_or xs k d)) (get_or ys k e) long in
+    (λ is. same.0 (sym left ∙ is ∙ right), λ both. left ∙ same.1 both ∙ sym right)
 
 -- no value in a part of a list is deeper than the deepest in the list
 front_no_deeper : (depth : Value → ℕ) (n : ℕ) (vs : List Value) →

@@ -1,8 +1,10 @@
 -- What a store was at earlier marks, as it grows.
-use Rattle.std.proofs.Common.{◌≡◌, ℕ, [], ◌∷◌, refl, arith, length, take, ◌∙◌, ap, length-append}
-use Rattle.std.proofs.lemmas.List.{take_all, take-append-le}
+use Rattle.std.proofs.Common.{◌≡◌, ◌<◌, ℕ, [], ◌∷◌, refl, arith, length, take, sym, ◌∙◌, ap}
+use Rattle.std.proofs.Common.{length-append, length-take}
+use Rattle.std.proofs.lemmas.List.{take_all, take-append-le, get_or-take}
 use Rattle.rn_term.specs.declared.term.Term.{Term}
-use Rattle.rn_term.specs.Stores.{State, with_term, with_note}
+use Rattle.rn_term.specs.declared.term.Term.TheVariants as T
+use Rattle.rn_term.specs.Stores.{State, term_at, with_term, with_note}
 use Rattle.rn_term.specs.Undoing.{Rolled, mark_of, IsNotLater, LeavesEarlier}
 use Rattle.rn_unify.specs.Laws.{UndoGivesBack}
 
@@ -25,6 +27,28 @@ undo_gives_back old new earlier =
 
 pub grown_not : (s : State) → IsGrown s s
 grown_not s = record { earlier = λ m within. refl; not_later = (omega arith, omega arith) }
+
+-- what leaves earlier marks as they were took nothing away
+pub grown : (old new : State) → LeavesEarlier old new → IsGrown old new
+grown old new earlier =
+    let same : take (length old.terms) new.terms ≡ old.terms =
+    ap (λ s. s.terms) (undo_gives_back old new earlier) in
+    let noted : take (length old.notes) new.notes ≡ old.notes =
+    ap (λ s. s.notes) (undo_gives_back old new earlier) in
+    record {
+      earlier = earlier;
+      not_later = (
+        omega (arith, ap length same, length-take (length old.terms) new.terms),
+        omega (arith, ap length noted, length-take (length old.notes) new.notes),
+      );
+    }
+
+-- a term is still what it was
+pub term_stays : (old new : State) (id : ℕ) → IsGrown old new → id < length old.terms →
+    term_at new id ≡ term_at old id
+term_stays old new id grown within =
+    sym (get_or-take (length old.terms) new.terms id T.Free within)
+    ∙ ap (λ s. term_at s id) (undo_gives_back old new grown.earlier)
 
 -- a store that grew twice grew
 pub grown_through : (old s new : State) → IsGrown old s → IsGrown s new → IsGrown old new

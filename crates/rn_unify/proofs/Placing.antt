@@ -1,134 +1,187 @@
 -- What a variable has to be, once it stands in the store.
-use Rattle.std.proofs.Common.{◌≡◌, ◌≢◌, ◌<◌, ℕ, List, [], ◌∷◌, ◌++◌, refl, arith, length, map}
-use Rattle.std.proofs.Common.{sym, ◌∙◌, ap, subst, length-append}
-use Rattle.std.specs.Prelude.{None, IsTrue, false, ◌↔◌}
-use Rattle.std.proofs.lemmas.List.{get_or_append_left}
+use Rattle.std.proofs.Common.{◌≡◌, ◌≢◌, ◌<◌, ◌≤◌, ◌+◌, ℕ, suc, List, [], ◌∷◌, ◌++◌, refl, arith}
+use Rattle.std.proofs.Common.{length, sym, ◌∙◌, ap, subst, length-append}
+use Rattle.std.specs.Prelude.{None}
+use Rattle.std.proofs.lemmas.List.{take_all, length-take-le, get_or-take}
+use Rattle.std.proofs.lemmas.List.Elements.{All-weaker}
+use Rattle.std.proofs.Math.Seq.{take-suc, get_or-append_seam}
 use Rattle.rn_value.specs.declared.value.Value.{Value}
 use Rattle.rn_value.specs.declared.value.Value.TheVariants as Value
 use Rattle.rn_term.specs.declared.term.Term.{Term}
 use Rattle.rn_term.specs.declared.term.Term.TheVariants as T
-use Rattle.rn_term.specs.Stores.{State, link_of, with_term, with_note}
-use Rattle.rn_term.specs.Assignments.{value_at, HasValue, Satisfies, MayBeOne, Keeps}
-use Rattle.rn_term.specs.Occurring.{IsFree}
-use Rattle.rn_term.proofs.AssignmentLemmas.{value_stays}
+use Rattle.rn_term.specs.Stores.{State, Leads, link_of, IsBuiltBelow, with_term}
+use Rattle.rn_term.specs.Assignments.{value_at, HasValue, HasListTail, Satisfies, Keeps}
+use Rattle.rn_term.specs.Forcing.{IsList}
+use Rattle.rn_term.proofs.AssignmentLemmas.{value_stays, has_stays, satisfies_term}
+use Rattle.rn_term.proofs.GrowingStores.{has_before, terms_extend}
 use Rattle.rn_term.proofs.KeepingLemmas.{keeps_term, no_link}
-use Rattle.rn_term.proofs.ValueSizes.{same_parts_of_lists}
-use Rattle.rn_unify.specs.declared.difference.Difference.{Difference}
-use Rattle.rn_unify.specs.declared.difference.Difference.TheVariants as D
-use Rattle.rn_unify.specs.declared.difference.Other.{Other}
-use Rattle.rn_unify.specs.declared.difference.Other.TheVariants as O
-use Rattle.rn_unify.specs.Differences.{IsWanted, IsPlaced, Tells}
+use Rattle.rn_term.proofs.Occurrences.{one_end}
+use Rattle.rn_unify.specs.declared.equation.Equation.{Equation}
+use Rattle.rn_unify.specs.declared.equation.Other.{Other}
+use Rattle.rn_unify.specs.declared.equation.Other.TheVariants as O
+use Rattle.rn_unify.specs.Equations.{HasTail, CanStand, GivesOther, IsFound, IsPlaced}
+use Rattle.rn_unify.specs.Binding.{Becomes, front_of, free_number}
 use Rattle.rn_unify.specs.Unifying.{AreOne}
-use Rattle.rn_unify.proofs.OnTheWay.{IsOnTheWay, front_of, split_last}
-use Rattle.rn_unify.proofs.OnTheWay.{way_to_term, way_to_note, ends_apart}
-use Rattle.rn_unify.proofs.FreeNumbers.{free_number, free_number-term, free_number-note}
+use Rattle.rn_unify.proofs.EarlierMarks.{IsGrown, grown_not, grown_by_term}
+use Rattle.rn_unify.proofs.Becoming.{Stays, becomes_same}
+use Rattle.rn_unify.proofs.FreeNumbers.{free_number-term}
 
--- A free variable may be joined with another id, since both have one value wherever two ids have
--- one. The store is on the way to these being one, and no variable more is free in it.
-pub record IsReady (old s new : State) (a b var to : ℕ) : Type 0 where
-  pub way : IsOnTheWay old new a b
+-- a term that is built of ids below a number is built of ids below each greater one
+built_further : (n m : ℕ) (t : Term) → n ≤ m → IsBuiltBelow n t → IsBuiltBelow m t
+built_further n m T.Free room built = tt
+built_further n m (T.Atom v) room built = tt
+built_further n m (T.Tuple ids) room built =
+    All-weaker (λ id. id < n) (λ id. id < m) (λ id small. omega (arith, small, room)) ids built
+built_further n m (T.List ids) room built =
+    All-weaker (λ id. id < n) (λ id. id < m) (λ id small. omega (arith, small, room)) ids built
+built_further n m (T.Cons ids tail) room (each, some, last) = (
+  All-weaker (λ id. id < n) (λ id. id < m) (λ id small. omega (arith, small, room)) ids each,
+  some,
+  omega (arith, last, room),
+)
+
+-- what a store may get it may get still as it grows
+pub can_stand : (old new : State) (other : Other) → length old.terms ≤ length new.terms →
+    ((vs : List Value) → Satisfies new vs → Satisfies old (front_of old vs)) →
+    CanStand old other → CanStand new other
+can_stand old new (O.Here to) room back stands = omega (arith, stands, room)
+can_stand old new (O.New t) room back (built, tail, is) =
+    (built_further (length old.terms) (length new.terms) t room built, has_tail t built tail, is)
+  where
+    has_tail : (t : Term) → IsBuiltBelow (length old.terms) t → HasTail old t → HasTail new t
+    has_tail T.Free built tail = tt
+    has_tail (T.Atom v) built tail = tt
+    has_tail (T.Tuple ids) built tail = tt
+    has_tail (T.List ids) built tail = tt
+    has_tail (T.Cons ids end) built tail = λ vs sat.
+        subst IsList (get_or-take (length old.terms) vs end (Value.Tuple []) built.2)
+        (tail (front_of old vs) (back vs sat))
+
+list_tail : (s : State) (t : Term) → Keeps s → HasTail s t → HasListTail s t
+list_tail s T.Free keeps tail = tt
+list_tail s (T.Atom v) keeps tail = tt
+list_tail s (T.Tuple ids) keeps tail = tt
+list_tail s (T.List ids) keeps tail = tt
+list_tail s (T.Cons ids end) keeps tail =
+    let some = tail keeps.satisfied.0 keeps.satisfied.1 in
+    (keeps.satisfied.0, some.0, keeps.satisfied.1, some.1)
+
+-- whether an equation is satisfied stays as values of later ids come
+pub equation_stays : (s : State) (var : ℕ) (other : Other) → var < length s.terms →
+    CanStand s other → Stays s (λ vs. GivesOther vs var other)
+equation_stays s var (O.Here to) within stands vs more each =
+    let left = value_stays vs more var (rw each within) in
+    let right = value_stays vs more to (rw each stands) in
+    (λ one. left ∙ one ∙ sym right, λ one. sym left ∙ one ∙ right)
+equation_stays s var (O.New t) within stands vs more each =
+    let left = value_stays vs more var (rw each within) in
+    let room : length s.terms ≤ length vs = omega (arith, each) in (
+      λ has. subst (λ v. HasValue (vs ++ more) t v) (sym left)
+          (has_stays vs more (length s.terms) t (value_at vs var) room stands.0 has),
+      λ has. has_before vs more (length s.terms) t (value_at vs var) room stands.0
+          (subst (λ v. HasValue (vs ++ more) t v) left has),
+    )
+
+-- An assignment of a store with one more term is one from before, and a value of the term.
+record IsSplit (s : State) (t : Term) (ws : List Value) : Type 0 where
+  whole : ws ≡ front_of s ws ++ value_at ws (length s.terms) ∷ []
+  each : length (front_of s ws) ≡ length s.terms
+  satisfies : Satisfies s (front_of s ws)
+  has : HasValue (front_of s ws) t (value_at ws (length s.terms))
+
+split_last : (s : State) (t : Term) (ws : List Value) → Keeps s →
+    IsBuiltBelow (length s.terms) t → Satisfies (with_term s t) ws → IsSplit s t ws
+split_last s t ws keeps built sat =
+    let both = (terms_extend s t (front_of s ws) (value_at ws (length s.terms)) keeps built each).0
+    (subst (Satisfies (with_term s t)) whole sat) in
+    record { whole = whole; each = each; satisfies = both.0; has = both.1 }
+  where
+    long : length ws ≡ length s.terms + 1
+    long = sat.each ∙ length-append s.terms (t ∷ [])
+
+    each : length (front_of s ws) ≡ length s.terms
+    each = length-take-le (length s.terms) ws (omega (arith, long))
+
+    whole : ws ≡ front_of s ws ++ value_at ws (length s.terms) ∷ []
+    whole = sym (take_all (suc (length s.terms)) ws (omega (arith, long)))
+        ∙ take-suc ws (length s.terms) (Value.Tuple []) (omega (arith, long))
+
+-- that a variable has to be a term becomes that it has to be this term's id
+becomes_term : (s : State) (t : Term) (var : ℕ) → Keeps s → IsBuiltBelow (length s.terms) t →
+    var < length s.terms →
+    Becomes s (λ vs. HasValue vs t (value_at vs var)) (with_term s t) (AreOne var (length s.terms))
+becomes_term s t var keeps built within = record {
+  back = λ ws sat. (split_last s t ws keeps built sat).satisfies;
+  enough = λ ws sat one.
+      subst (λ v. HasValue (front_of s ws) t v)
+      (sym one ∙ sym (get_or-take (length s.terms) ws var (Value.Tuple []) within))
+      (split_last s t ws keeps built sat).has;
+  forth = λ vs sat has. (
+    value_at vs var ∷ [],
+    satisfies_term s t vs (value_at vs var) keeps built sat has,
+    value_stays vs (value_at vs var ∷ []) var (rw sat.each within)
+        ∙ sym (subst (λ n. value_at (vs ++ value_at vs var ∷ []) n ≡ value_at vs var) sat.each
+        (get_or-append_seam vs (value_at vs var) [] (Value.Tuple []))),
+  );
+}
+
+-- What a variable has to be stands in the store at an id, and no variable more is free.
+pub record IsReady (s new : State) (var : ℕ) (other : Other) (to : ℕ) : Type 0 where
+  pub grown : IsGrown s new
   pub keeps : Keeps new
-  pub free : IsFree new var
   pub within : to < length new.terms
-  pub end : link_of new.notes to ≡ None
-  pub apart : var ≢ to
-  pub gives : (vs : List Value) → Satisfies new vs → AreOne a b vs → AreOne var to vs
+  pub becomes : Becomes s (λ vs. GivesOther vs var other) new (AreOne var to)
   pub number : free_number new ≡ free_number s
+  pub notes : new.notes ≡ s.notes
 
--- under one assignment a term that isn't a variable has one value
-one_value : (vs : List Value) (t : Term) (v w : Value) → t ≢ T.Free → HasValue vs t v →
-    HasValue vs t w → v ≡ w
-one_value vs T.Free v w built has other = absurd (built refl)
-one_value vs (T.Atom x) v w built has other = has ∙ sym other
-one_value vs (T.Tuple ids) v w built has other = has ∙ sym other
-one_value vs (T.List ids) v w built has other = has ∙ sym other
-one_value vs (T.Cons ids tail) v w built has other =
-    has.2
-    ∙ ap (λ rest. Value.List (map (value_at vs) ids ++ rest))
-    (same_parts_of_lists has.0 other.0 (sym has.1 ∙ other.1))
-    ∙ sym other.2
+pub ready : (s new : State) (var : ℕ) (other : Other) (to : ℕ) → Keeps s → var < length s.terms →
+    CanStand s other → IsPlaced s new other to → IsReady s new var other to
+ready s new var (O.Here id) to keeps within stands placed =
+    subst (λ u. IsReady s u var (O.Here id) to) (sym placed.0)
+    (subst (λ i. IsReady s s var (O.Here id) i) (sym placed.1) here)
+  where
+    here : IsReady s s var (O.Here id) id
+    here = record {
+      grown = grown_not s;
+      keeps = keeps;
+      within = stands;
+      becomes =
+          becomes_same s (AreOne var id) (AreOne var id) (λ vs sat. (λ one. one, λ one. one));
+      number = refl;
+      notes = refl;
+    }
+ready s new var (O.New t) to keeps within stands placed =
+    subst (λ u. IsReady s u var (O.New t) to) (sym placed.0)
+    (subst (λ i. IsReady s (with_term s t) var (O.New t) i) (sym placed.1) added)
+  where
+    added : IsReady s (with_term s t) var (O.New t) (length s.terms)
+    added = record {
+      grown = grown_by_term s t;
+      keeps = keeps_term s t keeps stands.0 (list_tail s t keeps stands.1);
+      within = omega (arith, length-append s.terms (t ∷ []));
+      becomes = becomes_term s t var keeps stands.0 within;
+      number = free_number-term s t stands.2;
+      notes = refl;
+    }
 
-module _ (old s : State) (a b : ℕ) (a_within : a < length old.terms)
-    (b_within : b < length old.terms) (way : IsOnTheWay old s a b) (keeps : Keeps s) (var : ℕ) where
-  ready_here : (id : ℕ) → IsWanted s (AreOne a b) var (O.Here id) → IsReady old s s a b var id
-  ready_here id wanted = record {
-    way = way;
-    keeps = keeps;
-    free = wanted.free;
-    within = wanted.stands.0;
-    end = wanted.stands.1;
-    apart = λ is. wanted.apart (ap (λ n. O.Here n) (sym is));
-    gives = wanted.gives;
-    number = refl;
-  }
+-- from what a found equation asks for no link leads to its variable
+pub apart_from_end : (s new : State) (equation : Equation) (to end : ℕ) → Keeps s →
+    IsFound s equation → IsPlaced s new equation.other to → Leads new.notes to end →
+    link_of new.notes end ≡ None → end ≢ equation.var
+apart_from_end s new equation to end keeps found placed leads unbound is =
+    split equation.other refl placed
+  where
+    at_its_end : link_of new.notes to ≡ None → end ≡ to
+    at_its_end none = one_end new to end to leads Leads.here unbound none
 
-  -- the new term has the value of the variable
-  given_new : (t : Term) → IsWanted s (AreOne a b) var (O.New t) → (vs : List Value) →
-      Satisfies (with_term s t) vs → AreOne a b vs → AreOne var (length s.terms) vs
-  given_new t wanted vs sat one =
-      let parts = split_last s t vs keeps wanted.stands.0 sat in
-      let ahead = front_of s vs in
-      let stays : (id : ℕ) → id < length s.terms → value_at vs id ≡ value_at ahead id =
-      λ id small. ap (λ ws. value_at ws id) parts.whole
-      ∙ value_stays ahead (value_at vs (length s.terms) ∷ []) id (rw parts.each small) in
-      let room = way.grown.not_later.0 in
-      stays var wanted.free.within
-      ∙ one_value ahead t (value_at ahead var) (value_at vs (length s.terms)) wanted.stands.2
-      (wanted.gives ahead parts.satisfies
-      (sym (stays a (omega (arith, a_within, room))) ∙ one
-      ∙ stays b (omega (arith, b_within, room))))
-      parts.has
-
-  ready_new : (t : Term) → IsWanted s (AreOne a b) var (O.New t) →
-      IsReady old s (with_term s t) a b var (length s.terms)
-  ready_new t wanted =
-      let long = length-append s.terms (t ∷ []) in
-      record {
-        way = way_to_term old s a b a_within b_within way t keeps wanted.stands.0
-            (λ vs sat one. (value_at vs var, wanted.gives vs sat one));
-        keeps = keeps_term s t keeps wanted.stands.0 wanted.stands.1;
-        free = record {
-          within = omega (arith, wanted.free.within, long);
-          variable =
-              get_or_append_left s.terms (t ∷ []) T.Free var wanted.free.within
-              ∙ wanted.free.variable;
-          unbound = wanted.free.unbound;
-        };
-        within = omega (arith, long);
-        end = no_link s (length s.terms) keeps (omega arith);
-        apart = λ is. absurd (omega (arith, is, wanted.free.within));
-        gives = given_new t wanted;
-        number = free_number-term s t wanted.stands.2;
-      }
-
-  placed_ready : (new : State) (other : Other) (to : ℕ) → IsWanted s (AreOne a b) var other →
-      IsPlaced s new other to → IsReady old s new a b var to
-  placed_ready new (O.Here id) to wanted placed =
-      subst (λ x. IsReady old s x a b var to) (sym placed.0)
-      (subst (λ i. IsReady old s s a b var i) (sym placed.1) (ready_here id wanted))
-  placed_ready new (O.New t) to wanted placed =
-      subst (λ x. IsReady old s x a b var to) (sym placed.0)
-      (subst (λ i. IsReady old s (with_term s t) a b var i) (sym placed.1) (ready_new t wanted))
-
-  -- what a variable has to be was told, and was placed
-  pub ready : (new : State) (d : Difference) (other : Other) (to : ℕ) →
-      Tells s (AreOne a b) d → d ≡ D.Variable var other → IsPlaced s new other to →
-      IsReady old s new a b var to
-  ready new d other to told is placed =
-      placed_ready new other to (subst (Tells s (AreOne a b)) is told) placed
-
-module _ (old s new : State) (a b var to : ℕ) (a_within : a < length old.terms)
-    (b_within : b < length old.terms) (is : IsReady old s new a b var to) where
-  -- the two may not be joined, so no assignment gives both ids one value
-  pub joined_never : ¬ MayBeOne new var to → IsTrue false ↔ MayBeOne old a b
-  joined_never never =
-      ends_apart old new a b a_within b_within is.way
-      (λ vs sat one. never (vs, sat, is.gives vs sat one))
-
-  -- after they were joined, fewer variables are free
-  pub joined_way : IsOnTheWay old (with_note new var to) a b
-  joined_way =
-      way_to_note old new a b a_within b_within is.way var to is.free.unbound is.gives
-
-  pub joined_fewer : free_number (with_note new var to) < free_number s
-  joined_fewer = omega (arith, free_number-note new var to is.free, is.number)
+    split : (other : Other) → equation.other ≡ other → IsPlaced s new other to → ⊥
+    split (O.Here id) is_here placed_here =
+        let far = found.apart id is_here in
+        let none : link_of new.notes to ≡ None =
+        ap (λ u. link_of u.notes to) placed_here.0 ∙ ap (link_of s.notes) placed_here.1 ∙ far.1 in
+        far.0 (sym placed_here.1 ∙ sym (at_its_end none) ∙ is)
+    split (O.New t) is_new placed_new =
+        let none : link_of new.notes to ≡ None =
+        ap (λ u. link_of u.notes to) placed_new.0
+        ∙ no_link s to keeps (omega (arith, placed_new.1)) in
+        absurd (omega (arith, at_its_end none, is, placed_new.1, found.free.within))

@@ -1,9 +1,11 @@
 -- The rest of a list as a term of its own, which a variable has to be.
-use Rattle.std.proofs.Common.{◌≡◌, ◌<◌, ◌≤◌, ℕ, List, arith, length, refl, sym}
-use Rattle.std.proofs.Common.{◌∙◌, ap, subst, drop}
-use Rattle.std.specs.Prelude.{Result, IfOk, All}
+use Rattle.std.proofs.Common.{◌≡◌, ◌<◌, ◌≤◌, ℕ, List, ◌++◌, arith, length, refl, sym, map}
+use Rattle.std.proofs.Common.{◌∙◌, ap, subst, drop, Bool, true, false}
+use Rattle.std.specs.Prelude.{Result, IfOk, All, ◌↔◌}
+use Rattle.std.proofs.lemmas.Bool.{false≢true}
 use Rattle.std.proofs.lemmas.List.{length-drop}
 use Rattle.std.proofs.lemmas.List.Elements.{All-drop, All-weaker}
+use Rattle.std.proofs.lemmas.Result.{IfOk-weaker}
 use Rattle.rn_value.specs.declared.value.Value.{Value}
 use Rattle.rn_value.specs.declared.value.Value.TheVariants as Value
 use Rattle.rn_term.specs.declared.term.Term.{Term}
@@ -11,19 +13,17 @@ use Rattle.rn_term.specs.declared.term.Term.TheVariants as T
 use Rattle.rn_term.specs.Stores.{State, term_at, IsBuiltBelow}
 use Rattle.rn_term.specs.Assignments.{value_at, HasValue, Satisfies, Keeps}
 use Rattle.rn_term.specs.Occurring.{IsFree}
-use Rattle.rn_term.specs.Forcing.{IsList, IsAlwaysList}
-use Rattle.rn_unify.specs.declared.rests.Rest.{Rest}
-use Rattle.rn_unify.specs.declared.difference.Difference.{Difference}
-use Rattle.rn_unify.specs.declared.difference.Other.TheVariants as O
-use Rattle.rn_unify.specs.Differences.{CanStand, IsRestOf, IsWanted, Tells}
-use Rattle.rn_term.specs.Forcing.{items_of}
-use Rattle.rn_unify.specs.Rests.{IsRest, elements_of, rest_value}
-use Rattle.rn_unify.proofs.Tellings.{tells_result}
-use Rattle.rn_term.proofs.OneValue.{said}
+use Rattle.rn_term.specs.Forcing.{IsList, IsAlwaysList, items_of}
 use Rattle.rn_term.proofs.FillingSteps.{items_of-list}
-use Rattle.rn_unify.proofs.ListPlaces.{rest-start}
-use Rattle.rn_unify.proofs.ListPlaces.{list_of_items, rest-List, rest-Cons, tail_is_list}
+use Rattle.rn_unify.specs.declared.equation.Equation.{Equation}
+use Rattle.rn_unify.specs.declared.equation.Other.TheVariants as O
+use Rattle.rn_unify.specs.declared.rests.Rest.{Rest}
+use Rattle.rn_unify.specs.Equations.{CanStand, Finds, IsFound, GivesOther, IsRestOf}
+use Rattle.rn_unify.specs.Rests.{IsRest, rest_value}
+use Rattle.rn_unify.proofs.Findings.{finds_one}
 use Rattle.rn_unify.proofs.ListPlaces.{built_at}
+use Rattle.rn_unify.proofs.ListPlaces.{list_of_items, rest-List, rest-Cons, tail_is_list}
+use Rattle.rn_unify.proofs.TermEquations.{IsNoted}
 
 -- the later ids of a list are below what all are
 later_below : (low high from : ℕ) (ids : List ℕ) → low ≤ high → All (λ id. id < low) ids →
@@ -49,77 +49,74 @@ rest_stands s rest (T.List ids) term keeps place is rest_is =
 rest_stands s rest (T.Cons ids tail) term keeps place is rest_is =
     let built : IsBuiltBelow rest.id (T.Cons ids tail) =
     built_at s rest.id (T.Cons ids tail) keeps place.within is in
-    let some = keeps.satisfied in
-    let list = tail_is_list s some.0 rest.id ids tail some.1 place.within is in
     subst (λ u. CanStand s (O.New u)) (sym rest_is) (
       (
         later_below rest.id (length s.terms) rest.from ids (omega (arith, place.within)) built.0,
         omega (arith, place.ahead ids tail is, length-drop rest.from ids),
         omega (arith, built.2, place.within),
       ),
-      (some.0, list.0, some.1, list.1),
+      λ vs sat. tail_is_list s vs rest.id ids tail sat place.within is,
       λ free. cc,
     )
 
--- and has the value of what is left of the list
+-- and a list has its value just where it is what is left of the list
 rest_has : (s : State) (vs : List Value) (rest : Rest) (t term : Term) (v : Value) →
     Satisfies s vs → IsRest s rest → term_at s rest.id ≡ t → IsRestOf rest.from t term →
-    IsList v → items_of v ≡ rest_value vs rest → HasValue vs term v
-rest_has s vs rest T.Free term v sat place is rest_is list same = absurd rest_is
-rest_has s vs rest (T.Atom w) term v sat place is rest_is list same = absurd rest_is
-rest_has s vs rest (T.Tuple ids) term v sat place is rest_is list same = absurd rest_is
-rest_has s vs rest (T.List ids) term v sat place is rest_is list same =
-    subst (λ u. HasValue vs u v) (sym rest_is)
-    (list_of_items v list
-    ∙ ap (λ xs. Value.List xs) (same ∙ rest-List s vs rest ids sat place.within is))
-rest_has s vs rest (T.Cons ids tail) term v sat place is rest_is list same =
+    IsList v → (items_of v ≡ rest_value vs rest) ↔ HasValue vs term v
+rest_has s vs rest T.Free term v sat place is rest_is list = absurd rest_is
+rest_has s vs rest (T.Atom w) term v sat place is rest_is list = absurd rest_is
+rest_has s vs rest (T.Tuple ids) term v sat place is rest_is list = absurd rest_is
+rest_has s vs rest (T.List ids) term v sat place is rest_is list =
+    let left : rest_value vs rest ≡ map (value_at vs) (drop rest.from ids) =
+    rest-List s vs rest ids sat place.within is in
+    subst (λ u. (items_of v ≡ rest_value vs rest) ↔ HasValue vs u v) (sym rest_is) (
+      λ same. list_of_items v list ∙ ap (λ xs. Value.List xs) (same ∙ left),
+      λ has. ap items_of has ∙ items_of-list (map (value_at vs) (drop rest.from ids)) ∙ sym left,
+    )
+rest_has s vs rest (T.Cons ids tail) term v sat place is rest_is list =
     let end = tail_is_list s vs rest.id ids tail sat place.within is in
-    subst (λ u. HasValue vs u v) (sym rest_is) (
-      items_of (value_at vs tail),
-      list_of_items (value_at vs tail) end,
-      list_of_items v list
-          ∙ ap (λ xs. Value.List xs) (same
-          ∙ rest-Cons s vs rest ids tail sat place.within is
-          (omega (arith, place.ahead ids tail is))),
+    let front : List Value = map (value_at vs) (drop rest.from ids) in
+    let left : rest_value vs rest ≡ front ++ items_of (value_at vs tail) =
+    rest-Cons s vs rest ids tail sat place.within is
+    (omega (arith, place.ahead ids tail is)) in
+    subst (λ u. (items_of v ≡ rest_value vs rest) ↔ HasValue vs u v) (sym rest_is) (
+      λ same. (
+        items_of (value_at vs tail),
+        list_of_items (value_at vs tail) end,
+        list_of_items v list ∙ ap (λ xs. Value.List xs) (same ∙ left),
+      ),
+      λ (more, tail_is, all_is).
+          ap items_of all_is ∙ items_of-list (front ++ more)
+          ∙ ap (λ xs. front ++ xs) (sym (ap items_of tail_is ∙ items_of-list more)) ∙ sym left,
     )
 
-pub rest_wanted : (s : State) (var : ℕ) (rest : Rest) (term : Term) → Keeps s → IsFree s var →
-    IsAlwaysList s var → IsRest s rest → IsRestOf rest.from (term_at s rest.id) term →
-    IsWanted s (λ vs. items_of (value_at vs var) ≡ rest_value vs rest) var (O.New term)
-rest_wanted s var rest term keeps free list place rest_is = record {
-  free = free;
-  stands = rest_stands s rest (term_at s rest.id) term keeps place refl rest_is;
-  apart = λ same. cc;
-  gives = λ vs sat same. rest_has s vs rest (term_at s rest.id) term (value_at vs var) sat place
-      refl rest_is (list vs sat) same;
-}
+-- an equation that was noted
+finds_new : (s : State) (wish : List Value → Type 0) (before after : List Equation)
+    (equation : Equation) (told : Bool) → IsNoted before after equation told → IsFound s equation →
+    ((vs : List Value) → Satisfies s vs → wish vs ↔ GivesOther vs equation.var equation.other) →
+    Finds s wish before after told
+finds_new s wish before after equation true noted found same =
+    finds_one s wish before after equation noted.1 found same
+finds_new s wish before after equation false noted found same =
+    absurd (false≢true noted.0)
 
--- Where one list ends in a value, the rest of the other has to have its elements.
-module _ (s : State) (left right : Rest) (v : Value) (items : List Value)
-    (is : v ≡ Value.List items) where
-  -- what is left of a list that is a value
-  value_rest : (vs : List Value) (rest : Rest) → Satisfies s vs → IsRest s rest →
-      term_at s rest.id ≡ T.Atom v → rest_value vs rest ≡ items
-  value_rest vs rest sat place at =
-      rest-start s vs rest place (ap elements_of at)
-      ∙ ap items_of (said s vs rest.id (T.Atom v) sat place.within at ∙ is) ∙ items_of-list items
-
-  pub told_of_right : {E : Type 0} (r : Result Difference E) → IsRest s left →
-      term_at s left.id ≡ T.Atom v → IfOk r (Tells s (λ vs. rest_value vs right ≡ items)) →
-      IfOk r (Tells s (λ vs. rest_value vs left ≡ rest_value vs right))
-  told_of_right r place at =
-      tells_result s (λ vs. rest_value vs left ≡ rest_value vs right)
-      (λ vs. rest_value vs right ≡ items) r
-      (λ vs sat.
-      let here = value_rest vs left sat place at in
-      (λ same. sym same ∙ here, λ same. here ∙ sym same))
-
-  pub told_of_left : {E : Type 0} (r : Result Difference E) → IsRest s right →
-      term_at s right.id ≡ T.Atom v → IfOk r (Tells s (λ vs. rest_value vs left ≡ items)) →
-      IfOk r (Tells s (λ vs. rest_value vs left ≡ rest_value vs right))
-  told_of_left r place at =
-      tells_result s (λ vs. rest_value vs left ≡ rest_value vs right)
-      (λ vs. rest_value vs left ≡ items) r
-      (λ vs sat.
-      let here = value_rest vs right sat place at in
-      (λ same. same ∙ here, λ same. same ∙ sym here))
+-- A free variable whose value is always a list, and what is left of another list.
+module _ (s : State) (var : ℕ) (rest : Rest) (free : IsFree s var) (list : IsAlwaysList s var)
+    (place : IsRest s rest) where
+  -- the variable may have to be a new term
+  pub rest_noted : {E : Type 0} (term : Term) (before after : List Equation)
+      (r : Result Bool E) → Keeps s → IsRestOf rest.from (term_at s rest.id) term →
+      IfOk r (IsNoted before after (record { var = var; other = O.New term })) →
+      IfOk r (Finds s (λ vs. items_of (value_at vs var) ≡ rest_value vs rest) before after)
+  rest_noted term before after r keeps rest_is = IfOk-weaker r
+      (IsNoted before after (record { var = var; other = O.New term }))
+      (Finds s (λ vs. items_of (value_at vs var) ≡ rest_value vs rest) before after)
+      (λ told noted. finds_new s (λ vs. items_of (value_at vs var) ≡ rest_value vs rest)
+      before after (record { var = var; other = O.New term }) told noted
+      (record {
+        free = free;
+        stands = rest_stands s rest (term_at s rest.id) term keeps place refl rest_is;
+        apart = λ to is. absurd (let no : ⊥ = cc in no);
+      })
+      (λ vs sat. rest_has s vs rest (term_at s rest.id) term (value_at vs var) sat place refl
+      rest_is (list vs sat)))

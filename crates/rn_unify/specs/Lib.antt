@@ -1,4 +1,5 @@
-pub mod Differences
+pub mod Binding
+pub mod Equations
 pub mod Laws
 pub mod Rests
 pub mod Unifying

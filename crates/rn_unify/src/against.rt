@@ -1,87 +1,98 @@
-//! The first place in which a term differs from a value.
+//! What gives terms the values of others.
 ghost use Rattle.std.specs.Prelude.{◌≡◌, ◌↔◌, ◌<◌, IsTrue, map, length, IfOk, All};
 ghost use Rattle.rn_term.specs.Assignments.{Keeps, value_at};
-ghost use Rattle.rn_unify.specs.Differences.{Tells};
+ghost use Rattle.rn_unify.specs.Equations.{Finds};
 ghost use Rattle.rn_unify.specs.Rests.{IsRest, rest_value};
 
-use crate::difference::{Difference, Other};
-use crate::rests::{Rest, advance, elements, is_spelled, items};
+use crate::comparing::note;
+use crate::equation::{Equation, Other};
+use crate::rests::{Rest, advance, items};
 use rn_items::Items;
 use rn_term::{Store, Term};
 use rn_value::{NoMemory, Vals, Value, copy, same};
 use std::alloc::Global;
 
-/// What keeps an id from having this value.
+/// Puts the equations that give an id this value behind others, or tells that nothing gives it.
 #[cycle(against)]
 pub(crate) fn against(
     alloc: Global,
     value: &Value,
     store: &Store,
     id: usize,
-) -> Result<Difference, NoMemory>
+    found: &mut Vec<Equation>,
+) -> Result<bool, NoMemory>
     requires within { id < length store.now.terms }
-    ensures told { IfOk result (λ d. Tells store.now (λ vs. value_at vs id ≡ value.now) d) }
+    ensures found { IfOk result
+        (λ yes. Finds store.now (λ vs. value_at vs id ≡ value.now)
+        found.old.items found.new.items yes) }
 {
     let end = store.follow(id);
     match store.term(end) {
         Term::Free => {
             let atom = Term::Atom(copy(alloc, value)?);
-            Ok(Difference::Variable(end, Other::New(atom)))
+            note(found, end, Other::New(atom))
         }
-        Term::Atom(other) => Ok(if same(other, value) {
-            Difference::Nothing
-        } else {
-            Difference::Clash
-        }),
+        Term::Atom(other) => Ok(same(other, value)),
         Term::Tuple(ids) => match value {
-            Value::Tuple(parts) => against_parts(alloc, parts.as_slice(), store, ids.as_slice()),
-            _ => Ok(Difference::Clash),
+            Value::Tuple(parts) => {
+                against_parts(alloc, parts.as_slice(), store, ids.as_slice(), found)
+            }
+            _ => Ok(false),
         },
         _ => match value {
             Value::List(parts) => {
-                against_rest(alloc, parts.as_slice(), store, Rest { id: end, from: 0 })
+                against_rest(
+                    alloc,
+                    parts.as_slice(),
+                    store,
+                    Rest { id: end, from: 0 },
+                    found,
+                )
             }
-            _ => Ok(Difference::Clash),
+            _ => Ok(false),
         },
     }
 }
 
-/// What keeps ids from having these values, one by one, and from being as many.
+/// The same of ids and values, one by one. They have to be as many.
 #[cycle(against)]
 fn against_parts(
     alloc: Global,
     values: &[Value],
     store: &Store,
     ids: &[usize],
-) -> Result<Difference, NoMemory>
+    found: &mut Vec<Equation>,
+) -> Result<bool, NoMemory>
     requires within { All (λ id. id < length store.now.terms) ids.now }
-    ensures told { IfOk result
-        (λ d. Tells store.now (λ vs. map (value_at vs) ids.now ≡ values.now) d) }
+    ensures found { IfOk result
+        (λ yes. Finds store.now (λ vs. map (value_at vs) ids.now ≡ values.now)
+        found.old.items found.new.items yes) }
 {
     if values.len() != ids.len() {
-        return Ok(Difference::Clash);
+        return Ok(false);
     }
     for k in 0..values.len() {
-        match against(alloc, &values[k], store, ids[k])? {
-            Difference::Nothing => {}
-            other => return Ok(other),
+        if !against(alloc, &values[k], store, ids[k], found)? {
+            return Ok(false);
         }
     }
-    Ok(Difference::Nothing)
+    Ok(true)
 }
 
-/// What keeps the rest of a list from having just these elements. It is gone through along its
-/// tails.
+/// The same of the rest of a list and its elements. It is gone through along its tails.
 #[cycle(against)]
 pub(crate) fn against_rest(
     alloc: Global,
     values: &[Value],
     store: &Store,
     rest: Rest,
-) -> Result<Difference, NoMemory>
+    found: &mut Vec<Equation>,
+) -> Result<bool, NoMemory>
     requires kept { Keeps store.now }
     requires rest { IsRest store.now rest }
-    ensures told { IfOk result (λ d. Tells store.now (λ vs. rest_value vs rest ≡ values.now) d) }
+    ensures found { IfOk result
+        (λ yes. Finds store.now (λ vs. rest_value vs rest ≡ values.now)
+        found.old.items found.new.items yes) }
 {
     let mut values = values;
     let mut rest = rest;
@@ -90,25 +101,22 @@ pub(crate) fn against_rest(
             Term::Cons(ids, _) => {
                 let count = ids.len() - rest.from;
                 if values.len() < count {
-                    return Ok(Difference::Clash);
+                    return Ok(false);
                 }
                 let (front, back) = values.split_at(count);
-                match against_parts(alloc, front, store, &ids[rest.from..])? {
-                    Difference::Nothing => {}
-                    other => return Ok(other),
+                if !against_parts(alloc, front, store, &ids[rest.from..], found)? {
+                    return Ok(false);
                 }
                 values = back;
                 rest = advance(store, rest, count);
             }
-            Term::List(ids) => return against_parts(alloc, values, store, &ids[rest.from..]),
-            Term::Atom(list) => return Ok(if same_all(items(list), values) {
-                Difference::Nothing
-            } else {
-                Difference::Clash
-            }),
+            Term::List(ids) => {
+                return against_parts(alloc, values, store, &ids[rest.from..], found);
+            }
+            Term::Atom(list) => return Ok(same_all(items(list), values)),
             Term::Free => {
                 let atom = Term::Atom(Value::List(copy_slice(alloc, values)?));
-                return Ok(Difference::Variable(rest.id, Other::New(atom)));
+                return note(found, rest.id, Other::New(atom));
             }
             Term::Tuple(_) => unreachable!(),
         }

@@ -1,5 +1,6 @@
 //! Binding a free variable where that may be.
-ghost use Rattle.std.specs.Prelude.{◌≡◌, ◌↔◌, ◌<◌, ◌≢◌, None, IsTrue, length, IfOk, OnErr, MatchBool};
+ghost use Rattle.std.specs.Prelude.{◌≡◌, ◌↔◌, ◌<◌, ◌≢◌, None, IsTrue, length, IfOk, OnErr};
+ghost use Rattle.std.specs.Prelude.{MatchBool};
 ghost use Rattle.rn_term.specs.Stores.{link_of, with_note};
 ghost use Rattle.rn_term.specs.Assignments.{Keeps, MayBeOne};
 ghost use Rattle.rn_term.specs.Occurring.{IsFree};
@@ -9,8 +10,8 @@ use crate::occurring::occurs;
 use rn_term::{Store, Term};
 use rn_value::{NoMemory, Value};
 
-/// Binds a free variable to what another id names, or tells that no assignment gives both one value:
-/// where the variable occurs there, or is always a list and that never is.
+/// Binds a free variable to what another id names, or tells that no assignment gives both one
+/// value: where the variable occurs there, or is always a list and that never is.
 pub(crate) fn join(store: &mut Store, var: usize, to: usize) -> Result<bool, NoMemory>
     requires kept { Keeps store.old }
     requires free { IsFree store.old var }
@@ -20,6 +21,7 @@ pub(crate) fn join(store: &mut Store, var: usize, to: usize) -> Result<bool, NoM
     ensures joined { IfOk result (λ yes. MatchBool yes
         (store.new ≡ with_note store.old var to)
         ((store.new ≡ store.old) × ¬ MayBeOne store.old var to)) }
+    ensures kept { Keeps store.new }
     ensures err { OnErr result (store.new ≡ store.old) }
 {
     if occurs(store, var, to) {

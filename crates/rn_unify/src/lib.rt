@@ -1,12 +1,13 @@
 //! Unification of terms in a store.
 //!
-//! Two terms are made one by binding variables, and no more is bound than that asks for. The work
-//! goes by the first place in which the terms differ: a variable there is bound to what stands
-//! beside it, and then the terms are looked at again.
+//! Two terms are made one by binding variables, and no more is bound than that asks for. One walk
+//! through both notes which free variable has to be what. Then the variables are bound. Where one
+//! was bound already by an equation before, what it has to be besides is looked at in a next walk.
 #![tactic(auto)]
 
 mod against;
-mod difference;
+mod comparing;
+mod equation;
 mod joining;
 mod laws;
 mod lists;

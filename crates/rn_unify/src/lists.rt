@@ -1,31 +1,32 @@
-//! The first place in which two lists differ.
-ghost use Rattle.std.specs.Prelude.{◌≡◌, ◌<◌, None, length, drop, IfOk};
+//! What makes two lists one.
+ghost use Rattle.std.specs.Prelude.{◌≡◌, ◌<◌, None, drop, length, IfOk};
 ghost use Rattle.rn_term.specs.Stores.{link_of, term_at};
 ghost use Rattle.rn_term.specs.Assignments.{Keeps, value_at};
 ghost use Rattle.rn_term.specs.Occurring.{IsFree};
-ghost use Rattle.rn_term.specs.Forcing.{IsAlwaysList};
-ghost use Rattle.rn_unify.specs.Differences.{IsRestOf, Tells};
-ghost use Rattle.rn_term.specs.Forcing.{items_of};
+ghost use Rattle.rn_term.specs.Forcing.{IsAlwaysList, items_of};
+ghost use Rattle.rn_unify.specs.Equations.{Finds, IsRestOf};
 ghost use Rattle.rn_unify.specs.Rests.{IsRest, IsSpelled, elements_of, rest_value};
 ghost use Rattle.rn_unify.specs.Unifying.{AreOne};
 
 use crate::against::against_rest;
-use crate::difference::{Difference, Other, pairs_difference};
+use crate::comparing::{compare_each, note};
+use crate::equation::{Equation, Other};
 use crate::rests::{Rest, advance, elements, is_spelled, items};
 use rn_items::Items;
 use rn_term::{Store, Term};
 use rn_value::NoMemory;
 use std::alloc::Global;
 
-/// What keeps two lists from having one value. They are gone through side by side, along their
-/// tails.
-#[cycle(difference)]
-pub(crate) fn lists_difference(
+/// Puts the equations that make two lists one behind others, or tells that nothing makes them one.
+/// They are gone through side by side, along their tails.
+#[cycle(comparing)]
+pub(crate) fn compare_lists(
     alloc: Global,
     store: &Store,
     a: usize,
     b: usize,
-) -> Result<Difference, NoMemory>
+    found: &mut Vec<Equation>,
+) -> Result<bool, NoMemory>
     requires kept { Keeps store.now }
     requires a_within { a < length store.now.terms }
     requires b_within { b < length store.now.terms }
@@ -33,7 +34,8 @@ pub(crate) fn lists_difference(
     requires b_end { link_of store.now.notes b ≡ None }
     requires a_spelled { IsSpelled (term_at store.now a) }
     requires b_spelled { IsSpelled (term_at store.now b) }
-    ensures told { IfOk result (λ d. Tells store.now (AreOne a b) d) }
+    ensures found { IfOk result
+        (λ yes. Finds store.now (AreOne a b) found.old.items found.new.items yes) }
 {
     let mut left = Rest { id: a, from: 0 };
     let mut right = Rest { id: b, from: 0 };
@@ -42,69 +44,68 @@ pub(crate) fn lists_difference(
         let ys = remaining(store, right);
         let count = xs.len().min(ys.len());
         if count == 0 {
-            return Ok(if xs.len() == ys.len() {
-                Difference::Nothing
-            } else {
-                Difference::Clash
-            });
+            return Ok(xs.len() == ys.len());
         }
-        match pairs_difference(alloc, store, &xs[..count], &ys[..count])? {
-            Difference::Nothing => {}
-            other => return Ok(other),
+        if !compare_each(alloc, store, &xs[..count], &ys[..count], found)? {
+            return Ok(false);
         }
         left = advance(store, left, count);
         right = advance(store, right, count);
     }
-    ends_difference(alloc, store, left, right)
+    compare_ends(alloc, store, left, right, found)
 }
 
 /// The same of the rests of two lists, of which one is a variable or a value.
-fn ends_difference(
+fn compare_ends(
     alloc: Global,
     store: &Store,
     left: Rest,
     right: Rest,
-) -> Result<Difference, NoMemory>
+    found: &mut Vec<Equation>,
+) -> Result<bool, NoMemory>
     requires kept { Keeps store.now }
     requires left { IsRest store.now left }
     requires right { IsRest store.now right }
     requires one { IsSpelled (term_at store.now left.id) →
         ¬ IsSpelled (term_at store.now right.id) }
-    ensures told { IfOk result
-        (λ d. Tells store.now (λ vs. rest_value vs left ≡ rest_value vs right) d) }
+    ensures found { IfOk result
+        (λ yes. Finds store.now (λ vs. rest_value vs left ≡ rest_value vs right)
+        found.old.items found.new.items yes) }
 {
     match store.term(left.id) {
-        Term::Free => variable_as_rest(alloc, store, left.id, right),
-        Term::Atom(value) => against_rest(alloc, items(value), store, right),
+        Term::Free => variable_as_rest(alloc, store, left.id, right, found),
+        Term::Atom(value) => against_rest(alloc, items(value), store, right, found),
         _ => match store.term(right.id) {
-            Term::Atom(value) => against_rest(alloc, items(value), store, left),
-            _ => variable_as_rest(alloc, store, right.id, left),
+            Term::Atom(value) => against_rest(alloc, items(value), store, left, found),
+            _ => variable_as_rest(alloc, store, right.id, left, found),
         },
     }
 }
 
-/// What keeps a free variable from being the rest of a list.
+/// Notes that a free variable has to be the rest of a list.
 fn variable_as_rest(
     alloc: Global,
     store: &Store,
     var: usize,
     rest: Rest,
-) -> Result<Difference, NoMemory>
+    found: &mut Vec<Equation>,
+) -> Result<bool, NoMemory>
     requires kept { Keeps store.now }
     requires free { IsFree store.now var }
     requires list { IsAlwaysList store.now var }
     requires rest { IsRest store.now rest }
-    ensures told { IfOk result
-        (λ d. Tells store.now (λ vs. items_of (value_at vs var) ≡ rest_value vs rest) d) }
+    ensures found { IfOk result
+        (λ yes. Finds store.now (λ vs. items_of (value_at vs var) ≡ rest_value vs rest)
+        found.old.items found.new.items yes) }
 {
     if rest.from > 0 {
         let term = rest_term(alloc, store, rest)?;
-        return Ok(Difference::Variable(var, Other::New(term)));
+        return note(found, var, Other::New(term));
     }
     if rest.id == var {
-        Ok(Difference::Nothing)
+        Ok(true)
     } else {
-        Ok(Difference::Variable(var, Other::Here(rest.id)))
+        note(found, var, Other::Here(rest.id))
     }
 }
 

@@ -95,8 +95,8 @@ fn made(
 }
 
 /// The term of a form in which makers stand behind what they take: a digit is that number, `"` a
-/// text, and a letter a variable. `[2` makes a tuple of the last two terms, `{2` a list of them, and
-/// `|2` a list of two terms before a third, its tail. `!` makes a value of a term.
+/// text, and a letter a variable. `[2` makes a tuple of the last two terms, `{2` a list of them,
+/// and `|2` a list of two terms before a third, its tail. `!` makes a value of a term.
 fn build(rt: &impl Abort, alloc: Global, bench: &mut Bench, form: &str) -> Result<usize, NoMemory> {
     let mut stack = Vec::new(alloc);
     let mut maker = None;

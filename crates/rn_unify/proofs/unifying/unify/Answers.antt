@@ -1,78 +1,47 @@
-use Rattle.std.proofs.Common.{◌<◌, sym, subst}
-use Rattle.rn_term.specs.Undoing.{LeavesEarlier}
-use Rattle.rn_unify.proofs.FreeNumbers.{free_number}
-use Rattle.rn_unify.proofs.OnTheWay.{IsOnTheWay, start, ends_one, says_both, ends_apart}
-use Rattle.rn_unify.proofs.Placing.{IsReady, ready, joined_never, joined_way, joined_fewer}
+use Rattle.std.proofs.Common.{◌≡◌, length, rules, subst}
+use Rattle.rn_unify.specs.Equations.{AreEachOne, Finds}
+use Rattle.rn_unify.proofs.UnifyingRounds.{never_one, never_solved, next_round, says_both}
 use Rattle.rn_unify.proofs.unifying.unify.Goals as goal
-use Rattle.rn_unify.proofs.unifying.unify.Goals.{In_ok-to-in-Variable}
+use Rattle.rn_unify.proofs.unifying.unify.Goals.{In_ok-compare_all}
 
--- the variable may be joined with what it has to be
-ready_at : (c : In_ok-to-in-Variable) →
-    IsReady c.args.store.now c.loop-var.store c.place.new.store c.args.a c.args.b c.in-Variable.var
-    c.in_ok-to-in-Variable.to
-ready_at c =
-    ready c.args.store.now c.loop-var.store c.args.a c.args.b c.requires.a_within
-    c.requires.b_within c.loop-var.invariant c.in_ok-difference_of.ensures.kept c.in-Variable.var
-    c.place.new.store c.in_ok-difference_of.field-0 c.in-Variable.other c.in_ok-to-in-Variable.to
-    c.in_ok-difference_of.ensures.told c.in-Variable.is c.in_ok-to-in-Variable.ensures.placed
-
-pub loop-var-init : goal.loop-var-init
-loop-var-init c = start c.args.store.now c.args.a c.args.b
-
-pub returns-in-Nothing-clause-exact : goal.returns-in-Nothing-clause-exact
-returns-in-Nothing-clause-exact c =
-    let told = rw c.in-Nothing.is at c.in_ok-difference_of.ensures.told in
-    ends_one c.args.store.now c.loop-var.store c.args.a c.args.b c.requires.a_within
-    c.requires.b_within c.loop-var.invariant c.in_ok-difference_of.ensures.kept told
-
-pub returns-in-Nothing-clause-means : goal.returns-in-Nothing-clause-means
-returns-in-Nothing-clause-means c _ =
-    let told = rw c.in-Nothing.is at c.in_ok-difference_of.ensures.told in
-    says_both c.args.store.now c.loop-var.store c.args.a c.args.b c.requires.a_within
-    c.requires.b_within c.loop-var.invariant told
-
-pub returns-in-Clash-clause-exact : goal.returns-in-Clash-clause-exact
-returns-in-Clash-clause-exact c =
-    let told = rw c.in-Clash.is at c.in_ok-difference_of.ensures.told in
-    ends_apart c.args.store.now c.loop-var.store c.args.a c.args.b c.requires.a_within
-    c.requires.b_within c.loop-var.invariant told
-
-pub join-requires : goal.join-requires
-join-requires c =
-    let is = ready_at (goal.at.join-requires c).In_ok-to-in-Variable in
-    record {
-      kept = is.keeps;
-      free = is.free;
-      within = is.within;
-      end = is.end;
-      apart = is.apart;
-    }
+-- what was found of the pairs that are left
+told : (c : In_ok-compare_all) →
+    Finds c.loop-found.store (AreEachOne c.loop-found.pairs.items) c.new-found.result.items
+    c.compare_all.new.found.items c.in_ok-compare_all.field-0
+told c =
+    subst (λ pairs. Finds c.loop-found.store (AreEachOne pairs) c.new-found.result.items
+    c.compare_all.new.found.items c.in_ok-compare_all.field-0) c.as_slice.ensures.value
+    c.in_ok-compare_all.ensures.found
 
 pub returns-then-not-branch-clause-exact : goal.returns-then-not-branch-clause-exact
 returns-then-not-branch-clause-exact c =
-    let joined = rw c.if-not-branch.true at c.in_ok-join-in-Variable.ensures.joined in
-    joined_never c.args.store.now c.loop-var.store c.place.new.store c.args.a c.args.b
-    c.in-Variable.var c.in_ok-to-in-Variable.to c.requires.a_within c.requires.b_within
-    (ready_at (goal.at.returns-then-not-branch-clause-exact c).In_ok-to-in-Variable) joined.1
+    never_one c.args.store.now c.loop-found.store c.args.a c.args.b c.loop-found.pairs.items
+    c.loop-found.invariant
+    (rw c.if-not-branch.true
+    at (told (goal.at.returns-then-not-branch-clause-exact c).In_ok-compare_all))
 
-pub returns-then-not-branch-clause-earlier : goal.returns-then-not-branch-clause-earlier
-returns-then-not-branch-clause-earlier c =
-    let joined = rw c.if-not-branch.true at c.in_ok-join-in-Variable.ensures.joined in
-    let is = ready_at (goal.at.returns-then-not-branch-clause-earlier c).In_ok-to-in-Variable in
-    subst (LeavesEarlier c.args.store.now) (sym joined.0) is.way.grown.earlier
+pub returns-then-is_empty-clause-means : goal.returns-then-is_empty-clause-means
+returns-then-is_empty-clause-means c _ =
+    let none : length c.compare_all.new.found.items ≡ 0 = search rules in
+    says_both c.args.store.now c.loop-found.store c.args.a c.args.b c.loop-found.pairs.items
+    c.loop-found.invariant c.new-found.result.items c.compare_all.new.found.items
+    (rw c.if-not-branch.false
+    at (told (goal.at.returns-then-is_empty-clause-means c).In_ok-compare_all))
+    c.new-found.ensures.items none
 
-pub loop-var-smaller : goal.loop-var-smaller
-loop-var-smaller c =
-    let joined = rw c.if-not-branch.false at c.in_ok-join-in-Variable.ensures.joined in
-    subst (λ s. free_number s < free_number c.loop-var.store) (sym joined)
-    (joined_fewer c.args.store.now c.loop-var.store c.place.new.store c.args.a c.args.b
-    c.in-Variable.var c.in_ok-to-in-Variable.to c.requires.a_within c.requires.b_within
-    (ready_at (goal.at.loop-var-smaller c).In_ok-to-in-Variable))
+pub loop-found-preserved : goal.loop-found-preserved
+loop-found-preserved c =
+    let bound = rw c.in-Some.is at c.in_ok-later.ensures.bound in
+    next_round c.args.store.now c.loop-found.store c.args.a c.args.b c.loop-found.pairs.items
+    c.loop-found.invariant c.new-found.result.items c.compare_all.new.found.items
+    (rw c.if-not-branch.false at (told (goal.at.loop-found-preserved c).In_ok-compare_all))
+    c.new-found.ensures.items c.bind_all.new.store c.in-Some.later.items bound
+    c.in_ok-later.ensures.earlier
 
-pub loop-var-preserved : goal.loop-var-preserved
-loop-var-preserved c =
-    let joined = rw c.if-not-branch.false at c.in_ok-join-in-Variable.ensures.joined in
-    subst (λ s. IsOnTheWay c.args.store.now s c.args.a c.args.b) (sym joined)
-    (joined_way c.args.store.now c.loop-var.store c.place.new.store c.args.a c.args.b
-    c.in-Variable.var c.in_ok-to-in-Variable.to c.requires.a_within c.requires.b_within
-    (ready_at (goal.at.loop-var-preserved c).In_ok-to-in-Variable))
+pub returns-in-None-clause-exact : goal.returns-in-None-clause-exact
+returns-in-None-clause-exact c =
+    let never = rw c.in-None.is at c.in_ok-later.ensures.bound in
+    never_solved c.args.store.now c.loop-found.store c.args.a c.args.b c.loop-found.pairs.items
+    c.loop-found.invariant c.new-found.result.items c.compare_all.new.found.items
+    (rw c.if-not-branch.false at (told (goal.at.returns-in-None-clause-exact c).In_ok-compare_all))
+    c.new-found.ensures.items never

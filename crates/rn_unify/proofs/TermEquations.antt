@@ -1,8 +1,9 @@
--- What keeps two terms from having one value.
-use Rattle.std.proofs.Common.{◌≡◌, ◌<◌, ◌+◌, ℕ, List, arith, length, map, refl, sym, ◌∙◌, ap}
-use Rattle.std.proofs.Common.{subst, get_or}
-use Rattle.std.specs.Prelude.{Result, IfOk, None, All, ◌↔◌}
+-- What makes two terms one.
+use Rattle.std.proofs.Common.{◌≡◌, ◌<◌, ◌+◌, ℕ, List, [], ◌∷◌, ◌++◌, arith, length, map, refl, sym}
+use Rattle.std.proofs.Common.{◌∙◌, ap, subst, get_or, Bool, true, below_more}
+use Rattle.std.specs.Prelude.{Result, IfOk, IsTrue, None, All, ◌↔◌}
 use Rattle.std.proofs.lemmas.List.{same_lists, length-map, get_or-map}
+use Rattle.std.proofs.lemmas.Result.{IfOk-weaker}
 use Rattle.rn_value.specs.declared.value.Value.{Value}
 use Rattle.rn_value.specs.declared.value.Value.TheVariants as Value
 use Rattle.rn_term.specs.declared.term.Term.{Term}
@@ -13,14 +14,14 @@ use Rattle.rn_term.specs.Occurring.{IsFree, parts_of}
 use Rattle.rn_term.proofs.ValueSizes.{same_parts_of_tuples}
 use Rattle.rn_term.proofs.Extents.{extent, greatest, extent-parts}
 use Rattle.rn_term.proofs.Agreement.{leads-same}
-use Rattle.rn_unify.specs.declared.difference.Difference.{Difference}
-use Rattle.rn_unify.specs.declared.difference.Other.TheVariants as O
-use Rattle.rn_unify.specs.Differences.{Tells, IsWanted}
+use Rattle.rn_term.proofs.OneValue.{said}
+use Rattle.rn_unify.specs.declared.equation.Equation.{Equation}
+use Rattle.rn_unify.specs.declared.equation.Other.TheVariants as O
+use Rattle.rn_unify.specs.Equations.{Finds}
 use Rattle.rn_unify.specs.Rests.{IsComposed}
 use Rattle.rn_unify.specs.Unifying.{AreOne}
-use Rattle.rn_term.proofs.OneValue.{said}
 use Rattle.rn_unify.proofs.ListPlaces.{built_at}
-use Rattle.rn_unify.proofs.Tellings.{tells_result}
+use Rattle.rn_unify.proofs.Findings.{finds_same_result, finds_same, finds_both, finds_here}
 
 -- the wish that ids have the values of others, one by one
 abbrev pub AreAll : List ℕ → List ℕ → List Value → Type 0
@@ -29,6 +30,10 @@ AreAll xs ys vs = map (value_at vs) xs ≡ map (value_at vs) ys
 -- under the assignments of a store one wish is true just where another is
 abbrev pub IsSameWish : State → (List Value → Type 0) → (List Value → Type 0) → Type 0
 IsSameWish s wish other = (vs : List Value) → Satisfies s vs → wish vs ↔ other vs
+
+-- an equation was noted behind others
+abbrev pub IsNoted : List Equation → List Equation → Equation → Bool → Type 0
+IsNoted before after equation told = IsTrue told × (after ≡ before ++ equation ∷ [])
 
 -- Links lead from two ids to two others.
 module _ (s : State) (a b x y : ℕ) (left : Leads s.notes a x) (right : Leads s.notes b y) where
@@ -42,44 +47,54 @@ module _ (s : State) (a b x y : ℕ) (left : Leads s.notes a x) (right : Leads s
   pub one_at_end : x ≡ y → (vs : List Value) → Satisfies s vs → AreOne a b vs
   one_at_end same vs sat = (same_at_ends vs sat).1 (ap (value_at vs) same)
 
-  -- the same is told of both
-  pub told_of_ends : {E : Type 0} (r : Result Difference E) →
-      IfOk r (Tells s (AreOne x y)) → IfOk r (Tells s (AreOne a b))
-  told_of_ends r = tells_result s (AreOne a b) (AreOne x y) r same_at_ends
+  -- the same is found of both
+  pub found_of_ends : {E : Type 0} (before after : List Equation) (r : Result Bool E) →
+      IfOk r (Finds s (AreOne x y) before after) → IfOk r (Finds s (AreOne a b) before after)
+  found_of_ends before after r =
+      finds_same_result s (AreOne a b) (AreOne x y) before after r same_at_ends
 
   -- where links lead to a variable, it has to be the other
-  pub second_wanted : IsFree s x → y < length s.terms → link_of s.notes y ≡ None →
-      (x ≡ y → ⊥) → IsWanted s (AreOne a b) x (O.Here y)
-  second_wanted free within unbound apart = record {
-    free = free;
-    stands = (within, unbound);
-    apart = λ is. apart (let same : x ≡ y = cc in same);
-    gives = λ vs sat. (same_at_ends vs sat).0;
-  }
+  pub first_noted : {E : Type 0} (before after : List Equation) (r : Result Bool E) →
+      IsFree s x → y < length s.terms → link_of s.notes y ≡ None → (x ≡ y → ⊥) →
+      IfOk r (IsNoted before after (record { var = x; other = O.Here y })) →
+      IfOk r (Finds s (AreOne a b) before after)
+  first_noted before after r free within unbound apart = IfOk-weaker r
+      (IsNoted before after (record { var = x; other = O.Here y }))
+      (Finds s (AreOne a b) before after)
+      (λ told noted. finds_here s (AreOne a b) before after x y told noted.0 noted.1 free within
+      unbound (λ same. apart (sym same)) same_at_ends)
 
-  pub first_wanted : IsFree s y → x < length s.terms → link_of s.notes x ≡ None →
-      (x ≡ y → ⊥) → IsWanted s (AreOne a b) y (O.Here x)
-  first_wanted free within unbound apart = record {
-    free = free;
-    stands = (within, unbound);
-    apart = λ is. apart (let same : x ≡ y = cc in same);
-    gives = λ vs sat same. sym ((same_at_ends vs sat).0 same);
-  }
+  pub second_noted : {E : Type 0} (before after : List Equation) (r : Result Bool E) →
+      IsFree s y → x < length s.terms → link_of s.notes x ≡ None → (x ≡ y → ⊥) →
+      IfOk r (IsNoted before after (record { var = y; other = O.Here x })) →
+      IfOk r (Finds s (AreOne a b) before after)
+  second_noted before after r free within unbound apart = IfOk-weaker r
+      (IsNoted before after (record { var = y; other = O.Here x }))
+      (Finds s (AreOne a b) before after)
+      (λ told noted. finds_here s (AreOne a b) before after y x told noted.0 noted.1 free within
+      unbound apart
+      (λ vs sat.
+      let ends = same_at_ends vs sat in
+      (λ same. sym (ends.0 same), λ same. ends.1 (sym same))))
 
   -- where they lead to a value, the other has to have that
-  pub told_of_second : {E : Type 0} (v : Value) (r : Result Difference E) → x < length s.terms →
-      term_at s x ≡ T.Atom v →
-      IfOk r (Tells s (λ vs. value_at vs y ≡ v)) → IfOk r (Tells s (AreOne a b))
-  told_of_second v r within is = tells_result s (AreOne a b) (λ vs. value_at vs y ≡ v) r
+  pub found_of_second : {E : Type 0} (v : Value) (before after : List Equation)
+      (r : Result Bool E) → x < length s.terms → term_at s x ≡ T.Atom v →
+      IfOk r (Finds s (λ vs. value_at vs y ≡ v) before after) →
+      IfOk r (Finds s (AreOne a b) before after)
+  found_of_second v before after r within is =
+      finds_same_result s (AreOne a b) (λ vs. value_at vs y ≡ v) before after r
       (λ vs sat.
       let here = said s vs x (T.Atom v) sat within is in
       let ends = same_at_ends vs sat in
       (λ same. sym (ends.0 same) ∙ here, λ same. ends.1 (here ∙ sym same)))
 
-  pub told_of_first : {E : Type 0} (v : Value) (r : Result Difference E) → y < length s.terms →
-      term_at s y ≡ T.Atom v →
-      IfOk r (Tells s (λ vs. value_at vs x ≡ v)) → IfOk r (Tells s (AreOne a b))
-  told_of_first v r within is = tells_result s (AreOne a b) (λ vs. value_at vs x ≡ v) r
+  pub found_of_first : {E : Type 0} (v : Value) (before after : List Equation)
+      (r : Result Bool E) → y < length s.terms → term_at s y ≡ T.Atom v →
+      IfOk r (Finds s (λ vs. value_at vs x ≡ v) before after) →
+      IfOk r (Finds s (AreOne a b) before after)
+  found_of_first v before after r within is =
+      finds_same_result s (AreOne a b) (λ vs. value_at vs x ≡ v) before after r
       (λ vs sat.
       let here = said s vs y (T.Atom v) sat within is in
       let ends = same_at_ends vs sat in
@@ -93,9 +108,13 @@ composed (T.Tuple ids) no_variable no_value = tt
 composed (T.List ids) no_variable no_value = tt
 composed (T.Cons ids tail) no_variable no_value = tt
 
+-- the first of some ids have the values of the first of others
+abbrev pub AreFirst : ℕ → List ℕ → List ℕ → List Value → Type 0
+AreFirst n xs ys vs = (k : ℕ) → k < n → AreOne (get_or xs k 0) (get_or ys k 0) vs
+
 -- ids have the values of others where each has
-pub all_are_one : (vs : List Value) (xs ys : List ℕ) → length xs ≡ length ys →
-    ((k : ℕ) → k < length xs → AreOne (get_or xs k 0) (get_or ys k 0) vs) → AreAll xs ys vs
+all_are_one : (vs : List Value) (xs ys : List ℕ) → length xs ≡ length ys →
+    AreFirst (length xs) xs ys vs → AreAll xs ys vs
 all_are_one vs xs ys each same =
     same_lists (map (value_at vs) xs) (map (value_at vs) ys)
     (length-map xs (value_at vs) ∙ each ∙ sym (length-map ys (value_at vs)))
@@ -112,6 +131,32 @@ each_is_one vs xs ys k in_first in_second same =
     ∙ ap (λ ws. get_or ws k (value_at vs 0)) same
     ∙ get_or-map (value_at vs) ys k 0 (value_at vs 0) in_second
 
+-- what is found of the first ids and of the next, is found of one more
+pub found_of_more : (s : State) (xs ys : List ℕ) (k : ℕ) (before middle after : List Equation) →
+    Finds s (AreFirst k xs ys) before middle true →
+    Finds s (AreOne (get_or xs k 0) (get_or ys k 0)) middle after true →
+    Finds s (AreFirst (k + 1) xs ys) before after true
+found_of_more s xs ys k before middle after first next =
+    let next_one : List Value → Type 0 = AreOne (get_or xs k 0) (get_or ys k 0) in
+    finds_same s (AreFirst (k + 1) xs ys) (λ vs. AreFirst k xs ys vs × next_one vs) before after
+    true
+    (λ vs sat. (
+      λ all. (λ i small. all i (omega (arith, small)), all k (omega arith)),
+      λ (few, one). below_more _ _ few one,
+    ))
+    (finds_both s (AreFirst k xs ys) next_one before middle after first next)
+
+pub found_of_all : (s : State) (xs ys : List ℕ) (k : ℕ) (before after : List Equation) →
+    length xs ≡ length ys → k ≡ length xs → Finds s (AreFirst k xs ys) before after true →
+    Finds s (AreAll xs ys) before after true
+found_of_all s xs ys k before after each is =
+    finds_same s (AreAll xs ys) (AreFirst k xs ys) before after true
+    (λ vs sat. (
+      λ all i small. each_is_one vs xs ys i (omega (arith, small, is))
+          (omega (arith, small, is, each)) all,
+      λ first. all_are_one vs xs ys each (λ i small. first i (omega (arith, small, is))),
+    ))
+
 -- Two tuples.
 module _ (s : State) (a b : ℕ) (xs ys : List ℕ) (in_a : a < length s.terms)
     (in_b : b < length s.terms) (is_a : term_at s a ≡ T.Tuple xs)
@@ -126,9 +171,10 @@ module _ (s : State) (a b : ℕ) (xs ys : List ℕ) (in_a : a < length s.terms)
         λ same. first ∙ ap (λ ws. Value.Tuple ws) same ∙ sym second,
       )
 
-  pub told_of_parts : {E : Type 0} (r : Result Difference E) →
-      IfOk r (Tells s (AreAll xs ys)) → IfOk r (Tells s (AreOne a b))
-  told_of_parts r = tells_result s (AreOne a b) (AreAll xs ys) r same_parts
+  pub found_of_parts : {E : Type 0} (before after : List Equation) (r : Result Bool E) →
+      IfOk r (Finds s (AreAll xs ys) before after) → IfOk r (Finds s (AreOne a b) before after)
+  found_of_parts before after r =
+      finds_same_result s (AreOne a b) (AreAll xs ys) before after r same_parts
 
   -- and never where one has more
   pub other_lengths : (length xs ≡ length ys → ⊥) →

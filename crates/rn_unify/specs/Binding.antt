@@ -1,0 +1,55 @@
+-- What a store is after the variables of equations were bound.
+use Rattle.std.specs.Prelude.{ℕ, zero, suc, ◌≡◌, ◌≢◌, ◌<◌, ◌+◌, ◌⊎◌, List, ◌++◌, Option, None}
+use Rattle.std.specs.Prelude.{length, take}
+use Rattle.rn_value.specs.declared.value.Value.{Value}
+use Rattle.rn_term.specs.declared.term.Term.{Term}
+use Rattle.rn_term.specs.declared.term.Term.TheVariants as T
+use Rattle.rn_term.specs.Stores.{State, term_at, link_of, Leads, with_note}
+use Rattle.rn_term.specs.Assignments.{Satisfies, Keeps}
+use Rattle.rn_unify.specs.declared.equation.Equation.{Equation}
+use Rattle.rn_unify.specs.Equations.{Solves, AreEachOne, AreWithin}
+
+-- 1 for a variable that isn't bound, and 0 for what is
+abbrev pub free_here : Term → Option ℕ → ℕ
+free_here T.Free None = 1
+free_here _ _ = 0
+
+-- how many of the first ids are free variables
+abbrev pub free_below : State → ℕ → ℕ
+free_below s zero = 0
+free_below s (suc n) = free_below s n + free_here (term_at s n) (link_of s.notes n)
+
+-- how many free variables a store has
+abbrev pub free_number : State → ℕ
+free_number s = free_below s (length s.terms)
+
+-- what an assignment gives the ids of a store
+abbrev pub front_of : State → List Value → List Value
+front_of s vs = take (length s.terms) vs
+
+-- A wish on the assignments of a store becomes another on those of a later one: the later store's
+-- assignments that make the other true are, on the ids from before, those of the store before that
+-- make the wish true.
+pub record Becomes
+    (old : State) (wish : List Value → Type 0) (new : State) (left : List Value → Type 0) : Type 0
+  where
+    pub back : (vs : List Value) → Satisfies new vs → Satisfies old (front_of old vs)
+    pub enough : (vs : List Value) → Satisfies new vs → left vs → wish (front_of old vs)
+    pub forth : (vs : List Value) → Satisfies old vs → wish vs →
+        (more : List Value) × Satisfies new (vs ++ more) × left (vs ++ more)
+
+-- The variables of equations were bound, but for pairs that are left to be made one. Where there
+-- are equations fewer variables are free.
+pub record IsBound
+    (old : State) (equations : List Equation) (new : State) (pairs : List (ℕ × ℕ)) : Type 0 where
+  pub within : AreWithin new pairs
+  pub kept : Keeps new
+  pub becomes : Becomes old (λ vs. Solves vs equations) new (AreEachOne pairs)
+  pub fewer : 0 < length equations → free_number new < free_number old
+
+-- A variable was bound to the end of the links from an id, or is that end itself.
+pub record IsAtEnd (old new : State) (var to : ℕ) : Type 0 where
+  pub end : ℕ
+  pub leads : Leads old.notes to end
+  pub unbound : link_of old.notes end ≡ None
+  pub bound : ((end ≡ var) × (new ≡ old)) ⊎ ((end ≢ var) × (new ≡ with_note old var end))
