@@ -14,8 +14,8 @@ pub fn ground_is_forced()
     ensures { GroundIsForced }
 {}
 
-/// No other term is forced: where a free variable occurs in one, some assignments give it different
-/// values.
+/// And no other term of a store is: just the terms without unbound variables have one value under
+/// all assignments.
 pub fn forced_is_ground()
     ensures { ForcedIsGround }
 {}

@@ -72,7 +72,7 @@ fn is_variable(store: &Store, id: usize) -> bool
     matches!(store.term(id), Term::Free)
 }
 
-/// The same of two terms of which one is a tuple, and neither a variable or a value.
+/// The same of two terms of which one is a tuple, and none is a variable or a value.
 #[cycle(comparing)]
 fn compare_tuples(
     alloc: Global,
