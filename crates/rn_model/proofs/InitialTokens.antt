@@ -61,7 +61,7 @@ layer (V.Tuple parts) e = (new_in_parts parts e, λ n. mentioned_in_parts parts 
 layer (V.List parts) e = (new_in_parts parts e, λ n. mentioned_in_parts parts n e)
 layer (V.Inst i) e = absurd (let no : ⊥ = cc in no)
 
-apart : (v : Value) → IsApart v
+pub apart : (v : Value) → IsApart v
 apart = ind-Value IsApart (λ x y is e.
     let at_layer : inst_in_step (map-Value Value Bool holds_instance x) ≡ false = sym (fold-roll-Value Bool inst_in_step x) ∙ e in
     let here = (subst LayerIsApart is (layer y)) at_layer in

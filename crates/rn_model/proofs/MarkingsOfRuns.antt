@@ -29,10 +29,10 @@ good_transition system n t good h k =
     subst (IsGoodTransition system (net_at system n)) (sym (unwrap_or-slice_get (net_at system n).transitions t empty_transition)) ((good_net system n good h).transitions t empty_transition k)
 
 -- each creation of a binding of the shape is of a net of the system
-abbrev IsOfNet : System → Made → Type 0
+abbrev pub IsOfNet : System → Made → Type 0
 IsOfNet system m = m.net < length system.nets
 
-made_of_nets : (system : System) (b : Binding) → Good system → All (IsNodeOf system) b.nodes → AllByRecursion (IsOfNet system) (creations_of system b)
+pub made_of_nets : (system : System) (b : Binding) → Good system → All (IsNodeOf system) b.nodes → AllByRecursion (IsOfNet system) (creations_of system b)
 made_of_nets system b good nodes =
     each_flat_map (IsOfNet system) (made_by system) b.nodes
     (each_weaker (IsNodeOf system) (λ node. AllByRecursion (IsOfNet system) (made_by system node)) (λ node of.
@@ -64,7 +64,7 @@ fired_marking system m b (Some acts) false f is low nets e fires =
     subst (λ g. IsMarking system g.marking) given (after_is_marking system (named system b m.next) acts m (creations_of system b) is low nets)
 
 -- what is found is there
-found_is_there : {X : Type 0} (test : X → Bool) (xs : List X) (y : X) → find test xs ≡ Some y → Contains xs y
+pub found_is_there : {X : Type 0} (test : X → Bool) (xs : List X) (y : X) → find test xs ≡ Some y → Contains xs y
 found_is_there test [] y e = absurd (let no : ⊥ = cc in no)
 found_is_there {X} test (x ∷ xs) y e = elim (test x) as (λ passes. cond passes (Some x) (find test xs) ≡ Some y → Contains (x ∷ xs) y) [
   | true ↦ λ first. let same : x ≡ y = cc in (0, omega arith, same)

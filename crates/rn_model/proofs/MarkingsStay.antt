@@ -28,7 +28,7 @@ abbrev pub Increases : List ℕ → Type 0
 Increases [] = ⊤
 Increases (n ∷ ns) = BelowFirst n ns × Increases ns
 
-to_strict : (ns : List ℕ) → Increases ns → IsStrictlyIncreasing ns
+pub to_strict : (ns : List ℕ) → Increases ns → IsStrictlyIncreasing ns
 to_strict [] a k high = absurd (let no : ⊥ = omega (arith, high) in no)
 to_strict (n ∷ []) a k high = absurd (let no : ⊥ = omega (arith, high) in no)
 to_strict (n ∷ k ∷ ns) a zero high = a.0
@@ -40,7 +40,7 @@ first_below : (n : ℕ) (ns : List ℕ) → IsStrictlyIncreasing (n ∷ ns) → 
 first_below n [] a = tt
 first_below n (k ∷ ns) a = a 0 (omega arith)
 
-from_strict : (ns : List ℕ) → IsStrictlyIncreasing ns → Increases ns
+pub from_strict : (ns : List ℕ) → IsStrictlyIncreasing ns → Increases ns
 from_strict [] a = tt
 from_strict (n ∷ ns) a = (
   first_below n ns a,
@@ -88,7 +88,7 @@ forms_of system m is =
     both_each Numbered (λ i. Placed i × Sorted i) m.instances (recursion_from_All Numbered m.instances is.numbered)
     (both_each Placed Sorted m.instances (recursion_from_All Placed m.instances is.placed) (recursion_from_All Sorted m.instances is.sorted))
 
-each_of : {X : Type 0} (P : X → Type 0) → ((x : X) → P x) → (xs : List X) → AllByRecursion P xs
+pub each_of : {X : Type 0} (P : X → Type 0) → ((x : X) → P x) → (xs : List X) → AllByRecursion P xs
 each_of P f [] = tt
 each_of P f (x ∷ xs) = (f x, each_of P f xs)
 

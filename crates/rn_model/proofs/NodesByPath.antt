@@ -17,7 +17,7 @@ both_true : (a b : Bool) → a && b ≡ true → (a ≡ true) × (b ≡ true)
 both_true true b e = (refl, e)
 both_true false b e = absurd (let no : ⊥ = cc in no)
 
-same_path : (p q : List ℕ) → pointwise nat_eq p q ≡ true → p ≡ q
+pub same_path : (p q : List ℕ) → pointwise nat_eq p q ≡ true → p ≡ q
 same_path [] [] e = refl
 same_path [] (j ∷ q) e = absurd (let no : ⊥ = cc in no)
 same_path (i ∷ p) [] e = absurd (let no : ⊥ = cc in no)
@@ -27,7 +27,7 @@ same_path (i ∷ p) (j ∷ q) e =
     let rest : p ≡ q = same_path p q both.1 in
     cc
 
-path_itself : (p : List ℕ) → pointwise nat_eq p p ≡ true
+pub path_itself : (p : List ℕ) → pointwise nat_eq p p ≡ true
 path_itself [] = refl
 path_itself (i ∷ p) = rw (eq-eqb i i refl, path_itself p) refl
 

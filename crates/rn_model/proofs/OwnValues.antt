@@ -41,7 +41,7 @@ uplink_value system env None all k e there = absurd (let no : ⊥ = cc in no)
 uplink_value system env (Some u) all k e there = value_of env u.args (channel_kinds system u.channel) k e (all u refl) there
 
 -- an arc that finds values is no output
-not_awaiting : (t : Transition) (x : NetArc) (kind : ArcKind) → x.kind ≡ kind → finds_values kind ≡ true → awaits_action t x ≡ false
+pub not_awaiting : (t : Transition) (x : NetArc) (kind : ArcKind) → x.kind ≡ kind → finds_values kind ≡ true → awaits_action t x ≡ false
 not_awaiting t x Input is finds = rw is refl
 not_awaiting t x Test is finds = rw is refl
 not_awaiting t x Reserve is finds = rw is refl
@@ -66,7 +66,7 @@ abbrev expr_at : Transition → Site → Option Expr
 expr_at t (left k) = option_map (λ e. e.0) (slice_get t.equalities k)
 expr_at t (right k) = option_map (λ e. e.1) (slice_get t.equalities k)
 expr_at t (uplink_arg k) = slice_get (uplink_args t) k
-expr_at t (target i) = None
+expr_at t (target i) = option_map (λ d. d.target) (slice_get t.downlinks i)
 expr_at t (downlink_arg i k) = option_and_then (λ d. slice_get d.args k) (slice_get t.downlinks i)
 expr_at t (arc k) = option_map (λ x. x.inscription) (slice_get t.arcs k)
 
@@ -225,7 +225,7 @@ module _ (system : System) (b : Binding) (depth : ℕ) (shape : Shape system b d
   in_rounds (suc n) item (inr (there, may)) = items_hold item there
 
   are_own_values : AreOwnValues system b (own_values system b)
-  are_own_values = record { values = λ node x v there value. var_is system b node (on_path node there) x v value; items = items_hold; rounds = in_rounds }
+  are_own_values = record { values = λ node x v there value. var_is system b node (on_path node there) x v value; items = items_hold; rounds = in_rounds; targets = λ caller i d node calls. read system b caller (target i) d.target (Value.Inst node.inst) (on_path caller calls.caller_there) (rw calls.downlink_there refl) (agrees.calls caller i d node calls).target }
 
 pub own_values_satisfy : OwnValuesSatisfy
 own_values_satisfy system b depth shape agrees = (own_values system b, are_own_values system b depth shape agrees)

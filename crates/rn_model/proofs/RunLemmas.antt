@@ -19,7 +19,7 @@ fronts_are_logs system options fs gs ended log =
     record { run = fronts_are_runs system options.depth fs gs log.run; steps = few; ends = tt }
 
 -- the firings behind a front are a run from its end
-rest_from : (system : System) (depth step : ℕ) (m : Marking) (fs gs : List Firing) → RunFrom system depth step m (fs ++ gs) → RunFrom system depth (step + length fs) (end_from system step m fs) gs
+pub rest_from : (system : System) (depth step : ℕ) (m : Marking) (fs gs : List Firing) → RunFrom system depth step m (fs ++ gs) → RunFrom system depth (step + length fs) (end_from system step m fs) gs
 rest_from system depth step m [] gs run =
     let here : step ≡ step + length {A = Firing} [] = omega arith in
     subst (λ k. RunFrom system depth k m gs) here run

@@ -66,10 +66,10 @@ pub ordered_values_ascend : OrderedValuesAscend
 ordered_values_ascend vs = sorted_of (ordered_values vs) (ordered_ascends vs)
 
 -- 1 where the test passes
-abbrev one_if : Bool → ℕ
+abbrev pub one_if : Bool → ℕ
 one_if t = cond t 1 0
 
-count_of-cons : (z w : Value) (ws : List Value) → count_of z (w ∷ ws) ≡ one_if (same_value z w) + count_of z ws
+pub count_of-cons : (z w : Value) (ws : List Value) → count_of z (w ∷ ws) ≡ one_if (same_value z w) + count_of z ws
 count_of-cons z w ws = sum_by-cons (λ y. one_if (same_value z y)) w ws
 
 count_placed : (z v w : Value) (ws : List Value) (below : Bool) → count_of z (with_value v ws) ≡ one_if (same_value z v) + count_of z ws → count_of z (placed v w ws below) ≡ one_if (same_value z v) + count_of z (w ∷ ws)
@@ -91,7 +91,7 @@ ordered_values_stay (v ∷ vs) z =
     let before = count_of-cons z v vs in
     omega (arith, here, rest, before)
 
-same_is : (v w : Value) → same_value v w ≡ true → v ≡ w
+pub same_is : (v w : Value) → same_value v w ≡ true → v ≡ w
 same_is v w e = value_cmp-apart v w ((Equal-is (value_cmp v w)).0 e)
 
 abbrev left_after : Value → Value → List Value → Bool → List Value

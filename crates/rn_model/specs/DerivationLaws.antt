@@ -2,12 +2,15 @@
 use Rattle.std.specs.Prelude.{ℕ, suc, ◌≡◌, Option, Some, Contains}
 use Rattle.rn_value.specs.declared.value.Value.{Value}
 use Rattle.rn_model.specs.declared.system.System.{System}
+use Rattle.rn_model.specs.declared.system.Downlink.{Downlink}
+use Rattle.rn_value.specs.declared.value.Value.TheVariants as Value
 use Rattle.rn_model.specs.declared.binding.Node.{Node}
 use Rattle.rn_model.specs.declared.binding.Binding.{Binding}
 use Rattle.rn_model.specs.Lists.{value_beside}
-use Rattle.rn_model.specs.Bindings.{Shape, env_of}
+use Rattle.rn_model.specs.Bindings.{Shape, env_of, Calls}
 use Rattle.rn_model.specs.Agreement.{Agrees}
 use Rattle.rn_model.specs.Derivation.{Assignment, Satisfies, Forced, IsVarForced, InBy, items_of}
+use Rattle.rn_model.specs.Derivation.{target, term_value_at}
 
 -- an assignment gives each variable of each node the node's own value
 abbrev pub GivesItsValues : System → Binding → Assignment → Type 0
@@ -20,6 +23,9 @@ pub record AreOwnValues (system : System) (b : Binding) (a : Assignment) : Type 
   pub values : GivesItsValues system b a
   pub items : Satisfies system b (Contains (items_of system b)) a
   pub rounds : (n : ℕ) → Satisfies system b (InBy system b n) a
+  pub targets : (caller : Node) (i : ℕ) (downlink : Downlink) (node : Node) →
+      Calls system b caller i downlink node →
+      term_value_at a caller (target i) downlink.target ≡ Some (Value.Inst node.inst)
 
 -- where a binding of the shape agrees, its own values satisfy the equations of its items
 abbrev pub OwnValuesSatisfy : Type 0

@@ -12,6 +12,7 @@ pub mod Laws
 pub mod ListLaws
 pub mod Lists
 pub mod Liveness
+pub mod LivenessLaws
 pub mod MarkingCodes
 pub mod MarkingLaws
 pub mod Markings

@@ -4,6 +4,12 @@ ghost use Rattle.rn_model.specs.ListLaws.{OrderedValuesAscend, OrderedValuesStay
 ghost use Rattle.rn_model.specs.MarkingLaws.{InitialIsMarking, FiringsKeepMarkings};
 ghost use Rattle.rn_model.specs.MarkingLaws.{RunsEndInMarkings, InitialTokensAreSound};
 ghost use Rattle.rn_model.specs.DerivationLaws.{OwnValuesSatisfy, ForcedIsOwn, ForcedStays};
+ghost use Rattle.rn_model.specs.LivenessLaws.{EnabledNameLive, DeadStayDead, DeadStayDeadInRuns};
+ghost use Rattle.rn_model.specs.LivenessLaws.{TablesHaveTheSameLive, TablesEnableTheSame};
+ghost use Rattle.rn_model.specs.LivenessLaws.{TablesFireAlike, TablesStandAfter, StandingIsTransitive};
+ghost use Rattle.rn_model.specs.LivenessLaws.{DroppingKeeps, MarkingsStandForThemselves};
+ghost use Rattle.rn_model.specs.LivenessLaws.{FiringsKeepTokensSound, RunsEndSound};
+ghost use Rattle.rn_model.specs.LivenessLaws.{FiringsTellWhatIsThere};
 ghost use Rattle.rn_model.specs.Laws.{EndsFollow, DeadRunsStop, LogsEndOnce, LooksAtItsOwn};
 
 /// Whether a binding is enabled doesn't depend on the number that the next instance gets.
@@ -75,4 +81,43 @@ pub fn runs_end_in_markings()
 /// The initial tokens of a good system have their places' kinds and name no instance.
 pub fn initial_tokens_are_sound()
     ensures { InitialTokensAreSound }
+{}
+
+/// Where a binding is enabled at a marking with sound tokens, each existing instance that its nodes
+/// stand on or that their values mention is live.
+pub fn enabled_name_live()
+    ensures { EnabledNameLive }
+{}
+
+/// An instance that is there and isn't live isn't live after any firing of an enabled binding, nor
+/// at any later end of a run.
+pub fn dead_stay_dead()
+    ensures firing { DeadStayDead }
+    ensures run { DeadStayDeadInRuns }
+{}
+
+/// Firings of enabled bindings keep tokens sound, and so they are at the end of each run of a good
+/// system.
+pub fn tokens_stay_sound()
+    ensures kept { FiringsKeepTokensSound }
+    ensures ends { RunsEndSound }
+{}
+
+/// Where a table stands for a marking, the same is live and enabled in both, and is fired alike;
+/// after the firing of an enabled binding the table stands again, and so it does without instances
+/// that aren't live. A marking stands for itself.
+pub fn tables_stand()
+    ensures live { TablesHaveTheSameLive }
+    ensures enabled { TablesEnableTheSame }
+    ensures alike { TablesFireAlike }
+    ensures after { TablesStandAfter }
+    ensures itself { MarkingsStandForThemselves }
+    ensures transitive { StandingIsTransitive }
+    ensures dropped { DroppingKeeps }
+{}
+
+/// What the firing of an enabled binding tells, under the numbers of the new instances, names only
+/// instances that are there after it.
+pub fn firings_tell_what_is_there()
+    ensures { FiringsTellWhatIsThere }
 {}
