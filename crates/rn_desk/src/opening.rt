@@ -9,7 +9,7 @@ use crate::kept::Kept;
 use crate::rule::Place;
 use crate::view::About;
 use atomic_table::Table;
-use rn_value::NoMemory;
+use rn_items::NoMemory;
 use std::alloc::Global;
 use std::snapshot::Snapshot;
 

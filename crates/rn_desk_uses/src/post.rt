@@ -6,7 +6,7 @@ ghost use Rattle.rn_desk_uses.specs.Posts.{IsAtWork};
 
 use crate::sheet::Sheet;
 use rn_desk::{Desk, Kept, Pass};
-use rn_value::NoMemory;
+use rn_items::NoMemory;
 use std::alloc::Global;
 
 /// In how many rounds a worker wrote, and in how many it found no memory.

@@ -8,7 +8,7 @@ ghost use Rattle.rn_desk_uses.specs.Posts.{IsAtWork, IsDone, FiredBy};
 use crate::post::{Post, Tally, parted, posts_of};
 use crate::sheet::{Line, Sheet};
 use rn_desk::{Closed, Desk, Kept, Pass, close, open_desk};
-use rn_value::NoMemory;
+use rn_items::NoMemory;
 use std::alloc::Global;
 use std::sync::Wait;
 use std::thread;

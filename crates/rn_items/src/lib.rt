@@ -3,8 +3,10 @@
 
 mod boxed;
 mod items;
+mod memory;
 #[cfg(test)]
 mod tests;
 
 pub use boxed::Boxed;
 pub use items::Items;
+pub use memory::NoMemory;

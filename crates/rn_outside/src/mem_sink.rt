@@ -3,7 +3,7 @@ ghost use Rattle.rn_outside.specs.Faults.{risen};
 
 use crate::calls::is_listed;
 use crate::sink::{Sink, SinkFailed};
-use rn_value::NoMemory;
+use rn_items::NoMemory;
 use std::alloc::Global;
 use std::marker::Model;
 

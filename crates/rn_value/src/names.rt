@@ -5,7 +5,8 @@ ghost use Rattle.rn_value.specs.Names.{name_of, inst_within, instances_within, A
 
 use crate::copying::copy_text;
 use crate::text::Str;
-use crate::value::{InstRef, NoMemory, Value};
+use crate::value::{InstRef, Value};
+use rn_items::NoMemory;
 use std::alloc::Global;
 use std::marker::Model;
 

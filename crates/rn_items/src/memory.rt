@@ -1,0 +1,20 @@
+//! The answer of a call for which there was no memory.
+
+use std::alloc::{AllocError, AllocFailed};
+
+/// The allocator had no memory. It is the one answer that comes without a cause: no contract says
+/// when it comes, and each says what it leaves behind.
+#[derive(Clone, Copy, Debug, PartialEq, Eq)]
+pub struct NoMemory;
+
+impl From<AllocError> for NoMemory {
+    fn from(_error: AllocError) -> NoMemory {
+        NoMemory
+    }
+}
+
+impl<T: Drop> From<AllocFailed<T>> for NoMemory {
+    fn from(_failed: AllocFailed<T>) -> NoMemory {
+        NoMemory
+    }
+}
