@@ -9,7 +9,7 @@ use Rattle.rn_value.specs.Text.{numeral}
 use Rattle.rn_value.specs.Grammar.{IsNumeral}
 use Rattle.rn_value.proofs.Numerals.{IsNumeral-numeral, IsNumeral-same, IsNumeral-digits, IsNumeral-first}
 use Rattle.rn_value.proofs.Spans.{Stops, same_runs}
-use Rattle.rn_model.specs.Names.{is_name_byte}
+use Rattle.rn_value.specs.Characters.{is_name_byte}
 
 pub digits : (n : ℕ) → list_all is_ascii_digit (numeral n) ≡ true
 digits n = IsNumeral-digits (IsNumeral-numeral n)

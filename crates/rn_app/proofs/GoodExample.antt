@@ -5,6 +5,7 @@ use Rattle.std.specs.List.{list_all}
 use Rattle.std.proofs.lemmas.List.Elements.{All-nil, All-cons}
 use Rattle.rn_model.specs.declared.system.System.{System}
 use Rattle.rn_model.specs.Systems.{net_at}
+use Rattle.rn_value.specs.Words.{reserved_words}
 use Rattle.rn_app.specs.Limits.{IsPlaceWithinLimits, IsTransitionWithinLimits, IsNetWithinLimits, IsWithinLimits}
 use Rattle.rn_app.specs.Tokens.{Token, word, sign, is_word, is_sign, is_blank, goes_on, Begins, Tokens}
 use Rattle.rn_app.specs.SmallNets.{SmallPlace, SmallArc, SmallTransition, SmallNet, IsFree, IsFreeTransition, IsNamed, AreDistinct, IsDeclared, Accepted, place_of, transition_of, system_of}
@@ -90,9 +91,11 @@ abbrev names : List (List ℕ)
 names = codes "p" ∷ codes "q" ∷ []
 
 free_arcs : All (λ (arc : SmallArc). IsFree arc.place) (in_p ∷ out_q ∷ [])
+unfolding reserved_words
 free_arcs = All-cons (λ (arc : SmallArc). IsFree arc.place) in_p (out_q ∷ []) refl (All-cons (λ (arc : SmallArc). IsFree arc.place) out_q [] refl (All-nil (λ (arc : SmallArc). IsFree arc.place)))
 
 named : IsNamed net
+unfolding reserved_words
 named = record {
   places = All-cons (λ (p : SmallPlace). IsFree p.name) p (q ∷ []) refl (All-cons (λ (p : SmallPlace). IsFree p.name) q [] refl (All-nil (λ (p : SmallPlace). IsFree p.name)));
   transitions = All-cons IsFreeTransition t [] (record { name = refl; arcs = free_arcs }) (All-nil IsFreeTransition);

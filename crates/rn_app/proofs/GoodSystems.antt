@@ -1,6 +1,6 @@
 -- The system of an accepted text that keeps the limits is good.
 use Rattle.std.proofs.Common.{◌≡◌, ℕ, ◌<◌, ◌≤◌, Bool, true, false, cond, List, [], ◌∷◌, ◌++◌, length, map, refl, sym, ap, ◌∙◌, subst, true≢false, if◌then◌else◌, arith}
-use Rattle.std.specs.Prelude.{◌≢◌, ◌&&◌, not, All, AllPairs, Contains, IsTrue, flat_map, filter, nat_le}
+use Rattle.std.specs.Prelude.{◌≢◌, ◌&&◌, not, All, AllPairs, Contains, IsTrue, flat_map, filter, codes}
 use Rattle.std.proofs.Math.ListN.{get_or-map}
 use Rattle.std.proofs.lemmas.List.{length-map}
 use Rattle.std.proofs.lemmas.List.Elements.{All-nil, All-cons, All-head, All-tail, All-append, All-weaker, All-map, All-replicate}
@@ -17,7 +17,8 @@ use Rattle.rn_model.specs.declared.system.Place.{Place}
 use Rattle.rn_model.specs.declared.system.Transition.{Transition}
 use Rattle.rn_model.specs.declared.system.NetArc.{NetArc}
 use Rattle.rn_model.specs.declared.system.ArcKind.TheVariants.{Input, Output, Clear}
-use Rattle.rn_model.specs.Names.{IsName, is_reserved}
+use Rattle.rn_value.specs.Words.{reserved_words, is_reserved}
+use Rattle.rn_model.specs.Names.{IsGoodName}
 use Rattle.rn_model.specs.Systems.{net_at, vars_in, holds_action_var, is_output, var_kind_in, place_kind_in}
 use Rattle.rn_model.specs.Agreement.{inscribed_kind}
 use Rattle.rn_model.specs.Kinds.{HasExprKind, expr_or_var_step, kind_depth, kind_depth_step, value_depth, value_depth_step, expr_depth, expr_depth_step, kind_narrow, kind_narrow_step, value_narrow, value_narrow_step, expr_narrow, expr_narrow_step, holds_step, step_in_step, holds_instance, inst_in_step}
@@ -81,20 +82,15 @@ both : (a b : Bool) → IsTrue a → IsTrue b → IsTrue (a && b)
 both true b h k = k
 both false b h k = absurd (true≢false (sym h))
 
-short_enough : (n : ℕ) → n ≤ 64 → IsTrue (nat_le n 64)
-short_enough n h = grind (arith, nat_tests)
+is_a_name : (name : List ℕ) → IsTrue (is_word name) → IsFree name → length name ≤ 64 → IsGoodName name
+is_a_name name word free short = (both (is_word name) (not (is_reserved name)) word (ap not free), short)
 
-is_a_name : (name : List ℕ) → IsTrue (is_word name) → IsFree name → length name ≤ 64 → IsName name
-is_a_name name word free short =
-    both (is_word name && not (is_reserved name)) (nat_le (length name) 64) (both (is_word name) (not (is_reserved name)) word (ap not free)) (short_enough (length name) short)
+is_short : (name : List ℕ) → IsGoodName name → length name ≤ 64
+is_short name h = h.1
 
-is_short : (name : List ℕ) → IsName name → length name ≤ 64
-is_short name h =
-    let fits = (both_true (is_word name && not (is_reserved name)) (nat_le (length name) 64) h).1 in
-    below (length name) fits
-  where
-    below : (n : ℕ) → IsTrue (nat_le n 64) → n ≤ 64
-    below n h = grind (arith, nat_tests)
+named_main : IsGoodName (codes "main")
+unfolding reserved_words
+named_main = (refl, omega arith)
 
 good_place : (p : SmallPlace) → IsTrue (is_word p.name) → IsFree p.name → IsPlaceWithinLimits (place_of p) → IsGoodPlace (place_of p)
 good_place p word free within = record {
@@ -245,7 +241,7 @@ module _ (small : SmallNet) where
 
   good_net : AreWords small → IsNamed small → IsDeclared small → IsNetWithinLimits net → IsGoodNet whole net
   good_net words named declared within = record {
-    name = refl;
+    name = named_main;
     vars = All-nil _;
     places = good_places small.places words.places named.places within.places;
     transitions = good_transitions small.transitions words.transitions named.transitions declared.arcs within.transitions;

@@ -17,7 +17,8 @@ use Rattle.rn_model.specs.declared.log.FaultKind.TheVariants.{Action, Instances}
 use Rattle.rn_model.specs.declared.log.MarkLine.{MarkLine}
 use Rattle.rn_model.specs.declared.log.Reason.{Reason}
 use Rattle.rn_model.specs.declared.log.Reason.TheVariants.{Dead, Steps, Fault, Memory}
-use Rattle.rn_model.specs.Names.{is_name_byte, begins_with_letter}
+use Rattle.rn_value.specs.Characters.{is_letter, is_name_byte}
+use Rattle.rn_value.specs.Words.{begins_with}
 use Rattle.rn_model.specs.Systems.{transition_at}
 use Rattle.rn_model.specs.Runs.{Firing, Log, end_of}
 use Rattle.rn_model.specs.Liveness.{LivePart}
@@ -58,7 +59,7 @@ module _ (net : SmallNet) (declared : IsDeclared net) (words : AreWords net) whe
   is_named t within =
       let w = (small_at net t).name in
       let fine : IsTrue (is_word w) = All-get_or (λ t. IsTrue (is_word t.name)) net.transitions t no_transition within words.transitions in
-      ap (list_all is_name_byte) (named t within) ∙ (both_true (begins_with_letter w) (list_all is_name_byte w) fine).1
+      ap (list_all is_name_byte) (named t within) ∙ (both_true (begins_with is_letter w) (list_all is_name_byte w) fine).1
 
   one_transition : (t u : ℕ) → t < length net.transitions → u < length net.transitions → name_at t ≡ name_at u → t ≡ u
   one_transition t u p q e =

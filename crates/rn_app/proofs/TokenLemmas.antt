@@ -4,7 +4,8 @@ use Rattle.std.specs.Prelude.{IsTrue}
 use Rattle.std.specs.List.{list_all, list_any, prefix_len}
 use Rattle.std.proofs.Math.Dec.{T, eqb→eq}
 use Rattle.std.proofs.lemmas.List.{append-nil, take-append-drop}
-use Rattle.rn_model.specs.Names.{is_letter, is_name_byte, begins_with_letter}
+use Rattle.rn_value.specs.Characters.{is_letter, is_name_byte}
+use Rattle.rn_value.specs.Words.{begins_with}
 use Rattle.rn_app.specs.Tokens.{Token, word, sign, is_blank, is_sign, is_word, goes_on, Begins, Leads, Tokens}
 
 pub both_true : (a b : Bool) → IsTrue (a && b) → IsTrue a × IsTrue b
@@ -52,7 +53,7 @@ one_run (x ∷ v) (y ∷ w) r s hv hw nr ns e =
     (cc, others.1)
 
 name_bytes : (w : List ℕ) → IsTrue (is_word w) → IsTrue (list_all is_name_byte w)
-name_bytes w h = (both_true (begins_with_letter w) (list_all is_name_byte w) h).1
+name_bytes w h = (both_true (begins_with is_letter w) (list_all is_name_byte w) h).1
 
 -- a text begins with one token
 pub one_token : (text : List ℕ) (t u : Token) (r s : List ℕ) → Begins text t r → Begins text u s → (t ≡ u) × (r ≡ s)
@@ -166,6 +167,6 @@ pub first_word : (text word rest : List ℕ) (c : ℕ) (others : List ℕ) → t
 first_word text w rest c others e h f g =
     let long : prefix_len is_name_byte (c ∷ others) ≡ suc (prefix_len is_name_byte others) = rw h (omega arith) in
     let run = run_of text in
-    let begins : begins_with_letter w ≡ true = ap begins_with_letter (f ∙ ap (λ text. take (prefix_len is_name_byte text) text) e) ∙ rw long h in
+    let begins : begins_with is_letter w ≡ true = ap (begins_with is_letter) (f ∙ ap (λ text. take (prefix_len is_name_byte text) text) e) ∙ rw long h in
     let all : list_all is_name_byte w ≡ true = ap (list_all is_name_byte) f ∙ run.0 in
     (sym (take-append-drop (prefix_len is_name_byte text) text) ∙ ap (λ w. w ++ drop (prefix_len is_name_byte text) text) (sym f) ∙ ap (λ rest. w ++ rest) (sym g), rw (begins, all), ap goes_on g ∙ run.1)

@@ -12,7 +12,7 @@ use Rattle.rn_model.specs.declared.system.Place.{Place}
 use Rattle.rn_model.specs.declared.system.Transition.{Transition}
 use Rattle.rn_model.specs.declared.system.NetArc.{NetArc}
 use Rattle.rn_model.specs.declared.system.ArcKind.TheVariants.{Input, Output}
-use Rattle.rn_model.specs.Names.{is_reserved}
+use Rattle.rn_value.specs.Words.{is_reserved}
 use Rattle.rn_model.specs.Systems.{empty_transition}
 use Rattle.rn_app.specs.Tokens.{Token, word, sign, is_word, Tokens}
 

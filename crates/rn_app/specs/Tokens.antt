@@ -1,7 +1,8 @@
 -- Texts and their tokens.
-use Rattle.std.specs.Prelude.{ℕ, ◌≡◌, Bool, false, ◌&&◌, List, [], ◌∷◌, ◌++◌, IsTrue, nat_eq}
+use Rattle.std.specs.Prelude.{ℕ, ◌≡◌, Bool, false, List, [], ◌∷◌, ◌++◌, IsTrue, nat_eq}
 use Rattle.std.specs.List.{list_all, list_any}
-use Rattle.rn_model.specs.Names.{is_name_byte, begins_with_letter}
+use Rattle.rn_value.specs.Characters.{is_name_byte}
+use Rattle.rn_value.specs.Words.{is_identifier}
 
 -- A word, which is a name or a reserved word, or a sign.
 pub data Token : Type 0 where
@@ -18,7 +19,7 @@ is_sign c = list_any (nat_eq c) (123 ∷ 125 ∷ 91 ∷ 93 ∷ 61 ∷ 44 ∷ 59 
 
 -- a letter and then letters, digits and `_`
 abbrev pub is_word : List ℕ → Bool
-is_word w = begins_with_letter w && list_all is_name_byte w
+is_word w = is_identifier w
 
 abbrev pub goes_on : List ℕ → Bool
 goes_on [] = false

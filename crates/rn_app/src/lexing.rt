@@ -1,13 +1,13 @@
 //! From bytes to tokens.
 ghost use Rattle.std.specs.Prelude.{◌≡◌, ◌<◌, ℕ, List, length, IfOk, IfSome, IfNone};
 ghost use Rattle.std.specs.List.{prefix_len};
-ghost use Rattle.rn_model.specs.Names.{is_letter, is_name_byte};
+ghost use Rattle.rn_value.specs.Characters.{is_name_byte};
 ghost use Rattle.rn_app.specs.Tokens.{is_blank, is_sign, Begins, Tokens};
 ghost use Rattle.rn_app.specs.Tokens.{Token as Seen};
 ghost use Rattle.rn_app.specs.Reading.{piece_seen, seen, seen_all, HasOnly, IsNoTokens};
 
 use rn_items::Items;
-use rn_value::NoMemory;
+use rn_value::{NoMemory, is_letter, is_name_byte};
 use std::alloc::Global;
 
 /// A word, which is a name or a reserved word, or a sign.
@@ -34,18 +34,6 @@ fn is_sign(byte: u8) -> bool
     ensures { result ≡ is_sign byte }
 {
     matches!(byte, b'{' | b'}' | b'[' | b']' | b'=' | b',' | b';')
-}
-
-fn is_letter(byte: u8) -> bool
-    ensures { result ≡ is_letter byte }
-{
-    byte.is_ascii_alphabetic()
-}
-
-fn is_name_byte(byte: u8) -> bool
-    ensures { result ≡ is_name_byte byte }
-{
-    byte.is_ascii_alphanumeric() || byte == b'_'
 }
 
 /// How many letters, digits and `_` a text begins with.

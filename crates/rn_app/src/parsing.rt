@@ -2,12 +2,10 @@
 ghost use Rattle.std.specs.Prelude.{◌≡◌, ◌≢◌, ◌<◌, ◌++◌, ◌∷◌, [], ℕ, List, length, IfOk, IfSome};
 ghost use Rattle.std.specs.Prelude.{IfNone, MatchOption};
 ghost use Rattle.std.specs.Prelude.{◌↔◌, IsTrue, nat_eq, false, map, flat_map, All, codes};
-ghost use Rattle.std.specs.List.{list_any};
-ghost use Rattle.std.specs.Cmp.Lexicographic.{pointwise};
 ghost use Rattle.rn_app.specs.Tokens.{word as word_of, sign as sign_of, Token as Seen};
 ghost use Rattle.rn_app.specs.Reading.{seen, seen_all, place_seen, arc_seen, transition_seen};
 ghost use Rattle.rn_app.specs.Reading.{net_seen, begins_with, begins_arc};
-ghost use Rattle.rn_model.specs.Names.{is_reserved};
+ghost use Rattle.rn_value.specs.Words.{is_reserved};
 ghost use Rattle.rn_app.specs.SmallNets.{IsFree, IsFreeTransition, blacks_spelled};
 ghost use Rattle.rn_app.specs.SmallNets.{initial_spelled, place_spelled, arc_spelled};
 ghost use Rattle.rn_app.specs.SmallNets.{transition_spelled, net_spelled, IsNamed};
@@ -16,7 +14,7 @@ ghost use Rattle.rn_app.specs.SmallNets.{SmallTransition as Transition, SmallNet
 
 use crate::lexing::Token;
 use crate::small::{SmallArc, SmallNet, SmallPlace, SmallTransition};
-use rn_value::NoMemory;
+use rn_value::{NoMemory, reserved_word};
 use std::alloc::Global;
 
 /// The first token and the others.
@@ -53,30 +51,6 @@ fn word<'t>(tokens: &'t [Token], wanted: &[u8]) -> Option<&'t [Token]>
     }
 }
 
-/// Whether a word is one of these.
-fn is_among(word: &[u8], words: &[&[u8]]) -> bool
-    ensures { result ≡ list_any (λ other. pointwise nat_eq word.now other.now) words.now }
-{
-    for other in words {
-        if word == *other {
-            return true;
-        }
-    }
-    false
-}
-
-/// Whether a word is no name.
-fn is_reserved(word: &[u8]) -> bool
-    ensures { result ≡ is_reserved word.now }
-{
-    const RESERVED: [&[u8]; 20] = [
-        b"net", b"place", b"trans", b"channel", b"var", b"in", b"out", b"test", b"reserve",
-        b"flexin", b"flexout", b"inhibit", b"clear", b"guard", b"action", b"print", b"new",
-        b"this", b"int", b"text",
-    ];
-    is_among(word, &RESERVED)
-}
-
 /// A name and what comes behind it, where the tokens begin with one.
 fn name(tokens: &[Token]) -> Option<(&[u8], &[Token])>
     ensures found { IfSome result
@@ -86,7 +60,7 @@ fn name(tokens: &[Token]) -> Option<(&[u8], &[Token])>
         seen_all tokens.now ≢ word_of name ∷ rest) }
 {
     match first(tokens)? {
-        (Token::Word(word), others) if !is_reserved(word) => Some((word.as_slice(), others)),
+        (Token::Word(word), others) if reserved_word(word).is_none() => Some((word.as_slice(), others)),
         _ => None,
     }
 }

@@ -1,2 +1,1 @@
 pub mod FittingLemmas
-pub mod TruthLemmas

@@ -35,7 +35,7 @@ fn compare(kind: CompareKind, v: &Value, w: &Value) -> Option<bool>
 }
 
 #[cycle(condition)]
-#[tactic(auto, using(crate::proofs::TruthLemmas::cond_rules))]
+#[tactic(auto, using(rn_model::proofs::TruthLemmas::cond_rules))]
 fn truth_in(alloc: Global, cond: &Cond, given: &Given) -> Result<Option<bool>, NoMemory>
     requires step { given.now.step ≤ 200001 }
     ensures { IfOk result (λ t. t ≡ truth cond.now (env_of given.now)) }
@@ -51,7 +51,7 @@ fn truth_in(alloc: Global, cond: &Cond, given: &Given) -> Result<Option<bool>, N
 }
 
 #[cycle(condition)]
-#[tactic(auto, using(crate::proofs::TruthLemmas::join_rules))]
+#[tactic(auto, using(rn_model::proofs::TruthLemmas::join_rules))]
 fn all_of(alloc: Global, simples: &[Simple], given: &Given) -> Result<Option<bool>, NoMemory>
     requires step { given.now.step ≤ 200001 }
     ensures { IfOk result (λ t. t ≡ all_true (map simple_truth simples.now) (env_of given.now)) }

@@ -1,26 +1,20 @@
 -- Only equal bindings are equal in the order of bindings.
 use Rattle.std.proofs.Common.{◌≡◌, ℕ, List, [], ◌∷◌, refl, ap, subst}
 use Rattle.std.specs.Prelude.{◌↔◌, IsTrue}
-use Rattle.std.specs.Ordering.{nat_cmp, ordering_then, is_eq}
+use Rattle.std.specs.Ordering.{nat_cmp, is_eq}
 use Rattle.std.specs.Cmp.{Equal-is, tied_itself}
 use Rattle.std.specs.Cmp.Lexicographic.{slice_cmp}
 use Rattle.std.specs.declared.cmp.Ordering.{Ordering}
-use Rattle.std.specs.declared.cmp.Ordering.TheVariants.{Less, Equal, Greater}
+use Rattle.std.specs.declared.cmp.Ordering.TheVariants.{Equal}
 use Rattle.std.proofs.lemmas.Map.Lookups.{exact_unsigned, exact_bytes}
 use Rattle.rn_value.specs.Order.{inst_cmp, value_cmp, TellsApart}
-use Rattle.rn_value.specs.OrderLaws.{value_cmp-apart}
+use Rattle.rn_value.specs.OrderLaws.{then_equal, insts_apart, value_cmp-apart}
 use Rattle.rn_value.specs.declared.value.InstRef.{InstRef}
-use Rattle.rn_value.specs.declared.value.InstRef.TheVariants.{Old, New}
 use Rattle.rn_value.specs.declared.value.Value.{Value}
 use Rattle.rn_model.specs.declared.binding.Node.{Node}
 use Rattle.rn_model.specs.declared.binding.Binding.{Binding}
 use Rattle.rn_model.specs.Order.{node_cmp, binding_cmp}
 use Rattle.rn_model.specs.OrderLaws.{binding_cmp-total}
-
-then_equal : (a b : Ordering) → ordering_then a b ≡ Equal → (a ≡ Equal) × (b ≡ Equal)
-then_equal Less b e = cc
-then_equal Equal b e = (refl, e)
-then_equal Greater b e = cc
 
 -- lists whose elements are told apart are told apart
 lists_apart : {A : Type 0} (compare : A → A → Ordering) → TellsApart compare → TellsApart (slice_cmp compare)
@@ -31,16 +25,6 @@ lists_apart compare apart (x ∷ xs) (y ∷ ys) e =
     let both = then_equal (compare x y) (slice_cmp compare xs ys) e in
     let first : x ≡ y = apart x y both.0 in
     let rest : xs ≡ ys = lists_apart compare apart xs ys both.1 in
-    cc
-
-pub insts_apart : TellsApart inst_cmp
-insts_apart (Old m) (Old n) e = ap Old (exact_unsigned m n e)
-insts_apart (Old m) (New p i) e = cc
-insts_apart (New p i) (Old n) e = cc
-insts_apart (New p i) (New q j) e =
-    let both = then_equal (slice_cmp nat_cmp p q) (nat_cmp i j) e in
-    let first : p ≡ q = exact_bytes p q both.0 in
-    let second : i ≡ j = exact_unsigned i j both.1 in
     cc
 
 abbrev node_of : List ℕ → InstRef → ℕ → ℕ → List Value → Node

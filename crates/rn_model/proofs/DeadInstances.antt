@@ -6,6 +6,7 @@ use Rattle.std.specs.Cmp.Lexicographic.{pointwise}
 use Rattle.std.specs.List.{enumerate_from}
 use Rattle.std.proofs.lemmas.Bool.Decides.{nat_tests}
 use Rattle.std.proofs.lemmas.List.Elements.{All-contains, All-from_recursion}
+use Rattle.rn_items.proofs.Bools.{or_true, or_left, or_right}
 use Rattle.rn_value.specs.declared.value.InstRef.{InstRef}
 use Rattle.rn_value.specs.declared.value.InstRef.TheVariants.{Old, New}
 use Rattle.rn_value.specs.declared.value.Value.{Value}
@@ -26,7 +27,7 @@ use Rattle.rn_model.proofs.EnablingLemmas.{not_in_nil}
 use Rattle.rn_model.proofs.InitialTokens.{apart}
 use Rattle.rn_model.proofs.MarkingsOfRuns.{good_net, made_of_nets, IsOfNet, found_is_there}
 use Rattle.rn_model.proofs.LiveByRounds.{live_decided}
-use Rattle.rn_model.proofs.PassingInstances.{only_mentions, or_true, or_left, or_right}
+use Rattle.rn_model.proofs.PassingInstances.{only_mentions}
 use Rattle.rn_model.proofs.DerivedInstances.{inst_passes, value_passes}
 use Rattle.rn_model.proofs.LiveBindings.{live_or_new, live_pass_on}
 use Rattle.rn_model.proofs.AskedValues.{later}

@@ -5,6 +5,7 @@ use Rattle.std.specs.Prelude.{Option, Some, Contains, All, option_map, slice_get
 use Rattle.std.specs.List.{list_all}
 use Rattle.std.proofs.lemmas.List.Elements.{All-contains}
 use Rattle.std.proofs.lemmas.Option.{same_Some}
+use Rattle.rn_items.proofs.Bools.{true_both}
 use Rattle.rn_value.specs.Kinds.{HasKind}
 use Rattle.rn_value.specs.declared.value.Kind.TheVariants as Kind
 use Rattle.rn_value.specs.declared.value.InstRef.{InstRef}
@@ -39,7 +40,7 @@ use Rattle.rn_model.proofs.HoleValues.{instance_is_read, list_of_kind}
 use Rattle.rn_model.proofs.ItemsOfNodes.{item_is_of_node, entry_is_item, each_beside}
 use Rattle.rn_model.proofs.ReplacedValues.{replaced, replaced-Int, replaced-Inst}
 use Rattle.rn_model.proofs.ReplacedReadings.{term_value-replaced}
-use Rattle.rn_model.proofs.PassingInstances.{only, only-List, only-Inst, kept, kept_plain, kept_passing, only_is_kept, kept_is_only, both_true}
+use Rattle.rn_model.proofs.PassingInstances.{only, only-List, only-Inst, kept, kept_plain, kept_passing, only_is_kept, kept_is_only}
 
 not_last : (p : List ℕ) (i : ℕ) → [] ≡ p ++ i ∷ [] → ⊥
 not_last [] i e = let no : ⊥ = cc in no
@@ -60,7 +61,7 @@ same_entry x y e = cc
 
 all_pass : (good : InstRef → Bool) (vs : List Value) → ((v : Value) → Contains vs v → only good v ≡ true) → list_all (λ p. p) (map (only good) vs) ≡ true
 all_pass good [] f = refl
-all_pass good (v ∷ vs) f = both_true (only good v) (list_all (λ p. p) (map (only good) vs)) (f v (0, omega arith, refl)) (all_pass good vs (λ w there. f w (suc there.0, omega (arith, there.1), there.2)))
+all_pass good (v ∷ vs) f = true_both (only good v) (list_all (λ p. p) (map (only good) vs)) (f v (0, omega arith, refl)) (all_pass good vs (λ w there. f w (suc there.0, omega (arith, there.1), there.2)))
 
 pub record PassesOn (system : System) (m : Marking) (b : Binding) (good : InstRef → Bool) : Type 0 where
   pub start : (node : Node) → Contains b.nodes node → node.path ≡ [] → good node.inst ≡ true

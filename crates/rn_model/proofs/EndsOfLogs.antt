@@ -4,6 +4,7 @@ use Rattle.std.proofs.Common.{◌≡◌, ℕ, zero, suc, ◌<◌, Bool, true, fa
 use Rattle.std.specs.Prelude.{Some, None, Contains, nat_eq}
 use Rattle.std.proofs.lemmas.List.Elements.{All-contains}
 use Rattle.std.proofs.Math.Dec.{T, eqb→eq}
+use Rattle.std.proofs.lemmas.Option.{same_Some}
 use Rattle.rn_value.specs.declared.value.InstRef.{InstRef}
 use Rattle.rn_value.specs.declared.value.InstRef.TheVariants.{Old}
 use Rattle.rn_value.specs.declared.value.Value.{Value}
@@ -27,15 +28,12 @@ no_values : (vs : List Value) → length vs ≡ 0 → vs ≡ []
 no_values [] e = refl
 no_values (v ∷ vs) e = let no : ⊥ = omega (arith, e) in absurd no
 
-some_number : (k l : ℕ) → Some k ≡ Some l → k ≡ l
-some_number k l e = cc
-
 -- only instance 1 is there
 number_of : (k net : ℕ) (found : Bool) → nat_eq 1 k ≡ found → net_of then_m k ≡ Some net → (1 ≡ k) × (0 ≡ net)
 number_of k net true is e =
     let here : 1 ≡ k = eqb→eq 1 k (subst T (sym is) tt) in
     let at_one : net_of then_m 1 ≡ Some net = subst (λ j. net_of then_m j ≡ Some net) (sym here) e in
-    (here, some_number 0 net at_one)
+    (here, same_Some 0 net at_one)
 number_of k net false is e = let none : None ≡ Some net = rw is at e in let no : ⊥ = cc in absurd no
 
 no_downlinks : (node : Node) → IsNodeOf sys node → (transition_of sys node).downlinks ≡ []
@@ -43,9 +41,6 @@ no_downlinks node of =
     let net : node.net ≡ 0 = below_one node.net of.net in
     let transition : node.transition ≡ 0 = below_one node.transition (subst (λ k. node.transition < length (net_at sys k).transitions) net of.transition) in
     rw (net, transition) refl
-
-some_same : (x y : Node) → Some x ≡ Some y → x ≡ y
-some_same x y e = cc
 
 abbrev of_parts : List ℕ → InstRef → ℕ → ℕ → List Value → Node
 of_parts path inst net transition values = record { path = path; inst = inst; net = net; transition = transition; values = values }
@@ -73,7 +68,7 @@ nothing_enabled depth c e =
     let here : node_at (of_node node) [] ≡ Some e.shape.start.0 = subst (λ d. node_at d [] ≡ Some e.shape.start.0) one.1 e.shape.start.1 in
     let there : Contains c.nodes node = subst (λ d. Contains d.nodes node) (sym one.1) (0, omega arith, refl) in
     let found : node_at (of_node node) [] ≡ Some node = rw one.2 refl in
-    let start : node ≡ e.shape.start.0 = some_same node e.shape.start.0 (sym found ∙ here) in
+    let start : node ≡ e.shape.start.0 = same_Some node e.shape.start.0 (sym found ∙ here) in
     let exists = e.shape.start.2.exists in
     let on : node.inst ≡ Old exists.0 = ap (λ x. x.inst) start ∙ exists.1 in
     let net = All-contains (λ x. (k : ℕ) → x.inst ≡ Old k → net_of then_m k ≡ Some x.net) c.nodes node e.fits.there there exists.0 on in

@@ -2,6 +2,8 @@
 use Rattle.std.proofs.Common.{◌≡◌, ℕ, pos, List, [], ◌∷◌, length, refl, sym, ap, ◌∙◌, subst, inl, arith}
 use Rattle.std.specs.Prelude.{Option, Some, None, All, option_and_then}
 use Rattle.std.proofs.lemmas.List.Elements.{All-nil, All-cons}
+use Rattle.std.proofs.lemmas.Option.{same_Some}
+use Rattle.rn_value.proofs.Variants.{same_parts_of_lists}
 use Rattle.rn_value.specs.declared.value.InstRef.TheVariants.{Old}
 use Rattle.rn_value.specs.declared.value.Kind.TheVariants as Kind
 use Rattle.rn_value.specs.declared.value.Value.{Value, out-Value, roll-Value, roll-out-Value}
@@ -17,11 +19,7 @@ use Rattle.rn_model.specs.Systems.{empty_transition, transition_of}
 use Rattle.rn_model.specs.Evaluation.{list_of, list_step, list_onto}
 use Rattle.rn_model.specs.Derivation.{Assignment, Item, entry, left, right, items_of, InBy, Derived, IsVarForced, Satisfies, term_value_at}
 use Rattle.rn_model.proofs.ExampleSystems.{int, one_net, int_var}
-use Rattle.rn_model.proofs.EvaluationLemmas.{list_of-List}
 use Rattle.rn_model.proofs.DerivationLemmas.{term_rules, hole_rules}
-
-same_lists : (vs ws : List Value) → Value.List vs ≡ Value.List ws → vs ≡ ws
-same_lists vs ws e = let same : Some vs ≡ Some ws = sym (list_of-List vs) ∙ ap list_of e ∙ list_of-List ws in cc
 
 list_is : (v : Value) (vs : List Value) (x : V.Value-F Value) → out-Value v ≡ x → list_step x ≡ Some vs → v ≡ Value.List vs
 list_is v vs (V.List ws) is e =
@@ -57,9 +55,6 @@ In = InBy sys b
 start_in : In 0 (entry n)
 start_in = (n, (0, omega arith, refl), refl, refl)
 
-some_same : (v w : Value) → Some v ≡ Some w → v ≡ w
-some_same v w e = cc
-
 -- what each assignment that satisfies the equality gives h and l
 abbrev Solves : Assignment → Type 0
 Solves a = (a.var [] 0 ≡ int 1) × (a.var [] 1 ≡ Value.List (int 2 ∷ int 3 ∷ []))
@@ -68,7 +63,7 @@ tail_of : (h l : Value) (read : Option (List Value)) → list_of l ≡ read → 
 tail_of h l None is e = let none : None ≡ Some (Value.List (int 1 ∷ int 2 ∷ int 3 ∷ [])) = rw is at e in absurd (let no : ⊥ = cc in no)
 tail_of h l (Some vs) is e =
     let joined : Some (Value.List (h ∷ vs)) ≡ Some (Value.List (int 1 ∷ int 2 ∷ int 3 ∷ [])) = rw is at e in
-    let lists : h ∷ vs ≡ int 1 ∷ int 2 ∷ int 3 ∷ [] = same_lists (h ∷ vs) (int 1 ∷ int 2 ∷ int 3 ∷ []) (some_same (Value.List (h ∷ vs)) (Value.List (int 1 ∷ int 2 ∷ int 3 ∷ [])) joined) in
+    let lists : h ∷ vs ≡ int 1 ∷ int 2 ∷ int 3 ∷ [] = same_parts_of_lists (h ∷ vs) (int 1 ∷ int 2 ∷ int 3 ∷ []) (same_Some (Value.List (h ∷ vs)) (Value.List (int 1 ∷ int 2 ∷ int 3 ∷ [])) joined) in
     let head : h ≡ int 1 = cc in
     let rest : vs ≡ int 2 ∷ int 3 ∷ [] = cc in
     (head, list_is l vs (out-Value l) refl is ∙ ap Value.List rest)

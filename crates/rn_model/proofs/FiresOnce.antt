@@ -2,6 +2,7 @@
 -- net main { place p = []; place q; trans t { in p; out q; } }
 use Rattle.std.proofs.Common.{◌≡◌, ℕ, ◌≤◌, Bool, true, false, [], ◌∷◌, length, refl, sym, ◌∙◌, ap, subst, inl, inr, arith}
 use Rattle.std.specs.Prelude.{Some, Ok, All, Contains, slice_get, nat_eq}
+use Rattle.rn_value.proofs.Variants.{same_old}
 use Rattle.rn_value.specs.Order.{inst_cmp}
 use Rattle.std.specs.Ordering.{is_eq, nat_cmp}
 use Rattle.std.proofs.Math.Dec.{T, eqb→eq}
@@ -79,9 +80,6 @@ shape = record {
   many = omega arith;
   created = All-cons (IsOfCreation sys b) n [] (λ path j e. let no : ⊥ = cc in absurd no) (All-nil (IsOfCreation sys b));
 }
-
-old_same : (j k : ℕ) → Old j ≡ Old k → j ≡ k
-old_same j k e = cc
 
 abbrev env : Env
 env = env_of sys n
@@ -161,7 +159,7 @@ at_inst (New path j) place true e = let no : ⊥ = cc in absurd no
 
 fits : Fits sys m b
 fits = record {
-  there = All-cons (λ node. (k : ℕ) → node.inst ≡ Old k → net_of m k ≡ Some node.net) n [] (λ k e. let same : 1 ≡ k = old_same 1 k e in subst (λ i. net_of m i ≡ Some 0) same refl) (All-nil _);
+  there = All-cons (λ node. (k : ℕ) → node.inst ≡ Old k → net_of m k ≡ Some node.net) n [] (λ k e. let same : 1 ≡ k = same_old 1 k e in subst (λ i. net_of m i ≡ Some 0) same refl) (All-nil _);
   places = λ inst place. at_inst inst place (is_eq (inst_cmp (Old 1) inst)) refl;
 }
 

@@ -13,6 +13,8 @@ use Rattle.rn_model.specs.declared.system.Net.{Net}
 use Rattle.rn_model.specs.declared.system.Place.{Place}
 use Rattle.rn_model.specs.declared.system.Transition.{Transition}
 use Rattle.rn_model.specs.declared.system.ArcKind.TheVariants.{Input, Output}
+use Rattle.rn_value.specs.Words.{reserved_words}
+use Rattle.rn_model.specs.Names.{IsGoodName}
 use Rattle.rn_model.specs.Systems.{empty_transition, holds_action_var, var_kind_in}
 use Rattle.rn_model.specs.Kinds.{HasExprKind, expr_or_var_step, kind_depth, kind_depth_step, value_depth, value_depth_step, expr_depth, expr_depth_step, kind_narrow, kind_narrow_step, value_narrow, value_narrow_step, expr_narrow, expr_narrow_step, holds_step, step_in_step, holds_instance, inst_in_step}
 use Rattle.rn_model.specs.Good.{Good, IsGoodNet, IsGoodPlace, IsGoodKind, IsGoodToken, IsGoodTransition, IsGoodArc, HasItsVars, UsesActions, IsWellKinded, occurring}
@@ -60,6 +62,22 @@ good_kind = record { deep = rw depth_of_kind (omega arith); narrow = narrow_kind
 good_black : IsGoodToken blacks black
 good_black = record { fits = simp kind_rules; apart = no_instance; deep = rw depth_of_value (omega arith); narrow = narrow_value }
 
+named_p : IsGoodName (codes "p")
+unfolding reserved_words
+named_p = (refl, omega arith)
+
+named_q : IsGoodName (codes "q")
+unfolding reserved_words
+named_q = (refl, omega arith)
+
+named_t : IsGoodName (codes "t")
+unfolding reserved_words
+named_t = (refl, omega arith)
+
+named_main : IsGoodName (codes "main")
+unfolding reserved_words
+named_main = (refl, omega arith)
+
 abbrev p : Place
 p = record { name = codes "p"; kind = blacks; initial = black ∷ [] }
 
@@ -67,10 +85,10 @@ abbrev q : Place
 q = record { name = codes "q"; kind = blacks; initial = [] }
 
 good_p : IsGoodPlace p
-good_p = record { name = refl; kind = good_kind; initial = All-cons (IsGoodToken blacks) black [] good_black (All-nil (IsGoodToken blacks)); many = omega arith }
+good_p = record { name = named_p; kind = good_kind; initial = All-cons (IsGoodToken blacks) black [] good_black (All-nil (IsGoodToken blacks)); many = omega arith }
 
 good_q : IsGoodPlace q
-good_q = record { name = refl; kind = good_kind; initial = All-nil (IsGoodToken blacks); many = omega arith }
+good_q = record { name = named_q; kind = good_kind; initial = All-nil (IsGoodToken blacks); many = omega arith }
 
 abbrev t : Transition
 t = record empty_transition { name = codes "t"; arcs = arc_of Input 0 empty ∷ arc_of Output 1 empty ∷ [] }
@@ -126,7 +144,7 @@ Narrow e = IsTrue (expr_narrow e)
 
 good_t : IsGoodTransition sys main t
 good_t = record {
-  name = refl;
+  name = named_t;
   its_vars = its_vars;
   in_range = subst (All (λ x. x < length main.vars)) (sym none_occurs) (All-nil (λ x. x < length main.vars));
   uses = uses;
@@ -145,7 +163,7 @@ p_and_q (suc i) j d below short = absurd (let no : ⊥ = omega (arith, below, sh
 
 good_main : IsGoodNet sys main
 good_main = record {
-  name = refl;
+  name = named_main;
   vars = All-nil _;
   places = All-cons IsGoodPlace p (q ∷ []) good_p (All-cons IsGoodPlace q [] good_q (All-nil IsGoodPlace));
   transitions = All-cons (IsGoodTransition sys main) t [] good_t (All-nil (IsGoodTransition sys main));

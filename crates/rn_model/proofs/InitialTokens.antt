@@ -6,6 +6,7 @@ use Rattle.std.specs.List.{list_any}
 use Rattle.std.proofs.lemmas.List.Elements.{All-contains}
 use Rattle.std.specs.Cmp.Lexicographic.{pointwise}
 use Rattle.std.proofs.Math.Dec.{T, eqb→eq}
+use Rattle.std.proofs.lemmas.Option.{same_Some}
 use Rattle.rn_value.specs.Order.{value_cmp}
 use Rattle.rn_value.specs.Kinds.{HasKind}
 use Rattle.rn_value.specs.declared.value.Value.{Value, map-Value, ind-Value, fold-roll-Value}
@@ -122,14 +123,11 @@ module _ (system : System) (good : Good system) where
         there = λ n names. names_none v n (IsThere (initial_marking system) n) token.apart names;
       }
 
-  some_number : (k l : ℕ) → Some k ≡ Some l → k ≡ l
-  some_number k l e = cc
-
   sound : (n net place : ℕ) (v : Value) (first : Bool) → nat_eq 1 n ≡ first → net_of (initial_marking system) n ≡ Some net → Contains (tokens_at (initial_marking system) n place) v → IsSoundToken system (initial_marking system) net place v
   sound n net place v true is there holds =
       let number : 1 ≡ n = eqb→eq 1 n (subst T (sym is) tt) in
       let at_one : Some main ≡ Some net = subst (λ k. net_of (initial_marking system) k ≡ Some net) (sym number) there in
-      let same : main ≡ net = some_number main net at_one in
+      let same : main ≡ net = same_Some main net at_one in
       let tokens : Contains (tokens_at (initial_marking system) 1 place) v = subst (λ k. Contains (tokens_at (initial_marking system) k place) v) (sym number) holds in
       let mapped : Contains (tokens_of (slice_get places place)) v = subst (λ o. Contains (unwrap_or o []) v) (get_mapped (λ p. ordered_values p.initial) places place) tokens in
       subst (λ k. IsSoundToken system (initial_marking system) k place v) same (sound_at place v (slice_get places place) refl mapped)

@@ -4,6 +4,7 @@ use Rattle.std.specs.Prelude.{Option, Some, None, Contains, option_map, option_a
 use Rattle.std.specs.List.{list_all, AllZip}
 use Rattle.std.proofs.lemmas.Bool.{eqb-true}
 use Rattle.std.proofs.lemmas.Option.{same_Some, option_and_then_some}
+use Rattle.rn_items.proofs.Bools.{both_true, true_both}
 use Rattle.rn_value.specs.Kinds.{HasKind, value_has_kind, kind_step, fit_all}
 use Rattle.rn_value.specs.declared.value.InstRef.{InstRef}
 use Rattle.rn_value.specs.declared.value.Kind.{Kind, out-Kind, roll-Kind, map-Kind, fold-roll-Kind, roll-out-Kind, ind-Kind}
@@ -24,7 +25,6 @@ use Rattle.rn_model.specs.Agreement.{inscribed_kind}
 use Rattle.rn_model.specs.Demands.{elements, puts}
 use Rattle.rn_model.specs.Firing.{renamed_value}
 use Rattle.rn_model.proofs.EnablingLemmas.{not_in_nil, the_one}
-use Rattle.rn_model.proofs.PassingInstances.{and_true, both_true}
 use Rattle.rn_model.proofs.HoleValues.{op_is, neg_is, list_of_kind}
 use Rattle.rn_model.proofs.ReplacedValues.{replaced, replaced_step, renamed_is_replaced}
 
@@ -40,7 +40,7 @@ kinds_equal [] [] e = refl
 kinds_equal [] (l ∷ ls) e = absurd (let no : ⊥ = cc in no)
 kinds_equal (part ∷ parts) [] e = absurd (let no : ⊥ = cc in no)
 kinds_equal (part ∷ parts) (l ∷ ls) e =
-    let both = and_true (same_kind part.0 l) (fit_all (map same_kind (map (λ e. e.0) parts)) ls) e in
+    let both = both_true (same_kind part.0 l) (fit_all (map same_kind (map (λ e. e.0) parts)) ls) e in
     ap (λ k. k ∷ map (λ e. e.0) parts) (part.1 l both.0) ∙ ap (λ ks. l ∷ ks) (kinds_equal parts ls both.1)
 
 kind_layer : (y : K.Kind-F KindPart) (z : K.Kind-F Kind) → same_kind_step (map-Kind Kind (Kind → Bool) same_kind (map-Kind KindPart Kind (λ e. e.0) y)) z ≡ true → map-Kind KindPart Kind (λ e. e.0) y ≡ z
@@ -84,14 +84,14 @@ list_kinds vs kind e = sym (kinded_is (Value.List vs) (Kind.List kind) ∙ kinde
 
 each_kind : (kind : Kind) (vs : List Value) (v : Value) → list_all (λ fits. fits kind) (map value_has_kind vs) ≡ true → Contains vs v → HasKind v kind
 each_kind kind [] v e there = absurd (not_in_nil v there)
-each_kind kind (w ∷ vs) v e (zero, h, is) = ap (λ u. value_has_kind u kind) (sym is) ∙ (and_true (value_has_kind w kind) (list_all (λ fits. fits kind) (map value_has_kind vs)) e).0
-each_kind kind (w ∷ vs) v e (suc k, h, is) = each_kind kind vs v (and_true (value_has_kind w kind) (list_all (λ fits. fits kind) (map value_has_kind vs)) e).1 (k, omega (arith, h), is)
+each_kind kind (w ∷ vs) v e (zero, h, is) = ap (λ u. value_has_kind u kind) (sym is) ∙ (both_true (value_has_kind w kind) (list_all (λ fits. fits kind) (map value_has_kind vs)) e).0
+each_kind kind (w ∷ vs) v e (suc k, h, is) = each_kind kind vs v (both_true (value_has_kind w kind) (list_all (λ fits. fits kind) (map value_has_kind vs)) e).1 (k, omega (arith, h), is)
 
 both_lists : (kind : Kind) (vs ws : List Value) → list_all (λ fits. fits kind) (map value_has_kind vs) ≡ true → list_all (λ fits. fits kind) (map value_has_kind ws) ≡ true → list_all (λ fits. fits kind) (map value_has_kind (vs ++ ws)) ≡ true
 both_lists kind [] ws e f = f
 both_lists kind (v ∷ vs) ws e f =
-    let both = and_true (value_has_kind v kind) (list_all (λ fits. fits kind) (map value_has_kind vs)) e in
-    both_true (value_has_kind v kind) (list_all (λ fits. fits kind) (map value_has_kind (vs ++ ws))) both.0 (both_lists kind vs ws both.1 f)
+    let both = both_true (value_has_kind v kind) (list_all (λ fits. fits kind) (map value_has_kind vs)) e in
+    true_both (value_has_kind v kind) (list_all (λ fits. fits kind) (map value_has_kind (vs ++ ws))) both.0 (both_lists kind vs ws both.1 f)
 
 mapped : {A B P : Type 0} (f : A → B) (o : Option A) (y : B) → option_map f o ≡ Some y → ((x : A) → o ≡ Some x → Some (f x) ≡ Some y → P) → P
 mapped f None y e k = absurd (let no : ⊥ = cc in no)
@@ -112,18 +112,18 @@ module _ (kinds : ℕ → Kind) (env : Env) (well : (x : ℕ) (v : Value) → va
   parts_fit [] (k ∷ ks) vs e f = absurd (let no : ⊥ = cc in no)
   parts_fit (part ∷ parts) [] vs e f = absurd (let no : ⊥ = cc in no)
   parts_fit (part ∷ parts) (k ∷ ks) vs e f =
-      let both = and_true (expr_has_kind part.0 kinds k) (fit_all (map (λ test. test kinds) (map expr_has_kind (exprs parts))) ks) e in
+      let both = both_true (expr_has_kind part.0 kinds k) (fit_all (map (λ test. test kinds) (map expr_has_kind (exprs parts))) ks) e in
       option_and_then_some (λ v. option_map (λ ws. v ∷ ws) (worths (map worth (exprs parts)) env)) (worth part.0 env) vs f (λ v first rest.
       mapped (λ ws. v ∷ ws) (worths (map worth (exprs parts)) env) vs rest (λ ws others made.
-      ap (λ us. fit_all (map value_has_kind us) (k ∷ ks)) (sym (same_Some (v ∷ ws) vs made)) ∙ both_true (value_has_kind v k) (fit_all (map value_has_kind ws) ks) (part.1 k both.0 v first) (parts_fit parts ks ws both.1 others)))
+      ap (λ us. fit_all (map value_has_kind us) (k ∷ ks)) (sym (same_Some (v ∷ ws) vs made)) ∙ true_both (value_has_kind v k) (fit_all (map value_has_kind ws) ks) (part.1 k both.0 v first) (parts_fit parts ks ws both.1 others)))
 
   parts_all : (parts : List Part) (k : Kind) (vs : List Value) → list_all (λ test. test kinds k) (map expr_has_kind (exprs parts)) ≡ true → worths (map worth (exprs parts)) env ≡ Some vs → list_all (λ fits. fits k) (map value_has_kind vs) ≡ true
   parts_all [] k vs e f = ap (λ ws. list_all (λ fits. fits k) (map value_has_kind ws)) (sym (same_Some [] vs f))
   parts_all (part ∷ parts) k vs e f =
-      let both = and_true (expr_has_kind part.0 kinds k) (list_all (λ test. test kinds k) (map expr_has_kind (exprs parts))) e in
+      let both = both_true (expr_has_kind part.0 kinds k) (list_all (λ test. test kinds k) (map expr_has_kind (exprs parts))) e in
       option_and_then_some (λ v. option_map (λ ws. v ∷ ws) (worths (map worth (exprs parts)) env)) (worth part.0 env) vs f (λ v first rest.
       mapped (λ ws. v ∷ ws) (worths (map worth (exprs parts)) env) vs rest (λ ws others made.
-      ap (λ us. list_all (λ fits. fits k) (map value_has_kind us)) (sym (same_Some (v ∷ ws) vs made)) ∙ both_true (value_has_kind v k) (list_all (λ fits. fits k) (map value_has_kind ws)) (part.1 k both.0 v first) (parts_all parts k ws both.1 others)))
+      ap (λ us. list_all (λ fits. fits k) (map value_has_kind us)) (sym (same_Some (v ∷ ws) vs made)) ∙ true_both (value_has_kind v k) (list_all (λ fits. fits k) (map value_has_kind ws)) (part.1 k both.0 v first) (parts_all parts k ws both.1 others)))
 
   -- one layer of an expression, of its test and of its value
   abbrev tested : O.Expr-F Part → K.Kind-F Kind → Bool
@@ -163,7 +163,7 @@ module _ (kinds : ℕ → Kind) (env : Env) (well : (x : ℕ) (v : Value) → va
 
   cons_at : (parts : List Part) (tail : Part) (vs others : List Value) (w : Value) (z : K.Kind-F Kind) → tested (O.Cons parts tail) z ≡ true → worths (map worth (exprs parts)) env ≡ Some vs → worth tail.0 env ≡ Some w → list_of w ≡ Some others → kind_step (V.List (map value_has_kind (vs ++ others))) z ≡ true
   cons_at parts tail vs others w (K.List k) e f g h =
-      let both = and_true (list_all (λ test. test kinds k) (map expr_has_kind (exprs parts))) (expr_has_kind tail.0 kinds (Kind.List k)) e in
+      let both = both_true (list_all (λ test. test kinds k) (map expr_has_kind (exprs parts))) (expr_has_kind tail.0 kinds (Kind.List k)) e in
       both_lists k vs others (parts_all parts k vs both.0 f) (list_kinds others k (rest_of w others k (tail.1 (Kind.List k) both.1 w g) h))
   cons_at parts tail vs others w _ e f g h = absurd (let no : ⊥ = cc in no)
 
@@ -235,14 +235,14 @@ module _ (name : InstRef → InstRef) where
   parts_keep [] (k ∷ ks) e = absurd (let no : ⊥ = cc in no)
   parts_keep (part ∷ parts) [] e = absurd (let no : ⊥ = cc in no)
   parts_keep (part ∷ parts) (k ∷ ks) e =
-      let both = and_true (value_has_kind part.0 k) (fit_all (map value_has_kind (map (λ e. e.0) parts)) ks) e in
-      both_true (value_has_kind (rename part.0) k) (fit_all (map value_has_kind (map rename (map (λ e. e.0) parts))) ks) (part.1 k both.0) (parts_keep parts ks both.1)
+      let both = both_true (value_has_kind part.0 k) (fit_all (map value_has_kind (map (λ e. e.0) parts)) ks) e in
+      true_both (value_has_kind (rename part.0) k) (fit_all (map value_has_kind (map rename (map (λ e. e.0) parts))) ks) (part.1 k both.0) (parts_keep parts ks both.1)
 
   all_keep : (parts : List KeptPart) (k : Kind) → list_all (λ fits. fits k) (map value_has_kind (map (λ e. e.0) parts)) ≡ true → list_all (λ fits. fits k) (map value_has_kind (map rename (map (λ e. e.0) parts))) ≡ true
   all_keep [] k e = refl
   all_keep (part ∷ parts) k e =
-      let both = and_true (value_has_kind part.0 k) (list_all (λ fits. fits k) (map value_has_kind (map (λ e. e.0) parts))) e in
-      both_true (value_has_kind (rename part.0) k) (list_all (λ fits. fits k) (map value_has_kind (map rename (map (λ e. e.0) parts)))) (part.1 k both.0) (all_keep parts k both.1)
+      let both = both_true (value_has_kind part.0 k) (list_all (λ fits. fits k) (map value_has_kind (map (λ e. e.0) parts))) e in
+      true_both (value_has_kind (rename part.0) k) (list_all (λ fits. fits k) (map value_has_kind (map rename (map (λ e. e.0) parts)))) (part.1 k both.0) (all_keep parts k both.1)
 
   tuple_keeps : (parts : List KeptPart) (z : K.Kind-F Kind) → kind_step (V.Tuple (map value_has_kind (map (λ e. e.0) parts))) z ≡ true → kind_step (V.Tuple (map value_has_kind (map rename (map (λ e. e.0) parts)))) z ≡ true
   tuple_keeps parts (K.Tuple ks) e = parts_keep parts ks e

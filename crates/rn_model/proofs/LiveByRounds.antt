@@ -5,13 +5,13 @@ use Rattle.std.specs.List.{list_any}
 use Rattle.std.specs.Option.{option_map_or}
 use Rattle.std.proofs.lemmas.Bool.{eqb-true}
 use Rattle.std.proofs.lemmas.Bool.Decides.{nat_tests}
+use Rattle.rn_items.proofs.Bools.{both_true, true_both, or_true, or_left, or_right}
 use Rattle.rn_value.specs.declared.value.Value.{Value}
 use Rattle.rn_model.specs.declared.system.System.{System}
 use Rattle.rn_model.specs.Systems.{may_start}
 use Rattle.rn_model.specs.Markings.{Marking, Instance, instance_at, tokens_at, IsThere}
 use Rattle.rn_model.specs.Liveness.{IsLive, starts, held, mentions}
 use Rattle.rn_model.proofs.EnablingLemmas.{not_in_nil}
-use Rattle.rn_model.proofs.PassingInstances.{and_true, both_true, or_true, or_left, or_right}
 
 -- Some element passes a test.
 pub any_at : {X : Type 0} (p : X → Bool) (xs : List X) → list_any p xs ≡ true → (k : ℕ) × (x : X) × (slice_get xs k ≡ Some x) × (p x ≡ true)
@@ -116,9 +116,9 @@ module _ (system : System) (m : Marking) where
   grown_are_live live are n e = elim (or_true (live n) (is_there n && list_any (λ h. live h && names h n) numbers) e) as (λ _. IsLive system m n) [
     | inl before ↦ are n before
     | inr new ↦
-        let both = and_true (is_there n) (list_any (λ h. live h && names h n) numbers) new in
+        let both = both_true (is_there n) (list_any (λ h. live h && names h n) numbers) new in
         let holder = any_contained (λ h. live h && names h n) numbers both.1 in
-        let named = and_true (live holder.0) (names holder.0 n) holder.2 in
+        let named = both_true (live holder.0) (names holder.0 n) holder.2 in
         named_is_live holder.0 n (instance_at m holder.0) refl (are holder.0 named.0) (there_of n (instance_at m n) refl both.0) named.1
   ]
 
@@ -141,7 +141,7 @@ module _ (system : System) (m : Marking) where
   none_come live h n e = elim (or_true (live n) (is_there n && list_any (λ h. live h && names h n) numbers) e) as (λ _. live n ≡ true) [
     | inl before ↦ before
     | inr new ↦
-        let both = and_true (is_there n) (list_any (λ h. live h && names h n) numbers) new in
+        let both = both_true (is_there n) (list_any (λ h. live h && names h n) numbers) new in
         let there = there_of n (instance_at m n) refl both.0 in
         same_pass live (grown live) (λ x e. or_left (live x) (is_there x && list_any (λ h. live h && names h x) numbers) e) numbers h n (numbered m.instances n there.0 there.1) e
   ]
@@ -176,8 +176,8 @@ module _ (system : System) (m : Marking) where
       let live_h : live_by j h ≡ true = all_come j none h live in
       let named = names_by h n place token (instance_at m h) contained mentioned in
       let named_h : names h n ≡ true = ap (λ o. option_map_or (λ i. list_any (λ vs. list_any (λ v. mentions v n) vs) i.places) o false) named.1 ∙ named.2 in
-      let holder : list_any (λ h. live_by j h && names h n) numbers ≡ true = contained_any (λ h. live_by j h && names h n) numbers h (numbered m.instances h named.0 named.1) (both_true (live_by j h) (names h n) live_h named_h) in
-      none n (or_right (live_by j n) (is_there n && list_any (λ h. live_by j h && names h n) numbers) (both_true (is_there n) (list_any (λ h. live_by j h && names h n) numbers) (ap is_some there.1) holder))
+      let holder : list_any (λ h. live_by j h && names h n) numbers ≡ true = contained_any (λ h. live_by j h && names h n) numbers h (numbered m.instances h named.0 named.1) (true_both (live_by j h) (names h n) live_h named_h) in
+      none n (or_right (live_by j n) (is_there n && list_any (λ h. live_by j h && names h n) numbers) (true_both (is_there n) (list_any (λ h. live_by j h && names h n) numbers) (ap is_some there.1) holder))
 
 -- A test that just the live instances pass.
 pub record DecidesLive (system : System) (m : Marking) (live : ℕ → Bool) : Type 0 where

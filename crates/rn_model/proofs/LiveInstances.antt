@@ -5,6 +5,7 @@ use Rattle.std.specs.List.{AllAdjacentBelow}
 use Rattle.std.specs.List.Sorted.{IsSorted, IsStrictlyIncreasing}
 use Rattle.std.proofs.lemmas.List.Elements.{All-nil, All-cons}
 use Rattle.std.proofs.Math.Dec.{T, eqb→eq}
+use Rattle.std.proofs.lemmas.Option.{same_Some}
 use Rattle.rn_value.specs.Order.{value_cmp}
 use Rattle.rn_value.specs.declared.value.InstRef.TheVariants.{Old}
 use Rattle.rn_value.specs.declared.value.Kind.TheVariants as Kind
@@ -60,9 +61,6 @@ named_lives = held 0 main_lives (0, omega arith, refl) (mentions-Inst 2 2) (name
 same_number : (k n : ℕ) → nat_eq k n ≡ true → n ≡ k
 same_number k n e = sym (eqb→eq k n (subst T (sym e) tt))
 
-some_same : (k n : ℕ) → Some k ≡ Some n → k ≡ n
-some_same k n e = cc
-
 abbrev IsOneOfTwo : ℕ → Type 0
 IsOneOfTwo n = (n ≡ 1) ⊎ (n ≡ 2)
 
@@ -72,7 +70,7 @@ by_net n net true two three a b c there may = inl (same_number 1 n a)
 by_net n net false true three a b c there may = inr (same_number 2 n b)
 by_net n net false false true a b c there may =
     let at_three : net_of m 3 ≡ Some net = subst (λ k. net_of m k ≡ Some net) (same_number 3 n c) there in
-    let waits : IsTrue (may_start sys 1) = subst (λ k. IsTrue (may_start sys k)) (sym (some_same 1 net at_three)) may in
+    let waits : IsTrue (may_start sys 1) = subst (λ k. IsTrue (may_start sys k)) (sym (same_Some 1 net at_three)) may in
     let no : ⊥ = cc in absurd no
 by_net n net false false false a b c there may = let none : None ≡ Some net = rw (a, b, c) at there in let no : ⊥ = cc in absurd no
 

@@ -1,5 +1,5 @@
 -- In a binding of the shape a node is found by its path.
-use Rattle.std.proofs.Common.{◌≡◌, ℕ, zero, suc, ◌+◌, Bool, true, false, ◌&&◌, List, [], ◌∷◌, length, get_or, refl, ◌∙◌, subst, arith}
+use Rattle.std.proofs.Common.{◌≡◌, ℕ, zero, suc, ◌+◌, Bool, true, false, List, [], ◌∷◌, length, get_or, refl, ◌∙◌, subst, arith}
 use Rattle.std.specs.Prelude.{Option, Some, Contains, nat_eq}
 use Rattle.std.specs.List.{AllAdjacentBelow}
 use Rattle.std.specs.Ordering.{nat_cmp}
@@ -7,29 +7,11 @@ use Rattle.std.specs.Cmp.{tied_itself}
 use Rattle.std.specs.Cmp.Lexicographic.{pointwise, slice_cmp}
 use Rattle.std.specs.declared.cmp.Ordering.TheVariants.{Less, Equal}
 use Rattle.std.proofs.lemmas.Cmp.{nat_list_cmp_total}
-use Rattle.std.proofs.lemmas.Bool.{eqb-true, eq-eqb}
+use Rattle.rn_items.proofs.Numbers.{same_numbers, numbers_themselves}
 use Rattle.rn_model.specs.declared.system.System.{System}
 use Rattle.rn_model.specs.declared.binding.Node.{Node}
 use Rattle.rn_model.specs.declared.binding.Binding.{Binding}
 use Rattle.rn_model.specs.Bindings.{Shape, node_at}
-
-both_true : (a b : Bool) → a && b ≡ true → (a ≡ true) × (b ≡ true)
-both_true true b e = (refl, e)
-both_true false b e = absurd (let no : ⊥ = cc in no)
-
-pub same_path : (p q : List ℕ) → pointwise nat_eq p q ≡ true → p ≡ q
-same_path [] [] e = refl
-same_path [] (j ∷ q) e = absurd (let no : ⊥ = cc in no)
-same_path (i ∷ p) [] e = absurd (let no : ⊥ = cc in no)
-same_path (i ∷ p) (j ∷ q) e =
-    let both = both_true (nat_eq i j) (pointwise nat_eq p q) e in
-    let first : i ≡ j = eqb-true i j both.0 in
-    let rest : p ≡ q = same_path p q both.1 in
-    cc
-
-pub path_itself : (p : List ℕ) → pointwise nat_eq p p ≡ true
-path_itself [] = refl
-path_itself (i ∷ p) = rw (eq-eqb i i refl, path_itself p) refl
 
 abbrev IsBelow : Node → Node → Type 0
 IsBelow x y = slice_cmp nat_cmp x.path y.path ≡ Less
@@ -62,13 +44,13 @@ not_found_first : (x : Node) (xs : List Node) (path : List ℕ) (same : Bool) �
 not_found_first x xs path same e differ = rw (e ∙ differ) refl
 
 differs : (x y : Node) (same : Bool) → IsBelow x y → pointwise nat_eq x.path y.path ≡ same → same ≡ false
-differs x y true less e = absurd (not_below_itself x.path y.path (same_path x.path y.path e) less)
+differs x y true less e = absurd (not_below_itself x.path y.path (same_numbers x.path y.path e) less)
 differs x y false less e = refl
 
 found : (nodes : List Node) (y : Node) → Ascending nodes → Contains nodes y → found_in nodes y.path ≡ Some y
 found [] y a (k, h, e) = let no : ⊥ = omega (arith, h) in absurd no
 found (x ∷ xs) y a (zero, h, e) =
-    let here : found_in (x ∷ xs) x.path ≡ Some x = rw (path_itself x.path) refl in
+    let here : found_in (x ∷ xs) x.path ≡ Some x = rw (numbers_themselves x.path) refl in
     subst (λ z. found_in (x ∷ xs) z.path ≡ Some z) e here
 found (x ∷ xs) y a (suc k, h, e) =
     let there : Contains xs y = (k, omega (arith, h), e) in

@@ -3,6 +3,7 @@ use Rattle.std.proofs.Common.{◌≡◌, ℕ, zero, suc, true, false, List, [], 
 use Rattle.std.specs.Prelude.{Option, Some, None, option_map, option_and_then, unwrap_or, slice_get, Contains, filter, flat_map}
 use Rattle.std.specs.List.{AllZip, AllByRecursion, enumerate_from}
 use Rattle.std.specs.Option.{option_map_or}
+use Rattle.std.proofs.lemmas.Option.{same_Some}
 use Rattle.rn_value.specs.declared.value.Kind.{Kind}
 use Rattle.std.proofs.lemmas.List.Elements.{All-contains, All-from_recursion, recursion_from_All, All-contains_itself}
 use Rattle.rn_value.specs.declared.value.InstRef.TheVariants.{New}
@@ -230,13 +231,10 @@ module _ (system : System) (b : Binding) (depth : ℕ) (shape : Shape system b d
 pub own_values_satisfy : OwnValuesSatisfy
 own_values_satisfy system b depth shape agrees = (own_values system b, are_own_values system b depth shape agrees)
 
-some_same : (v w : Value) → Some v ≡ Some w → v ≡ w
-some_same v w e = cc
-
 pub forced_is_own : ForcedIsOwn
 forced_is_own system b depth shape agrees n node x v there value forced =
     let own = own_values_satisfy system b depth shape agrees in
-    some_same forced.0 v (sym (forced.1 own.0 (own.1.rounds n)) ∙ ap Some (own.1.values node x v there value))
+    same_Some forced.0 v (sym (forced.1 own.0 (own.1.rounds n)) ∙ ap Some (own.1.values node x v there value))
 
 pub forced_stays : ForcedStays
 forced_stays system b n term forced = (forced.0, λ a satisfies. forced.1 a (λ item before. satisfies item (inl before)))

@@ -1,8 +1,9 @@
 -- Values in which each instance passes a test.
-use Rattle.std.proofs.Common.{◌≡◌, ℕ, ℤ, Bool, true, false, ◌&&◌, ◌||◌, ◌⊎◌, List, [], ◌∷◌, map, refl, sym, ap, ◌∙◌, subst, inl, inr}
+use Rattle.std.proofs.Common.{◌≡◌, ℕ, ℤ, Bool, true, false, List, [], ◌∷◌, map, refl, sym, ap, ◌∙◌, subst, inl, inr}
 use Rattle.std.specs.Prelude.{Some, None, nat_eq, if◌then◌else◌}
 use Rattle.std.specs.List.{list_all, list_any, AllByRecursion}
 use Rattle.std.proofs.lemmas.Bool.{eqb-true, eq-eqb}
+use Rattle.rn_items.proofs.Bools.{both_true, true_both, or_true, or_left, or_right}
 use Rattle.rn_value.specs.declared.value.InstRef.{InstRef}
 use Rattle.rn_value.specs.declared.value.InstRef.TheVariants.{Old, New}
 use Rattle.rn_value.specs.declared.value.Value.{Value, out-Value, roll-Value, map-Value, fold-Value, fold_out-Value, fold-roll-Value, ind-Value}
@@ -14,24 +15,6 @@ use Rattle.rn_model.specs.Liveness.{mentions, mentions_step}
 use Rattle.rn_model.specs.SoundTokens.{holds_new, new_in_step}
 use Rattle.rn_model.proofs.ReplacedValues.{replaced, replaced_step, IsPlain}
 use Rattle.rn_model.proofs.ReplacedReadings.{worth_is_fixed}
-
-pub and_true : (a b : Bool) → a && b ≡ true → (a ≡ true) × (b ≡ true)
-and_true true b e = (refl, e)
-and_true false b e = absurd (let no : ⊥ = cc in no)
-
-pub both_true : (a b : Bool) → a ≡ true → b ≡ true → a && b ≡ true
-both_true a b e f = rw (e, f) refl
-
-pub or_true : (a b : Bool) → a || b ≡ true → (a ≡ true) ⊎ (b ≡ true)
-or_true true b e = inl refl
-or_true false b e = inr e
-
-pub or_left : (a b : Bool) → a ≡ true → a || b ≡ true
-or_left a b e = rw e refl
-
-pub or_right : (a b : Bool) → b ≡ true → a || b ≡ true
-or_right true b e = refl
-or_right false b e = e
 
 module _ (good : InstRef → Bool) where
   -- one value, with whether each instance in each of its parts passes
@@ -94,7 +77,7 @@ module _ (good : InstRef → Bool) where
   parts_kept : (parts : List KeptPart) → list_all (λ p. p) (map only (map (λ e. e.0) parts)) ≡ true → map rep (map (λ e. e.0) parts) ≡ map (λ e. e.0) parts
   parts_kept [] e = refl
   parts_kept (part ∷ parts) e =
-      let both = and_true (only part.0) (list_all (λ p. p) (map only (map (λ e. e.0) parts))) e in
+      let both = both_true (only part.0) (list_all (λ p. p) (map only (map (λ e. e.0) parts))) e in
       ap (λ v. v ∷ map rep (map (λ e. e.0) parts)) (part.1 both.0) ∙ ap (λ vs. part.0 ∷ vs) (parts_kept parts both.1)
 
   abbrev LayerIsKept : V.Value-F Value → Type 0
@@ -121,7 +104,7 @@ module _ (good : InstRef → Bool) where
 
   parts_pass : (parts : List PassingPart) → list_all (λ p. p) (map only (map rep (map (λ e. e.0) parts))) ≡ true
   parts_pass [] = refl
-  parts_pass (part ∷ parts) = both_true (only (rep part.0)) (list_all (λ p. p) (map only (map rep (map (λ e. e.0) parts)))) part.1 (parts_pass parts)
+  parts_pass (part ∷ parts) = true_both (only (rep part.0)) (list_all (λ p. p) (map only (map rep (map (λ e. e.0) parts)))) part.1 (parts_pass parts)
 
   passes_or_not : (i : InstRef) (passes : Bool) → good i ≡ passes → only (if passes then Value.Inst i else Value.Tuple []) ≡ true
   passes_or_not i true e = only-Inst i ∙ e
@@ -153,7 +136,7 @@ module _ (good : InstRef → Bool) where
   parts_mention : (parts : List MentioningPart) → list_all (λ p. p) (map only (map (λ e. e.0) parts)) ≡ true → (n : ℕ) → list_any (λ test. test n) (map mentions (map (λ e. e.0) parts)) ≡ true → good (Old n) ≡ true
   parts_mention [] e n f = absurd (let no : ⊥ = cc in no)
   parts_mention (part ∷ parts) e n f =
-      let both = and_true (only part.0) (list_all (λ p. p) (map only (map (λ e. e.0) parts))) e in
+      let both = both_true (only part.0) (list_all (λ p. p) (map only (map (λ e. e.0) parts))) e in
       elim (or_true (mentions part.0 n) (list_any (λ test. test n) (map mentions (map (λ e. e.0) parts))) f) as (λ _. good (Old n) ≡ true) [
         | inl here ↦ part.1 both.0 n here
         | inr later ↦ parts_mention parts both.1 n later
@@ -205,7 +188,7 @@ module _ (good : InstRef → Bool) where
         λ n e. p.0 n (or_right (mentions part.0 n) (list_any (λ test. test n) (map mentions vs)) e),
         λ path j e. p.1 path j (or_right (holds_new part.0) (list_any (λ h. h) (map holds_new vs)) e),
       ) in
-      both_true (only part.0) (list_all (λ p. p) (map only vs)) (part.1 first) (parts_only parts others)
+      true_both (only part.0) (list_all (λ p. p) (map only vs)) (part.1 first) (parts_only parts others)
 
   abbrev LayerIsOnly : V.Value-F Value → Type 0
   LayerIsOnly x = ((n : ℕ) → mentions_step (map-Value Value (ℕ → Bool) mentions x) n ≡ true → good (Old n) ≡ true) →
@@ -239,7 +222,7 @@ module _ (good : InstRef → Bool) where
     parts_hold_none : (parts : List HoldingPart) → list_all (λ p. p) (map only (map (λ e. e.0) parts)) ≡ true → list_any (λ h. h) (map holds_new (map (λ e. e.0) parts)) ≡ false
     parts_hold_none [] e = refl
     parts_hold_none (part ∷ parts) e =
-        let both = and_true (only part.0) (list_all (λ p. p) (map only (map (λ e. e.0) parts))) e in
+        let both = both_true (only part.0) (list_all (λ p. p) (map only (map (λ e. e.0) parts))) e in
         rw (part.1 both.0, parts_hold_none parts both.1) refl
 
     abbrev LayerHoldsNone : V.Value-F Value → Type 0

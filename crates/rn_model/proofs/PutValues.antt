@@ -8,6 +8,7 @@ use Rattle.std.specs.List.{list_all, AllByRecursion}
 use Rattle.std.proofs.lemmas.Bool.{eqb-true}
 use Rattle.std.proofs.lemmas.Option.{same_Some, option_and_then_some}
 use Rattle.std.proofs.lemmas.List.Elements.{Contains-append_cases}
+use Rattle.rn_items.proofs.Bools.{both_true, true_both}
 use Rattle.rn_value.specs.Order.{inst_cmp}
 use Rattle.rn_value.specs.declared.value.InstRef.{InstRef}
 use Rattle.rn_value.specs.declared.value.Value.{Value, map-Value, fold-roll-Value, out-roll-Value, ind-Value}
@@ -27,16 +28,16 @@ use Rattle.rn_model.specs.Bindings.{env_of}
 use Rattle.rn_model.specs.Demands.{Reading, elements, puts, asked_by_arc, asked_by_node, asked_at}
 use Rattle.rn_model.specs.Firing.{Acts, Effects, numbered_inst, creations_of, renamed_value, renamed_node, named, with_set, with_out, after_actions, acts_before, node_acts, outputs_defined, effects_with, all_effects, effects}
 use Rattle.rn_model.proofs.EnablingLemmas.{not_in_nil, the_one}
-use Rattle.rn_model.proofs.BindingOrder.{insts_apart}
+use Rattle.rn_value.specs.OrderLaws.{insts_apart}
 use Rattle.rn_model.proofs.AskedValues.{later, map_source, flat_source}
 use Rattle.rn_model.proofs.ReplacedValues.{replaced, replaced_step, renamed_is_replaced}
-use Rattle.rn_model.proofs.PassingInstances.{only, only_step, only-Int, only-Text, only-Tuple, only-List, only-Inst, IsPassingEnv, worth_passes, and_true, both_true}
+use Rattle.rn_model.proofs.PassingInstances.{only, only_step, only-Int, only-Text, only-Tuple, only-List, only-Inst, IsPassingEnv, worth_passes}
 
 -- Values in values that pass.
 in_passing : (good : InstRef → Bool) (vs : List Value) → list_all (λ p. p) (map (only good) vs) ≡ true → (v : Value) → Contains vs v → only good v ≡ true
 in_passing good [] e v there = absurd (not_in_nil v there)
-in_passing good (w ∷ vs) e v (zero, h, is) = ap (only good) (sym is) ∙ (and_true (only good w) (list_all (λ p. p) (map (only good) vs)) e).0
-in_passing good (w ∷ vs) e v (suc k, h, is) = in_passing good vs (and_true (only good w) (list_all (λ p. p) (map (only good) vs)) e).1 v (k, omega (arith, h), is)
+in_passing good (w ∷ vs) e v (zero, h, is) = ap (only good) (sym is) ∙ (both_true (only good w) (list_all (λ p. p) (map (only good) vs)) e).0
+in_passing good (w ∷ vs) e v (suc k, h, is) = in_passing good vs (both_true (only good w) (list_all (λ p. p) (map (only good) vs)) e).1 v (k, omega (arith, h), is)
 
 elements_layer : (good : InstRef → Bool) (x : V.Value-F Value) → only_step good (map-Value Value Bool (only good) x) ≡ true → (v : Value) → Contains (unwrap_or (list_step x) []) v → only good v ≡ true
 elements_layer good (V.Int n) e v there = absurd (not_in_nil v there)
@@ -73,8 +74,8 @@ module _ (before good : InstRef → Bool) (name : InstRef → InstRef) (renames 
   parts_pass : (parts : List Part) → list_all (λ p. p) (map (only before) (map (λ e. e.0) parts)) ≡ true → list_all (λ p. p) (map (only good) (map rename (map (λ e. e.0) parts))) ≡ true
   parts_pass [] e = refl
   parts_pass (part ∷ parts) e =
-      let both = and_true (only before part.0) (list_all (λ p. p) (map (only before) (map (λ e. e.0) parts))) e in
-      both_true (only good (rename part.0)) (list_all (λ p. p) (map (only good) (map rename (map (λ e. e.0) parts)))) (part.1 both.0) (parts_pass parts both.1)
+      let both = both_true (only before part.0) (list_all (λ p. p) (map (only before) (map (λ e. e.0) parts))) e in
+      true_both (only good (rename part.0)) (list_all (λ p. p) (map (only good) (map rename (map (λ e. e.0) parts)))) (part.1 both.0) (parts_pass parts both.1)
 
   abbrev LayerPasses : V.Value-F Value → Type 0
   LayerPasses x = only_step before (map-Value Value Bool (only before) x) ≡ true → only good (replaced_step (λ i. Value.Inst (name i)) (map-Value Value Value rename x)) ≡ true

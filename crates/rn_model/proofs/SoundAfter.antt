@@ -8,6 +8,9 @@ use Rattle.std.proofs.lemmas.Bool.{eqb-true, eq-eqb}
 use Rattle.std.proofs.lemmas.List.Elements.{All-contains, Contains-get_or}
 use Rattle.std.proofs.lemmas.List.Quantifiers.{position-Some}
 use Rattle.std.proofs.lemmas.Option.{same_Some, slice_get-get_or}
+use Rattle.rn_items.proofs.Numbers.{same_numbers, numbers_themselves}
+use Rattle.rn_items.proofs.Bools.{both_true, true_both}
+use Rattle.rn_value.proofs.Variants.{same_old}
 use Rattle.rn_value.specs.Kinds.{HasKind, value_has_kind}
 use Rattle.rn_value.specs.declared.value.Kind.{Kind}
 use Rattle.rn_value.specs.declared.value.InstRef.{InstRef}
@@ -32,10 +35,10 @@ use Rattle.rn_model.specs.SoundTokens.{HasSoundTokens, IsSoundToken}
 use Rattle.rn_model.specs.Firing.{Made, Fired, fire, creations_of, made_by, named, numbered_inst, renamed_value, renamed_node, marking_after, instance_after, new_instance}
 use Rattle.rn_model.specs.LivenessLaws.{FiringsKeepTokensSound, NamesWhatIsThere, TellsWhatIsThere, FiringsTellWhatIsThere}
 use Rattle.rn_model.proofs.InitialTokens.{apart}
-use Rattle.rn_model.proofs.NodesByPath.{node_at-path, same_path, path_itself}
+use Rattle.rn_model.proofs.NodesByPath.{node_at-path}
 use Rattle.rn_model.proofs.MarkingsOfRuns.{good_transition}
 use Rattle.rn_model.proofs.LiveByRounds.{DecidesLive, live_decided}
-use Rattle.rn_model.proofs.PassingInstances.{only, only_mentions, only_no_new, names_passing, and_true, both_true}
+use Rattle.rn_model.proofs.PassingInstances.{only, only_mentions, only_no_new, names_passing}
 use Rattle.rn_model.proofs.DerivedInstances.{PassesOn, inst_passes, value_passes}
 use Rattle.rn_model.proofs.LiveBindings.{start_is_live, live_is_there}
 use Rattle.rn_model.proofs.DeadInstances.{FiredAs, fired_as, there_of_net, live_there, below_next, first_token}
@@ -44,9 +47,6 @@ use Rattle.rn_model.proofs.AfterFiring.{was_there, is_new, at_least, token_from}
 use Rattle.rn_model.proofs.PutValues.{StaysSo, reading_stays, put_from, put_passes, outs_pass, renamed_passes}
 use Rattle.rn_model.proofs.KindsOfValues.{worth_has_kind, put_has_kind, beside_has_kind}
 use Rattle.rn_model.proofs.PlacesInLists.{in_enumerated, from_enumerated, has_position}
-
-same_old : (k n : ℕ) → Old k ≡ Old n → k ≡ n
-same_old k n e = cc
 
 abbrev is_made_at : List ℕ → ℕ → Made → Bool
 is_made_at path j c = pointwise nat_eq c.path path && nat_eq c.place j
@@ -97,10 +97,10 @@ module _ (system : System) (m : Marking) (b : Binding) (depth step : ℕ) (f : F
       let d : Made = record { path = path; place = j; net = 0 } in
       let at = position-Some (λ c. pointwise nat_eq c.path path && nat_eq c.place j) made k d e in
       let c = get_or made k d in
-      let both = and_true (pointwise nat_eq c.path path) (nat_eq c.place j) at.1 in (
+      let both = both_true (pointwise nat_eq c.path path) (nat_eq c.place j) at.1 in (
         c,
         Contains-get_or made k d at.0,
-        same_path c.path path both.0,
+        same_numbers c.path path both.0,
         eqb-true c.place j both.1,
         is_new system m made named_b fired.acts (m.next + k, c) (none_yet system m (m.next + k) is (omega arith)) (in_enumerated m.next made k c (slice_get-get_or made k d at.0)),
       )
@@ -124,7 +124,7 @@ module _ (system : System) (m : Marking) (b : Binding) (depth step : ℕ) (f : F
       let listed = subst (λ k. Contains (enumerate_from 0 (transition_of system node).creations) (k, c)) first (in_enumerated 0 (transition_of system node).creations j c here) in
       let in_node : Contains (made_by system node) own = contained_mapped (λ c. record { path = node.path; place = c.0; net = c.1.net }) (enumerate_from 0 (transition_of system node).creations) (j, c) listed in
       has_position (λ c. pointwise nat_eq c.path node.path && nat_eq c.place j) made own (contained_flat (made_by system) b.nodes node own there in_node)
-      (both_true (pointwise nat_eq node.path node.path) (nat_eq j j) (path_itself node.path) (eq-eqb j j refl))
+      (true_both (pointwise nat_eq node.path node.path) (nat_eq j j) (numbers_themselves node.path) (eq-eqb j j refl))
 
   passes_on : (live : ℕ → Bool) → DecidesLive system m live → PassesOn system m b (live_or_made live made)
   passes_on live decides = record {

@@ -4,7 +4,6 @@ use Rattle.std.specs.Prelude.{Some, Contains, All}
 use Rattle.std.proofs.lemmas.List.Elements.{All-nil, All-cons}
 use Rattle.rn_value.specs.declared.value.InstRef.TheVariants.{Old}
 use Rattle.rn_value.specs.declared.value.Kind.TheVariants as Kind
-use Rattle.rn_value.specs.declared.value.Value.{Value}
 use Rattle.rn_model.specs.declared.expr.Expr.TheVariants as E
 use Rattle.rn_model.specs.declared.system.System.{System}
 use Rattle.rn_model.specs.declared.system.NetArc.{NetArc}
@@ -19,9 +18,6 @@ use Rattle.rn_model.specs.Derivation.{Assignment, Item, entry, found, arc, items
 use Rattle.rn_model.proofs.ExampleSystems.{int, arc_of, place_of, only_arcs, one_net, int_var}
 use Rattle.rn_model.proofs.EvaluationLemmas.{worth_rules}
 use Rattle.rn_model.proofs.DerivationLemmas.{term_rules, hole_rules}
-
-some_same : (v w : Value) → Some v ≡ Some w → v ≡ w
-some_same v w e = cc
 
 -- place p: int = 5; in p: x;
 abbrev taking : System

@@ -4,6 +4,7 @@ use Rattle.std.proofs.Common.{◌≡◌, ℕ, ◌≤◌, Bool, true, false, pos,
 use Rattle.std.specs.Prelude.{Some, Err, All, Contains, slice_get}
 use Rattle.std.specs.Ordering.{is_eq}
 use Rattle.std.proofs.lemmas.List.Elements.{All-nil, All-cons}
+use Rattle.rn_value.proofs.Variants.{same_old}
 use Rattle.rn_value.specs.Order.{inst_cmp}
 use Rattle.rn_value.specs.declared.value.InstRef.{InstRef}
 use Rattle.rn_value.specs.declared.value.InstRef.TheVariants.{Old}
@@ -86,16 +87,13 @@ place_fits : (inst : InstRef) (place : ℕ) (same : Bool) → is_eq (inst_cmp (O
 place_fits inst place true e = idle sys m b inst place (rw e) (rw e) (rw e) (rw e)
 place_fits inst place false e = idle sys m b inst place (rw e) (rw e) (rw e) (rw e)
 
-old_same : (j k : ℕ) → Old j ≡ Old k → j ≡ k
-old_same j k e = cc
-
 enabled : Enabled sys m b 0
 enabled = record {
   shape = shape;
   agrees = agrees;
   derived = derived;
   fits = record {
-    there = All-cons (λ node. (k : ℕ) → node.inst ≡ Old k → net_of m k ≡ Some node.net) n [] (λ k e. subst (λ i. net_of m i ≡ Some 0) (old_same 1 k e) refl) (All-nil _);
+    there = All-cons (λ node. (k : ℕ) → node.inst ≡ Old k → net_of m k ≡ Some node.net) n [] (λ k e. subst (λ i. net_of m i ≡ Some 0) (same_old 1 k e) refl) (All-nil _);
     places = λ inst place. place_fits inst place (is_eq (inst_cmp (Old 1) inst)) refl;
   };
 }

@@ -16,7 +16,7 @@ fn copy_node(alloc: Global, node: &Node) -> Result<Node, NoMemory>
         inst: copy_inst(alloc, &node.inst)?,
         net: node.net,
         transition: node.transition,
-        values: copy_all(alloc, &node.values)?,
+        values: copy_all(alloc, node.values.as_slice())?,
     })
 }
 
@@ -56,7 +56,7 @@ pub fn copy_entry(alloc: Global, entry: &Entry) -> Result<Entry, NoMemory>
         } => Ok(Entry::Fire {
             worker: *worker,
             binding: copy_binding(alloc, binding)?,
-            outs: copy_all(alloc, outs)?,
+            outs: copy_all(alloc, outs.as_slice())?,
         }),
         Entry::End(reason) => Ok(Entry::End(copy_reason(alloc, reason)?)),
     }

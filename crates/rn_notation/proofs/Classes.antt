@@ -5,15 +5,19 @@ use Rattle.std.specs.Char.{IsScalar}
 use Rattle.std.specs.List.{list_all, AllByRecursion}
 use Rattle.std.specs.Str.{StartsWithNoChar}
 use Rattle.std.proofs.Math.Dec.{T, leb→le}
-use Rattle.rn_notation.specs.Words.{is_blank, is_letter, is_digit, is_name_byte, goes_on, is_word, are_digits, number_of, greatest, is_front, place_in, reserved_words, signs, begins_with_sign, is_longest_sign, opens_comment}
+use Rattle.std.proofs.lemmas.Option.{same_Some}
+use Rattle.rn_items.proofs.Bools.{both_true}
+use Rattle.rn_value.specs.Characters.{is_letter, is_digit, is_name_byte}
+use Rattle.rn_value.specs.Words.{begins_with, is_identifier, index_of, reserved_words}
+use Rattle.rn_notation.specs.Words.{is_blank, are_digits, number_of, greatest, is_front, signs, begins_with_sign, is_longest_sign, opens_comment}
 use Rattle.rn_notation.specs.Texts.{Part, AreParts, written, meant, is_closed, IsInComment, IsBroken, IsNoEscape}
 use Rattle.rn_notation.specs.Tokens.{IsGap, IsToken}
 use Rattle.rn_notation.specs.Faults.{IsFault, begins_something}
 use Rattle.rn_notation.specs.Steps.{Found, gap, token, fault, Stands}
 use Rattle.rn_notation.specs.declared.token.TokenKind.TheVariants.{Name, Word, Number, Text, Sign}
 use Rattle.rn_notation.specs.declared.token.Cause.TheVariants.{P1, P3, P4, P7}
-use Rattle.rn_notation.proofs.NumberLemmas.{both_true}
-use Rattle.rn_notation.proofs.WordLemmas.{passes, among_fronts, front_of_itself, low_name_byte, letter_passes}
+use Rattle.rn_notation.proofs.WordLemmas.{passes, among_fronts, front_of_itself}
+use Rattle.rn_value.proofs.WordLemmas.{name_byte-letter, name_byte-low}
 use Rattle.rn_notation.proofs.Characters.{not_broken, heads, tails, some_bytes, other_number}
 use Rattle.std.proofs.lemmas.List.{length-append}
 use Rattle.rn_notation.specs.declared.token.TokenKind.{TokenKind}
@@ -52,7 +56,7 @@ word_found_at None w rest = (token (Name w), w, rest)
 word_found_at (Some k) w rest = (token (Word k), w, rest)
 
 abbrev word_found : List ℕ → List ℕ → Outcome
-word_found w rest = word_found_at (place_in reserved_words w) w rest
+word_found w rest = word_found_at (index_of reserved_words w) w rest
 
 abbrev number_found : List ℕ → List ℕ → Outcome
 number_found ds rest = if nat_le (number_of ds) greatest then (token (Number (pos (number_of ds))), ds, rest) else (fault P3, [], ds ++ rest)
@@ -73,8 +77,8 @@ record IsWordRead (text : List ℕ) (o : Outcome) : Type 0 where
   word : List ℕ
   rest : List ℕ
   whole : text ≡ word ++ rest
-  is : is_word word ≡ true
-  stops : goes_on is_name_byte rest ≡ false
+  is : is_identifier word ≡ true
+  stops : begins_with is_name_byte rest ≡ false
   made : o ≡ word_found word rest
 
 record IsNumberRead (text : List ℕ) (o : Outcome) : Type 0 where
@@ -82,7 +86,7 @@ record IsNumberRead (text : List ℕ) (o : Outcome) : Type 0 where
   rest : List ℕ
   whole : text ≡ ds ++ rest
   is : are_digits ds ≡ true
-  stops : goes_on is_digit rest ≡ false
+  stops : begins_with is_digit rest ≡ false
   made : o ≡ number_found ds rest
 
 record IsTextRead (after : List ℕ) (o : Outcome) : Type 0 where
@@ -106,7 +110,7 @@ record IsSignRead (text : List ℕ) (o : Outcome) : Type 0 where
   sign : List ℕ
   rest : List ℕ
   whole : text ≡ sign ++ rest
-  at : place_in signs sign ≡ Some k
+  at : index_of signs sign ≡ Some k
   longest : is_longest_sign sign text ≡ true
   made : o ≡ (token (Sign k), sign, rest)
 
@@ -186,14 +190,14 @@ blank_low c h = by (nat_eq c 32) (nat_eq c 9) (nat_eq c 13) (nat_eq c 10) refl r
 class_blank : (c : ℕ) (text : List ℕ) → is_blank c ≡ true → class_of (c ∷ text) ≡ blanks
 class_blank c text h = rw (low c (blank_low c h), h) refl
 
-class_letter : (text : List ℕ) → goes_on is_letter text ≡ true → class_of text ≡ letters
+class_letter : (text : List ℕ) → begins_with is_letter text ≡ true → class_of text ≡ letters
 class_letter [] h = absurd (true≢false (sym h))
-class_letter (c ∷ text) h = let small = low_name_byte c (letter_passes c h) in rw (low c small, letter_no_blank c small h, h) refl
+class_letter (c ∷ text) h = let small = name_byte-low c (name_byte-letter c h) in rw (low c small, letter_no_blank c small h, h) refl
 
 digit_low : (c : ℕ) → is_digit c ≡ true → c < 128
 digit_low c h = let both = both_true (nat_le 48 c) (nat_le c 57) h in let high = leb→le c 57 (subst T (sym both.1) tt) in omega (arith, high)
 
-class_digit : (text : List ℕ) → goes_on is_digit text ≡ true → class_of text ≡ digits
+class_digit : (text : List ℕ) → begins_with is_digit text ≡ true → class_of text ≡ digits
 class_digit [] h = absurd (true≢false (sym h))
 class_digit (c ∷ text) h = let small = digit_low c h in let none = digit_no_blank c small h in rw (low c small, none.0, none.1, h) refl
 
@@ -206,13 +210,13 @@ class_comment text = refl
 
 -- signs
 abbrev begins_sign : List ℕ → Bool
-begins_sign sign = goes_on (λ c. nat_lt c 128 && (not (is_blank c) && (not (is_letter c) && (not (is_digit c) && not (nat_eq c 34))))) sign
+begins_sign sign = begins_with (λ c. nat_lt c 128 && (not (is_blank c) && (not (is_letter c) && (not (is_digit c) && not (nat_eq c 34))))) sign
 
 signs_begin : list_all begins_sign signs ≡ true
 unfolding signs
 signs_begin = refl
 
-class_sign : (sign rest : List ℕ) (k : ℕ) → place_in signs sign ≡ Some k → opens_comment (sign ++ rest) ≡ false → class_of (sign ++ rest) ≡ others
+class_sign : (sign rest : List ℕ) (k : ℕ) → index_of signs sign ≡ Some k → opens_comment (sign ++ rest) ≡ false → class_of (sign ++ rest) ≡ others
 class_sign [] rest k at code = absurd (true≢false (sym (passes begins_sign signs [] k signs_begin at)))
 class_sign (c ∷ sign) rest k at code =
     by (nat_lt c 128) (is_blank c) (is_letter c) (is_digit c) (nat_eq c 34) refl refl refl refl refl (passes begins_sign signs (c ∷ sign) k signs_begin at)
@@ -283,11 +287,11 @@ not_low c n rest broken small = other_number c n (λ e. not_broken c rest (omega
 at_class : (class : Class) (text : List ℕ) (o : Outcome) → class_of text ≡ class → Read class text o → Read (class_of text) text o
 at_class class text o e r = subst (λ class. Read class text o) (sym e) r
 
-first_letter : (w rest : List ℕ) → is_word w ≡ true → goes_on is_letter (w ++ rest) ≡ true
+first_letter : (w rest : List ℕ) → is_identifier w ≡ true → begins_with is_letter (w ++ rest) ≡ true
 first_letter [] rest h = absurd (true≢false (sym h))
 first_letter (c ∷ w) rest h = (both_true (is_letter c) (list_all is_name_byte (c ∷ w)) h).0
 
-first_digit : (ds rest : List ℕ) → are_digits ds ≡ true → goes_on is_digit (ds ++ rest) ≡ true
+first_digit : (ds rest : List ℕ) → are_digits ds ≡ true → begins_with is_digit (ds ++ rest) ≡ true
 first_digit [] rest h = absurd (true≢false (sym h))
 first_digit (d ∷ ds) rest h = (both_true (is_digit d) (list_all is_digit (d ∷ ds)) h).0
 
@@ -296,19 +300,19 @@ gap_class front rest (IsGap.blank {c = c} h) = at_class blanks (c ∷ rest) (gap
 gap_class front rest (IsGap.comment cs all stops) = at_class comments (47 ∷ 47 ∷ encode_utf8_all cs ++ rest) (gap, 47 ∷ 47 ∷ encode_utf8_all cs, rest) (class_comment (encode_utf8_all cs ++ rest))
     record { cs = cs; stop = rest; whole = refl; are = all; ends = ends rest stops; made = made rest stops }
   where
-    ends : (rest : List ℕ) → goes_on (λ c. not (nat_eq c 10)) rest ≡ false → EndsComment rest
+    ends : (rest : List ℕ) → begins_with (λ c. not (nat_eq c 10)) rest ≡ false → EndsComment rest
     ends [] h = nothing_goes_on
     ends (c ∷ rest) h = let ten : c ≡ 10 = eqb-true c 10 (not_false (nat_eq c 10) h) in subst (λ c. EndsComment (c ∷ rest)) (sym ten) (comment_at_line_end rest)
 
-    made : (rest : List ℕ) → goes_on (λ c. not (nat_eq c 10)) rest ≡ false → (gap, 47 ∷ 47 ∷ encode_utf8_all cs, rest) ≡ comment_found cs rest
+    made : (rest : List ℕ) → begins_with (λ c. not (nat_eq c 10)) rest ≡ false → (gap, 47 ∷ 47 ∷ encode_utf8_all cs, rest) ≡ comment_found cs rest
     made [] h = refl
     made (c ∷ rest) h = rw (not_false (nat_eq c 10) h) refl
 
-word_class : (word rest : List ℕ) (o : Outcome) → is_word word ≡ true → goes_on is_name_byte rest ≡ false → o ≡ word_found word rest → Read (class_of (word ++ rest)) (word ++ rest) o
+word_class : (word rest : List ℕ) (o : Outcome) → is_identifier word ≡ true → begins_with is_name_byte rest ≡ false → o ≡ word_found word rest → Read (class_of (word ++ rest)) (word ++ rest) o
 word_class word rest o is stops made = at_class letters (word ++ rest) o (class_letter (word ++ rest) (first_letter word rest is))
     record { word = word; rest = rest; whole = refl; is = is; stops = stops; made = made }
 
-number_class : (ds rest : List ℕ) (o : Outcome) → are_digits ds ≡ true → goes_on is_digit rest ≡ false → o ≡ number_found ds rest → Read (class_of (ds ++ rest)) (ds ++ rest) o
+number_class : (ds rest : List ℕ) (o : Outcome) → are_digits ds ≡ true → begins_with is_digit rest ≡ false → o ≡ number_found ds rest → Read (class_of (ds ++ rest)) (ds ++ rest) o
 number_class ds rest o is stops made = at_class digits (ds ++ rest) o (class_digit (ds ++ rest) (first_digit ds rest is))
     record { ds = ds; rest = rest; whole = refl; is = is; stops = stops; made = made }
 
@@ -357,10 +361,10 @@ classed (token kind) front rest h = token_class kind front rest h
 classed (fault cause) front rest h = fault_class cause front rest h
 
 -- a longest front has one end
-one_run : (test : ℕ → Bool) (v w r s : List ℕ) → list_all test v ≡ true → list_all test w ≡ true → goes_on test r ≡ false → goes_on test s ≡ false → v ++ r ≡ w ++ s → (v ≡ w) × (r ≡ s)
+one_run : (test : ℕ → Bool) (v w r s : List ℕ) → list_all test v ≡ true → list_all test w ≡ true → begins_with test r ≡ false → begins_with test s ≡ false → v ++ r ≡ w ++ s → (v ≡ w) × (r ≡ s)
 one_run test [] [] r s hv hw nr ns e = (refl, e)
-one_run test [] (x ∷ w) r s hv hw nr ns e = absurd (true≢false (sym (both_true (test x) (list_all test w) hw).0 ∙ sym (ap (goes_on test) e) ∙ nr))
-one_run test (x ∷ v) [] r s hv hw nr ns e = absurd (true≢false (sym (both_true (test x) (list_all test v) hv).0 ∙ ap (goes_on test) e ∙ ns))
+one_run test [] (x ∷ w) r s hv hw nr ns e = absurd (true≢false (sym (both_true (test x) (list_all test w) hw).0 ∙ sym (ap (begins_with test) e) ∙ nr))
+one_run test (x ∷ v) [] r s hv hw nr ns e = absurd (true≢false (sym (both_true (test x) (list_all test v) hv).0 ∙ ap (begins_with test) e ∙ ns))
 one_run test (x ∷ v) (y ∷ w) r s hv hw nr ns e =
     let first = heads x y (v ++ r) (w ++ s) e in
     let more = tails x y (v ++ r) (w ++ s) e in
@@ -382,11 +386,11 @@ both_made f v w r s o p a b same = a ∙ ap (λ v. f v r) same.0 ∙ ap (λ r. f
 
 one_word : (text : List ℕ) (o p : Outcome) → IsWordRead text o → IsWordRead text p → o ≡ p
 one_word text o p a b = both_made word_found a.word b.word a.rest b.rest o p a.made b.made
-    (one_run is_name_byte a.word b.word a.rest b.rest (both_true (goes_on is_letter a.word) (list_all is_name_byte a.word) a.is).1 (both_true (goes_on is_letter b.word) (list_all is_name_byte b.word) b.is).1 a.stops b.stops (sym a.whole ∙ b.whole))
+    (one_run is_name_byte a.word b.word a.rest b.rest (both_true (begins_with is_letter a.word) (list_all is_name_byte a.word) a.is).1 (both_true (begins_with is_letter b.word) (list_all is_name_byte b.word) b.is).1 a.stops b.stops (sym a.whole ∙ b.whole))
 
 one_number : (text : List ℕ) (o p : Outcome) → IsNumberRead text o → IsNumberRead text p → o ≡ p
 one_number text o p a b = both_made number_found a.ds b.ds a.rest b.rest o p a.made b.made
-    (one_run is_digit a.ds b.ds a.rest b.rest (both_true (goes_on is_digit a.ds) (list_all is_digit a.ds) a.is).1 (both_true (goes_on is_digit b.ds) (list_all is_digit b.ds) b.is).1 a.stops b.stops (sym a.whole ∙ b.whole))
+    (one_run is_digit a.ds b.ds a.rest b.rest (both_true (begins_with is_digit a.ds) (list_all is_digit a.ds) a.is).1 (both_true (begins_with is_digit b.ds) (list_all is_digit b.ds) b.is).1 a.stops b.stops (sym a.whole ∙ b.whole))
 
 one_comment_read : (text : List ℕ) (o p : Outcome) → IsCommentRead text o → IsCommentRead text p → o ≡ p
 one_comment_read text o p a b = both_made comment_found a.cs b.cs a.stop b.stop o p a.made b.made
@@ -398,7 +402,7 @@ one_text_read after o p a b =
     let same = one_text a.parts b.parts a.stop b.stop a.are b.are a.stuck b.stuck (sym a.whole ∙ b.whole) in
     a.made ∙ ap (λ parts. text_found parts a.stop) same.0 ∙ ap (λ stop. text_found b.parts stop) same.1 ∙ sym b.made
 
-no_longer : (sign other text rest : List ℕ) (k : ℕ) → is_longest_sign sign text ≡ true → text ≡ other ++ rest → place_in signs other ≡ Some k → length other ≤ length sign
+no_longer : (sign other text rest : List ℕ) (k : ℕ) → is_longest_sign sign text ≡ true → text ≡ other ++ rest → index_of signs other ≡ Some k → length other ≤ length sign
 no_longer sign other text rest k longest whole at =
     by (is_front other text) (nat_le (length other) (length sign)) (ap (is_front other) whole ∙ front_of_itself other rest) refl
     (passes (λ other. not (is_front other text) || nat_le (length other) (length sign)) signs other k longest at)
@@ -413,11 +417,8 @@ one_sign text o p a b =
     let up = no_longer a.sign b.sign text b.rest b.k a.longest b.whole b.at in
     let down = no_longer b.sign a.sign text a.rest a.k b.longest a.whole a.at in
     let same = one_front a.sign b.sign a.rest b.rest (omega (arith, up, down)) (sym a.whole ∙ b.whole) in
-    let place = some_same a.k b.k (sym a.at ∙ ap (place_in signs) same.0 ∙ b.at) in
+    let place = same_Some a.k b.k (sym a.at ∙ ap (index_of signs) same.0 ∙ b.at) in
     a.made ∙ ap (λ k. (token (Sign k), a.sign, a.rest)) place ∙ ap (λ sign. (token (Sign b.k), sign, a.rest)) same.0 ∙ ap (λ rest. (token (Sign b.k), b.sign, rest)) same.1 ∙ sym b.made
-  where
-    some_same : (k j : ℕ) → Some k ≡ Some j → k ≡ j
-    some_same k j e = cc
 
 one_outcome : (class : Class) (text : List ℕ) (o p : Outcome) → Read class text o → Read class text p → o ≡ p
 one_outcome blanks [] o p a b = absurd a

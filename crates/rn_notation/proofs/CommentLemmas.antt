@@ -7,7 +7,8 @@ use Rattle.std.specs.Str.{StartsWithNoChar}
 use Rattle.std.proofs.lemmas.List.{append-nil, length-append}
 use Rattle.std.proofs.lemmas.Str.{encodes-append}
 use Rattle.std.proofs.lemmas.Bool.{eqb-true}
-use Rattle.rn_notation.specs.Words.{opens_comment, goes_on}
+use Rattle.rn_value.specs.Words.{begins_with}
+use Rattle.rn_notation.specs.Words.{opens_comment}
 use Rattle.rn_notation.specs.Texts.{IsInComment, IsBroken}
 use Rattle.rn_notation.specs.Tokens.{IsGap}
 use Rattle.rn_notation.specs.Faults.{IsFault}
@@ -64,7 +65,7 @@ comment_goes_on source rest more others first c so e h scalar whole = record {
       ∙ ap (λ t. 47 ∷ 47 ∷ t ++ more) (sym (encodes-append so.cs (c ∷ []) ∙ ap (λ t. encode_utf8_all so.cs ++ t) (append-nil (encode_utf8 c))));
 }
 
-pub comment_ends : (source rest : List ℕ) (n : ℕ) → Commented source rest → goes_on (λ c. not (nat_eq c 10)) rest ≡ false → n ≡ length source - length rest → Cuts source n gap
+pub comment_ends : (source rest : List ℕ) (n : ℕ) → Commented source rest → begins_with (λ c. not (nat_eq c 10)) rest ≡ false → n ≡ length source - length rest → Cuts source n gap
 comment_ends source rest n so h e = record {
   front = 47 ∷ 47 ∷ encode_utf8_all so.cs;
   rest = rest;
@@ -82,9 +83,9 @@ comment_breaks source rest others first so e h = record {
   stands = IsFault.broken_comment so.cs so.are (subst IsBroken (sym e) (subst StartsWithNoChar e h));
 }
 
-pub at_line_feed : (rest others : List ℕ) (first : ℕ) → rest ≡ first ∷ others → first ≡ 10 → goes_on (λ c. not (nat_eq c 10)) rest ≡ false
-at_line_feed rest others first e ten = ap (goes_on (λ c. not (nat_eq c 10))) e ∙ ap (λ c. not (nat_eq c 10)) ten
+pub at_line_feed : (rest others : List ℕ) (first : ℕ) → rest ≡ first ∷ others → first ≡ 10 → begins_with (λ c. not (nat_eq c 10)) rest ≡ false
+at_line_feed rest others first e ten = ap (begins_with (λ c. not (nat_eq c 10))) e ∙ ap (λ c. not (nat_eq c 10)) ten
 
-pub at_end : (rest : List ℕ) → length rest ≡ 0 → goes_on (λ c. not (nat_eq c 10)) rest ≡ false
+pub at_end : (rest : List ℕ) → length rest ≡ 0 → begins_with (λ c. not (nat_eq c 10)) rest ≡ false
 at_end [] h = refl
 at_end (c ∷ rest) h = absurd (omega (arith, h))

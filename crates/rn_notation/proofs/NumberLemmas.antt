@@ -1,25 +1,24 @@
 -- Numbers, as their digits are read.
-use Rattle.std.proofs.Common.{◌≡◌, ◌<◌, ◌≤◌, ◌+◌, ◌-◌, ◌*◌, ◌/◌, ℕ, suc, List, [], ◌∷◌, ◌++◌, length, take, drop, Bool, true, false, ◌&&◌, nat_le, refl, sym, ap, ◌∙◌, subst, arith, true≢false, ℤ, pos}
+use Rattle.std.proofs.Common.{◌≡◌, ◌<◌, ◌≤◌, ◌+◌, ◌-◌, ◌*◌, ◌/◌, ℕ, suc, List, [], ◌∷◌, ◌++◌, length, take, drop, Bool, true, false, nat_le, refl, sym, ap, ◌∙◌, subst, arith, true≢false, ℤ, pos}
 use Rattle.std.specs.List.{list_all, prefix_len}
 use Rattle.std.proofs.lemmas.List.{take-append-drop}
 use Rattle.std.proofs.lemmas.List.{length-take-le}
 use Rattle.std.proofs.lemmas.List.Sums.{prefix_len-le-length}
+use Rattle.rn_items.proofs.Bools.{both_true}
 use Rattle.rn_notation.specs.Tokens.{IsToken}
 use Rattle.rn_notation.specs.Faults.{IsFault}
 use Rattle.rn_notation.specs.Steps.{Cuts, token, fault}
 use Rattle.rn_notation.specs.declared.token.TokenKind.TheVariants.{Number}
 use Rattle.rn_notation.specs.declared.token.Cause.TheVariants.{P3}
 use Rattle.std.proofs.Math.Dec.{T, leb→le}
-use Rattle.rn_notation.specs.Words.{is_digit, goes_on, are_digits, number_of, number_behind, greatest}
+use Rattle.rn_value.specs.Characters.{is_digit}
+use Rattle.rn_value.specs.Words.{begins_with}
+use Rattle.rn_notation.specs.Words.{are_digits, number_of, number_behind, greatest}
 
 -- more digits make no number smaller
 pub grows : (n : ℕ) (ds : List ℕ) → n ≤ number_behind n ds
 grows n [] = omega arith
 grows n (d ∷ ds) = let more = grows (n * 10 + (d - 48)) ds in omega (arith, more)
-
-pub both_true : (a b : Bool) → (a && b) ≡ true → (a ≡ true) × (b ≡ true)
-both_true true b h = (refl, h)
-both_true false b h = absurd (true≢false (sym h))
 
 pub too_great : (limit units n : ℕ) (d : ℕ) (ds digits : List ℕ) → units ≡ d - 48 → units ≤ 9 → 9 ≤ limit → (limit - units) / 10 < n → number_behind n (d ∷ ds) ≡ number_of digits → limit < number_of digits
 too_great limit units n d ds digits u few room over whole =
@@ -27,18 +26,18 @@ too_great limit units n d ds digits u few room over whole =
     omega (arith, more, whole)
 
 -- the longest front of bytes that pass a test
-pub longest_front : (test : ℕ → Bool) (text : List ℕ) → (list_all test (take (prefix_len test text) text) ≡ true) × (goes_on test (drop (prefix_len test text) text) ≡ false)
+pub longest_front : (test : ℕ → Bool) (text : List ℕ) → (list_all test (take (prefix_len test text) text) ≡ true) × (begins_with test (drop (prefix_len test text) text) ≡ false)
 longest_front test [] = (refl, refl)
 longest_front test (x ∷ xs) = by (test x) refl (longest_front test xs)
   where
-    by : (b : Bool) → test x ≡ b → (list_all test (take (prefix_len test xs) xs) ≡ true) × (goes_on test (drop (prefix_len test xs) xs) ≡ false) →
-        (list_all test (take (prefix_len test (x ∷ xs)) (x ∷ xs)) ≡ true) × (goes_on test (drop (prefix_len test (x ∷ xs)) (x ∷ xs)) ≡ false)
+    by : (b : Bool) → test x ≡ b → (list_all test (take (prefix_len test xs) xs) ≡ true) × (begins_with test (drop (prefix_len test xs) xs) ≡ false) →
+        (list_all test (take (prefix_len test (x ∷ xs)) (x ∷ xs)) ≡ true) × (begins_with test (drop (prefix_len test (x ∷ xs)) (x ∷ xs)) ≡ false)
     by true e h = let long : prefix_len test (x ∷ xs) ≡ suc (prefix_len test xs) = rw e (omega arith) in rw long (rw (e, h.0), h.1)
     by false e h = let none : prefix_len test (x ∷ xs) ≡ 0 = rw e in rw none (refl, e)
 
 -- it isn't empty where the first byte passes
-pub front_begins : (test other : ℕ → Bool) (text : List ℕ) → goes_on other text ≡ true → ((c : ℕ) → other c ≡ true → test c ≡ true) →
-    goes_on other (take (prefix_len test text) text) ≡ true
+pub front_begins : (test other : ℕ → Bool) (text : List ℕ) → begins_with other text ≡ true → ((c : ℕ) → other c ≡ true → test c ≡ true) →
+    begins_with other (take (prefix_len test text) text) ≡ true
 front_begins test other [] h passes = absurd (true≢false (sym h))
 front_begins test other (c ∷ text) h passes =
     let long : prefix_len test (c ∷ text) ≡ suc (prefix_len test text) = rw (passes c h) (omega arith) in rw long h
@@ -51,9 +50,9 @@ pub record Whole (text digits : List ℕ) (n : ℕ) : Type 0 where
   pub whole : text ≡ digits ++ rest
   pub size : n ≡ length digits
   pub digits_are : are_digits digits ≡ true
-  pub stops : goes_on is_digit rest ≡ false
+  pub stops : begins_with is_digit rest ≡ false
 
-pub number_whole : (text digits : List ℕ) (n : ℕ) → goes_on is_digit text ≡ true → digits ≡ take n text → n ≡ prefix_len is_digit text → Whole text digits n
+pub number_whole : (text digits : List ℕ) (n : ℕ) → begins_with is_digit text ≡ true → digits ≡ take n text → n ≡ prefix_len is_digit text → Whole text digits n
 number_whole text digits n h e f =
     let front = longest_front is_digit text in
     let is : digits ≡ take (prefix_len is_digit text) text = e ∙ ap (λ n. take n text) f in

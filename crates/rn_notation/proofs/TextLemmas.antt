@@ -4,7 +4,7 @@ use Rattle.std.specs.Prelude.{encode_utf8}
 use Rattle.std.specs.List.{flat_map}
 use Rattle.std.proofs.lemmas.List.{append-nil, length-append}
 use Rattle.std.proofs.lemmas.Bool.{eqb-true}
-use Rattle.rn_notation.specs.Words.{goes_on}
+use Rattle.rn_value.specs.Words.{begins_with}
 use Rattle.rn_notation.specs.Texts.{Part, itself, escape, IsPart, AreParts, spelled, meaning, written, meant, is_closed, IsBroken, IsNoEscape}
 use Rattle.rn_notation.specs.Tokens.{IsToken}
 use Rattle.rn_notation.specs.Faults.{IsFault}
@@ -25,7 +25,7 @@ pub record ReadText (source rest bytes : List ℕ) : Type 0 where
   pub whole : source ≡ 34 ∷ written parts ++ rest
   pub means : bytes ≡ meant parts
 
-pub text_starts : (source rest bytes : List ℕ) → goes_on (nat_eq 34) source ≡ true → rest ≡ drop 1 source → bytes ≡ [] → ReadText source rest bytes
+pub text_starts : (source rest bytes : List ℕ) → begins_with (nat_eq 34) source ≡ true → rest ≡ drop 1 source → bytes ≡ [] → ReadText source rest bytes
 text_starts [] rest bytes h e f = absurd (true≢false (sym h))
 text_starts (c ∷ source) rest bytes h e f = record { parts = []; are = tt; whole = ap (λ c. c ∷ source) (sym (eqb-true 34 c h)) ∙ ap (λ t. 34 ∷ t) (sym e); means = f }
 

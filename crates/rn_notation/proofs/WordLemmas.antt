@@ -1,50 +1,51 @@
 -- Names, reserved words and signs, as they are read.
-use Rattle.std.proofs.Common.{◌≡◌, ◌<◌, ◌≤◌, ℕ, zero, suc, List, [], ◌∷◌, ◌++◌, length, take, drop, Bool, true, false, not, ◌&&◌, ◌||◌, nat_eq, nat_le, nat_lt, refl, sym, ap, ◌∙◌, subst, arith, true≢false, Option, Some, None, if◌then◌else◌}
-use Rattle.std.specs.Prelude.{IsUtf8, IsAscii, option_map, bytes_eq}
+use Rattle.std.proofs.Common.{◌≡◌, ◌<◌, ◌≤◌, ℕ, suc, List, [], ◌∷◌, ◌++◌, length, take, drop, Bool, true, false, not, ◌&&◌, ◌||◌, nat_eq, nat_le, nat_lt, refl, sym, ap, ◌∙◌, subst, arith, true≢false, Option, Some, None, if◌then◌else◌}
+use Rattle.std.specs.Prelude.{IsUtf8, option_map, bytes_eq}
 use Rattle.std.specs.List.{list_all, list_any, prefix_len}
 use Rattle.std.proofs.lemmas.List.{take-append-drop, length-take-le, length-append, take_at}
 use Rattle.std.proofs.lemmas.List.Sums.{prefix_len-le-length}
-use Rattle.std.proofs.lemmas.Bool.{eqb-true}
-use Rattle.std.proofs.lemmas.Str.{IsUtf8-from_ascii}
+use Rattle.std.proofs.lemmas.Bool.{eqb-true, eq-eqb}
 use Rattle.std.proofs.Math.Dec.{T, leb→le}
-use lib.Dec.{eqb_refl, ltb→lt, nltb→le}
+use lib.Dec.{ltb→lt, nltb→le}
 use mathlib.Core.Logic.{inl, inr}
 use Rattle.std.specs.Prelude.{◌⊎◌}
-use Rattle.rn_notation.specs.Words.{is_letter, is_name_byte, goes_on, is_word, is_front, place_in, reserved_words, signs, begins_with_sign, opens_comment}
+use Rattle.rn_items.proofs.Bools.{both_true, or_right}
+use Rattle.rn_items.proofs.Numbers.{same_numbers, numbers_themselves}
+use Rattle.rn_value.specs.Characters.{is_letter, is_name_byte}
+use Rattle.rn_value.specs.Words.{begins_with, is_identifier, index_of, reserved_words}
+use Rattle.rn_notation.specs.Words.{is_front, signs, begins_with_sign, opens_comment}
 use Rattle.rn_notation.specs.Tokens.{IsToken}
 use Rattle.rn_notation.specs.Steps.{Cuts, token, long_sign}
 use Rattle.rn_notation.specs.declared.token.TokenKind.TheVariants.{Name, Word, Sign}
-use Rattle.rn_notation.proofs.NumberLemmas.{both_true, longest_front, front_begins}
+use Rattle.rn_value.proofs.WordLemmas.{name_byte-letter, identifier-utf8}
+use Rattle.rn_notation.proofs.NumberLemmas.{longest_front, front_begins}
 
 pub record WholeWord (text word : List ℕ) (n : ℕ) : Type 0 where
   pub rest : List ℕ
   pub whole : text ≡ word ++ rest
   pub size : n ≡ length word
-  pub is : is_word word ≡ true
-  pub stops : goes_on is_name_byte rest ≡ false
+  pub is : is_identifier word ≡ true
+  pub stops : begins_with is_name_byte rest ≡ false
 
-pub letter_passes : (c : ℕ) → is_letter c ≡ true → is_name_byte c ≡ true
-letter_passes c h = rw h refl
-
-pub word_whole : (text word : List ℕ) (n : ℕ) → goes_on is_letter text ≡ true → word ≡ take n text → n ≡ prefix_len is_name_byte text → WholeWord text word n
+pub word_whole : (text word : List ℕ) (n : ℕ) → begins_with is_letter text ≡ true → word ≡ take n text → n ≡ prefix_len is_name_byte text → WholeWord text word n
 word_whole text word n h e f =
     let front = longest_front is_name_byte text in
     let is : word ≡ take (prefix_len is_name_byte text) text = e ∙ ap (λ n. take n text) f in
-    let begins = front_begins is_name_byte is_letter text h letter_passes in
+    let begins = front_begins is_name_byte is_letter text h name_byte-letter in
     let within = prefix_len-le-length is_name_byte text in
     let long = length-take-le (prefix_len is_name_byte text) text within in
     record {
       rest = drop (prefix_len is_name_byte text) text;
       whole = sym (take-append-drop (prefix_len is_name_byte text) text) ∙ ap (λ ds. ds ++ drop (prefix_len is_name_byte text) text) (sym is);
       size = f ∙ sym (ap length is ∙ long);
-      is = ap is_word is ∙ rw (begins, front.0) refl;
+      is = ap is_identifier is ∙ rw (begins, front.0) refl;
       stops = front.1;
     }
 
-pub reserved_stands : (text word : List ℕ) (n k : ℕ) → WholeWord text word n → Some k ≡ place_in reserved_words word → Cuts text n (token (Word k))
+pub reserved_stands : (text word : List ℕ) (n k : ℕ) → WholeWord text word n → Some k ≡ index_of reserved_words word → Cuts text n (token (Word k))
 reserved_stands text word n k w e = record { front = word; rest = w.rest; whole = w.whole; size = w.size; stands = IsToken.word w.is w.stops (sym e) }
 
-pub name_stands : (text word s : List ℕ) (n : ℕ) → WholeWord text word n → None ≡ place_in reserved_words word → s ≡ word → Cuts text n (token (Name s))
+pub name_stands : (text word s : List ℕ) (n : ℕ) → WholeWord text word n → None ≡ index_of reserved_words word → s ≡ word → Cuts text n (token (Name s))
 name_stands text word s n w e same = record {
   front = word;
   rest = w.rest;
@@ -63,73 +64,25 @@ not_less a b h = by (nat_lt a b) refl
 enough : (a b : ℕ) → nat_lt a b ≡ false → b ≤ a
 enough a b h = nltb→le a b (subst (λ t. T (not t)) (sym h) tt)
 
-pub low_name_byte : (c : ℕ) → is_name_byte c ≡ true → c < 128
-low_name_byte c h = by (nat_le 65 c) (nat_le c 90) (nat_le 97 c) (nat_le c 122) (nat_le 48 c) (nat_le c 57) (nat_eq c 95) refl refl refl refl h
-  where
-    at_most : (n : ℕ) → nat_le c n ≡ true → n < 128 → c < 128
-    at_most n e small = let high = leb→le c n (subst T (sym e) tt) in omega (arith, high)
-
-    by : (a b d e f g i : Bool) → nat_le c 90 ≡ b → nat_le c 122 ≡ e → nat_le c 57 ≡ g → nat_eq c 95 ≡ i →
-        (((a && b) || (d && e)) || (f && g)) || i ≡ true → c < 128
-    by a true d e f g i hb he hg hi h = at_most 90 hb (omega arith)
-    by a false d true f g i hb he hg hi h = at_most 122 he (omega arith)
-    by a false d false f true i hb he hg hi h = at_most 57 hg (omega arith)
-    by a false d false f false true hb he hg hi h = let same = eqb-true c 95 hi in omega (arith, same)
-    by a false d false f false false hb he hg hi h = absurd (true≢false (sym h ∙ none a d f))
-      where
-        none : (a d f : Bool) → (((a && false) || (d && false)) || (f && false)) || false ≡ false
-        none true true true = refl
-        none true true false = refl
-        none true false true = refl
-        none true false false = refl
-        none false true true = refl
-        none false true false = refl
-        none false false true = refl
-        none false false false = refl
-
-low_names : (w : List ℕ) → list_all is_name_byte w ≡ true → IsAscii w
-low_names [] h i = omega arith
-low_names (c ∷ w) h zero = low_name_byte c (both_true (is_name_byte c) (list_all is_name_byte w) h).0
-low_names (c ∷ w) h (suc i) = low_names w (both_true (is_name_byte c) (list_all is_name_byte w) h).1 i
-
 pub word_utf8 : (text word : List ℕ) (n : ℕ) → WholeWord text word n → IsUtf8 word
-word_utf8 text word n w = IsUtf8-from_ascii word (low_names word (both_true (goes_on is_letter word) (list_all is_name_byte word) w.is).1)
-
-same_bytes : (v w : List ℕ) → bytes_eq v w ≡ true → v ≡ w
-same_bytes [] [] h = refl
-same_bytes [] (d ∷ w) h = absurd (true≢false (sym h))
-same_bytes (c ∷ v) [] h = absurd (true≢false (sym h))
-same_bytes (c ∷ v) (d ∷ w) h =
-    let both = both_true (nat_eq c d) (bytes_eq v w) h in
-    ap (λ c. c ∷ v) (eqb-true c d both.0) ∙ ap (λ w. d ∷ w) (same_bytes v w both.1)
-
-nat_eq_same : (c : ℕ) → nat_eq c c ≡ true
-nat_eq_same c = by (nat_eq c c) (eqb_refl c)
-  where
-    by : (b : Bool) → T b → b ≡ true
-    by true t = refl
-    by false t = absurd t
-
-or_right : (a b : Bool) → b ≡ true → (a || b) ≡ true
-or_right true b h = refl
-or_right false b h = h
+word_utf8 text word n w = identifier-utf8 word w.is
 
 -- a test that all of some words pass holds of each of them
-pub passes : (test : List ℕ → Bool) (words : List (List ℕ)) (w : List ℕ) (k : ℕ) → list_all test words ≡ true → place_in words w ≡ Some k → test w ≡ true
+pub passes : (test : List ℕ → Bool) (words : List (List ℕ)) (w : List ℕ) (k : ℕ) → list_all test words ≡ true → index_of words w ≡ Some k → test w ≡ true
 passes test [] w k all e = absurd (let no : ⊥ = cc in no)
-passes test (v ∷ words) w k all e = by (bytes_eq v w) (place_in words w) refl refl (λ j at. passes test words w j (both_true (test v) (list_all test words) all).1 at) e
+passes test (v ∷ words) w k all e = by (bytes_eq v w) (index_of words w) refl refl (λ j at. passes test words w j (both_true (test v) (list_all test words) all).1 at) e
   where
     both : (test v ≡ true) × (list_all test words ≡ true)
     both = both_true (test v) (list_all test words) all
 
-    by : (b : Bool) (p : Option ℕ) → bytes_eq v w ≡ b → place_in words w ≡ p → ((j : ℕ) → place_in words w ≡ Some j → test w ≡ true) → (if b then Some 0 else option_map suc p) ≡ Some k → test w ≡ true
-    by true p same at more e = ap test (sym (same_bytes v w same)) ∙ both.0
+    by : (b : Bool) (p : Option ℕ) → bytes_eq v w ≡ b → index_of words w ≡ p → ((j : ℕ) → index_of words w ≡ Some j → test w ≡ true) → (if b then Some 0 else option_map suc p) ≡ Some k → test w ≡ true
+    by true p same at more e = ap test (sym (same_numbers v w same)) ∙ both.0
     by false (Some j) same at more e = more j at
     by false None same at more e = absurd (let no : ⊥ = cc in no)
 
 pub front_of_itself : (w rest : List ℕ) → is_front w (w ++ rest) ≡ true
 front_of_itself [] rest = refl
-front_of_itself (c ∷ w) rest = rw (nat_eq_same c) (front_of_itself w rest)
+front_of_itself (c ∷ w) rest = rw (eq-eqb c c refl) (front_of_itself w rest)
 
 pub front_is : (s text : List ℕ) → is_front s text ≡ true → (rest : List ℕ) × (text ≡ s ++ rest)
 front_is [] text h = (text, refl)
@@ -140,13 +93,13 @@ front_is (c ∷ s) (d ∷ text) h =
     (more.0, ap (λ d. d ∷ text) (sym (eqb-true c d both.0)) ∙ ap (λ t. c ∷ t) more.1)
 
 -- what stands among words and is a front of a text lets some word be a front
-pub among_fronts : (words : List (List ℕ)) (w rest : List ℕ) (k : ℕ) → place_in words w ≡ Some k → list_any (λ s. is_front s (w ++ rest)) words ≡ true
+pub among_fronts : (words : List (List ℕ)) (w rest : List ℕ) (k : ℕ) → index_of words w ≡ Some k → list_any (λ s. is_front s (w ++ rest)) words ≡ true
 among_fronts [] w rest k e = absurd (let no : ⊥ = cc in no)
-among_fronts (v ∷ words) w rest k e = by (bytes_eq v w) (place_in words w) refl refl (λ j at. among_fronts words w rest j at) e
+among_fronts (v ∷ words) w rest k e = by (bytes_eq v w) (index_of words w) refl refl (λ j at. among_fronts words w rest j at) e
   where
-    by : (b : Bool) (p : Option ℕ) → bytes_eq v w ≡ b → place_in words w ≡ p → ((j : ℕ) → place_in words w ≡ Some j → list_any (λ s. is_front s (w ++ rest)) words ≡ true) →
+    by : (b : Bool) (p : Option ℕ) → bytes_eq v w ≡ b → index_of words w ≡ p → ((j : ℕ) → index_of words w ≡ Some j → list_any (λ s. is_front s (w ++ rest)) words ≡ true) →
         (if b then Some 0 else option_map suc p) ≡ Some k → list_any (λ s. is_front s (w ++ rest)) (v ∷ words) ≡ true
-    by true p same at more e = let first : is_front v (w ++ rest) ≡ true = ap (λ v. is_front v (w ++ rest)) (same_bytes v w same) ∙ front_of_itself w rest in rw first refl
+    by true p same at more e = let first : is_front v (w ++ rest) ≡ true = ap (λ v. is_front v (w ++ rest)) (same_numbers v w same) ∙ front_of_itself w rest in rw first refl
     by false (Some j) same at more e = or_right (is_front v (w ++ rest)) (list_any (λ s. is_front s (w ++ rest)) words) (more j at)
     by false None same at more e = absurd (let no : ⊥ = cc in no)
 
@@ -160,24 +113,20 @@ signs_short = refl
 
 -- no word of this length is a front of the text
 NoneOf : ℕ → List (List ℕ) → List ℕ → Type 0
-NoneOf n words text = (w : List ℕ) → length w ≡ n → is_front w text ≡ true → place_in words w ≡ None
+NoneOf n words text = (w : List ℕ) → length w ≡ n → is_front w text ≡ true → index_of words w ≡ None
 
-fewer : (v w : List ℕ) (words : List (List ℕ)) → place_in (v ∷ words) w ≡ None → place_in words w ≡ None
-fewer v w words e = by (bytes_eq v w) (place_in words w) e
+fewer : (v w : List ℕ) (words : List (List ℕ)) → index_of (v ∷ words) w ≡ None → index_of words w ≡ None
+fewer v w words e = by (bytes_eq v w) (index_of words w) e
   where
     by : (b : Bool) (p : Option ℕ) → (if b then Some 0 else option_map suc p) ≡ None → p ≡ None
     by true p e = absurd (let no : ⊥ = cc in no)
     by false (Some j) e = absurd (let no : ⊥ = cc in no)
     by false None e = refl
 
-eq_same : (v : List ℕ) → bytes_eq v v ≡ true
-eq_same [] = refl
-eq_same (c ∷ v) = rw (nat_eq_same c) (eq_same v)
-
-first_is_there : (v : List ℕ) (words : List (List ℕ)) → ¬ (place_in (v ∷ words) v ≡ None)
-first_is_there v words e = by (bytes_eq v v) (eq_same v) e
+first_is_there : (v : List ℕ) (words : List (List ℕ)) → ¬ (index_of (v ∷ words) v ≡ None)
+first_is_there v words e = by (bytes_eq v v) (numbers_themselves v) e
   where
-    by : (b : Bool) → b ≡ true → ¬ ((if b then Some 0 else option_map suc (place_in words v)) ≡ None)
+    by : (b : Bool) → b ≡ true → ¬ ((if b then Some 0 else option_map suc (index_of words v)) ≡ None)
     by true t e = let no : ⊥ = cc in no
     by false t e = true≢false (sym t)
 
@@ -232,13 +181,13 @@ none_of_two text e w l f =
     let long = ap length split.1 ∙ length-append w split.0 in
     let two : take 2 text ≡ w = ap (take 2) split.1 ∙ take_at w split.0 2 l in
     let enough : nat_lt (length text) 2 ≡ false = not_less (length text) 2 (omega (arith, long, l)) in
-    ap (place_in signs) (sym two) ∙ sym (e ∙ rw enough refl)
+    ap (index_of signs) (sym two) ∙ sym (e ∙ rw enough refl)
 
-none_of_one : (text front : List ℕ) → front ≡ take 1 text → None ≡ place_in signs front → NoneOf 1 signs text
+none_of_one : (text front : List ℕ) → front ≡ take 1 text → None ≡ index_of signs front → NoneOf 1 signs text
 unfolding NoneOf
 none_of_one text front e none w l f =
     let split = front_is w text f in
-    ap (place_in signs) (sym (e ∙ ap (take 1) split.1 ∙ take_at w split.0 1 l)) ∙ sym none
+    ap (index_of signs) (sym (e ∙ ap (take 1) split.1 ∙ take_at w split.0 1 l)) ∙ sym none
 
 all_two : (words : List (List ℕ)) (text sign : List ℕ) → length sign ≡ 2 → list_all short_sign words ≡ true → list_all (λ other. not (is_front other text) || nat_le (length other) (length sign)) words ≡ true
 all_two [] text sign l short = refl
@@ -254,7 +203,7 @@ all_two (v ∷ words) text sign l short =
 pub long_sign_stands : (text : List ℕ) (k : ℕ) → opens_comment text ≡ false → Some k ≡ long_sign text → Cuts text 2 (token (Sign k))
 long_sign_stands text k code e = by (nat_lt (length text) 2) refl e
   where
-    by : (b : Bool) → nat_lt (length text) 2 ≡ b → Some k ≡ (if b then None else place_in signs (take 2 text)) → Cuts text 2 (token (Sign k))
+    by : (b : Bool) → nat_lt (length text) 2 ≡ b → Some k ≡ (if b then None else index_of signs (take 2 text)) → Cuts text 2 (token (Sign k))
     by true less e = absurd (let no : ⊥ = cc in no)
     by false less e =
         let l : length (take 2 text) ≡ 2 = length-take-le 2 text (enough (length text) 2 less) in
@@ -267,7 +216,7 @@ long_sign_stands text k code e = by (nat_lt (length text) 2) refl e
           stands = IsToken.sign (sym e) (all_two signs (take 2 text ++ drop 2 text) (take 2 text) l signs_short) (sym (ap opens_comment whole) ∙ code);
         }
 
-pub short_sign_stands : (text front : List ℕ) (k : ℕ) → 0 < length text → opens_comment text ≡ false → None ≡ long_sign text → front ≡ take 1 text → Some k ≡ place_in signs front → Cuts text 1 (token (Sign k))
+pub short_sign_stands : (text front : List ℕ) (k : ℕ) → 0 < length text → opens_comment text ≡ false → None ≡ long_sign text → front ≡ take 1 text → Some k ≡ index_of signs front → Cuts text 1 (token (Sign k))
 short_sign_stands text front k some code none e at =
     let l : length (take 1 text) ≡ 1 = length-take-le 1 text some in
     let whole = sym (take-append-drop 1 text) in
@@ -276,15 +225,15 @@ short_sign_stands text front k some code none e at =
       rest = drop 1 text;
       whole = whole;
       size = sym l;
-      stands = IsToken.sign (sym (at ∙ ap (place_in signs) e))
+      stands = IsToken.sign (sym (at ∙ ap (index_of signs) e))
           (rw l (none_longer signs (take 1 text ++ drop 1 text) signs_short (subst (NoneOf 2 signs) whole (none_of_two text none))))
           (sym (ap opens_comment whole) ∙ code);
     }
 
-pub no_sign : (text front : List ℕ) → None ≡ long_sign text → front ≡ take 1 text → None ≡ place_in signs front → begins_with_sign text ≡ false
+pub no_sign : (text front : List ℕ) → None ≡ long_sign text → front ≡ take 1 text → None ≡ index_of signs front → begins_with_sign text ≡ false
 no_sign text front none e at = none_fronts signs text signs_short (none_of_one text front e at) (none_of_two text none)
 
-pub sign_not_empty : (sign : List ℕ) (k : ℕ) → place_in signs sign ≡ Some k → 0 < length sign
+pub sign_not_empty : (sign : List ℕ) (k : ℕ) → index_of signs sign ≡ Some k → 0 < length sign
 unfolding short_sign
 sign_not_empty [] k e = absurd (true≢false (sym (passes short_sign signs [] k signs_short e)))
 sign_not_empty (c ∷ sign) k e = omega arith

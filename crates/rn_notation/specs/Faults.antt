@@ -4,8 +4,9 @@ use Rattle.std.specs.Prelude.{◌≡◌, ℕ, ◌<◌, Bool, true, false, ◌||�
 use Rattle.std.specs.Prelude.{encode_utf8, encode_utf8_all}
 use Rattle.std.specs.Char.{IsScalar}
 use Rattle.std.specs.List.{AllByRecursion}
-use Rattle.rn_notation.specs.Words.{is_blank, is_letter, is_digit, goes_on, are_digits, number_of}
-use Rattle.rn_notation.specs.Words.{greatest, begins_with_sign}
+use Rattle.rn_value.specs.Characters.{is_letter, is_digit}
+use Rattle.rn_value.specs.Words.{begins_with}
+use Rattle.rn_notation.specs.Words.{is_blank, are_digits, number_of, greatest, begins_with_sign}
 use Rattle.rn_notation.specs.Texts.{Part, AreParts, written, is_closed, IsInComment, IsBroken}
 use Rattle.rn_notation.specs.Texts.{IsNoEscape}
 use Rattle.rn_notation.specs.declared.token.Cause.{Cause}
@@ -30,7 +31,7 @@ pub data IsFault : Cause → List ℕ → List ℕ → Type 0 where
       IsFault P1 [] (encode_utf8 c ++ after)
   no_escape : (parts : List Part) {rest : List ℕ} → AreParts parts → IsNoEscape rest →
       is_closed (written parts ++ rest) ≡ true → IsFault P1 (34 ∷ written parts) rest
-  too_great : (digits after : List ℕ) → are_digits digits ≡ true → goes_on is_digit after ≡ false →
+  too_great : (digits after : List ℕ) → are_digits digits ≡ true → begins_with is_digit after ≡ false →
       greatest < number_of digits → IsFault P3 [] (digits ++ after)
   broken : {rest : List ℕ} → IsBroken rest → IsFault P4 [] rest
   broken_comment : (cs : List ℕ) {rest : List ℕ} → AllByRecursion IsInComment cs → IsBroken rest →

@@ -1,7 +1,8 @@
 -- What stands first in a text: a blank or comment, a token, or a fault.
 use Rattle.std.specs.Prelude.{◌≡◌, ℕ, ◌+◌, List, [], ◌∷◌, ◌++◌, length, nat_lt, encode_utf8}
 use Rattle.std.specs.Prelude.{if◌then◌else◌, take, Option, None}
-use Rattle.rn_notation.specs.Words.{place_in, signs}
+use Rattle.rn_value.specs.Words.{index_of}
+use Rattle.rn_notation.specs.Words.{signs}
 use Rattle.rn_notation.specs.Texts.{Part, IsPart, spelled, meaning}
 use Rattle.rn_notation.specs.Tokens.{IsGap, IsToken}
 use Rattle.rn_notation.specs.Faults.{IsFault}
@@ -64,4 +65,4 @@ pub record HasPart (text : List ℕ) (c : ℕ) (rest : List ℕ) : Type 0 where
 
 -- the sign that the first two bytes are
 abbrev pub long_sign : List ℕ → Option ℕ
-long_sign text = if nat_lt (length text) 2 then None else place_in signs (take 2 text)
+long_sign text = if nat_lt (length text) 2 then None else index_of signs (take 2 text)

@@ -3,10 +3,10 @@
 use Rattle.std.specs.Prelude.{◌≡◌, ℕ, ◌≤◌, true, false, not, List, [], ◌∷◌, ◌++◌, None, Some, pos}
 use Rattle.std.specs.Prelude.{nat_eq, encode_utf8_all}
 use Rattle.std.specs.List.{AllByRecursion}
-use Rattle.rn_notation.specs.Words.{is_blank, is_digit, is_name_byte, goes_on, is_word, are_digits}
-use Rattle.rn_notation.specs.Words.{number_of, greatest}
-use Rattle.rn_notation.specs.Words.{place_in, reserved_words, signs, is_longest_sign}
-use Rattle.rn_notation.specs.Words.{opens_comment}
+use Rattle.rn_value.specs.Characters.{is_digit, is_name_byte}
+use Rattle.rn_value.specs.Words.{begins_with, is_identifier, index_of, reserved_words}
+use Rattle.rn_notation.specs.Words.{is_blank, are_digits, number_of, greatest}
+use Rattle.rn_notation.specs.Words.{signs, is_longest_sign, opens_comment}
 use Rattle.rn_notation.specs.Texts.{Part, AreParts, written, meant, IsInComment}
 use Rattle.rn_notation.specs.declared.token.TokenKind.{TokenKind}
 use Rattle.rn_notation.specs.declared.token.TokenKind.TheVariants.{Name, Word, Number, Text, Sign}
@@ -15,7 +15,7 @@ use Rattle.rn_notation.specs.declared.token.TokenKind.TheVariants.{Name, Word, N
 pub data IsGap : List ℕ → List ℕ → Type 0 where
   blank : {c : ℕ} {rest : List ℕ} → is_blank c ≡ true → IsGap (c ∷ []) rest
   comment : (cs : List ℕ) {rest : List ℕ} → AllByRecursion IsInComment cs →
-      goes_on (λ c. not (nat_eq c 10)) rest ≡ false →
+      begins_with (λ c. not (nat_eq c 10)) rest ≡ false →
       IsGap (47 ∷ 47 ∷ encode_utf8_all cs) rest
 
 -- A token of this kind.
@@ -25,14 +25,14 @@ pub data IsGap : List ℕ → List ℕ → Type 0 where
 -- A text stands in quotes.
 -- A sign is known by its place among the signs. No longer one stands there, and no comment.
 pub data IsToken : TokenKind → List ℕ → List ℕ → Type 0 where
-  name : {word rest : List ℕ} → is_word word ≡ true → goes_on is_name_byte rest ≡ false →
-      place_in reserved_words word ≡ None → IsToken (Name word) word rest
-  word : {k : ℕ} {word rest : List ℕ} → is_word word ≡ true → goes_on is_name_byte rest ≡ false →
-      place_in reserved_words word ≡ Some k → IsToken (Word k) word rest
-  number : {digits rest : List ℕ} → are_digits digits ≡ true → goes_on is_digit rest ≡ false →
+  name : {word rest : List ℕ} → is_identifier word ≡ true → begins_with is_name_byte rest ≡ false →
+      index_of reserved_words word ≡ None → IsToken (Name word) word rest
+  word : {k : ℕ} {word rest : List ℕ} → is_identifier word ≡ true → begins_with is_name_byte rest ≡ false →
+      index_of reserved_words word ≡ Some k → IsToken (Word k) word rest
+  number : {digits rest : List ℕ} → are_digits digits ≡ true → begins_with is_digit rest ≡ false →
       number_of digits ≤ greatest → IsToken (Number (pos (number_of digits))) digits rest
   text : (parts : List Part) {rest : List ℕ} → AreParts parts →
       IsToken (Text (meant parts)) (34 ∷ written parts ++ 34 ∷ []) rest
-  sign : {k : ℕ} {sign rest : List ℕ} → place_in signs sign ≡ Some k →
+  sign : {k : ℕ} {sign rest : List ℕ} → index_of signs sign ≡ Some k →
       is_longest_sign sign (sign ++ rest) ≡ true → opens_comment (sign ++ rest) ≡ false →
       IsToken (Sign k) sign rest

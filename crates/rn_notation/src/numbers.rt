@@ -1,11 +1,13 @@
 ghost use Rattle.std.specs.Prelude.{◌≡◌, ◌≤◌, ◌<◌, IsTrue, IfSome, IfNone};
 ghost use Rattle.std.specs.List.{prefix_len, list_all};
-ghost use Rattle.rn_notation.specs.Words.{is_digit, goes_on, number_of, greatest};
+ghost use Rattle.rn_value.specs.Characters.{is_digit};
+ghost use Rattle.rn_value.specs.Words.{begins_with};
+ghost use Rattle.rn_notation.specs.Words.{number_of, greatest};
 ghost use Rattle.rn_notation.specs.Steps.{Reads};
 
 use crate::piece::Piece;
 use crate::token::{Cause, TokenKind};
-use crate::words::is_digit;
+use rn_value::is_digit;
 
 const GREATEST: u64 = 9223372036854775807;
 
@@ -41,7 +43,7 @@ fn number_of(digits: &[u8]) -> Option<u64>
 
 /// The number at the front of a text that begins with a digit.
 pub fn number_piece(text: &[u8]) -> Piece
-    requires { IsTrue (goes_on is_digit text.now) }
+    requires { IsTrue (begins_with is_digit text.now) }
     ensures { Reads text.now result }
 {
     let length = digits_length(text);

@@ -8,8 +8,8 @@ use crate::numbers::number_piece;
 use crate::piece::Piece;
 use crate::texts::text_piece;
 use crate::token::{Cause, TokenKind};
-use crate::words::{is_blank, is_digit, is_letter, sign_at, word_piece};
-use rn_value::NoMemory;
+use crate::words::{is_blank, sign_at, word_piece};
+use rn_value::{NoMemory, is_digit, is_letter};
 use std::alloc::Global;
 
 /// What stands at the front of a text that begins with no blank, letter, digit or quote.

@@ -1,6 +1,6 @@
 ghost use Rattle.std.specs.Prelude.{◌≡◌, ◌++◌, ◌∷◌, ◌⊎◌, List, ℕ, true, false, IsTrue, IfOk};
 ghost use Rattle.std.specs.Prelude.{length, nat_eq, ◌≤◌};
-ghost use Rattle.rn_notation.specs.Words.{goes_on};
+ghost use Rattle.rn_value.specs.Words.{begins_with};
 ghost use Rattle.rn_notation.specs.Texts.{escaped_byte, is_closed, IsNoEscape, IsBroken};
 ghost use Rattle.rn_notation.specs.Steps.{HasPart, Reads};
 ghost use Rattle.rn_notation.specs.Inside.{Looks, fault_in_text};
@@ -106,7 +106,7 @@ fn faulty_text(source: &[u8], cause: Cause, rest: &[u8]) -> Piece
 
 /// The text at the front of a source that begins with a quote.
 pub fn text_piece(alloc: Global, source: &[u8]) -> Result<Piece, NoMemory>
-    requires { IsTrue (goes_on (nat_eq 34) source.now) }
+    requires { IsTrue (begins_with (nat_eq 34) source.now) }
     ensures { IfOk result (λ piece. Reads source.now piece) }
 {
     let mut text = String::new(alloc);

@@ -1,9 +1,9 @@
 ghost use Rattle.std.specs.Prelude.{◌≡◌, ◌<◌, ◌^◌, length, map, MatchOption};
 ghost use Rattle.std.specs.Prelude.{IsTrue, IfOk, IfSome, IfNone, OnSome, take, false};
 ghost use Rattle.std.specs.List.{prefix_len};
-ghost use Rattle.rn_notation.specs.Words.{is_blank, is_letter, is_digit, is_name_byte, goes_on};
-ghost use Rattle.rn_notation.specs.Words.{place_in, reserved_words, signs, begins_with_sign};
-ghost use Rattle.rn_notation.specs.Words.{opens_comment};
+ghost use Rattle.rn_value.specs.Characters.{is_letter, is_name_byte};
+ghost use Rattle.rn_value.specs.Words.{begins_with, index_of, reserved_words};
+ghost use Rattle.rn_notation.specs.Words.{is_blank, signs, begins_with_sign, opens_comment};
 ghost use Rattle.rn_notation.specs.Steps.{Reads, Cuts, long_sign};
 ghost use Rattle.rn_notation.specs.Steps.{token as a_token};
 ghost use Rattle.rn_notation.specs.declared.token.TokenKind.TheVariants.{Sign as SignToken};
@@ -11,14 +11,8 @@ ghost use Rattle.rn_notation.specs.declared.token.TokenKind.TheVariants.{Sign as
 use crate::chars::ascii_text;
 use crate::piece::Piece;
 use crate::token::TokenKind;
-use rn_value::NoMemory;
+use rn_value::{NoMemory, index_of, is_name_byte, reserved_word};
 use std::alloc::Global;
-
-/// The reserved words, which are no names.
-const RESERVED_WORDS: [&str; 20] = [
-    "net", "place", "trans", "channel", "var", "in", "out", "test", "reserve", "flexin", "flexout",
-    "inhibit", "clear", "guard", "action", "print", "new", "this", "int", "text",
-];
 
 const SIGNS: [&str; 24] = [
     "{", "}", "[", "]", "(", ")", ",", ";", ":", "=", "==", "!=", "<", "<=", ">", ">=", "+", "-",
@@ -29,24 +23,6 @@ pub fn is_blank(byte: u8) -> bool
     ensures { result ≡ is_blank byte }
 {
     matches!(byte, b' ' | b'\t' | b'\r' | b'\n')
-}
-
-pub fn is_letter(byte: u8) -> bool
-    ensures { result ≡ is_letter byte }
-{
-    byte.is_ascii_alphabetic()
-}
-
-pub fn is_digit(byte: u8) -> bool
-    ensures { result ≡ is_digit byte }
-{
-    byte.is_ascii_digit()
-}
-
-fn is_name_byte(byte: u8) -> bool
-    ensures { result ≡ is_name_byte byte }
-{
-    byte.is_ascii_alphanumeric() || byte == b'_'
 }
 
 /// How many letters, digits and `_` a text begins with.
@@ -61,43 +37,22 @@ fn word_length(text: &[u8]) -> usize
     text.len()
 }
 
-/// The first place at which a word stands among words.
-fn place_in(words: &[&str], word: &[u8]) -> Option<u32>
-    requires { length words.now < 2 ^ 32 }
-    ensures { result ≡ place_in (map (λ word. word.now) words.now) word.now }
-{
-    for (i, other) in words.iter().enumerate() {
-        if other.as_bytes() == word {
-            return Some(i as u32);
-        }
-    }
-    None
-}
-
-#[tactic(auto, unfolding(crate::specs::Words::reserved_words))]
-fn reserved_place(word: &[u8]) -> Option<u32>
-    ensures { result ≡ place_in reserved_words word.now }
-{
-    let words: [&str; 20] = RESERVED_WORDS;
-    place_in(words.as_slice(), word)
-}
-
 #[tactic(auto, unfolding(crate::specs::Words::signs))]
 fn sign_place(sign: &[u8]) -> Option<u32>
-    ensures { result ≡ place_in signs sign.now }
+    ensures { result ≡ index_of signs sign.now }
 {
     let words: [&str; 24] = SIGNS;
-    place_in(words.as_slice(), sign)
+    index_of(words.as_slice(), sign)
 }
 
 /// The name or reserved word at the front of a text that begins with a letter.
 pub fn word_piece(alloc: Global, text: &[u8]) -> Result<Piece, NoMemory>
-    requires { IsTrue (goes_on is_letter text.now) }
+    requires { IsTrue (begins_with is_letter text.now) }
     ensures { IfOk result (λ piece. Reads text.now piece) }
 {
     let length = word_length(text);
     let (word, _) = text.split_at(length);
-    if let Some(place) = reserved_place(word) {
+    if let Some(place) = reserved_word(word) {
         return Ok(Piece::Token(TokenKind::Word(place), length));
     }
     Ok(Piece::Token(TokenKind::Name(ascii_text(alloc, word)?), length))

@@ -13,7 +13,7 @@ use Rattle.rn_term.specs.declared.term.Term.TheVariants as T
 use Rattle.rn_term.specs.Stores.{State, term_at, link_of, Leads}
 use Rattle.rn_term.specs.Assignments.{value_at, HasValue, Satisfies, Keeps}
 use Rattle.rn_term.specs.Occurring.{parts_of, Occurs, IsFree}
-use Rattle.rn_term.proofs.ValueSizes.{same_parts_of_tuples, same_parts_of_lists}
+use Rattle.rn_value.proofs.Variants.{same_parts_of_tuples, same_parts_of_lists}
 use Rattle.rn_term.proofs.AssignmentLemmas.{link_within}
 use Rattle.rn_term.proofs.Parts.{same_over, value_among}
 use Rattle.rn_term.proofs.Occurrences.{part_within, by_parts}

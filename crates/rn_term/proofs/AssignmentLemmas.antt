@@ -9,6 +9,7 @@ use Rattle.std.proofs.lemmas.List.{get_or_append_left}
 use Rattle.std.proofs.Math.Seq.{get_or-append_seam}
 use Rattle.std.proofs.lemmas.List.Elements.{recursion_from_All}
 use Rattle.std.specs.List.{AllByRecursion}
+use Rattle.std.proofs.lemmas.Option.{same_Some}
 use Rattle.rn_value.specs.declared.value.Value.{Value}
 use Rattle.rn_value.specs.declared.value.Value.TheVariants as Value
 use Rattle.rn_term.specs.declared.term.Term.{Term}
@@ -16,7 +17,7 @@ use Rattle.rn_term.specs.declared.term.Term.TheVariants as T
 use Rattle.rn_term.specs.Stores.{State, term_at, link_of, IsBuiltBelow, with_term, with_note}
 use Rattle.rn_term.specs.Assignments.{value_at, HasValue, Satisfies, HasListTail, Keeps}
 use Rattle.rn_term.proofs.ListEnds.{at_end}
-use Rattle.rn_term.proofs.LinkLemmas.{none_or_some, same_link, link-stays, link-new, link-here}
+use Rattle.rn_term.proofs.LinkLemmas.{none_or_some, link-stays, link-new, link-here}
 use Rattle.rn_term.proofs.LinkLemmas.{noted_link}
 
 -- a value stays as others come behind it
@@ -114,7 +115,7 @@ satisfies_note s var to vs sat alike none = record {
         value_at vs id ≡ value_at vs x
     last id x is = ⊎_elim
         (λ e. sym (ap (value_at vs) e.1) ∙ alike
-        ∙ ap (value_at vs) (same_link to x (sym (ap (λ b. if b then Some to else None) e.0) ∙ is)))
+        ∙ ap (value_at vs) (same_Some to x (sym (ap (λ b. if b then Some to else None) e.0) ∙ is)))
         (λ e. none_or_some x (sym (ap (λ b. if b then Some to else None) e.0) ∙ is))
         (eqb_tells var id)
 

@@ -14,7 +14,7 @@ use Rattle.rn_term.specs.Occurring.{Occurs, IsFree, HasFree}
 use Rattle.rn_term.specs.Forcing.{IsForced, IsList, IsAlwaysList, MayBeList}
 use Rattle.rn_term.proofs.Agreement.{leads-same, agree, equal_occurring}
 use Rattle.rn_term.proofs.Filling.{FitsTails, filled, stays_list}
-use Rattle.rn_term.proofs.ValueSizes.{same_parts_of_lists}
+use Rattle.rn_value.proofs.Variants.{same_parts_of_lists}
 
 -- all free variables may have one list
 all_lists : (s : State) (items : List Value) → Keeps s →

@@ -5,17 +5,13 @@ use Rattle.std.proofs.Common.{length, sym, ◌∙◌, ap, subst, Bool, true, fal
 use Rattle.std.specs.Prelude.{Option, Some, None, nat_eq, if◌then◌else◌}
 use Rattle.std.proofs.lemmas.Bool.Decides.{eqb_tells}
 use Rattle.std.proofs.lemmas.List.{get_or-set_same, get_or-set_other}
+use Rattle.std.proofs.lemmas.Option.{same_Some}
 use Rattle.rn_term.specs.Stores.{link_of}
 
 -- the first of two links
 abbrev pub or_link : Option ℕ → Option ℕ → Option ℕ
 or_link None other = other
 or_link (Some to) other = Some to
-
--- the number of a link, or another one
-abbrev pub or_number : ℕ → Option ℕ → ℕ
-or_number n None = n
-or_number n (Some to) = to
 
 abbrev IsNoLink : Option ℕ → Type 0
 IsNoLink None = Unit {0}
@@ -24,9 +20,6 @@ IsNoLink (Some to) = ⊥
 -- no link is none to an id
 pub none_or_some : {B : Type 0} (to : ℕ) → None ≡ Some to → B
 none_or_some to e = absurd (subst IsNoLink e tt)
-
-pub same_link : (a b : ℕ) → Some a ≡ Some b → a ≡ b
-same_link a b e = ap (or_number a) e
 
 picked : (b : Bool) (to : ℕ) (x y : Option ℕ) →
     (if b then Some to else or_link x y) ≡ or_link (if b then Some to else x) y
@@ -92,7 +85,7 @@ noted_link (note ∷ notes) id to is =
         (λ e. (
           0,
           omega arith,
-          pair_is e.1 (same_link note.1 to
+          pair_is e.1 (same_Some note.1 to
               (sym (ap (λ b. if b then Some note.1 else link_of notes id) e.0) ∙ is)),
         ))
         (λ e. let found = more

@@ -5,9 +5,10 @@ use Rattle.std.specs.Prelude.{Some, None, nat_eq, if◌then◌else◌}
 use Rattle.std.proofs.lemmas.Bool.Decides.{eqb_tells}
 use Rattle.std.proofs.lemmas.List.{take_all}
 use Rattle.std.proofs.Math.Seq.{take-suc}
+use Rattle.std.proofs.lemmas.Option.{same_Some}
 use Rattle.rn_term.specs.Stores.{State, link_of, Leads}
 use Rattle.rn_term.specs.Assignments.{Keeps}
-use Rattle.rn_term.proofs.LinkLemmas.{none_or_some, same_link, link-stays, link-here, link-other}
+use Rattle.rn_term.proofs.LinkLemmas.{none_or_some, link-stays, link-here, link-other}
 
 -- Links lead from each id to its root, and an id without a link is its own root. A link is between
 -- ids of one root, and leads to a lower rank.
@@ -171,7 +172,7 @@ module _ (notes : List (ℕ × ℕ)) (before : Rooting notes) (var to : ℕ)
   link_cases : {B : Type 0} (id end : ℕ) → link_of more id ≡ Some end →
       (id ≡ var → end ≡ to → B) → (link_of notes id ≡ Some end → B) → B
   link_cases id end is new old = ⊎_elim
-      (λ e. new e.1 (same_link end to (sym is ∙ link-here notes var to id fresh e.1)))
+      (λ e. new e.1 (same_Some end to (sym is ∙ link-here notes var to id fresh e.1)))
       (λ e. old (sym (link-other notes var to id e.1) ∙ is))
       (eqb_tells id var)
 

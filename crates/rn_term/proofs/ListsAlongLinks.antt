@@ -10,7 +10,7 @@ use Rattle.rn_term.specs.Occurring.{IsFree}
 use Rattle.rn_term.specs.Forcing.{IsList}
 use Rattle.rn_term.proofs.AssignmentLemmas.{link_within}
 use Rattle.rn_term.proofs.Ranks.{IsWithin}
-use Rattle.rn_term.proofs.ValueSizes.{tuple_is_no_list}
+use Rattle.rn_value.proofs.Variants.{tuple_is_no_list}
 
 -- an atom has its value, and what names a list has a list
 abbrev pub HasItsKind : Term → Value → Type 0

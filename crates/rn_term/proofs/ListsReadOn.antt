@@ -15,7 +15,7 @@ use Rattle.rn_term.proofs.Extents.{extent, extent-tail}
 use Rattle.rn_term.proofs.Following.{extent-leads}
 use Rattle.rn_term.proofs.Occurrences.{occurs-through, leads_occurs, part_within}
 use Rattle.rn_term.proofs.ReadingLemmas.{value_at_end, atom_is_list, tuple_is_not_list}
-use Rattle.rn_term.proofs.ValueSizes.{same_parts_of_lists}
+use Rattle.rn_value.proofs.Variants.{same_parts_of_lists}
 
 -- a list is read up to a rest of it: its elements are these values and then those of the rest
 pub record IsReadTo (s : State) (id rest : ℕ) (values : List Value) : Type 0 where

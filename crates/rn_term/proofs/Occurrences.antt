@@ -3,13 +3,14 @@ use Rattle.std.proofs.Common.{◌≡◌, ◌⊎◌, ◌<◌, ◌≤◌, ℕ, zer
 use Rattle.std.proofs.Common.{◌∙◌, ap, subst}
 use Rattle.std.specs.Prelude.{Some, None}
 use Rattle.std.specs.List.{Contains}
+use Rattle.std.proofs.lemmas.Option.{same_Some}
 use Rattle.rn_value.specs.declared.value.Value.{Value}
 use Rattle.rn_term.specs.Stores.{State, term_at, link_of, Leads}
 use Rattle.rn_term.specs.Assignments.{value_at, Satisfies, Keeps}
 use Rattle.rn_term.specs.Occurring.{parts_of, Occurs, HasFree}
 use Rattle.rn_term.specs.GroundTerms.{IsGround}
 use Rattle.rn_term.proofs.ValueSizes.{size_of}
-use Rattle.rn_term.proofs.LinkLemmas.{none_or_some, same_link}
+use Rattle.rn_term.proofs.LinkLemmas.{none_or_some}
 use Rattle.rn_term.proofs.AssignmentLemmas.{link_within}
 use Rattle.rn_term.proofs.Ranks.{IsWithin, all_within}
 use Rattle.rn_term.proofs.Parts.{no_parts, whole_within, part_below}
@@ -52,7 +53,7 @@ unbound_is_not_bound s id to none is = none_or_some to (sym none ∙ is)
 -- an id that was bound is bound to one id
 one_link : (s : State) (id a b : ℕ) → link_of s.notes id ≡ Some a →
     link_of s.notes id ≡ Some b → a ≡ b
-one_link s id a b first second = same_link a b (sym first ∙ second)
+one_link s id a b first second = same_Some a b (sym first ∙ second)
 
 -- what occurs in a variable that was bound occurs in what it was bound to, or is the variable
 occurs_past : (s : State) (var id to : ℕ) → Keeps s → link_of s.notes var ≡ None →

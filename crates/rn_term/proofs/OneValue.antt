@@ -8,7 +8,7 @@ use Rattle.rn_term.specs.declared.term.Term.TheVariants as T
 use Rattle.rn_term.specs.Stores.{State, term_at}
 use Rattle.rn_term.specs.Assignments.{value_at, HasValue, Satisfies}
 use Rattle.rn_term.specs.GroundTerms.{IsGround, GroundIsForced}
-use Rattle.rn_term.proofs.ValueSizes.{same_parts_of_lists}
+use Rattle.rn_value.proofs.Variants.{same_parts_of_lists}
 
 same_map : (f g : ℕ → Value) (ids : List ℕ) →
     ((k : ℕ) → k < length ids → f (get_or ids k 0) ≡ g (get_or ids k 0)) → map f ids ≡ map g ids

@@ -14,7 +14,7 @@ use Rattle.rn_term.proofs.Agreement.{leads-same}
 use Rattle.rn_term.proofs.FreeVariables.{free_is_no_list}
 use Rattle.rn_term.proofs.Occurrences.{one_end}
 use Rattle.rn_term.proofs.Parts.{whole_within}
-use Rattle.rn_term.proofs.ValueSizes.{tuple_is_no_list}
+use Rattle.rn_value.proofs.Variants.{tuple_is_no_list}
 
 -- an id has a value of the term to which its links lead
 pub value_at_end : (s : State) (vs : List Value) (id end : ℕ) (t : Term) → Satisfies s vs →

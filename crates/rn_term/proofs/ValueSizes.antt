@@ -1,6 +1,6 @@
 -- How large a value is, so that what is within a value is smaller.
 use Rattle.std.proofs.Common.{◌≡◌, ◌<◌, ◌≤◌, ◌+◌, ◌++◌, ℕ, zero, suc, List, [], ◌∷◌, length, get_or}
-use Rattle.std.proofs.Common.{map, sym, ◌∙◌, ap, subst, arith}
+use Rattle.std.proofs.Common.{map, sym, ◌∙◌, subst, arith}
 use Rattle.rn_value.specs.declared.value.Value.{Value, out-Value, map-Value}
 use Rattle.rn_value.specs.declared.value.Value.{fold-Value, fold_out-Value}
 use Rattle.rn_value.specs.declared.value.Value.TheVariants as Value
@@ -72,32 +72,3 @@ size-list_end (v ∷ front) back some =
       end_in_total front back,
       size-positive v,
     )
-
-abbrev parts_step : V.Value-F Value → List Value
-parts_step (V.Tuple vs) = vs
-parts_step (V.List vs) = vs
-parts_step _ = []
-
-abbrev parts : Value → List Value
-parts v = parts_step (out-Value v)
-
-parts-Tuple : (vs : List Value) → parts (Value.Tuple vs) ≡ vs
-parts-Tuple vs = rw (Value.outs-Tuple vs)
-
-parts-List : (vs : List Value) → parts (Value.List vs) ≡ vs
-parts-List vs = rw (Value.outs-List vs)
-
--- the parts of equal tuples and of equal lists are equal, and no tuple is a list
-pub same_parts_of_tuples : (vs ws : List Value) → Value.Tuple vs ≡ Value.Tuple ws → vs ≡ ws
-same_parts_of_tuples vs ws is = sym (parts-Tuple vs) ∙ ap parts is ∙ parts-Tuple ws
-
-pub same_parts_of_lists : (vs ws : List Value) → Value.List vs ≡ Value.List ws → vs ≡ ws
-same_parts_of_lists vs ws is = sym (parts-List vs) ∙ ap parts is ∙ parts-List ws
-
-abbrev IsTuple : V.Value-F Value → Type 0
-IsTuple (V.Tuple vs) = Unit {0}
-IsTuple _ = ⊥
-
-pub tuple_is_no_list : (vs ws : List Value) → Value.Tuple vs ≡ Value.List ws → ⊥
-tuple_is_no_list vs ws is =
-    subst IsTuple (sym (Value.outs-Tuple vs) ∙ ap out-Value is ∙ Value.outs-List ws) tt

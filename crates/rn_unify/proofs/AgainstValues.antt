@@ -12,7 +12,7 @@ use Rattle.rn_term.specs.Stores.{State, term_at, Leads}
 use Rattle.rn_term.specs.Assignments.{value_at, HasValue, Satisfies}
 use Rattle.rn_term.specs.Forcing.{IsList}
 use Rattle.rn_term.proofs.Agreement.{leads-same}
-use Rattle.rn_term.proofs.ValueSizes.{same_parts_of_tuples}
+use Rattle.rn_value.proofs.Variants.{same_parts_of_tuples}
 use Rattle.rn_term.specs.Forcing.{items_of}
 use Rattle.rn_term.proofs.OneValue.{said}
 use Rattle.rn_term.proofs.FillingSteps.{items_of-list}

@@ -11,7 +11,7 @@ use Rattle.rn_term.specs.declared.term.Term.TheVariants as T
 use Rattle.rn_term.specs.Stores.{State, term_at, link_of, Leads}
 use Rattle.rn_term.specs.Assignments.{value_at, Satisfies, Keeps}
 use Rattle.rn_term.specs.Occurring.{IsFree, parts_of}
-use Rattle.rn_term.proofs.ValueSizes.{same_parts_of_tuples}
+use Rattle.rn_value.proofs.Variants.{same_parts_of_tuples}
 use Rattle.rn_term.proofs.Extents.{extent, greatest, extent-parts}
 use Rattle.rn_term.proofs.Agreement.{leads-same}
 use Rattle.rn_term.proofs.OneValue.{said}

@@ -9,7 +9,7 @@ use crate::equation::{Equation, Other};
 use crate::rests::{Rest, advance, items};
 use rn_items::Items;
 use rn_term::{Store, Term};
-use rn_value::{NoMemory, Vals, Value, copy, same};
+use rn_value::{NoMemory, Value, copy, copy_all, same, same_all};
 use std::alloc::Global;
 
 /// Puts the equations that give an id this value behind others, or tells that nothing gives it.
@@ -115,36 +115,10 @@ pub(crate) fn against_rest(
             }
             Term::Atom(list) => return Ok(same_all(items(list), values)),
             Term::Free => {
-                let atom = Term::Atom(Value::List(copy_slice(alloc, values)?));
+                let atom = Term::Atom(Value::List(copy_all(alloc, values)?));
                 return note(found, rest.id, Other::New(atom));
             }
             Term::Tuple(_) => unreachable!(),
         }
     }
-}
-
-/// Whether two slices have the same values.
-fn same_all(xs: &[Value], ys: &[Value]) -> bool
-    ensures { IsTrue result ↔ (xs.now ≡ ys.now) }
-{
-    if xs.len() != ys.len() {
-        return false;
-    }
-    for k in 0..xs.len() {
-        if !same(&xs[k], &ys[k]) {
-            return false;
-        }
-    }
-    true
-}
-
-/// Copies of values.
-fn copy_slice(alloc: Global, values: &[Value]) -> Result<Vals, NoMemory>
-    ensures { IfOk result (λ vs. vs ≡ values.now) }
-{
-    let mut copies = Vec::with_capacity(alloc, values.len())?;
-    for value in values {
-        copies.push(copy(alloc, value)?)?;
-    }
-    Ok(Items::from_vec(copies))
 }

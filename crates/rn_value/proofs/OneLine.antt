@@ -4,9 +4,10 @@ use Rattle.std.proofs.lemmas.Bool.{false≢true}
 use Rattle.std.proofs.lemmas.List.Elements.{All-from_recursion}
 use Rattle.std.specs.List.{list_all, AllByRecursion}
 use Rattle.rn_value.specs.Grammar.{IsNumeral, IsWholeNumber, IsEscaped, IsInside, IsText, IsRow, IsTail}
-use Rattle.rn_value.specs.TextLaws.{is_name_byte, AreNames, TextsStayOnOneLine}
+use Rattle.rn_value.specs.Characters.{is_name_byte}
+use Rattle.rn_value.specs.TextLaws.{AreIdentifiers, TextsStayOnOneLine}
 use Rattle.rn_value.specs.declared.value.Value.{Value}
-use Rattle.rn_value.proofs.Spans.{and_left, and_right}
+use Rattle.rn_items.proofs.Bools.{and_left, and_right}
 use Rattle.rn_value.proofs.Spelling.{name_bytes, named_is}
 
 -- none of these bytes is a newline
@@ -45,7 +46,7 @@ name_line (c ∷ name) all = (
   name_line name (and_right (is_name_byte c) (list_all is_name_byte name) all),
 )
 
-module _ (names : List (List ℕ)) (are : AreNames names) where
+module _ (names : List (List ℕ)) (are : AreIdentifiers names) where
   mutual
     text_line : {v : Value} {a : List ℕ} → IsText names v a → OneLine a
     text_line (IsText.number (IsWholeNumber.positive p)) = numeral_line p

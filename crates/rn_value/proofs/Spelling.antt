@@ -2,30 +2,32 @@
 use Rattle.std.proofs.Common.{◌≡◌, ℕ, zero, suc, ◌-◌, true, false, cond, eqb, ◌||◌, ℤ, pos, negsuc, List, [], ◌∷◌, ◌++◌, Some, None, append_assoc, refl, sym, ap, ◌∙◌, subst, arith}
 use Rattle.std.proofs.lemmas.Bool.{false≢true}
 use Rattle.std.proofs.lemmas.Bool.Decides.{nat_tests}
-use Rattle.std.specs.Char.{is_ascii_digit, is_ascii_alphabetic}
 use Rattle.std.specs.List.{list_all, slice_get}
 use Rattle.rn_value.specs.Grammar.{IsNumeral, IsWholeNumber, IsText, IsRow, IsTail}
 use Rattle.rn_value.specs.Grammar.IsWholeNumber.{positive, negative}
 use Rattle.rn_value.specs.Names.{name_of}
-use Rattle.rn_value.specs.TextLaws.{is_name_byte, IsName, AreNames, is_delimiter, IsDelimited}
+use Rattle.rn_value.specs.Characters.{is_letter, is_digit, is_name_byte}
+use Rattle.rn_value.specs.TextLaws.{AreIdentifiers, is_delimiter, IsDelimited}
+use Rattle.rn_value.specs.Words.{begins_with, IsIdentifier}
 use Rattle.rn_value.specs.declared.value.InstRef.TheVariants.{Old}
 use Rattle.rn_value.specs.declared.value.Value.{Value}
 use Rattle.rn_value.specs.declared.value.Value.TheVariants as Value
 use Rattle.rn_value.proofs.Numerals.{IsNumeral-same, IsNumeral-digits, IsNumeral-first}
-use Rattle.rn_value.proofs.Spans.{Stops, same_runs, and_left, and_right}
+use Rattle.rn_items.proofs.Bools.{and_left, and_right}
+use Rattle.rn_value.proofs.Spans.{Stops, same_runs}
 use Rattle.rn_value.proofs.Escapes.{same_inside}
 
-delimiter_no_digit : (c : ℕ) → is_delimiter c ≡ true → is_ascii_digit c ≡ false
+delimiter_no_digit : (c : ℕ) → is_delimiter c ≡ true → is_digit c ≡ false
 delimiter_no_digit c d = grind (arith, nat_tests)
 
 -- what delimits a value is no digit
-stops_digits : (x : List ℕ) → IsDelimited x → Stops is_ascii_digit x
+stops_digits : (x : List ℕ) → IsDelimited x → Stops is_digit x
 stops_digits [] d = tt
 stops_digits (c ∷ rest) d = delimiter_no_digit c d
 
-same_numeral : {m n : ℕ} {a b : List ℕ} → IsNumeral m a → IsNumeral n b → (x y : List ℕ) → Stops is_ascii_digit x → Stops is_ascii_digit y → a ++ x ≡ b ++ y → (m ≡ n) × (x ≡ y)
+same_numeral : {m n : ℕ} {a b : List ℕ} → IsNumeral m a → IsNumeral n b → (x y : List ℕ) → Stops is_digit x → Stops is_digit y → a ++ x ≡ b ++ y → (m ≡ n) × (x ≡ y)
 same_numeral {n = n} {a = a} {b = b} p q x y stops ends e =
-    let runs = same_runs is_ascii_digit a b x y (IsNumeral-digits p) (IsNumeral-digits q) stops ends e in
+    let runs = same_runs is_digit a b x y (IsNumeral-digits p) (IsNumeral-digits q) stops ends e in
     (IsNumeral-same p (subst (IsNumeral n) (sym runs.0) q), runs.1)
 
 no_minus : {n : ℕ} {a : List ℕ} → IsNumeral n a → (x y : List ℕ) → a ++ x ≡ 45 ∷ y → ⊥
@@ -35,9 +37,9 @@ no_minus {a = a} p x y e =
     let is : a ≡ c ∷ first.1 = first.2 in
     let begins : (c ∷ first.1) ++ x ≡ 45 ∷ y = subst (λ a. a ++ x ≡ 45 ∷ y) is e in
     let minus : c ≡ 45 = cc in
-    false≢true (sym (ap is_ascii_digit minus) ∙ first.3)
+    false≢true (sym (ap is_digit minus) ∙ first.3)
 
-same_whole : {m n : ℤ} {a b : List ℕ} → IsWholeNumber m a → IsWholeNumber n b → (x y : List ℕ) → Stops is_ascii_digit x → Stops is_ascii_digit y → a ++ x ≡ b ++ y → (m ≡ n) × (x ≡ y)
+same_whole : {m n : ℤ} {a b : List ℕ} → IsWholeNumber m a → IsWholeNumber n b → (x y : List ℕ) → Stops is_digit x → Stops is_digit y → a ++ x ≡ b ++ y → (m ≡ n) × (x ≡ y)
 same_whole (positive p) (positive q) x y stops ends e =
     let same = same_numeral p q x y stops ends e in (ap pos same.0, same.1)
 same_whole (positive p) (negative {digits = b} q) x y stops ends e = absurd (no_minus p x (b ++ y) e)
@@ -50,36 +52,31 @@ same_whole (negative {n = m} p) (negative {n = n} q) x y stops ends e =
 -- the kind of value whose text begins with this byte: 0 a number, 1 a text, 2 a tuple, 3 a list, 4 an instance, 5 none
 form : ℕ → ℕ
 form c =
-    cond (is_ascii_digit c || eqb c 45) 0 (cond (eqb c 34) 1 (cond (eqb c 91) 2 (cond (eqb c 123) 3 (cond (is_ascii_alphabetic c) 4 5))))
+    cond (is_digit c || eqb c 45) 0 (cond (eqb c 34) 1 (cond (eqb c 91) 2 (cond (eqb c 123) 3 (cond (is_letter c) 4 5))))
 
-digit_form : (c : ℕ) → is_ascii_digit c ≡ true → form c ≡ 0
+digit_form : (c : ℕ) → is_digit c ≡ true → form c ≡ 0
 unfolding form
 digit_form c d = rw d refl
 
-letter_apart : (c : ℕ) → is_ascii_alphabetic c ≡ true → ((is_ascii_digit c || eqb c 45) ≡ false) × (eqb c 34 ≡ false) × (eqb c 91 ≡ false) × (eqb c 123 ≡ false)
+letter_apart : (c : ℕ) → is_letter c ≡ true → ((is_digit c || eqb c 45) ≡ false) × (eqb c 34 ≡ false) × (eqb c 91 ≡ false) × (eqb c 123 ≡ false)
 letter_apart c d = (grind (arith, nat_tests), grind (arith, nat_tests), grind (arith, nat_tests), grind (arith, nat_tests))
 
-letter_form : (c : ℕ) → is_ascii_alphabetic c ≡ true → form c ≡ 4
+letter_form : (c : ℕ) → is_letter c ≡ true → form c ≡ 4
 unfolding form
 letter_form c d =
     let apart = letter_apart c d in
     rw (apart.0, apart.1, apart.2, apart.3, d) refl
 
-letter_in_name : (c : ℕ) → is_ascii_alphabetic c ≡ true → is_name_byte c ≡ true
-letter_in_name c d = grind (arith, nat_tests)
+pub name_bytes : (name : List ℕ) → IsIdentifier name → list_all is_name_byte name ≡ true
+name_bytes name is = and_right (begins_with is_letter name) (list_all is_name_byte name) is
 
-pub name_bytes : (name : List ℕ) → IsName name → list_all is_name_byte name ≡ true
-name_bytes [] is = absurd is
-name_bytes (c ∷ cs) is =
-    rw (letter_in_name c (and_left (is_ascii_alphabetic c) (list_all is_name_byte cs) is)) (and_right (is_ascii_alphabetic c) (list_all is_name_byte cs) is)
-
-name_at : (names : List (List ℕ)) → AreNames names → (place : ℕ) (name : List ℕ) → slice_get names place ≡ Some name → IsName name
+name_at : (names : List (List ℕ)) → AreIdentifiers names → (place : ℕ) (name : List ℕ) → slice_get names place ≡ Some name → IsIdentifier name
 name_at [] are place name e = cc
-name_at (n ∷ names) are zero name e = let same : n ≡ name = cc in subst IsName same are.0
+name_at (n ∷ names) are zero name e = let same : n ≡ name = cc in subst IsIdentifier same are.0
 name_at (n ∷ names) are (suc place) name e = name_at names are.1 place name e
 
-pub named_is : (names : List (List ℕ)) → AreNames names → (k : ℕ) (name : List ℕ) → name_of names k ≡ Some name → IsName name
-named_is names are k name = elim (eqb k 0) as (λ t. cond t None (slice_get names (k - 1)) ≡ Some name → IsName name) [
+pub named_is : (names : List (List ℕ)) → AreIdentifiers names → (k : ℕ) (name : List ℕ) → name_of names k ≡ Some name → IsIdentifier name
+named_is names are k name = elim (eqb k 0) as (λ t. cond t None (slice_get names (k - 1)) ≡ Some name → IsIdentifier name) [
   | true ↦ λ e. cc
   | false ↦ λ e. name_at names are (k - 1) name e
 ]
@@ -114,7 +111,7 @@ begins_other k a x y c p apart other e =
     let first : p.0 ≡ c = cc in
     apart (sym p.3 ∙ ap form first ∙ other)
 
-module _ (names : List (List ℕ)) (are : AreNames names) where
+module _ (names : List (List ℕ)) (are : AreIdentifiers names) where
   shape : {v : Value} {a : List ℕ} → IsText names v a → ℕ
   shape (IsText.number n) = 0
   shape (IsText.text s) = 1
@@ -135,9 +132,10 @@ module _ (names : List (List ℕ)) (are : AreNames names) where
   begins_number (positive p) = let first = IsNumeral-first p in (first.0, first.1, first.2, digit_form first.0 first.3)
   begins_number (negative {digits = digits} p) = (45, digits, refl, refl)
 
-  begins_name : (name rest : List ℕ) → IsName name → Begins 4 (name ++ rest)
-  begins_name [] rest is = absurd is
-  begins_name (c ∷ cs) rest is = (c, cs ++ rest, refl, letter_form c (and_left (is_ascii_alphabetic c) (list_all is_name_byte cs) is))
+  begins_name : (name rest : List ℕ) → IsIdentifier name → Begins 4 (name ++ rest)
+  begins_name [] rest is = absurd (false≢true is)
+  begins_name (c ∷ cs) rest is =
+      (c, cs ++ rest, refl, letter_form c (and_left (is_letter c) (list_all is_name_byte (c ∷ cs)) is))
 
   begins : {v : Value} {a : List ℕ} (t : IsText names v a) → Begins (shape t) a
   unfolding form shape

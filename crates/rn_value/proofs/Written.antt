@@ -14,7 +14,7 @@ use Rattle.rn_value.specs.TextLaws.{GrammarIsWritten, TextsTellValues, WrittenTe
 use Rattle.rn_value.proofs.Spelling.{same_value}
 use Rattle.rn_value.proofs.Numerals.{IsNumeral-numeral, numeral_only}
 use borrow.Author.Tests.{ne_eqb, eq-eqb, eqb-true, eqb-false, le-leb, leb-true}
-use Rattle.rn_value.proofs.Spans.{and_left, and_right}
+use Rattle.rn_items.proofs.Bools.{and_left, and_right}
 
 -- the texts of items with commas between, and of those that follow another
 abbrev items_text : List (List ℕ) → List Value → List ℕ

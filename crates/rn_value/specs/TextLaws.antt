@@ -1,23 +1,15 @@
 -- What the texts of values promise to a reader.
-use Rattle.std.specs.Prelude.{◌≡◌, ◌≢◌, ◌↔◌, ℕ, Bool, ◌&&◌, ◌||◌, nat_eq, List, [], ◌∷◌, ◌++◌, IsTrue, All}
-use Rattle.std.specs.Char.{is_ascii_alphabetic, is_ascii_alphanumeric}
-use Rattle.std.specs.List.{list_all, AllByRecursion}
+use Rattle.std.specs.Prelude.{◌≡◌, ◌≢◌, ◌↔◌, ℕ, Bool, ◌||◌, nat_eq, List, [], ◌∷◌, ◌++◌, IsTrue, All}
+use Rattle.std.specs.List.{AllByRecursion}
 use Rattle.rn_value.specs.Grammar.{IsText}
 use Rattle.rn_value.specs.Names.{AreNamed}
 use Rattle.rn_value.specs.Text.{value_text}
+use Rattle.rn_value.specs.Words.{IsIdentifier}
 use Rattle.rn_value.specs.declared.value.Value.{Value}
 
--- an ASCII letter or digit, or `_`
-abbrev pub is_name_byte : ℕ → Bool
-is_name_byte c = is_ascii_alphanumeric c || nat_eq c 95
-
--- A name is an ASCII letter, and then letters, digits and `_`.
-abbrev pub IsName : List ℕ → Type 0
-IsName [] = ⊥
-IsName (c ∷ cs) = IsTrue (is_ascii_alphabetic c && list_all is_name_byte cs)
-
-abbrev pub AreNames : List (List ℕ) → Type 0
-AreNames = AllByRecursion IsName
+-- Each of these is an identifier.
+abbrev pub AreIdentifiers : List (List ℕ) → Type 0
+AreIdentifiers = AllByRecursion IsIdentifier
 
 -- a space, a newline, a comma, `]` or `}`
 abbrev pub is_delimiter : ℕ → Bool
@@ -38,25 +30,25 @@ GrammarIsWritten = (names : List (List ℕ)) (v : Value) (bytes : List ℕ) →
 -- of no other value, and with no other text: they tell the value, and where its text ends.
 abbrev pub TextsTellValues : Type 0
 TextsTellValues = (names : List (List ℕ)) (v w : Value) (a b x y : List ℕ) →
-    AreNames names → IsText names v a → IsText names w b → IsDelimited x → IsDelimited y →
+    AreIdentifiers names → IsText names v a → IsText names w b → IsDelimited x → IsDelimited y →
     a ++ x ≡ b ++ y → (v ≡ w) × (x ≡ y)
 
 -- The same of the texts that are written.
 abbrev pub WrittenTextsTellValues : Type 0
 WrittenTextsTellValues = (names : List (List ℕ)) (v w : Value) (x y : List ℕ) →
-    AreNames names → AreNamed names v → AreNamed names w → IsDelimited x → IsDelimited y →
+    AreIdentifiers names → AreNamed names v → AreNamed names w → IsDelimited x → IsDelimited y →
     value_text v names ++ x ≡ value_text w names ++ y → (v ≡ w) × (x ≡ y)
 
 -- Of two values whose instances have names, equal texts mean equal values.
 abbrev pub OneSpelling : Type 0
 OneSpelling = (names : List (List ℕ)) (v w : Value) →
-    AreNames names → AreNamed names v → AreNamed names w →
+    AreIdentifiers names → AreNamed names v → AreNamed names w →
     value_text v names ≡ value_text w names → v ≡ w
 
 -- No text of a value holds a newline.
 abbrev pub TextsStayOnOneLine : Type 0
 TextsStayOnOneLine = (names : List (List ℕ)) (v : Value) (bytes : List ℕ) →
-    AreNames names → IsText names v bytes → All (λ c. c ≢ 10) bytes
+    AreIdentifiers names → IsText names v bytes → All (λ c. c ≢ 10) bytes
 
 -- A text of a value stays one as names are added, and by the exactness above no other comes.
 abbrev pub TextsStayAsNamesGrow : Type 0

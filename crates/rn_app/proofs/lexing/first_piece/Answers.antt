@@ -1,6 +1,6 @@
 use Rattle.std.proofs.Common.{sym, ap, ◌∙◌, take, drop}
 use Rattle.std.proofs.lemmas.List.Sums.{prefix_len-le-length}
-use Rattle.rn_model.specs.Names.{is_name_byte}
+use Rattle.rn_value.specs.Characters.{is_name_byte}
 use Rattle.rn_app.proofs.TokenLemmas.{first_word}
 use Rattle.rn_app.proofs.lexing.first_piece.Goals as goal
 

@@ -1,6 +1,6 @@
 use Rattle.std.proofs.Common.{◌≡◌, ◌+◌, drop}
 use Rattle.std.specs.List.{prefix_len}
-use Rattle.rn_model.specs.Names.{is_name_byte}
+use Rattle.rn_value.specs.Characters.{is_name_byte}
 use Rattle.rn_app.proofs.lexing.word_length.Given as goal
 
 abbrev pub invariant-loop-i : goal.invariant-loop-i

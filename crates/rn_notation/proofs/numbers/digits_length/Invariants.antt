@@ -1,6 +1,6 @@
 use Rattle.std.proofs.Common.{◌≡◌, ◌+◌, drop}
 use Rattle.std.specs.List.{prefix_len}
-use Rattle.rn_notation.specs.Words.{is_digit}
+use Rattle.rn_value.specs.Characters.{is_digit}
 use Rattle.rn_notation.proofs.numbers.digits_length.Given as goal
 
 abbrev pub invariant-loop-i : goal.invariant-loop-i

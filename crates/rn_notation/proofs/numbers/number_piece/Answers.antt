@@ -1,7 +1,7 @@
 use Rattle.std.proofs.Common.{arith}
 use Rattle.std.proofs.lemmas.List.Sums.{prefix_len-le-length}
 use Rattle.std.proofs.lemmas.Int.{ints}
-use Rattle.rn_notation.specs.Words.{is_digit}
+use Rattle.rn_value.specs.Characters.{is_digit}
 use Rattle.rn_notation.proofs.NumberLemmas.{number_whole, number_stands, number_too_great, longest_front}
 use Rattle.rn_notation.proofs.numbers.number_piece.Goals as goal
 

@@ -1,5 +1,5 @@
 use Rattle.std.proofs.lemmas.List.Sums.{prefix_len-le-length}
-use Rattle.rn_notation.specs.Words.{is_name_byte}
+use Rattle.rn_value.specs.Characters.{is_name_byte}
 use Rattle.rn_notation.proofs.WordLemmas.{word_whole, reserved_stands, name_stands, word_utf8}
 use Rattle.rn_notation.proofs.words.word_piece.Goals as goal
 

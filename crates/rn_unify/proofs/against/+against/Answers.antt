@@ -322,8 +322,8 @@ against_rest-returns-in-Free t c =
     let place = inv.rest in
     let now = c.loop-ids.found.items in
     let after = c.note.new.found.items in
-    let copies = c.in_ok-copy_slice-in-Free.field-0 in
-    let copied = c.in_ok-copy_slice-in-Free.ensures in
+    let copies = c.in_ok-copy_all-in-Free.field-0 in
+    let copied = c.in_ok-copy_all-in-Free.ensures in
     let free : term_at s rest.id ≡ T.Free = sym c.term.ensures ∙ c.in-Free.is in
     let here : List Value → Type 0 = λ vs. rest_value vs rest ≡ values in
     let same : (vs : List Value) → Satisfies s vs →
