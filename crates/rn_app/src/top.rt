@@ -2,7 +2,7 @@
 ghost use Rattle.std.specs.Prelude.{◌≡◌, ◌≢◌, ◌↔◌, ◌⊎◌, ◌<◌, map, length, string_bytes};
 ghost use Rattle.std.specs.Prelude.{IsTrue, IfOk, IfErr, IfSome, IsErrOf, OnErr, codes};
 ghost use Rattle.rn_model.specs.declared.system.System.{System as Whole};
-ghost use Rattle.rn_outside.specs.Bytes.{GivesAll, GivesFront, Appends, AppendsPrefix};
+ghost use Rattle.rn_outside.specs.Bytes.{GivesAll, GivesPrefix, Appends, AppendsPrefix};
 ghost use Rattle.rn_outside.specs.Faults.{Rose};
 ghost use Rattle.rn_app.specs.SmallNets.{Accepted};
 ghost use Rattle.rn_app.specs.TopCall.{AreRunWords, IsNoNetText, IsRunOf, ReadsRun, WritesRun};
@@ -73,7 +73,7 @@ fn read_input<I: Source>(alloc: Global, input: &mut I) -> Result<Vec<u8>, Refusa
     ensures words { ¬ IsErrOf result Refusal.Words }
     ensures cause { IsErrOf result Refusal.ReadFault →
         Rose (I.faults input.old) (I.faults input.new) }
-    ensures front { OnErr result (GivesFront (I.left input.old) (I.left input.new)) }
+    ensures front { OnErr result (GivesPrefix (I.left input.old) (I.left input.new)) }
 {
     match read_all(alloc, input, LONGEST_TEXT) {
         Ok(bytes) => Ok(bytes),
@@ -105,7 +105,7 @@ fn answer<I: Source>(alloc: Global, words: &[String], input: &mut I) -> Result<V
     ensures refused { IfErr result (HasCause (map string_bytes words.now)
         (I.left input.old) (I.faults input.old) (I.faults input.new)) }
     ensures untouched { ¬ AreRunWords (map string_bytes words.now) → input.new ≡ input.old }
-    ensures front { GivesFront (I.left input.old) (I.left input.new) }
+    ensures front { GivesPrefix (I.left input.old) (I.left input.new) }
 {
     if !are_run_words(words) {
         return Err(Refusal::Words);
@@ -200,7 +200,7 @@ pub fn renew_top<I: Source, O: Sink, E: Sink>(
 
     // What a refusal leaves.
     ensures nothing_out { result ≢ 0 → result ≢ 5 → out.new ≡ out.old }
-    ensures front { GivesFront (I.left input.old) (I.left input.new) }
+    ensures front { GivesPrefix (I.left input.old) (I.left input.new) }
 {
     match answer(alloc, words, input) {
         Ok(text) => write_text(out, text.as_slice()),

@@ -5,7 +5,7 @@ use mathlib.Core.Option.{none, some}
 use mathlib.Core.Option as maybe
 use lib.ListN.{get_elem?}
 use prog.Atomic.{either}
-use Rattle.atomic_table.specs.Table.{State, Me, step, keeps, Allows}
+use Rattle.atomic_table.specs.Table.{Me, step, keeps, Allows}
 use Rattle.atomic_table.proofs.Lists.{set_here}
 use Rattle.rn_desk.specs.declared.view.Role.{Role}
 use Rattle.rn_desk.specs.declared.view.Role.TheVariants.{Holds}
@@ -14,6 +14,7 @@ use Rattle.rn_desk.specs.declared.view.View.{View}
 use Rattle.rn_desk.specs.Entries.{authored}
 use Rattle.rn_desk.specs.Turns.{total, Every, wrapped, tickets_in, is_number, parts, PartFits, parts_of, number_count, RoleFits, Turns}
 use Rattle.rn_desk.specs.Steps.{grown, with_entries, Counts}
+use Rattle.rn_desk.proofs.Setting.{BoardState}
 use Rattle.rn_desk.proofs.Sums.{total-set_same, total_at, total_two}
 use Rattle.rn_desk.proofs.Histories.{append_none, authored-append, authored_by_other, is_number_here, all_fit_longer}
 use Rattle.rn_desk.proofs.Roles.{turn_elsewhere}
@@ -25,19 +26,10 @@ said_value d none = d
 said_value d (some o) = value_or d o
 
 module _ {S I F : Type 0} (entries : S → List I) (author : I → ℕ) (fixed : S → F) (seats : ℕ) (start : S) where
-  abbrev D : Type 0
-  D = View I F
-
-  abbrev St : Type 0
-  St = State (Option S) D
-
-  abbrev Homes : Type 0
-  Homes = List (maybe.Option (Option S))
-
-  abbrev Rule : St → Type 0
+  abbrev Rule : BoardState S I F → Type 0
   Rule = Turns entries author fixed seats start
 
-  module _ (s : St) (r : Rule s) (id : ℕ) (v : D) (t : ℕ) (e : I) (at : get_elem? s.views id ≡ some v) (is : v.role ≡ Holds t) (who : (author e ≡ v.own.number) ⊎ (author e ≡ 0)) where
+  module _ (s : BoardState S I F) (r : Rule s) (id : ℕ) (v : View I F) (t : ℕ) (e : I) (at : get_elem? s.views id ≡ some v) (is : v.role ≡ Holds t) (who : (author e ≡ v.own.number) ⊎ (author e ≡ 0)) where
     -- the number of parts of the seat that have the author's number
     own_count : number_count (author e) v ≡ is_number (author e) v.own + total (is_number (author e)) v.others
     own_count = ap (total (is_number (author e))) (parts_in v (Holds t) is)
@@ -51,7 +43,7 @@ module _ {S I F : Type 0} (entries : S → List I) (author : I → ℕ) (fixed :
         ⊎_elim (λ q. let a = is_number_here (author e) v.own (sym q) in omega arith) (λ q. let b = no_part q in omega arith) who
 
     -- and none of another seat's
-    elsewhere : (j : ℕ) (d : D) → j ≢ id → get_elem? s.views j ≡ some d → total (is_number (author e)) (parts_of d) ≡ 0
+    elsewhere : (j : ℕ) (d : View I F) → j ≢ id → get_elem? s.views j ≡ some d → total (is_number (author e)) (parts_of d) ≡ 0
     elsewhere j d other h = let c = own_count in let one = alone entries author fixed seats start s r (author e) in
         ⊎_elim (λ q. let a = is_number_here (author e) v.own (sym q) in let two = total_two (number_count (author e)) s.views id j v d at h (λ f. other (sym f)) in omega arith)
         (λ q. let b = no_part q in let inside = total_at (number_count (author e)) s.views j d h in omega arith) who
@@ -73,11 +65,11 @@ module _ {S I F : Type 0} (entries : S → List I) (author : I → ℕ) (fixed :
           all_fit_longer author r.log e v.others others_none fit.1,
         )
 
-  pub count_allowed : (slots id old new : ℕ) (v : D) (t : ℕ) (y : S) (e : I) (cs : List (ℕ × Option S)) → v.role ≡ Holds t → old ≡ length v.own.seen → new ≡ old + 1 → new < 18446744073709551616
+  pub count_allowed : (slots id old new : ℕ) (v : View I F) (t : ℕ) (y : S) (e : I) (cs : List (ℕ × Option S)) → v.role ≡ Holds t → old ≡ length v.own.seen → new ≡ old + 1 → new < 18446744073709551616
       → entries y ≡ v.own.seen ++ e ∷ [] → (author e ≡ v.own.number) ⊎ (author e ≡ 0)
       → Allows Rule slots id (v, cs) 2 (λ x. either (eqb x old) new x) (Counts entries author fixed (step slots 2 old new (some (Some y))) (v, cs))
   count_allowed slots id old new v t y e cs is began up fits adds who s r deep at small = let k = knows entries author fixed seats start s r id v (Holds t) at is in
-      let log : List I = r.log ++ e ∷ [] in let own : Part I = grown author v.own (entries y) in let w : D = with_entries author (entries y) v in
+      let log : List I = r.log ++ e ∷ [] in let own : Part I = grown author v.own (entries y) in let w : View I F = with_entries author (entries y) v in
       let x : ℕ = get_or s.words 2 0 in let z : ℕ = either (eqb x old) new x in let count : x ≡ wrapped (length r.log) = ap (λ ws. get_or ws 2 0) r.words in
       let long : length log ≡ length r.log + 1 = length-append r.log (e ∷ []) in
       let here : length v.own.seen ≡ length r.log = ap length k.3 in let found : x ≡ old = omega arith in let now : z ≡ new = ap (λ (b : Bool). either b new x) (eq-eqb x old found) in let next : z ≡ wrapped (length log) = omega arith in
@@ -102,7 +94,7 @@ module _ {S I F : Type 0} (entries : S → List I) (author : I → ℕ) (fixed :
       )
 
   -- the same, where the step reads the state through an Option
-  pub count_allowed_by : (slots id old new : ℕ) (me : Me (Option S) D) (t : ℕ) (y : S) (full : Option S) (one : (e : I) × (entries y ≡ me.0.own.seen ++ e ∷ []) × ((author e ≡ me.0.own.number) ⊎ (author e ≡ 0)))
+  pub count_allowed_by : (slots id old new : ℕ) (me : Me (Option S) (View I F)) (t : ℕ) (y : S) (full : Option S) (one : (e : I) × (entries y ≡ me.0.own.seen ++ e ∷ []) × ((author e ≡ me.0.own.number) ⊎ (author e ≡ 0)))
       → me.0.role ≡ Holds t → full ≡ Some y → old ≡ length me.0.own.seen → new ≡ old + 1 → new < 18446744073709551616
       → Allows Rule slots id me 2 (λ x. either (eqb x old) new x) (Counts entries author fixed (step slots 2 old new (some full)) me)
   count_allowed_by slots id old new me t y full one is said began up fits = subst (λ (o : Option S). Allows Rule slots id me 2 (λ x. either (eqb x old) new x) (Counts entries author fixed (step slots 2 old new (some o)) me)) (sym said)

@@ -1,8 +1,8 @@
 -- Joining a seat into another keeps the rule.
-use Rattle.std.proofs.Common.{◌≡◌, ℕ, ◌+◌, false, List, [], ◌∷◌, ◌++◌, length, set, sym, refl, ap, ◌∙◌, subst, ⊎_elim, inl, inr, arith, Option, Some, None, length-append}
+use Rattle.std.proofs.Common.{◌≡◌, ℕ, ◌+◌, false, List, [], ◌∷◌, ◌++◌, length, set, sym, refl, ap, ◌∙◌, subst, ⊎_elim, inl, inr, arith, Some, None, length-append}
 use mathlib.Core.Option.{none, some}
 use lib.ListN.{get_elem?}
-use Rattle.atomic_table.specs.Table.{State, Joins}
+use Rattle.atomic_table.specs.Table.{Joins}
 use Rattle.atomic_table.proofs.Lists.{set_else}
 use Rattle.rn_desk.specs.declared.view.Role.{Role}
 use Rattle.rn_desk.specs.declared.view.Role.TheVariants.{Idle}
@@ -10,6 +10,7 @@ use Rattle.rn_desk.specs.declared.view.Part.{Part}
 use Rattle.rn_desk.specs.declared.view.View.{View}
 use Rattle.rn_desk.specs.Turns.{total, Every, tickets, tickets_in, ticket_of, is_spent, is_number, parts, PartFits, parts_of, parts_count, number_count, RoleFits, Turns}
 use Rattle.rn_desk.specs.Steps.{joined, spent}
+use Rattle.rn_desk.proofs.Setting.{BoardState}
 use Rattle.rn_desk.proofs.Sums.{total-set, total-append}
 use Rattle.rn_desk.proofs.Histories.{Every-append}
 use Rattle.rn_desk.proofs.Roles.{holds_not_idle}
@@ -22,17 +23,11 @@ total-joined : {D : Type 0} (f : D → ℕ) (vs : List D) (id other : ℕ) (v w 
 total-joined f vs id other v w b o at there sum nothing = let x = total-set f vs id v b at in let y = total-set f (set vs id b) other w o there in omega arith
 
 module _ {S I F : Type 0} (entries : S → List I) (author : I → ℕ) (fixed : S → F) (seats : ℕ) (start : S) where
-  abbrev D : Type 0
-  D = View I F
-
-  abbrev St : Type 0
-  St = State (Option S) D
-
-  abbrev Rule : St → Type 0
+  abbrev Rule : BoardState S I F → Type 0
   Rule = Turns entries author fixed seats start
 
-  module _ (s : St) (r : Rule s) (id : ℕ) (v : D) (other : ℕ) (w : D) (at : get_elem? s.views id ≡ some v) (there : get_elem? (set s.views id (joined v w)) other ≡ some w) (is : v.role ≡ Idle) (is' : w.role ≡ Idle) where
-    abbrev after : List D
+  module _ (s : BoardState S I F) (r : Rule s) (id : ℕ) (v : View I F) (other : ℕ) (w : View I F) (at : get_elem? s.views id ≡ some v) (there : get_elem? (set s.views id (joined v w)) other ≡ some w) (is : v.role ≡ Idle) (is' : w.role ≡ Idle) where
+    abbrev after : List (View I F)
     after = set (set s.views id (joined v w)) other spent
 
     both : parts_of (joined v w) ≡ v.own ∷ (v.others ++ w.own ∷ w.others)
@@ -52,12 +47,12 @@ module _ {S I F : Type 0} (entries : S → List I) (author : I → ℕ) (fixed :
     outs = total-joined tickets_in s.views id other v w (joined v w) spent at there (let x : tickets v.role ≡ 0 = ap tickets is in let y : tickets w.role ≡ 0 = ap tickets is' in omega arith) refl
 
     -- what holds of each view after holds of the seat that joined, of the spent one and of the others
-    each : (K : ℕ → D → Type 0) → K id (joined v w) → K other spent → ((j : ℕ) (d : D) → get_elem? s.views j ≡ some d → K j d)
-        → (j : ℕ) (d : D) → get_elem? after j ≡ some d → K j d
+    each : (K : ℕ → View I F → Type 0) → K id (joined v w) → K other spent → ((j : ℕ) (d : View I F) → get_elem? s.views j ≡ some d → K j d)
+        → (j : ℕ) (d : View I F) → get_elem? after j ≡ some d → K j d
     each K mine nothing others = each_after K (set s.views id (joined v w)) other spent nothing (λ j d _. each_after K s.views id (joined v w) mine (λ i x _. others i x) j d)
 
-  pub join_allowed : (id : ℕ) (v : D) (other : ℕ) (w : D) → v.role ≡ Idle → w.role ≡ Idle → Joins Rule id v other w (joined v w) spent
-  join_allowed id v other w is is' s r at apart there = let b : D = joined v w in let vs : List D = set s.views id b in
+  pub join_allowed : (id : ℕ) (v : View I F) (other : ℕ) (w : View I F) → v.role ≡ Idle → w.role ≡ Idle → Joins Rule id v other w (joined v w) spent
+  join_allowed id v other w is is' s r at apart there = let b : View I F = joined v w in let vs : List (View I F) = set s.views id b in
       let there' : get_elem? s.views other ≡ some w = sym (set_else s.views id other b apart) ∙ there in
       let fit = fits_in entries author fixed seats start s r id v Idle at is in let fit' = fits_in entries author fixed seats start s r other w Idle there' is' in
       let sums = numbers s r id v other w at there is is' in record {

@@ -1,38 +1,29 @@
 -- Passing the turn on keeps the rule.
 use Rattle.std.proofs.Common.{◌≡◌, ℕ, ◌+◌, ◌%◌, List, [], ◌∷◌, length, get_or, set, sym, refl, ap, ◌∙◌, subst, inl, arith, Option, Some}
 use mathlib.Core.Option.{none, some}
-use mathlib.Core.Option as maybe
-use Rattle.atomic_table.specs.Table.{State, Me, step, gives, Allows}
+use Rattle.atomic_table.specs.Table.{Me, step, gives, Allows}
 use Rattle.rn_desk.specs.declared.view.Role.{Role}
 use Rattle.rn_desk.specs.declared.view.Role.TheVariants.{Idle, Holds}
 use Rattle.rn_desk.specs.declared.view.View.{View}
 use Rattle.rn_desk.specs.Turns.{total, wrapped, tickets, tickets_in, ticket_of, is_number, parts, Turns}
 use Rattle.rn_desk.specs.Steps.{in_role, PassesOn}
+use Rattle.rn_desk.proofs.Setting.{BoardState, Homes}
 use Rattle.rn_desk.proofs.Sums.{total-set}
 use Rattle.rn_desk.proofs.Roles.{turn_passed}
 use Rattle.rn_desk.proofs.Views.{ticket_stays}
 use Rattle.rn_desk.proofs.Keeping.{value_or, restep, knows, fits_in, fixed_in}
 
 module _ {S I F : Type 0} (entries : S → List I) (author : I → ℕ) (fixed : S → F) (seats : ℕ) (start : S) where
-  abbrev D : Type 0
-  D = View I F
-
-  abbrev St : Type 0
-  St = State (Option S) D
-
-  abbrev Homes : Type 0
-  Homes = List (maybe.Option (Option S))
-
-  abbrev Rule : St → Type 0
+  abbrev Rule : BoardState S I F → Type 0
   Rule = Turns entries author fixed seats start
 
-  pass_allowed_at : (slots id : ℕ) (v : D) (t : ℕ) (y : S) → v.role ≡ Holds t → entries y ≡ v.own.seen → v.fixed ≡ Some (fixed y)
+  pass_allowed_at : (slots id : ℕ) (v : View I F) (t : ℕ) (y : S) → v.role ≡ Holds t → entries y ≡ v.own.seen → v.fixed ≡ Some (fixed y)
       → Allows Rule slots id (v, (0, Some y) ∷ []) 1 (λ x. (x + 1) % 18446744073709551616) (PassesOn entries author fixed (step slots 1 1 0 none) (v, (0, Some y) ∷ []))
-  pass_allowed_at slots id v t y is all fix s r deep at small = let k = knows entries author fixed seats start s r id v (Holds t) at is in let w : D = in_role Idle v in
+  pass_allowed_at slots id v t y is all fix s r deep at small = let k = knows entries author fixed seats start s r id v (Holds t) at is in let w : View I F = in_role Idle v in
       let x : ℕ = get_or s.words 1 0 in let z : ℕ = (x + 1) % 18446744073709551616 in let found : x ≡ wrapped r.served = ap (λ ws. get_or ws 1 0) r.words in let next : z ≡ wrapped (r.served + 1) = omega arith in
       let mine : r.seat_of r.served ≡ id = ap r.seat_of (sym k.0) ∙ k.2 in let fixes = fixed_in entries author fixed seats start s r id v (Holds t) at is refl in
       let q = r.waiting in let sums = total-set tickets_in s.views id v w at in let one_out : tickets_in v ≡ 1 = ap tickets is in let served : t ≡ r.served = k.0 in
-      let homes : set s.homes 0 (some (Some y)) ≡ some (Some y) ∷ [] = ap (λ (h : Homes). set h 0 (some (Some y))) k.4 in (
+      let homes : set s.homes 0 (some (Some y)) ≡ some (Some y) ∷ [] = ap (λ (h : Homes S). set h 0 (some (Some y))) k.4 in (
         w,
         gives,
         tt,
@@ -50,7 +41,7 @@ module _ {S I F : Type 0} (entries : S → List I) (author : I → ℕ) (fixed :
         refl,
       )
 
-  pub pass_allowed : (slots id : ℕ) (me : Me (Option S) D) (t : ℕ) (y : S) → me.0.role ≡ Holds t → me.1 ≡ (0, Some y) ∷ [] → entries y ≡ me.0.own.seen → me.0.fixed ≡ Some (fixed y)
+  pub pass_allowed : (slots id : ℕ) (me : Me (Option S) (View I F)) (t : ℕ) (y : S) → me.0.role ≡ Holds t → me.1 ≡ (0, Some y) ∷ [] → entries y ≡ me.0.own.seen → me.0.fixed ≡ Some (fixed y)
       → Allows Rule slots id me 1 (λ x. (x + 1) % 18446744073709551616) (PassesOn entries author fixed (step slots 1 1 0 none) me)
   pass_allowed slots id me t y is carried all fix = subst (λ (z : List (ℕ × Option S)). Allows Rule slots id (me.0, z) 1 (λ x. (x + 1) % 18446744073709551616) (PassesOn entries author fixed (step slots 1 1 0 none) (me.0, z))) (sym carried)
       (pass_allowed_at slots id me.0 t y is all fix)

@@ -15,36 +15,36 @@ module _ {S I F : Type 0} where
   fixed_of fixed d = fixed d.table.shared.key.state.value
 
   abbrev pub number : Pass S I F → ℕ
-  number p = seat.number p.place
+  number p = seat.number p.seat
 
   -- the entries that the pass has seen
   abbrev pub seen : Pass S I F → List I
-  seen p = seat.seen p.place
+  seen p = seat.seen p.seat
 
   -- the entries that it authored
   abbrev pub mine : Pass S I F → List I
-  mine p = seat.mine p.place
+  mine p = seat.mine p.seat
 
   -- the pass is of this desk
   abbrev pub IsOf : (S → F) → Desk S I F → Pass S I F → Type 0
-  IsOf fixed d p = seat.IsAt d.table.shared.table_id (fixed_of fixed d) p.place
+  IsOf fixed d p = seat.IsAt d.table.shared.table_id (fixed_of fixed d) p.seat
 
   -- the pass holds no turn
-  abbrev pub IsFree : Pass S I F → Type 0
-  IsFree p = seat.IsFree p.place
+  abbrev pub HasNoTurn : Pass S I F → Type 0
+  HasNoTurn p = seat.IsIdle p.seat
 
   -- the pass holds this turn
   abbrev pub HasTurn : Pass S I F → Turn S → Type 0
-  HasTurn p t = seat.HasTurn p.place t.length
+  HasTurn p t = seat.HasTurn p.seat t.length
 
   -- the pass has this number, is of this desk and holds no turn
   abbrev pub IsBack : (S → F) → Desk S I F → ℕ → Pass S I F → Type 0
-  IsBack fixed d n p = seat.IsBack d.table.shared.table_id (fixed_of fixed d) n p.place
+  IsBack fixed d n p = seat.IsBack d.table.shared.table_id (fixed_of fixed d) n p.seat
 
   -- the same, and it has neither seen nor authored anything
   abbrev pub IsFresh : (S → F) → Desk S I F → ℕ → Pass S I F → Type 0
-  IsFresh fixed d n p = seat.IsFresh d.table.shared.table_id (fixed_of fixed d) n p.place
+  IsFresh fixed d n p = seat.IsFresh d.table.shared.table_id (fixed_of fixed d) n p.seat
 
-  -- the entries begin with what the pass has seen, and what this number authored is just its own
+  -- the entries begin with what the pass has seen, and what this number authored is exactly its own
   abbrev pub IsIn : (I → ℕ) → List I → ℕ → Pass S I F → Type 0
-  IsIn author all n p = seat.IsIn author all n p.place
+  IsIn author all n p = seat.IsIn author all n p.seat

@@ -21,8 +21,8 @@ module _ {S I F : Type 0} where
   IsAt z f p = (p.table_id ≡ z) × (p.me.0.fixed ≡ Some f) × (p.me.0.others ≡ [])
 
   -- the seat has no turn and waits for none
-  abbrev pub IsFree : Seat (Option S) (View I F) → Type 0
-  IsFree p = (p.me.0.role ≡ Idle) × (p.me.1 ≡ [])
+  abbrev pub IsIdle : Seat (Option S) (View I F) → Type 0
+  IsIdle p = (p.me.0.role ≡ Idle) × (p.me.1 ≡ [])
 
   -- the seat has a turn that began with so many entries, and its state was taken out
   abbrev pub HasTurn : Seat (Option S) (View I F) → ℕ → Type 0
@@ -31,12 +31,12 @@ module _ {S I F : Type 0} where
 
   -- the seat has this number and no turn
   abbrev pub IsBack : TableId → F → ℕ → Seat (Option S) (View I F) → Type 0
-  IsBack z f n p = (number p ≡ n) × IsAt z f p × IsFree p
+  IsBack z f n p = (number p ≡ n) × IsAt z f p × IsIdle p
 
   -- the same, and it has neither seen nor authored anything
   abbrev pub IsFresh : TableId → F → ℕ → Seat (Option S) (View I F) → Type 0
-  IsFresh z f n p = (number p ≡ n) × IsAt z f p × IsFree p × (seen p ≡ []) × (mine p ≡ [])
+  IsFresh z f n p = (number p ≡ n) × IsAt z f p × IsIdle p × (seen p ≡ []) × (mine p ≡ [])
 
-  -- the entries begin with what the seat has seen, and what this number authored is just its own
+  -- the entries begin with what the seat has seen, and what this number authored is exactly its own
   abbrev pub IsIn : (I → ℕ) → List I → ℕ → Seat (Option S) (View I F) → Type 0
   IsIn author all n p = StartsWith all (seen p) × (authored author n all ≡ mine p)

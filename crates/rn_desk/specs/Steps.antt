@@ -1,4 +1,4 @@
--- The kinds of step that read or change a word, and what each tells its seat.
+-- The kinds of step that read or change a word, and what its seat learns by each.
 -- The two others take the state out of the slot that the seat holds, and put it back there.
 -- A seat is its view and the slots that it holds, each with its value. The desk's one slot is slot 0.
 use Rattle.std.specs.Prelude.{◌≡◌, ◌≢◌, ℕ, ◌+◌, drop, List, [], ◌∷◌, ◌++◌, length, Option, Some, None}

@@ -4,6 +4,7 @@ use Rattle.std.specs.Prelude.{◌≡◌, ◌⊎◌, ℕ, ◌+◌, ◌%◌, ◌<�
 use mathlib.Core.Option as maybe
 use lib.ListN.{get_elem?}
 use Rattle.atomic_table.specs.Table.{State}
+use Rattle.rn_desk.specs.declared.rule.TheConstants.{MOST_SEATS}
 use Rattle.rn_desk.specs.declared.view.Role.{Role}
 use Rattle.rn_desk.specs.declared.view.Role.TheVariants.{Spent, Maker, Idle, Waits, Holds}
 use Rattle.rn_desk.specs.declared.view.Part.{Part}
@@ -130,7 +131,7 @@ module _ {S I F : Type 0} (entries : S → List I) (author : I → ℕ) (fixed :
     pub same : (j : ℕ) (v : View I F) → get_elem? s.views j ≡ maybe.some v
         → is_spent v.role ≡ false → v.fixed ≡ Some (fixed start)
     -- each number made stands in just one view, and no other number in any
-    pub few : (made ≤ seats) × (seats ≤ 64)
+    pub few : (made ≤ seats) × (seats ≤ MOST_SEATS)
     pub all_parts : total parts_count s.views ≡ made
     pub once : (n : ℕ) → 0 < n → n ≤ made → total (number_count n) s.views ≡ 1
     pub no_zero : total (number_count 0) s.views ≡ 0

@@ -8,7 +8,7 @@ ghost use Rattle.rn_desk.specs.Passes.{seats_of, fixed_of, IsBack, IsIn};
 
 use crate::desk::{Desk, Pass};
 use crate::kept::Kept;
-use crate::rule::{Place, STATE};
+use crate::rule::{DeskSeat, STATE};
 
 /// What is left of a desk.
 #[derive(Drop)]
@@ -25,10 +25,10 @@ pub fn close<S: Kept>(desk: Desk<S>, passes: Vec<Pass<S>>) -> Closed<S>
     ensures others { (n : ℕ) → seats_of desk < n → authored S.author n (S.entries result.state) ≡ [] }
 {
     let mut rest = passes;
-    let Pass { place: mut whole } = rest.remove(0);
+    let Pass { seat: mut whole } = rest.remove(0);
     while rest.len() > 0 {
-        let Pass { place } = rest.remove(0);
-        desk.join_seat(&mut whole, place);
+        let Pass { seat } = rest.remove(0);
+        desk.join_seat(&mut whole, seat);
     }
     Closed {
         state: last_state(desk, whole),
@@ -36,7 +36,7 @@ pub fn close<S: Kept>(desk: Desk<S>, passes: Vec<Pass<S>>) -> Closed<S>
 }
 
 // The state, where all seats were joined into this one.
-fn last_state<S: Kept>(desk: Desk<S>, whole: Place<S>) -> S
+fn last_state<S: Kept>(desk: Desk<S>, whole: DeskSeat<S>) -> S
     requires here { whole.table_id ≡ desk.table.shared.table_id }
     requires idle { whole.me.0.role ≡ Idle }
     requires all { seats_of desk ≤ parts_count whole.me.0 }

@@ -2,7 +2,7 @@
 ghost use Rattle.std.specs.Prelude.{◌≡◌, ◌≤◌};
 
 use crate::kept::Kept;
-use crate::rule::{Board, Place};
+use crate::rule::{Board, DeskSeat};
 
 mod steps;
 mod turns;
@@ -29,7 +29,7 @@ pub struct Desk<S: Kept> {
 /// It has a number from 1 to the number of seats, what it has seen, and what it authored.
 #[derive(Drop)]
 pub struct Pass<S: Kept> {
-    pub(crate) place: Place<S>,
+    pub(crate) seat: DeskSeat<S>,
 }
 
 /// The state, while a pass has the turn.

@@ -3,7 +3,7 @@ ghost use Rattle.std.specs.Prelude.{◌≡◌, ℕ, List, length};
 
 /// A state with a list of entries, of which each has an author or none.
 ///
-/// Where no memory is left for a desk, the state is dropped with it.
+/// Where memory runs out as a desk is opened, the state is dropped.
 pub trait Kept: Drop {
     /// An entry.
     type Item;

@@ -16,3 +16,4 @@ pub use closing::{Closed, close};
 pub use desk::{Desk, Pass, Turn};
 pub use kept::Kept;
 pub use opening::open_desk;
+pub use rule::MOST_SEATS;

@@ -6,7 +6,7 @@ ghost use Rattle.rn_desk.specs.Passes.{seats_of, fixed_of, IsFresh};
 
 use crate::desk::{Desk, Pass};
 use crate::kept::Kept;
-use crate::rule::Place;
+use crate::rule::{DeskSeat, MOST_SEATS};
 use crate::view::About;
 use atomic_table::Table;
 use rn_items::NoMemory;
@@ -15,13 +15,13 @@ use std::snapshot::Snapshot;
 
 /// Opens a desk that keeps this state, with a pass for each seat.
 ///
-/// The pass with number `k` stands at place `k - 1`. At `NoMemory` the state is dropped.
+/// The pass with number `k` stands at index `k - 1`. At `NoMemory` the state is dropped.
 pub fn open_desk<S: Kept>(
     alloc: Global,
     state: S,
     seats: u32,
 ) -> Result<(Desk<S>, Vec<Pass<S>>), NoMemory>
-    requires seats { (1 ≤ seats) × (seats ≤ 64) }
+    requires seats { (1 ≤ seats) × (seats ≤ MOST_SEATS) }
     requires blank { S.entries state ≡ [] }
     ensures seats { IfOk result (λ r. (seats_of r.0 ≡ seats) × (vec_len r.1 ≡ seats)) }
     ensures fixed { IfOk result (λ r. fixed_of S.fixed r.0 ≡ S.fixed state) }
@@ -30,15 +30,15 @@ pub fn open_desk<S: Kept>(
     let mut passes = Vec::with_capacity(alloc, seats as usize)?;
     let (desk, mut maker) = lay(alloc, state, seats)?;
     for _ in 0..seats {
-        let place = desk.split_seat(&mut maker);
-        passes.push_reserved(Pass { place });
+        let seat = desk.split_seat(&mut maker);
+        passes.push_reserved(Pass { seat });
     }
     Ok((desk, passes))
 }
 
 // The desk with the state, and the seat that makes the others.
-fn lay<S: Kept>(alloc: Global, state: S, seats: u32) -> Result<(Desk<S>, Place<S>), NoMemory>
-    requires seats { (1 ≤ seats) × (seats ≤ 64) }
+fn lay<S: Kept>(alloc: Global, state: S, seats: u32) -> Result<(Desk<S>, DeskSeat<S>), NoMemory>
+    requires seats { (1 ≤ seats) × (seats ≤ MOST_SEATS) }
     requires blank { S.entries state ≡ [] }
     ensures seats { IfOk result (λ r. seats_of r.0 ≡ seats) }
     ensures fixed { IfOk result (λ r. fixed_of S.fixed r.0 ≡ S.fixed state) }

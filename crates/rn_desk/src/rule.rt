@@ -28,7 +28,10 @@ pub type Board<S> = Table<
     Global,
 >;
 
-pub type Place<S> = Seat<Option<S>, View<<S as Kept>::Item, <S as Kept>::Fixed>>;
+pub type DeskSeat<S> = Seat<Option<S>, View<<S as Kept>::Item, <S as Kept>::Fixed>>;
+
+/// How many seats a desk has, at most.
+pub const MOST_SEATS: u32 = 64;
 
 /// The word with the next ticket.
 pub(crate) const TICKET: usize = 0;

@@ -35,7 +35,7 @@ pub struct View<I, F> {
     pub fixed: Option<F>,
 }
 
-/// What the table is told once: the number of seats, and the state at the opening.
+/// What the table is given once: the number of seats, and the state at the opening.
 #[derive(Drop)]
 pub struct About<S> {
     pub seats: u32,

@@ -44,7 +44,7 @@ impl Sheet {
         }
     }
 
-    /// Adds a line, or changes nothing where no memory is left. Answers whether it did.
+    /// Adds a line, or changes nothing where memory runs out. Returns whether it did.
     pub fn write(&mut self, line: Line) -> bool
         ensures title { self.new.title ≡ self.old.title }
         ensures lines { MatchBool result (self.new.lines.items ≡ self.old.lines.items ++ line ∷ []) (self.new.lines.items ≡ self.old.lines.items) }

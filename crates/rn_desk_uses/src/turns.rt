@@ -53,7 +53,7 @@ pub fn look_all<S: Kept + Send, R: Threads + Wait + Sync>(
     );
 }
 
-/// Adds a line that no worker authored, and answers whether there was memory for it.
+/// Adds a line that no worker authored, and returns whether there was memory for it.
 pub fn write_note<R: Wait>(rt: &R, desk: &Desk<Sheet>, pass: &mut Pass<Sheet>, round: u32) -> bool
     requires ready { IsReady ⟦<Sheet as Kept>⟧.fixed desk.now pass.old }
     requires numbered { 1 ≤ number pass.old }

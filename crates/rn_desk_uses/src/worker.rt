@@ -2,12 +2,12 @@
 ghost use Rattle.std.specs.Prelude.{◌≡◌, ◌≤◌, ◌+◌, ◌<◌, ℕ, [], IfOk, length, vec_len};
 ghost use Rattle.rn_desk.specs.Entries.{authored};
 ghost use Rattle.rn_desk.specs.Numbered.{EachAt};
-ghost use Rattle.rn_desk.specs.Passes.{number, mine, IsOf, IsFree};
+ghost use Rattle.rn_desk.specs.Passes.{number, mine, IsOf, HasNoTurn};
 ghost use Rattle.rn_desk_uses.specs.Posts.{IsAtWork, IsDone, FiredBy};
 
 use crate::post::{Post, Tally, parted, posts_of};
 use crate::sheet::{Line, Sheet};
-use rn_desk::{Closed, Desk, Kept, Pass, close, open_desk};
+use rn_desk::{Closed, Desk, Kept, MOST_SEATS, Pass, close, open_desk};
 use rn_items::NoMemory;
 use std::alloc::Global;
 use std::sync::Wait;
@@ -21,7 +21,7 @@ pub fn write_sheet<R: Threads + Wait + Sync>(
     workers: u32,
     rounds: u32,
 ) -> Result<(Sheet, Vec<Tally>), NoMemory>
-    requires { (1 ≤ workers) × (workers ≤ 64) }
+    requires { (1 ≤ workers) × (workers ≤ MOST_SEATS) }
     ensures title { IfOk result (λ r. r.0.title ≡ 7) }
     ensures count { IfOk result (λ r. vec_len r.1 ≡ workers) }
     ensures tallies { IfOk result (λ r. EachAt (FiredBy r.0.lines.items rounds) r.1.items) }
@@ -62,11 +62,11 @@ pub fn work<R: Wait>(
     rounds: u32,
 )
     requires here { IsOf ⟦<Sheet as Kept>⟧.fixed desk.now pass.old }
-    requires free { IsFree pass.old }
+    requires free { HasNoTurn pass.old }
     requires worker { number pass.old ≡ tally.old.worker }
     requires new { (mine pass.old ≡ []) × (tally.old.fired ≡ 0) × (tally.old.refused ≡ 0) }
     ensures here { IsOf ⟦<Sheet as Kept>⟧.fixed desk.now pass.new }
-    ensures free { IsFree pass.new }
+    ensures free { HasNoTurn pass.new }
     ensures worker { (number pass.new ≡ number pass.old) × (tally.new.worker ≡ tally.old.worker) }
     ensures fired { tally.new.fired ≡ length (mine pass.new) }
     ensures rounds { tally.new.fired + tally.new.refused ≡ rounds }

@@ -1,3 +1,4 @@
+//! A box that contracts see as its content.
 ghost use Rattle.std.specs.Prelude.{◌≡◌, IfOk, IfErr};
 
 use std::alloc::{AllocFailed, Global};

@@ -1,3 +1,4 @@
+//! A list that contracts see as the list of its elements.
 ghost use Rattle.std.specs.Prelude.{◌≡◌, ◌↔◌, ◌<◌, ◌^◌, [], ◌∷◌, ◌++◌, length, slice_get, vec_len, IsTrue, IfErr, OnOk, OnErr, OnSome};
 ghost use Rattle.std.specs.Option.{option_copied};
 ghost use Rattle.std.specs.Cmp.Lexicographic.{pointwise, slice_cmp, slice_partial_cmp, lists_per, lists_equiv, lists_po, lists_total, lists_agrees, lists_ties};
@@ -74,12 +75,12 @@ impl<T> Items<T> {
         self.elements.is_empty()
     }
 
-    /// The element at this place, from 0.
-    pub fn get(&self, place: usize) -> Option<&T>
-        ensures value { option_copied result ≡ slice_get self.now place }
-        ensures within { OnSome result (place < length self.now) }
+    /// The element at this index, from 0.
+    pub fn get(&self, index: usize) -> Option<&T>
+        ensures value { option_copied result ≡ slice_get self.now index }
+        ensures within { OnSome result (index < length self.now) }
     {
-        self.elements.get(place)
+        self.elements.get(index)
     }
 
     /// Adds an element at the end. The error gives it back.

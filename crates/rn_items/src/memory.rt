@@ -1,9 +1,9 @@
-//! The answer of a call for which there was no memory.
+//! The answer of a call that ran out of memory.
 
 use std::alloc::{AllocError, AllocFailed};
 
 /// The allocator had no memory. It is the one answer that comes without a cause: no contract says
-/// when it comes, and each says what it leaves behind.
+/// when it comes, and each says what state it leaves.
 #[derive(Clone, Copy, Debug, PartialEq, Eq)]
 pub struct NoMemory;
 

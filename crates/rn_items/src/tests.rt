@@ -1,3 +1,4 @@
+//! Each call once, with memory enough.
 ghost use Rattle.std.specs.Prelude.{◌≡◌, IfOk};
 
 use crate::{Boxed, Items};

@@ -7,7 +7,7 @@ use Rattle.std.specs.Cmp.Lexicographic.{slice_cmp}
 use Rattle.std.specs.declared.cmp.Ordering.{Ordering}
 use Rattle.std.specs.declared.cmp.Ordering.TheVariants.{Equal}
 use Rattle.std.proofs.lemmas.Map.Lookups.{exact_unsigned, exact_bytes}
-use Rattle.rn_value.specs.Order.{inst_cmp, value_cmp, TellsApart}
+use Rattle.rn_value.specs.Order.{inst_cmp, value_cmp, IsAntisymmetric}
 use Rattle.rn_value.specs.OrderLaws.{then_equal, insts_apart, value_cmp-apart}
 use Rattle.rn_value.specs.declared.value.InstRef.{InstRef}
 use Rattle.rn_value.specs.declared.value.Value.{Value}
@@ -17,7 +17,7 @@ use Rattle.rn_model.specs.Order.{node_cmp, binding_cmp}
 use Rattle.rn_model.specs.OrderLaws.{binding_cmp-total}
 
 -- lists whose elements are told apart are told apart
-lists_apart : {A : Type 0} (compare : A → A → Ordering) → TellsApart compare → TellsApart (slice_cmp compare)
+lists_apart : {A : Type 0} (compare : A → A → Ordering) → IsAntisymmetric compare → IsAntisymmetric (slice_cmp compare)
 lists_apart compare apart [] [] e = refl
 lists_apart compare apart [] (y ∷ ys) e = cc
 lists_apart compare apart (x ∷ xs) [] e = cc
@@ -30,7 +30,7 @@ lists_apart compare apart (x ∷ xs) (y ∷ ys) e =
 abbrev node_of : List ℕ → InstRef → ℕ → ℕ → List Value → Node
 node_of path inst net transition values = record { path = path; inst = inst; net = net; transition = transition; values = values }
 
-nodes_apart : TellsApart node_cmp
+nodes_apart : IsAntisymmetric node_cmp
 nodes_apart x y e =
     let by_path = then_equal (slice_cmp nat_cmp x.path y.path) _ e in
     let by_inst = then_equal (inst_cmp x.inst y.inst) _ by_path.1 in
@@ -44,7 +44,7 @@ nodes_apart x y e =
     let same : node_of x.path x.inst x.net x.transition x.values ≡ node_of y.path y.inst y.net y.transition y.values = cc in
     same
 
-pub binding_cmp-apart : TellsApart binding_cmp
+pub binding_cmp-apart : IsAntisymmetric binding_cmp
 binding_cmp-apart a b e = ap (λ nodes. record { nodes = nodes }) (lists_apart node_cmp nodes_apart a.nodes b.nodes e)
 
 pub ruleset order_laws = (binding_cmp-total, binding_cmp-apart)

@@ -3,7 +3,7 @@ use Rattle.std.proofs.Common.{◌≡◌, ℕ, ◌+◌, ◌-◌, ◌≤◌, List,
 use Rattle.std.proofs.Math.Seq.{take-add, take-append-add}
 use Rattle.std.proofs.lemmas.List.{take-append-le, take_rest}
 use Rattle.std.specs.Option.{option_map}
-use Rattle.rn_outside.specs.Bytes.{Gives, GivesFront, Appends, AppendsPrefix}
+use Rattle.rn_outside.specs.Bytes.{Gives, GivesPrefix, Appends, AppendsPrefix}
 
 -- a source that gave nothing is as it was
 pub Gives-nothing : (left : Option (List ℕ)) → Gives left [] left
@@ -16,21 +16,21 @@ Gives-append a xs b ys None first second = first ∙ ap (option_map (λ rest. xs
 Gives-append a xs b ys (Some rest) first second =
     first ∙ ap (option_map (λ r. xs ++ r)) second ∙ ap Some (sym (append_assoc xs ys rest))
 
--- where the bytes left were told, what was given is their front, and what is left is told too
-pub Gives-told : (all front : List ℕ) (after : Option (List ℕ)) → Gives (Some all) front after → (rest : List ℕ) × (all ≡ front ++ rest) × (after ≡ Some rest)
-Gives-told all front None gives = absurd cc
-Gives-told all front (Some rest) gives = (rest, cc, refl)
+-- where the bytes left were known, what was given is their prefix, and what is left is known too
+pub Gives-known : (all prefix : List ℕ) (after : Option (List ℕ)) → Gives (Some all) prefix after → (rest : List ℕ) × (all ≡ prefix ++ rest) × (after ≡ Some rest)
+Gives-known all prefix None gives = absurd cc
+Gives-known all prefix (Some rest) gives = (rest, cc, refl)
 
--- a piece, and then some front of the rest, are some front
-pub GivesFront-append : (a : Option (List ℕ)) (xs : List ℕ) (b c : Option (List ℕ)) → Gives a xs b → GivesFront b c → GivesFront a c
-GivesFront-append a xs b c first second = record {
-  front = xs ++ second.front;
-  gives = Gives-append a xs b second.front c first second.gives;
+-- a piece, and then some prefix of the rest, are some prefix
+pub GivesPrefix-append : (a : Option (List ℕ)) (xs : List ℕ) (b c : Option (List ℕ)) → Gives a xs b → GivesPrefix b c → GivesPrefix a c
+GivesPrefix-append a xs b c first second = record {
+  prefix = xs ++ second.prefix;
+  gives = Gives-append a xs b second.prefix c first second.gives;
 }
 
--- two pieces are some front
-pub GivesFront-from_two : (a : Option (List ℕ)) (xs : List ℕ) (b : Option (List ℕ)) (ys : List ℕ) (c : Option (List ℕ)) → Gives a xs b → Gives b ys c → GivesFront a c
-GivesFront-from_two a xs b ys c first second = record { front = xs ++ ys; gives = Gives-append a xs b ys c first second }
+-- two pieces are some prefix
+pub GivesPrefix-from_two : (a : Option (List ℕ)) (xs : List ℕ) (b : Option (List ℕ)) (ys : List ℕ) (c : Option (List ℕ)) → Gives a xs b → Gives b ys c → GivesPrefix a c
+GivesPrefix-from_two a xs b ys c first second = record { prefix = xs ++ ys; gives = Gives-append a xs b ys c first second }
 
 -- a sink that took nothing is as it was
 pub Appends-nothing : (held : Option (List ℕ)) → Appends held [] held
@@ -72,4 +72,4 @@ Appends-offered a b c bytes m n first second =
     Appends-take a b c bytes m n first (rw (sym (take_rest bytes m)) second)
 
 -- for functions that read or write several times
-pub ruleset pieces = (Gives-nothing, Gives-append, GivesFront-append, GivesFront-from_two, Appends-nothing, Appends-append, Appends-offered, AppendsPrefix-append, AppendsPrefix-longer)
+pub ruleset pieces = (Gives-nothing, Gives-append, GivesPrefix-append, GivesPrefix-from_two, Appends-nothing, Appends-append, Appends-offered, AppendsPrefix-append, AppendsPrefix-longer)

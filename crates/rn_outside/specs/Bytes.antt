@@ -1,18 +1,18 @@
--- What a source gives and what a sink takes. Each tells its bytes or doesn't: what is left in a
--- source, and what a sink holds, is `Some bytes`, or `None` where it isn't told.
+-- What a source gives and what a sink takes. The bytes of each are known or not: what is left in a
+-- source, and what a sink holds, is `Some bytes`, or `None` where it isn't known.
 use Rattle.std.specs.Prelude.{◌≡◌, ℕ, ◌<◌, List, [], ◌++◌, length, take, Option, IfSome}
 use Rattle.std.specs.Option.{option_map}
 
--- A source gave `front`: what was left is `front`, and then what is left now.
+-- A source gave `prefix`: what was left is `prefix`, and then what is left now.
 abbrev pub Gives : Option (List ℕ) → List ℕ → Option (List ℕ) → Type 0
-Gives before front after = before ≡ option_map (λ rest. front ++ rest) after
+Gives before prefix after = before ≡ option_map (λ rest. prefix ++ rest) after
 
--- A source gave some front of what was left.
-pub record GivesFront (before after : Option (List ℕ)) : Type 0 where
-  pub front : List ℕ
-  pub gives : Gives before front after
+-- A source gave some prefix of what was left.
+pub record GivesPrefix (before after : Option (List ℕ)) : Type 0 where
+  pub prefix : List ℕ
+  pub gives : Gives before prefix after
 
--- No byte is left, where that is told.
+-- No byte is left, where that is known.
 abbrev pub IsAtEnd : Option (List ℕ) → Type 0
 IsAtEnd left = IfSome left (λ bytes. bytes ≡ [])
 

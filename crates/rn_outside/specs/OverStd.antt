@@ -1,5 +1,5 @@
--- A source over a reader of the standard library, and a sink over a writer. Some readers and
--- writers tell their bytes, in the library's words.
+-- A source over a reader of the standard library, and a sink over a writer. Of some
+-- readers and writers the library knows the bytes.
 use Rattle.std.specs.Prelude.{ℕ, ◌≤◌, List, length, take, Option, Result, MatchResult}
 use Rattle.std.specs.Io.KnownBytes as known
 
@@ -13,7 +13,7 @@ pub record WriterState (W : Type 0) : Type 0 where
   pub writer : W
   pub faults : ℕ
 
--- The writer took the first n bytes of the piece, where n was answered, and after an error some
+-- The writer took the first n bytes of the piece, where it returned n, and after an error some
 -- first bytes of it.
 abbrev pub TakesPiece : {E : Type 0} → Option (List ℕ) → Option (List ℕ) → Result ℕ E → List ℕ → Type 0
 TakesPiece before after result piece =

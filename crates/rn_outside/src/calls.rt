@@ -1,4 +1,4 @@
-// Calls that are numbered from 1.
+//! Calls that are numbered from 1.
 ghost use Rattle.std.specs.Prelude.{◌↔◌, ◌+◌, IsTrue, Contains};
 
 // Whether the call that comes after so many is one of those listed. A call past number 2^64 - 1

@@ -1,3 +1,4 @@
+//! A sink in memory.
 ghost use Rattle.std.specs.Prelude.{◌≡◌, ◌↔◌, ◌⊎◌, ◌+◌, ◌-◌, ◌<◌, ◌≤◌, [], ◌++◌, length, take, min, Some, IfOk, IsErr, OnErr, Contains};
 ghost use Rattle.rn_outside.specs.Faults.{risen};
 

@@ -1,3 +1,4 @@
+//! A source in memory.
 ghost use Rattle.std.specs.Prelude.{◌≡◌, ◌↔◌, ◌+◌, ◌≤◌, ◌++◌, length, take, drop, min, Some, IfOk, IsErr, OnErr, Contains};
 ghost use Rattle.rn_outside.specs.Faults.{risen};
 
@@ -86,14 +87,14 @@ impl Source for MemSource {
             self.faults = self.faults.saturating_add(1);
             return Err(SourceFailed);
         }
-        let n = copy_front(&self.bytes[self.start..], buf);
+        let n = copy_prefix(&self.bytes[self.start..], buf);
         self.start += n;
         Ok(n)
     }
 }
 
 // Copies as many bytes as are there and have room.
-fn copy_front(bytes: &[u8], buf: &mut [u8]) -> usize
+fn copy_prefix(bytes: &[u8], buf: &mut [u8]) -> usize
     ensures count { result ≡ min (length bytes.now) (length buf.old) }
     ensures filled { buf.new ≡ take result bytes.now ++ drop result buf.old }
 {

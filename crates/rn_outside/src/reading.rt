@@ -1,6 +1,8 @@
-ghost use Rattle.std.specs.Prelude.{◌+◌, ◌<◌, ◌≤◌, length, IfOk, IfSome, IsErr, IsErrOf, OnErr};
-ghost use Rattle.rn_outside.specs.Bytes.{GivesAll, GivesFront};
-ghost use Rattle.rn_outside.specs.Faults.{Rose};
+//! Reading a source to its end.
+ghost use Rattle.std.specs.Prelude.{◌≡◌, ◌+◌, ◌<◌, ◌≤◌, length, IfOk, IfSome, IsErr, IsErrOf};
+ghost use Rattle.std.specs.Prelude.{OnErr};
+ghost use Rattle.rn_outside.specs.Bytes.{GivesAll, GivesPrefix};
+ghost use Rattle.rn_outside.specs.Faults.{Rose, risen};
 
 use crate::source::Source;
 use std::alloc::{AllocError, Global};
@@ -49,8 +51,14 @@ pub fn read_all<S: Source>(
     ensures cause { IsErrOf result ReadAllFault.ReadFault →
         Rose (S.faults source.old) (S.faults source.new) }
 
-    // After each error the source has given some front of its bytes.
-    ensures front { OnErr result (GivesFront (S.left source.old) (S.left source.new)) }
+    // The first fault ends the call: it is the only one, and no other answer comes after one.
+    ensures one_fault { IsErrOf result ReadAllFault.ReadFault →
+        S.faults source.new ≡ risen (S.faults source.old) }
+    ensures no_fault { ¬ IsErrOf result ReadAllFault.ReadFault →
+        S.faults source.new ≡ S.faults source.old }
+
+    // After each error the source has given some prefix of its bytes.
+    ensures prefix { OnErr result (GivesPrefix (S.left source.old) (S.left source.new)) }
 
     ensures never_falls { S.faults source.old ≤ S.faults source.new }
 

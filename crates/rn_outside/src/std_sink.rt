@@ -1,3 +1,4 @@
+//! A sink over a writer of the standard library.
 ghost use Rattle.std.specs.Prelude.{◌≡◌, ◌<◌, ◌≤◌, length, None, IfOk, OnOk, OnErr};
 ghost use Rattle.rn_outside.specs.Faults.{risen};
 ghost use Rattle.rn_outside.specs.OverStd.{TakesPiece};
@@ -8,10 +9,10 @@ use std::marker::Model;
 
 /// A sink over a writer of the standard library, as standard output.
 ///
-/// It tells no bytes, since no proof knows what reaches the system. Each error of the writer is a
+/// Its bytes aren't known, since no proof knows what reaches the system. Each error of the writer is a
 /// fault, and so is a write that takes nothing of a piece that isn't empty.
 ///
-/// A write is flushed before it is answered, so that none is lost in a buffer of the writer. Where
+/// A write is flushed before it returns, so that none is lost in a buffer of the writer. Where
 /// the flush fails the write has failed, though the writer has taken bytes of the piece.
 #[derive(Drop)]
 pub struct StdSink<W: Write> {
@@ -88,24 +89,32 @@ mod tests {
     use std::io::{ErrorKind, Write};
     use std::test::Fail;
 
-    // A writer that takes up to so many bytes a call, and whose flush may fail.
+    // A writer that takes up to so many bytes a call. Its first write may fail, or its first flush.
     #[derive(Drop)]
     struct Slow {
         most: usize,
-        flushes: bool,
+        write_fails: bool,
+        flush_fails: bool,
+    }
+
+    // Fails once.
+    fn fail_once(fails: &mut bool) -> io::Result<()> {
+        if *fails {
+            *fails = false;
+            Err(io::Error::from(ErrorKind::Interrupted))
+        } else {
+            Ok(())
+        }
     }
 
     impl Write for Slow {
         fn write(&mut self, buf: &[u8]) -> io::Result<usize> {
+            fail_once(&mut self.write_fails)?;
             Ok(buf.len().min(self.most))
         }
 
         fn flush(&mut self) -> io::Result<()> {
-            if self.flushes {
-                Ok(())
-            } else {
-                Err(io::Error::from(ErrorKind::Other))
-            }
+            fail_once(&mut self.flush_fails)
         }
     }
 
@@ -120,11 +129,21 @@ mod tests {
         Ok(())
     }
 
+    // A failed write or flush isn't tried again, and none is left out.
     #[test]
     fn counts_failures(rt: HostRuntime) {
-        let table = [(4, true, 0), (0, true, 1), (4, false, 1)];
-        for (most, flushes, faults) in table {
-            let mut sink = StdSink::new(Slow { most, flushes });
+        let table = [
+            (4, false, false, 0),
+            (0, false, false, 1),
+            (4, true, false, 1),
+            (4, false, true, 1),
+        ];
+        for (most, write_fails, flush_fails, faults) in table {
+            let mut sink = StdSink::new(Slow {
+                most,
+                write_fails,
+                flush_fails,
+            });
             let answer = write_all(&mut sink, b"end dead\n");
             assert_eq!(rt; answer == Err(WriteFault), faults == 1);
             assert_eq!(rt; sink.faults, faults);

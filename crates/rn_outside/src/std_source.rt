@@ -1,3 +1,4 @@
+//! A source over a reader of the standard library.
 ghost use Rattle.std.specs.Prelude.{◌≡◌, ◌≤◌, length, None, IfOk, OnOk, OnErr};
 ghost use Rattle.std.specs.Io.KnownBytes.{ReadConsumes};
 ghost use Rattle.rn_outside.specs.Faults.{risen};
@@ -8,7 +9,7 @@ use std::marker::Model;
 
 /// A source over a reader of the standard library, as standard input.
 ///
-/// It tells no bytes, since no proof knows what the system gives. Each error of the reader is a
+/// Its bytes aren't known, since no proof knows what the system gives. Each error of the reader is a
 /// fault, also a read that a signal interrupted: it isn't tried again.
 #[derive(Drop)]
 pub struct StdSource<R: Read> {
@@ -44,7 +45,7 @@ impl<R: Read> Source for StdSource<R> {
         ensures ok { OnOk result (self.new.faults ≡ self.old.faults) }
         ensures err { OnErr result (self.new.faults ≡ risen self.old.faults) }
 
-        // The bytes are the reader's, where it tells them.
+        // The bytes are the reader's, where they are known.
         ensures bytes { ReadConsumes (R.remaining self.old.reader) (R.remaining self.new.reader)
             result buf.new }
 
@@ -70,7 +71,7 @@ mod tests {
     use std::io::{Cursor, ErrorKind, Read};
     use std::test::Fail;
 
-    // A reader that gives one byte a call, and then fails.
+    // A reader that gives so many bytes, one a call, and then fails.
     #[derive(Drop)]
     struct Failing(u8);
 
@@ -83,6 +84,38 @@ mod tests {
             buf[0] = b'a';
             Ok(1)
         }
+    }
+
+    // A reader whose first call fails, as one that a signal interrupts. The next one gives a byte, and
+    // then comes the end.
+    #[derive(Drop)]
+    struct Interrupted(u8);
+
+    impl Read for Interrupted {
+        fn read(&mut self, buf: &mut [u8]) -> io::Result<usize> {
+            if self.0 == 0 {
+                self.0 = 1;
+                return Err(io::Error::from(ErrorKind::Interrupted));
+            }
+            if self.0 == 2 || buf.is_empty() {
+                return Ok(0);
+            }
+            self.0 = 2;
+            buf[0] = b'a';
+            Ok(1)
+        }
+    }
+
+    #[test]
+    fn tries_no_read_again(rt: HostRuntime) -> Result<(), Fail> {
+        let mut source = StdSource::new(Interrupted(0));
+        let answer = read_all(rt.alloc(), &mut source, 100);
+        assert_eq!(rt; answer.err(), Some(ReadAllFault::ReadFault));
+        assert_eq!(rt; source.faults, 1);
+        let bytes = read_all(rt.alloc(), &mut source, 100)?;
+        assert_eq!(rt; bytes.as_slice(), b"a".as_slice());
+        assert_eq!(rt; source.faults, 1);
+        Ok(())
     }
 
     #[test]

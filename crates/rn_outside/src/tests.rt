@@ -1,3 +1,4 @@
+//! Sources and sinks in memory, read to the end and written to.
 use crate::{
     MemSink, MemSource, ReadAllFault, Sink, SinkFailed, Source, SourceFailed, WriteFault, read_all,
     write_all,
@@ -74,8 +75,23 @@ fn reads_more_than_one_piece(rt: HostRuntime) -> Result<(), Fail> {
     Ok(())
 }
 
+// The second call fails, and bytes are left after it.
 #[test]
-fn a_fault_leaves_a_front(rt: HostRuntime) -> Result<(), Fail> {
+fn nothing_is_read_after_a_fault(rt: HostRuntime) -> Result<(), Fail> {
+    let mut long = Vec::new(rt.alloc());
+    for _ in 0..20_000u32 {
+        long.push(b'a')?;
+    }
+    let mut source = source(rt.alloc(), &long, &[2])?;
+    let answer = read_all(rt.alloc(), &mut source, 20_000);
+    assert_eq!(rt; answer.err(), Some(ReadAllFault::ReadFault));
+    let mut buf = [0; 3];
+    assert_eq!(rt; source.read(&mut buf), Ok(3));
+    Ok(())
+}
+
+#[test]
+fn a_fault_leaves_a_prefix(rt: HostRuntime) -> Result<(), Fail> {
     let mut sink = MemSink::new(rt.alloc(), 100, 4, [2].to_vec(rt.alloc())?)?;
     assert_eq!(rt; write_all(&mut sink, b"1 w1 main[1].t\n"), Err(WriteFault));
     assert_eq!(rt; sink.held(), b"1 w1".as_slice());

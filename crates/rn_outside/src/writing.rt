@@ -1,6 +1,7 @@
-ghost use Rattle.std.specs.Prelude.{◌≤◌, OnOk, OnErr};
+//! Writing all bytes to a sink.
+ghost use Rattle.std.specs.Prelude.{◌≡◌, ◌≤◌, OnOk, OnErr};
 ghost use Rattle.rn_outside.specs.Bytes.{Appends, AppendsPrefix};
-ghost use Rattle.rn_outside.specs.Faults.{Rose};
+ghost use Rattle.rn_outside.specs.Faults.{Rose, risen};
 
 use crate::sink::Sink;
 
@@ -15,6 +16,11 @@ pub fn write_all<O: Sink>(sink: &mut O, bytes: &[u8]) -> Result<(), WriteFault>
     ensures all { OnOk result (Appends (O.held sink.old) bytes.now (O.held sink.new)) }
     ensures prefix { OnErr result (AppendsPrefix (O.held sink.old) bytes.now (O.held sink.new)) }
     ensures cause { OnErr result (Rose (O.faults sink.old) (O.faults sink.new)) }
+
+    // The first fault ends the call: it is the only one, and none is passed over.
+    ensures one_fault { OnErr result (O.faults sink.new ≡ risen (O.faults sink.old)) }
+    ensures no_fault { OnOk result (O.faults sink.new ≡ O.faults sink.old) }
+
     ensures never_falls { O.faults sink.old ≤ O.faults sink.new }
 {
     let mut taken = 0;

@@ -6,11 +6,11 @@ use Rattle.rn_value.specs.Grammar.IsInside.{empty, byte}
 use Rattle.std.proofs.lemmas.Bool.{false≢true}
 use borrow.Author.Tests.{ne_eqb}
 
--- the byte that stands behind a backslash
+-- the byte that a byte after a backslash stands for
 unpaired : ℕ → ℕ
 unpaired k = cond (eqb k 110) 10 (cond (eqb k 116) 9 k)
 
--- the first byte that is written at the front of these, and what follows it
+-- the first byte that is spelled by the first of these, and what follows it
 head : List ℕ → ℕ
 head [] = 0
 head (c ∷ rest) = c
@@ -57,7 +57,7 @@ no_quote newline x y e = apart (ap head e)
 no_quote tab x y e = apart (ap head e)
 no_quote (itself q b n t) x y e = q (ap head e)
 
--- the closing quote tells where a text ends
+-- the closing quote determines where a text ends
 pub same_inside : {s t a b : List ℕ} → IsInside s a → IsInside t b → (x y : List ℕ) → a ++ 34 ∷ x ≡ b ++ 34 ∷ y → (s ≡ t) × (x ≡ y)
 same_inside empty empty x y e = (refl, cc)
 same_inside empty (byte {written = u} {rest = b} d q) x y e =

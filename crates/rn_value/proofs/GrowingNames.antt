@@ -7,10 +7,10 @@ use Rattle.rn_value.specs.TextLaws.{TextsStayAsNamesGrow}
 use Rattle.rn_value.specs.declared.value.Value.{Value}
 use Rattle.rn_value.proofs.Written.{on_equal, name_of_none, name_of_some}
 
-still_there : (names more : List (List ℕ)) (place : ℕ) (name : List ℕ) → slice_get names place ≡ Some name → slice_get (names ++ more) place ≡ Some name
-still_there [] more place name e = cc
+still_there : (names more : List (List ℕ)) (index : ℕ) (name : List ℕ) → slice_get names index ≡ Some name → slice_get (names ++ more) index ≡ Some name
+still_there [] more index name e = cc
 still_there (n ∷ names) more zero name e = e
-still_there (n ∷ names) more (suc place) name e = still_there names more place name e
+still_there (n ∷ names) more (suc index) name e = still_there names more index name e
 
 still_named : (names more : List (List ℕ)) (k : ℕ) (name : List ℕ) → name_of names k ≡ Some name → name_of (names ++ more) k ≡ Some name
 still_named names more k name e = on_equal k 0

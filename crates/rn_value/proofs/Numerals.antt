@@ -22,9 +22,9 @@ shift d = 48 + d
 
 digits_of_digit : (n : ℕ) → 0 < n → n < 10 → digits_of 10 n ≡ n ∷ []
 digits_of_digit n low high =
-    let front : n / 10 ≡ 0 = div-eq_of_lt high in
+    let prefix : n / 10 ≡ 0 = div-eq_of_lt high in
     let last : n % 10 ≡ n = mod-eq_of_lt high in
-    digits_of_step 10 n (omega arith) low ∙ rw (front, last) refl
+    digits_of_step 10 n (omega arith) low ∙ rw (prefix, last) refl
 
 pub numeral_positive : (n : ℕ) → 0 < n → numeral n ≡ map (λ d. 48 + d) (digits_of 10 n)
 unfolding numeral
@@ -38,12 +38,12 @@ numeral_digit (suc n) high = numeral_positive (suc n) (omega arith) ∙ ap (map 
 -- one more digit after the digits of a number that isn't 0
 pub numeral_more : (n d : ℕ) → 0 < n → d < 10 → numeral (n * 10 + d) ≡ numeral n ++ (48 + d) ∷ []
 numeral_more n d low high =
-    let front : (n * 10 + d) / 10 ≡ n = omega arith in
+    let prefix : (n * 10 + d) / 10 ≡ n = omega arith in
     let last : (n * 10 + d) % 10 ≡ d = omega arith in
     numeral_positive (n * 10 + d) (omega arith)
-    ∙ ap (map (λ d. 48 + d)) (digits_of_step 10 (n * 10 + d) (omega arith) (omega arith) ∙ rw (front, last) refl)
+    ∙ ap (map (λ d. 48 + d)) (digits_of_step 10 (n * 10 + d) (omega arith) (omega arith) ∙ rw (prefix, last) refl)
     ∙ map-append (λ d. 48 + d) (digits_of 10 n) (d ∷ [])
-    ∙ ap (λ front. front ++ (48 + d) ∷ []) (sym (numeral_positive n low))
+    ∙ ap (λ prefix. prefix ++ (48 + d) ∷ []) (sym (numeral_positive n low))
 
 numeral_step : (n : ℕ) → 10 ≤ n → numeral n ≡ numeral (n / 10) ++ (48 + n % 10) ∷ []
 numeral_step n low =
@@ -67,7 +67,7 @@ IsNumeral-numeral n = IsNumeral-upto n n (omega arith)
 -- and the only one
 pub numeral_only : {n : ℕ} {digits : List ℕ} → IsNumeral n digits → digits ≡ numeral n
 numeral_only (digit {d = d} small) = sym (numeral_digit d small)
-numeral_only (more {n = n} {d = d} low front small) = ap (λ front. front ++ (48 + d) ∷ []) (numeral_only front) ∙ sym (numeral_more n d low small)
+numeral_only (more {n = n} {d = d} low prefix small) = ap (λ prefix. prefix ++ (48 + d) ∷ []) (numeral_only prefix) ∙ sym (numeral_more n d low small)
 
 value : List ℕ → ℕ
 value digits = number_from_digits 10 (map (λ c. c - 48) digits)
@@ -75,10 +75,10 @@ value digits = number_from_digits 10 (map (λ c. c - 48) digits)
 value_is : {n : ℕ} {digits : List ℕ} → IsNumeral n digits → value digits ≡ n
 unfolding value
 value_is (digit {d = d} small) = omega arith
-value_is (more {n = n} {d = d} {front = front} low more_front small) =
-    ap (number_from_digits 10) (map-append (λ c. c - 48) front ((48 + d) ∷ []))
-    ∙ number_push 10 (map (λ c. c - 48) front) (48 + d - 48)
-    ∙ (let e = value_is more_front in let f : 48 + d - 48 ≡ d = omega arith in rw (e, f) refl)
+value_is (more {n = n} {d = d} {prefix = prefix} low more_prefix small) =
+    ap (number_from_digits 10) (map-append (λ c. c - 48) prefix ((48 + d) ∷ []))
+    ∙ number_push 10 (map (λ c. c - 48) prefix) (48 + d - 48)
+    ∙ (let e = value_is more_prefix in let f : 48 + d - 48 ≡ d = omega arith in rw (e, f) refl)
 
 -- a numeral is one of one number
 pub IsNumeral-same : {m n : ℕ} {digits : List ℕ} → IsNumeral m digits → IsNumeral n digits → m ≡ n
@@ -103,12 +103,12 @@ list_all-append test (x ∷ xs) ys a b = elim (test x) as (λ t. (t && list_all 
 -- each byte of a numeral is a digit
 pub IsNumeral-digits : {n : ℕ} {digits : List ℕ} → IsNumeral n digits → list_all is_ascii_digit digits ≡ true
 IsNumeral-digits (digit {d = d} small) = rw (digit_byte d small) refl
-IsNumeral-digits (more {d = d} {front = front} low more_front small) =
-    list_all-append is_ascii_digit front ((48 + d) ∷ []) (IsNumeral-digits more_front) (rw (digit_byte d small) refl)
+IsNumeral-digits (more {d = d} {prefix = prefix} low more_prefix small) =
+    list_all-append is_ascii_digit prefix ((48 + d) ∷ []) (IsNumeral-digits more_prefix) (rw (digit_byte d small) refl)
 
 -- a numeral has a first byte, which is a digit
 pub IsNumeral-first : {n : ℕ} {digits : List ℕ} → IsNumeral n digits → (c : ℕ) × (rest : List ℕ) × (digits ≡ c ∷ rest) × (is_ascii_digit c ≡ true)
 IsNumeral-first (digit {d = d} small) = (48 + d, [], refl, digit_byte d small)
-IsNumeral-first (more {d = d} low front small) =
-    let first = IsNumeral-first front in
-    (first.0, first.1 ++ (48 + d) ∷ [], ap (λ front. front ++ (48 + d) ∷ []) first.2, first.3)
+IsNumeral-first (more {d = d} low prefix small) =
+    let first = IsNumeral-first prefix in
+    (first.0, first.1 ++ (48 + d) ∷ [], ap (λ prefix. prefix ++ (48 + d) ∷ []) first.2, first.3)

@@ -23,7 +23,7 @@ digit_line d = ((λ e. omega arith), tt)
 
 numeral_line : {n : ℕ} {a : List ℕ} → IsNumeral n a → OneLine a
 numeral_line (IsNumeral.digit {d = d} small) = digit_line d
-numeral_line (IsNumeral.more {d = d} {front = front} low before small) = joined front ((48 + d) ∷ []) (numeral_line before) (digit_line d)
+numeral_line (IsNumeral.more {d = d} {prefix = prefix} low before small) = joined prefix ((48 + d) ∷ []) (numeral_line before) (digit_line d)
 
 bracketed : (before after : ℕ) (a : List ℕ) → before ≢ 10 → after ≢ 10 → OneLine a → OneLine (before ∷ a ++ after ∷ [])
 bracketed before after a first last line = (first, joined a (after ∷ []) line (last, tt))

@@ -1,4 +1,4 @@
--- A list that ascends by a total order which tells elements apart is determined by how often it holds each.
+-- A list that ascends by a total order that is antisymmetric is determined by how often it holds each.
 use Rattle.std.proofs.Common.{◌≡◌, ℕ, suc, ◌+◌, ◌<◌, Bool, true, false, cond, List, [], ◌∷◌, get_or, refl, sym, ap, subst, arith}
 use Rattle.std.proofs.lemmas.Bool.{false≢true}
 use Rattle.std.proofs.lemmas.List.Sums.{sum_by-cons}
@@ -10,7 +10,7 @@ use Rattle.std.specs.List.Sorted.{IsSorted}
 use Rattle.std.specs.Ordering.{is_lt, is_eq, ordering_reverse}
 use Rattle.std.specs.declared.cmp.Ordering.{Ordering}
 use Rattle.std.specs.declared.cmp.Ordering.TheVariants.{Less, Equal, Greater}
-use Rattle.rn_value.specs.Order.{TellsApart, value_cmp}
+use Rattle.rn_value.specs.Order.{IsAntisymmetric, value_cmp}
 use Rattle.rn_value.specs.OrderLaws.{value_cmp-total, value_cmp-apart}
 use Rattle.rn_value.specs.Sorting.{count_of, SortsOneWay, SortsByCounts}
 
@@ -26,7 +26,7 @@ neither Greater Less e p q = absurd (false≢true (sym q))
 neither Greater Equal e p q = cc
 neither Greater Greater e p q = cc
 
-module _ {A : Type 0} (cmp : A → A → Ordering) (total : IsTotalOrder cmp) (apart : TellsApart cmp) where
+module _ {A : Type 0} (cmp : A → A → Ordering) (total : IsTotalOrder cmp) (apart : IsAntisymmetric cmp) where
   count_of-cons : (z x : A) (xs : List A) → count_of cmp z (x ∷ xs) ≡ one_if (is_eq (cmp z x)) + count_of cmp z xs
   count_of-cons z x xs = sum_by-cons (λ y. one_if (is_eq (cmp z y))) x xs
 

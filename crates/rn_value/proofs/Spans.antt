@@ -24,5 +24,5 @@ module _ (test : ℕ → Bool) where
       let first : c ≡ d = cc in
       let tails : a ++ x ≡ b ++ y = cc in
       let rest = same_runs a b x y (and_right (test c) (list_all test a) p) (and_right (test d) (list_all test b) q) stops ends tails in
-      let fronts : a ≡ b = rest.0 in
+      let prefixes : a ≡ b = rest.0 in
       (cc, rest.1)

@@ -1,4 +1,4 @@
--- The bytes of a text tell the value, and where its text ends.
+-- The bytes of a text determine the value, and where its text ends.
 use Rattle.std.proofs.Common.{◌≡◌, ℕ, zero, suc, ◌-◌, true, false, cond, eqb, ◌||◌, ℤ, pos, negsuc, List, [], ◌∷◌, ◌++◌, Some, None, append_assoc, refl, sym, ap, ◌∙◌, subst, arith}
 use Rattle.std.proofs.lemmas.Bool.{false≢true}
 use Rattle.std.proofs.lemmas.Bool.Decides.{nat_tests}
@@ -70,10 +70,10 @@ letter_form c d =
 pub name_bytes : (name : List ℕ) → IsIdentifier name → list_all is_name_byte name ≡ true
 name_bytes name is = and_right (begins_with is_letter name) (list_all is_name_byte name) is
 
-name_at : (names : List (List ℕ)) → AreIdentifiers names → (place : ℕ) (name : List ℕ) → slice_get names place ≡ Some name → IsIdentifier name
-name_at [] are place name e = cc
+name_at : (names : List (List ℕ)) → AreIdentifiers names → (index : ℕ) (name : List ℕ) → slice_get names index ≡ Some name → IsIdentifier name
+name_at [] are index name e = cc
 name_at (n ∷ names) are zero name e = let same : n ≡ name = cc in subst IsIdentifier same are.0
-name_at (n ∷ names) are (suc place) name e = name_at names are.1 place name e
+name_at (n ∷ names) are (suc index) name e = name_at names are.1 index name e
 
 pub named_is : (names : List (List ℕ)) → AreIdentifiers names → (k : ℕ) (name : List ℕ) → name_of names k ≡ Some name → IsIdentifier name
 named_is names are k name = elim (eqb k 0) as (λ t. cond t None (slice_get names (k - 1)) ≡ Some name → IsIdentifier name) [

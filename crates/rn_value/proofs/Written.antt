@@ -10,7 +10,7 @@ use Rattle.rn_value.specs.declared.value.InstRef.TheVariants.{Old, New}
 use Rattle.rn_value.specs.declared.value.Value.{Value, out-Value, roll-Value, out-roll-Value, map-Value, fold_out-Value, ind-Value, roll-out-Value}
 use Rattle.rn_value.specs.declared.value.Value.TheOpen as V
 use Rattle.rn_value.specs.declared.value.Value.TheVariants as Value
-use Rattle.rn_value.specs.TextLaws.{GrammarIsWritten, TextsTellValues, WrittenTextsTellValues, OneSpelling}
+use Rattle.rn_value.specs.TextLaws.{GrammarIsWritten, TextsDetermineValues, WrittenTextsDetermineValues, OneSpelling}
 use Rattle.rn_value.proofs.Spelling.{same_value}
 use Rattle.rn_value.proofs.Numerals.{IsNumeral-numeral, numeral_only}
 use borrow.Author.Tests.{ne_eqb, eq-eqb, eqb-true, eqb-false, le-leb, leb-true}
@@ -179,25 +179,25 @@ module _ (names : List (List ℕ)) where
   layer_is (V.Inst (Old k)) v is named =
       let within = sym (named_layer (length names) v (V.Inst (Old k)) is) ∙ named in
       as_variant v (Value.Inst (Old k)) (V.Inst (Old k)) is (Value.outs-Inst (Old k)) (IsText.instance (name_there names k within) (IsNumeral-numeral k))
-  layer_is (V.Inst (New path place)) v is named =
-      absurd (false≢true (sym (named_layer (length names) v (V.Inst (New path place)) is) ∙ named))
+  layer_is (V.Inst (New path index)) v is named =
+      absurd (false≢true (sym (named_layer (length names) v (V.Inst (New path index)) is) ∙ named))
 
   text_is : (v : Value) → Written names v
   text_is = ind-Value (Written names) (λ x y is. layer_is y (roll-Value x) (out-roll-Value x ∙ sym is))
 
--- the texts of the grammar are just those that are written
+-- the texts of the grammar are exactly those that are written
 pub grammar_written : GrammarIsWritten
 grammar_written names v bytes =
     (λ t. text_only t, λ h. subst (IsText names v) (sym h.1) (text_is names v h.0))
 
--- the bytes of a text tell the value, and where its text ends
-pub texts_tell : TextsTellValues
-texts_tell names v w a b x y are t u p q e = same_value names are t u x y p q e
+-- the bytes of a text determine the value, and where its text ends
+pub texts_determine : TextsDetermineValues
+texts_determine names v w a b x y are t u p q e = same_value names are t u x y p q e
 
 -- and so do the texts that are written
-pub written_tell : WrittenTextsTellValues
-written_tell names v w x y are p q = same_value names are (text_is names v p) (text_is names w q) x y
+pub written_determine : WrittenTextsDetermineValues
+written_determine names v w x y are p q = same_value names are (text_is names v p) (text_is names w q) x y
 
 -- of values whose instances have names, equal texts mean equal values
 pub one_spelling : OneSpelling
-one_spelling names v w are p q e = (written_tell names v w [] [] are p q tt tt (ap (λ a. a ++ []) e)).0
+one_spelling names v w are p q e = (written_determine names v w [] [] are p q tt tt (ap (λ a. a ++ []) e)).0

@@ -13,16 +13,16 @@ use Rattle.rn_value.specs.declared.value.Value.TheVariants as Value
 -- begins with 0, but for the numeral of 0.
 pub data IsNumeral : ℕ → List ℕ → Type 0 where
   digit : {d : ℕ} → d < 10 → IsNumeral d ((48 + d) ∷ [])
-  more : {n d : ℕ} {front : List ℕ} →
-      0 < n → IsNumeral n front → d < 10 → IsNumeral (n * 10 + d) (front ++ (48 + d) ∷ [])
+  more : {n d : ℕ} {prefix : List ℕ} →
+      0 < n → IsNumeral n prefix → d < 10 → IsNumeral (n * 10 + d) (prefix ++ (48 + d) ∷ [])
 
--- A whole number is a numeral, with `-` in front where the number is negative.
+-- A whole number is a numeral, with `-` before it where the number is negative.
 pub data IsWholeNumber : ℤ → List ℕ → Type 0 where
   positive : {n : ℕ} {digits : List ℕ} → IsNumeral n digits → IsWholeNumber (pos n) digits
   negative : {n : ℕ} {digits : List ℕ} →
       IsNumeral (suc n) digits → IsWholeNumber (negsuc n) (45 ∷ digits)
 
--- The quote, the backslash, the newline and the tab stand behind a backslash, as `\"`, `\\`, `\n`
+-- The quote, the backslash, the newline and the tab stand after a backslash, as `\"`, `\\`, `\n`
 -- and `\t`, and each other byte stands for itself.
 pub data IsEscaped : ℕ → List ℕ → Type 0 where
   quote : IsEscaped 34 (92 ∷ 34 ∷ [])

@@ -13,10 +13,9 @@ name_of names number = if nat_eq number 0 then None else slice_get names (number
 -- an existing instance, with a number from 1 to this one
 abbrev pub inst_within : InstRef → ℕ → Bool
 inst_within (Old number) last = nat_le 1 number && nat_le number last
-inst_within (New path place) last = false
+inst_within (New path index) last = false
 
--- All instances in the items are within. (This is one layer, with the tests of the items in place of
--- the items.)
+-- All instances in the items are within. (This is one layer, where each item is given by its test.)
 abbrev pub within_step : V.Value-F (ℕ → Bool) → ℕ → Bool
 within_step (V.Int n) last = true
 within_step (V.Text s) last = true

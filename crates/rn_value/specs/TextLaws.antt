@@ -20,22 +20,22 @@ abbrev pub IsDelimited : List ℕ → Type 0
 IsDelimited [] = Unit {0}
 IsDelimited (c ∷ rest) = IsTrue (is_delimiter c)
 
--- The texts of the grammar are just those that are written: one for each value whose instances have
+-- The texts of the grammar are exactly those that are written: one for each value whose instances have
 -- names, and none for another value.
 abbrev pub GrammarIsWritten : Type 0
 GrammarIsWritten = (names : List (List ℕ)) (v : Value) (bytes : List ℕ) →
     IsText names v bytes ↔ (AreNamed names v × (bytes ≡ value_text v names))
 
 -- Bytes that begin with a text of a value, which the end or a delimiter follows, begin with a text
--- of no other value, and with no other text: they tell the value, and where its text ends.
-abbrev pub TextsTellValues : Type 0
-TextsTellValues = (names : List (List ℕ)) (v w : Value) (a b x y : List ℕ) →
+-- of no other value, and with no other text: they determine the value, and where its text ends.
+abbrev pub TextsDetermineValues : Type 0
+TextsDetermineValues = (names : List (List ℕ)) (v w : Value) (a b x y : List ℕ) →
     AreIdentifiers names → IsText names v a → IsText names w b → IsDelimited x → IsDelimited y →
     a ++ x ≡ b ++ y → (v ≡ w) × (x ≡ y)
 
 -- The same of the texts that are written.
-abbrev pub WrittenTextsTellValues : Type 0
-WrittenTextsTellValues = (names : List (List ℕ)) (v w : Value) (x y : List ℕ) →
+abbrev pub WrittenTextsDetermineValues : Type 0
+WrittenTextsDetermineValues = (names : List (List ℕ)) (v w : Value) (x y : List ℕ) →
     AreIdentifiers names → AreNamed names v → AreNamed names w → IsDelimited x → IsDelimited y →
     value_text v names ++ x ≡ value_text w names ++ y → (v ≡ w) × (x ≡ y)
 

@@ -1,18 +1,20 @@
+//! What readers of texts, and of sorted lists, of values may rely on.
 ghost use Rattle.rn_value.specs.Order.{value_cmp};
 ghost use Rattle.rn_value.specs.Sorting.{SortsOneWay, SortsByCounts};
-ghost use Rattle.rn_value.specs.TextLaws.{GrammarIsWritten, TextsTellValues, WrittenTextsTellValues};
+ghost use Rattle.rn_value.specs.TextLaws.{GrammarIsWritten, TextsDetermineValues};
+ghost use Rattle.rn_value.specs.TextLaws.{WrittenTextsDetermineValues};
 ghost use Rattle.rn_value.specs.TextLaws.{OneSpelling, TextsStayOnOneLine, TextsStayAsNamesGrow};
 
-/// What a reader of texts of values may rely on, where names are made of letters, digits and `_`.
+/// What a reader of texts of values may rely on, where names are identifiers.
 ///
-/// The texts that `write_value` writes are just those of the grammar of values. A text tells its
-/// value, also where other bytes follow it that begin with a space, a newline, a comma or a closing
-/// bracket: no other value has a text there, and the text ends nowhere else. It holds no newline,
-/// and stays the value's text as names are added.
+/// The texts that `write_value` writes are exactly those of the grammar of values. A text determines
+/// its value, also where other bytes follow it that begin with a space, a newline, a comma or a
+/// closing bracket: no other value has a text there, and the text ends nowhere else. It holds no
+/// newline, and stays the value's text as names are added.
 pub fn text_laws()
     ensures exact { GrammarIsWritten }
-    ensures tell { TextsTellValues }
-    ensures written_tell { WrittenTextsTellValues }
+    ensures determine { TextsDetermineValues }
+    ensures written_determine { WrittenTextsDetermineValues }
     ensures one_spelling { OneSpelling }
     ensures one_line { TextsStayOnOneLine }
     ensures stay { TextsStayAsNamesGrow }

@@ -1,3 +1,4 @@
+//! The names of the nets of instances, and whether a value uses only these instances.
 ghost use Rattle.std.specs.Prelude.{◌≡◌, ◌↔◌, [], ◌∷◌, ◌++◌, map, length, IsTrue, OnOk, OnErr};
 ghost use Rattle.std.specs.Option.{option_copied};
 ghost use Rattle.std.specs.List.{list_all};
@@ -10,8 +11,8 @@ use rn_items::NoMemory;
 use std::alloc::Global;
 use std::marker::Model;
 
-/// The names of the nets of a run's instances: the name at place `k`, from 1, belongs to the
-/// instance with number `k`.
+/// The names of the nets of a run's instances: the k-th name, from 1, belongs to the instance with
+/// number k.
 #[derive(Debug, Drop)]
 pub struct Names {
     names: Vec<Str>,

@@ -2,7 +2,7 @@
 ghost use Rattle.std.specs.Prelude.{◌≡◌};
 ghost use Rattle.rn_desk.specs.Entries.{StartsWith, AddsAtMostOne, GrowsOwn};
 ghost use Rattle.rn_desk.specs.Taken.{state_of};
-ghost use Rattle.rn_desk.specs.Passes.{fixed_of, number, seen, mine, IsOf, IsFree, HasTurn};
+ghost use Rattle.rn_desk.specs.Passes.{fixed_of, number, seen, mine, IsOf, HasNoTurn, HasTurn};
 
 use super::{Desk, Pass, Turn};
 use crate::kept::Kept;
@@ -13,7 +13,7 @@ impl<S: Kept> Desk<S> {
     /// Draws a ticket, waits until it is served, and takes the state out. It may wait forever.
     pub fn take<R: Wait>(&self, rt: &R, pass: &mut Pass<S>) -> Turn<S>
         requires here { IsOf S.fixed self.now pass.old }
-        requires free { IsFree pass.old }
+        requires free { HasNoTurn pass.old }
 
         // The turn.
         ensures entries { StartsWith (S.entries (state_of result)) (seen pass.old) }
@@ -26,10 +26,10 @@ impl<S: Kept> Desk<S> {
         ensures seen { seen pass.new ≡ S.entries (state_of result) }
         ensures mine { mine pass.new ≡ mine pass.old }
     {
-        let ticket = self.draw_ticket(&mut pass.place);
+        let ticket = self.draw_ticket(&mut pass.seat);
         for _ in rt.forever() {
-            if self.look_at_serving(&mut pass.place, ticket) {
-                let state = self.take_state_out(&mut pass.place);
+            if self.look_at_serving(&mut pass.seat, ticket) {
+                let state = self.take_state_out(&mut pass.seat);
                 let length = state.length();
                 return Turn { state, length };
             }
@@ -46,7 +46,7 @@ impl<S: Kept> Desk<S> {
         requires entries { AddsAtMostOne S.author (number pass.old) (seen pass.old) (S.entries (state_of turn)) }
 
         ensures here { IsOf S.fixed self.now pass.new }
-        ensures free { IsFree pass.new }
+        ensures free { HasNoTurn pass.new }
         ensures number { number pass.new ≡ number pass.old }
         ensures seen { seen pass.new ≡ S.entries (state_of turn) }
         ensures mine { GrowsOwn S.author (number pass.old) (seen pass.old) (S.entries (state_of turn))
@@ -54,8 +54,8 @@ impl<S: Kept> Desk<S> {
     {
         let Turn { state, length } = turn;
         let full = Some(state);
-        self.count_entry(&mut pass.place, length, &full);
-        self.put_state_back(&mut pass.place, full);
-        self.pass_turn_on(&mut pass.place);
+        self.count_entry(&mut pass.seat, length, &full);
+        self.put_state_back(&mut pass.seat, full);
+        self.pass_turn_on(&mut pass.seat);
     }
 }

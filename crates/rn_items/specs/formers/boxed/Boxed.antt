@@ -29,7 +29,7 @@ the_former content = content
 abbrev pub the_weighed : {content : Former {0}} → Weighed content → Weighed (the_former content)
 the_weighed weighed = weighed
 
--- its one field is a pointer with an allocator, and the content behind it
+-- its one field is a pointer with an allocator, and the content to which it points
 abbrev field : Former {0}
 field = via (pair (const (Ptr × Global)) this) Inside (λ T a. ((a.content.ptr, a.content.alloc), a.content.value))
     (λ T v. record { content = record { ptr = v.0.0; alloc = v.0.1; value = v.1 } }) (λ T a. refl) (λ T v. refl)

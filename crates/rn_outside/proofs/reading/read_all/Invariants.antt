@@ -1,4 +1,4 @@
-use Rattle.std.proofs.Common.{◌+◌, ◌-◌, ◌≤◌, vec_len}
+use Rattle.std.proofs.Common.{◌≡◌, ◌+◌, ◌-◌, ◌≤◌, vec_len}
 use Rattle.rn_outside.specs.Bytes.{Gives}
 use Rattle.rn_outside.proofs.reading.read_all.Given as goal
 
@@ -9,7 +9,7 @@ invariant-pieces g l =
     record {
       within : vec_len l.bytes ≤ l.limit;
       gives : Gives (source.left l.initial.source) l.bytes.items (source.left l.source);
-      never_falls : source.faults l.initial.source ≤ source.faults l.source;
+      no_fault : source.faults l.source ≡ source.faults l.initial.source;
       reads : source.reads l.source ≤ source.reads l.initial.source + vec_len l.bytes;
     }
 

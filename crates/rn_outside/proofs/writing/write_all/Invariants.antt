@@ -1,15 +1,15 @@
-use Rattle.std.proofs.Common.{◌-◌, ◌≤◌, length, take}
+use Rattle.std.proofs.Common.{◌≡◌, ◌-◌, ◌≤◌, length, take}
 use Rattle.rn_outside.specs.Bytes.{Appends}
 use Rattle.rn_outside.proofs.writing.write_all.Given as goal
 
--- the front of the bytes that was taken stands in the sink
+-- the prefix of the bytes that was taken stands in the sink
 abbrev pub invariant-loop-taken : goal.invariant-loop-taken
 invariant-loop-taken g l =
     let sink = g.O.Sink in
     record {
       within : l.taken ≤ length l.bytes;
       appends : Appends (sink.held l.initial.sink) (take l.taken l.bytes) (sink.held l.sink);
-      never_falls : sink.faults l.initial.sink ≤ sink.faults l.sink;
+      no_fault : sink.faults l.sink ≡ sink.faults l.initial.sink;
     }
 
 abbrev pub decreases-loop-taken : goal.decreases-loop-taken

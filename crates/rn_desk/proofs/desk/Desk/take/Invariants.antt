@@ -5,5 +5,5 @@ use Rattle.rn_desk.specs.Steps.{in_role}
 use Rattle.rn_desk.proofs.desk.Desk.take.Given as goal
 
 abbrev pub invariant-loop : goal.invariant-loop
-invariant-loop g l = (l.pass.place.table_id ≡ l.fn.pass.place.table_id)
-    × ((t : ℕ) × (wrapped t ≡ l.ticket) × (l.pass.place.me ≡ (in_role (Waits t) l.fn.pass.place.me.0, [])))
+invariant-loop g l = (l.pass.seat.table_id ≡ l.fn.pass.seat.table_id)
+    × ((t : ℕ) × (wrapped t ≡ l.ticket) × (l.pass.seat.me ≡ (in_role (Waits t) l.fn.pass.seat.me.0, [])))

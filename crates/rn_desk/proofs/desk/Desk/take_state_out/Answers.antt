@@ -14,6 +14,6 @@ unwrap-requires g c = let full = c.requires.full in let took = c.exchange.ensure
 pub returns : goal.returns
 returns g c = let full = c.requires.full in let took = c.exchange.ensures in let gone = ap rest full.1 in record {
   here = took.0;
-  state = took.2 ∙ (ap (λ o. (0, o) ∷ rest c.args.place.now.me.1) c.unwrap.ensures ∙ ap (λ l. (0, Some c.unwrap.result) ∷ l) gone);
-  empty = took.3 ∙ ap (λ l. (c.args.place.now.me.0, (0, None) ∷ l)) gone;
+  state = took.2 ∙ (ap (λ o. (0, o) ∷ rest c.args.seat.now.me.1) c.unwrap.ensures ∙ ap (λ l. (0, Some c.unwrap.result) ∷ l) gone);
+  empty = took.3 ∙ ap (λ l. (c.args.seat.now.me.0, (0, None) ∷ l)) gone;
 }
