@@ -6,7 +6,7 @@ use std::alloc::Global;
 use std::marker::PhantomData;
 
 /// The turns go round in the order of the tickets, and one history grows.
-pub struct InTurns<S> {
+pub(crate) struct InTurns<S> {
     of: PhantomData<S>,
 }
 
@@ -20,7 +20,7 @@ impl<S: Kept> TableRule<Option<S>, View<S::Item, S::Fixed>, About<S>> for InTurn
 }
 
 /// Three words and one slot.
-pub type Board<S> = Table<
+pub(crate) type Board<S> = Table<
     Option<S>,
     View<<S as Kept>::Item, <S as Kept>::Fixed>,
     About<S>,
@@ -28,7 +28,7 @@ pub type Board<S> = Table<
     Global,
 >;
 
-pub type DeskSeat<S> = Seat<Option<S>, View<<S as Kept>::Item, <S as Kept>::Fixed>>;
+pub(crate) type DeskSeat<S> = Seat<Option<S>, View<<S as Kept>::Item, <S as Kept>::Fixed>>;
 
 /// How many seats a desk has, at most.
 pub const MOST_SEATS: u32 = 64;

@@ -3,7 +3,7 @@ use std::collections::LinkedList;
 use std::snapshot::Snapshot;
 
 /// How far a seat's turn is. Tickets are counted on past 2^64.
-pub enum Role {
+pub(crate) enum Role {
     /// It was joined into another.
     Spent,
     /// It makes the other seats, and has made so many.
@@ -19,14 +19,14 @@ pub enum Role {
 /// A number, with what its seat has seen and what it authored.
 ///
 /// During a turn `seen` is the list in hand.
-pub struct Part<I> {
+pub(crate) struct Part<I> {
     pub number: u64,
     pub seen: LinkedList<I>,
     pub mine: LinkedList<I>,
 }
 
 /// What a seat knows.
-pub struct View<I, F> {
+pub(crate) struct View<I, F> {
     pub role: Role,
     pub own: Part<I>,
     /// The parts of the seats that were joined into this one.
@@ -37,7 +37,7 @@ pub struct View<I, F> {
 
 /// What the table is given once: the number of seats, and the state at the opening.
 #[derive(Drop)]
-pub struct About<S> {
+pub(crate) struct About<S> {
     pub seats: u32,
     pub state: Snapshot<S>,
 }

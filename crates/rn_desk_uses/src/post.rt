@@ -18,13 +18,13 @@ pub struct Tally {
 }
 
 #[derive(Drop)]
-pub struct Post {
+pub(crate) struct Post {
     pub pass: Pass<Sheet>,
     pub tally: Tally,
 }
 
 /// Each pass with a tally of nothing.
-pub fn posts_of(
+pub(crate) fn posts_of(
     alloc: Global,
     desk: &Desk<Sheet>,
     passes: Vec<Pass<Sheet>>,
@@ -52,7 +52,7 @@ pub fn posts_of(
 }
 
 /// The passes and the tallies, each in order.
-pub fn parted(alloc: Global, posts: Vec<Post>) -> Result<(Vec<Pass<Sheet>>, Vec<Tally>), NoMemory>
+pub(crate) fn parted(alloc: Global, posts: Vec<Post>) -> Result<(Vec<Pass<Sheet>>, Vec<Tally>), NoMemory>
     ensures passes { IfOk result (λ r. r.0.items ≡ map (λ p. p.pass) posts.items) }
     ensures tallies { IfOk result (λ r. r.1.items ≡ map (λ p. p.tally) posts.items) }
 {

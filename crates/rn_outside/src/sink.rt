@@ -10,8 +10,8 @@ pub struct SinkFailed;
 
 /// Where bytes go.
 ///
-/// The bytes of a sink are known or not. Of one in memory they are, and contracts say what is written.
-/// Of one over the system's files they aren't: of it contracts speak of counts alone.
+/// The bytes of a sink are known or not. Of one in memory they are, and contracts say what is
+/// written. Of one over the system's files they aren't, and contracts speak of counts alone.
 pub trait Sink {
     /// The bytes held, where they are known.
     ghost held: { Self → Option (List ℕ) };

@@ -10,8 +10,8 @@ pub struct SourceFailed;
 
 /// Where bytes come from.
 ///
-/// The bytes of a source are known or not. Of one in memory they are, and contracts say what is read.
-/// Of one over the system's files they aren't: of it contracts speak of counts alone.
+/// The bytes of a source are known or not. Of one in memory they are, and contracts say what is
+/// read. Of one over the system's files they aren't, and contracts speak of counts alone.
 pub trait Source {
     /// The bytes left, where they are known.
     ghost left: { Self → Option (List ℕ) };

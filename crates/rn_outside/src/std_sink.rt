@@ -9,11 +9,11 @@ use std::marker::Model;
 
 /// A sink over a writer of the standard library, as standard output.
 ///
-/// Its bytes aren't known, since no proof knows what reaches the system. Each error of the writer is a
-/// fault, and so is a write that takes nothing of a piece that isn't empty.
+/// Its bytes aren't known, since no proof knows what reaches the system. Each error of the writer is
+/// a fault, and so is a write that takes nothing of a piece that isn't empty.
 ///
-/// A write is flushed before it returns, so that none is lost in a buffer of the writer. Where
-/// the flush fails the write has failed, though the writer has taken bytes of the piece.
+/// A write is flushed before it returns, so that none is lost in a buffer of the writer. Where the
+/// flush fails the write has failed, though the writer has taken bytes of the piece.
 #[derive(Drop)]
 pub struct StdSink<W: Write> {
     writer: W,

@@ -9,8 +9,8 @@ use std::marker::Model;
 
 /// A source over a reader of the standard library, as standard input.
 ///
-/// Its bytes aren't known, since no proof knows what the system gives. Each error of the reader is a
-/// fault, also a read that a signal interrupted: it isn't tried again.
+/// Its bytes aren't known, since no proof knows what the system gives. Each error of the reader is
+/// a fault, also a read that a signal interrupted: it isn't tried again.
 #[derive(Drop)]
 pub struct StdSource<R: Read> {
     reader: R,
@@ -86,8 +86,8 @@ mod tests {
         }
     }
 
-    // A reader whose first call fails, as one that a signal interrupts. The next one gives a byte, and
-    // then comes the end.
+    // A reader whose first call fails, as one that a signal interrupts. The next one gives a byte,
+    // and then comes the end.
     #[derive(Drop)]
     struct Interrupted(u8);
 
