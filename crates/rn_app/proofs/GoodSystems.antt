@@ -4,7 +4,6 @@ use Rattle.std.specs.Prelude.{◌≢◌, ◌&&◌, not, All, AllPairs, Contains,
 use Rattle.std.proofs.Math.ListN.{get_or-map}
 use Rattle.std.proofs.lemmas.List.{length-map}
 use Rattle.std.proofs.lemmas.List.Elements.{All-nil, All-cons, All-head, All-tail, All-append, All-weaker, All-map, All-replicate}
-use Rattle.std.proofs.lemmas.Bool.Decides.{nat_tests}
 use Rattle.rn_value.specs.declared.value.Kind.{Kind, fold_out-Kind}
 use Rattle.rn_value.specs.declared.value.Kind.TheVariants as Kind
 use Rattle.rn_value.specs.declared.value.Value.{fold_out-Value}
@@ -33,7 +32,6 @@ use Rattle.rn_app.proofs.AcceptedLemmas.{fine_tokens, are_words}
 use Rattle.rn_app.proofs.FiringRuns.{number_below}
 use Rattle.rn_app.proofs.NameLemmas.{map-map}
 use Rattle.rn_app.proofs.SmallBindings.{kind_is}
-use Rattle.rn_app.proofs.TokenLemmas.{both_true}
 
 -- The kind, the value and the expression of black tokens.
 

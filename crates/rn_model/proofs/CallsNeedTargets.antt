@@ -2,6 +2,7 @@
 -- channel h(net); net main { var x: net; trans s { x:h(x); } trans u { :h(this); } }
 use Rattle.std.proofs.Common.{◌≡◌, ℕ, zero, suc, pos, ◌⊎◌, List, [], ◌∷◌, ◌++◌, length, sym, ap, ◌∙◌, subst, inl, inr, arith}
 use Rattle.std.specs.Prelude.{Some, All, Contains, slice_get, codes}
+use Rattle.rn_model.proofs.DerivedInstances.{same_entry}
 use Rattle.rn_value.specs.declared.value.InstRef.TheVariants.{Old}
 use Rattle.rn_value.specs.declared.value.Kind.TheVariants as Kind
 use Rattle.rn_value.specs.declared.value.Value.{Value}
@@ -60,9 +61,6 @@ not_empty : (p : List ℕ) (i : ℕ) → p ++ i ∷ [] ≡ [] → ⊥
 not_empty [] i e = let no : ⊥ = cc in no
 not_empty (j ∷ p) i e = let no : ⊥ = cc in no
 
-entries_same : (x y : Node) → entry x ≡ entry y → x ≡ y
-entries_same x y e = cc
-
 -- nothing calls the start
 start_path : (caller : Node) (i : ℕ) (d : Downlink) → Calls sys b caller i d root → ⊥
 start_path caller i d c = not_empty caller.path i (sym c.path)
@@ -109,7 +107,7 @@ by_place (suc i) d In only here forced = let no : ⊥ = cc in no
 -- so the child never comes in: its caller would be the start
 child_waits : (In : Item → Type 0) → OnlyStart In → MayEnter sys b In (entry child) → ⊥
 child_waits In only (caller, i, d, c, caller_in, forced) =
-    let is : root ≡ caller = entries_same root caller (only (entry caller) caller_in) in
+    let is : root ≡ caller = same_entry root caller (only (entry caller) caller_in) in
     let here : HasDownlink i d root = subst (HasDownlink i d) (sym is) c.downlink_there in
     by_place i d In only here (subst (λ x. Forced sys b In (λ a. term_value_at a x (target i) d.target)) (sym is) forced)
 
@@ -138,5 +136,5 @@ not_derived : ¬ Derived sys b
 not_derived d =
     let in_at_last : InBy sys b (length (items_of sys b)) (entry child) = subst (λ items. All (InBy sys b (length (items_of sys b))) items) items_are d.all_in 1 (entry child) (omega arith) in
     let same : entry root ≡ entry child = only_start (length (items_of sys b)) (entry child) in_at_last in
-    let paths : root.path ≡ child.path = ap (λ x. x.path) (entries_same root child same) in
+    let paths : root.path ≡ child.path = ap (λ x. x.path) (same_entry root child same) in
     let no : ⊥ = cc in no

@@ -56,7 +56,7 @@ same_front (k ∷ p) (l ∷ q) i j e =
     let front : p ≡ q = same_front p q i j rest in
     cc
 
-same_entry : (x y : Node) → entry x ≡ entry y → x ≡ y
+pub same_entry : (x y : Node) → entry x ≡ entry y → x ≡ y
 same_entry x y e = cc
 
 all_pass : (good : InstRef → Bool) (vs : List Value) → ((v : Value) → Contains vs v → only good v ≡ true) → list_all (λ p. p) (map (only good) vs) ≡ true

@@ -3,6 +3,7 @@ use Rattle.std.proofs.Common.{◌≡◌, ℕ, suc, ◌+◌, List, [], ◌∷◌,
 use Rattle.std.specs.Prelude.{Option, Some, None, option_map, option_and_then, slice_get}
 use Rattle.std.specs.List.{AllByRecursion}
 use Rattle.std.proofs.lemmas.Option.{option_and_then_some}
+use Rattle.rn_items.proofs.Options.{option_map_some}
 use Rattle.rn_value.specs.declared.value.Value.{Value}
 use Rattle.rn_value.specs.declared.value.Value.TheVariants as Value
 use Rattle.rn_model.specs.declared.expr.Expr.{Expr, roll-Expr, map-Expr, fold-roll-Expr, para-Expr, para-roll-Expr, ind-Expr}
@@ -84,15 +85,11 @@ one_more : {B : Type 0} (f : Expr → B) (parts : List Part) (last : Part) → m
 one_more f [] last = refl
 one_more f (part ∷ parts) last = ap (λ rest. f part.0 ∷ rest) (one_more f parts last)
 
-mapped : {A B P : Type 0} (f : A → B) (o : Option A) (y : B) → option_map f o ≡ Some y → ((x : A) → o ≡ Some x → P) → P
-mapped f None y e k = absurd (let no : ⊥ = cc in no)
-mapped f (Some x) y e k = k x refl
-
 worths_of_parts : (parts : List Part) (i : ℕ) (env : Env) (vs : List Value) → worths (map worth (exprs parts)) env ≡ Some vs → AllByRecursion (HasWorth env) (holes_of_parts i (map with_holes (exprs parts)))
 worths_of_parts [] i env vs e = tt
 worths_of_parts (part ∷ parts) i env vs e =
     option_and_then_some (λ v. option_map (λ ws. v ∷ ws) (worths (map worth (exprs parts)) env)) (worth part.0 env) vs e (λ v first rest.
-    mapped (λ ws. v ∷ ws) (worths (map worth (exprs parts)) env) vs rest (λ ws others.
+    option_map_some (λ ws. v ∷ ws) (worths (map worth (exprs parts)) env) vs rest (λ ws others _.
     each_append (HasWorth env) (map (within_part i) (holes_in part.0)) (holes_of_parts (i + 1) (map with_holes (exprs parts)))
     (each_map (HasWorth env) (within_part i) (holes_in part.0) (part.1.worths env v first)) (worths_of_parts parts (i + 1) env ws others)))
 
@@ -127,7 +124,7 @@ worths_with_last [] last i env vs w e f =
     each_append (HasWorth env) (map (within_part i) (holes_in last.0)) [] (each_map (HasWorth env) (within_part i) (holes_in last.0) (last.1.worths env w f)) tt
 worths_with_last (part ∷ parts) last i env vs w e f =
     option_and_then_some (λ v. option_map (λ ws. v ∷ ws) (worths (map worth (exprs parts)) env)) (worth part.0 env) vs e (λ v first rest.
-    mapped (λ ws. v ∷ ws) (worths (map worth (exprs parts)) env) vs rest (λ ws others.
+    option_map_some (λ ws. v ∷ ws) (worths (map worth (exprs parts)) env) vs rest (λ ws others _.
     each_append (HasWorth env) (map (within_part i) (holes_in part.0)) (holes_of_parts (i + 1) (map with_holes (exprs parts) ++ with_holes last.0 ∷ []))
     (each_map (HasWorth env) (within_part i) (holes_in part.0) (part.1.worths env v first)) (worths_with_last parts last (i + 1) env ws w others f)))
 
@@ -137,8 +134,8 @@ worth_layer (O.Text s) env v e = tt
 worth_layer (O.Var x) env v e = tt
 worth_layer O.This env v e = tt
 worth_layer O.Step env v e = tt
-worth_layer (O.Tuple parts) env v e = mapped (λ vs. Value.Tuple vs) (worths (map worth (exprs parts)) env) v e (λ vs each. worths_of_parts parts 0 env vs each)
-worth_layer (O.List parts) env v e = mapped (λ vs. Value.List vs) (worths (map worth (exprs parts)) env) v e (λ vs each. worths_of_parts parts 0 env vs each)
+worth_layer (O.Tuple parts) env v e = option_map_some (λ vs. Value.Tuple vs) (worths (map worth (exprs parts)) env) v e (λ vs each _. worths_of_parts parts 0 env vs each)
+worth_layer (O.List parts) env v e = option_map_some (λ vs. Value.List vs) (worths (map worth (exprs parts)) env) v e (λ vs each _. worths_of_parts parts 0 env vs each)
 worth_layer (O.Cons parts tail) env v e =
     option_and_then_some (λ vs. option_and_then (list_onto vs) (worth tail.0 env)) (worths (map worth (exprs parts)) env) v e (λ vs each rest.
     option_and_then_some (list_onto vs) (worth tail.0 env) v rest (λ w last joined.

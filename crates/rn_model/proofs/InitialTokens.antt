@@ -1,19 +1,18 @@
 -- The initial tokens of a good system are sound.
-use Rattle.std.proofs.Common.{◌≡◌, ℕ, zero, suc, ◌<◌, Bool, true, false, ◌||◌, cond, List, [], ◌∷◌, map, length, refl, sym, ap, ◌∙◌, subst, arith}
+use Rattle.std.proofs.Common.{◌≡◌, ℕ, zero, suc, ◌<◌, Bool, true, false, ◌||◌, List, [], ◌∷◌, map, length, refl, sym, ap, ◌∙◌, subst}
 use Rattle.std.specs.Prelude.{Option, Some, None, IsTrue, Contains, unwrap_or, option_map, slice_get, nat_eq, codes}
-use Rattle.std.specs.Ordering.{is_lt}
 use Rattle.std.specs.List.{list_any}
 use Rattle.std.proofs.lemmas.List.Elements.{All-contains}
 use Rattle.std.specs.Cmp.Lexicographic.{pointwise}
 use Rattle.std.proofs.Math.Dec.{T, eqb→eq}
 use Rattle.std.proofs.lemmas.Option.{same_Some}
-use Rattle.rn_value.specs.Order.{value_cmp}
+use Rattle.rn_model.proofs.AskedValues.{from_ordered}
 use Rattle.rn_value.specs.Kinds.{HasKind}
 use Rattle.rn_value.specs.declared.value.Value.{Value, map-Value, ind-Value, fold-roll-Value}
 use Rattle.rn_value.specs.declared.value.Value.TheOpen as V
 use Rattle.rn_model.specs.declared.system.System.{System}
 use Rattle.rn_model.specs.declared.system.Place.{Place}
-use Rattle.rn_model.specs.Lists.{with_value, ordered_values}
+use Rattle.rn_model.specs.Lists.{ordered_values}
 use Rattle.rn_model.specs.Systems.{net_at, main_net, place_kind}
 use Rattle.rn_model.specs.Markings.{initial_marking, net_of, tokens_at, IsThere}
 use Rattle.rn_model.specs.Good.{Good, IsGoodPlace, IsGoodToken}
@@ -68,28 +67,6 @@ apart = ind-Value IsApart (λ x y is e.
     let here = (subst LayerIsApart is (layer y)) at_layer in
     (fold-roll-Value Bool new_in_step x ∙ here.0, λ n. ap (λ f. f n) (fold-roll-Value (ℕ → Bool) mentions_step x) ∙ here.1 n))
 
--- An ordered list holds what the list holds.
-one_later : (v w u : Value) (ws : List Value) → Contains (v ∷ ws) u → Contains (v ∷ w ∷ ws) u
-one_later v w u ws (zero, h, e) = (0, omega arith, e)
-one_later v w u ws (suc k, h, e) = (suc (suc k), omega (arith, h), e)
-
-in_placed : (v w u : Value) (ws : List Value) (below : Bool) → (Contains (with_value v ws) u → Contains (v ∷ ws) u) → Contains (cond below (w ∷ with_value v ws) (v ∷ w ∷ ws)) u → Contains (v ∷ w ∷ ws) u
-in_placed v w u ws true f (zero, h, e) = (1, omega arith, e)
-in_placed v w u ws true f (suc k, h, e) = one_later v w u ws (f (k, omega (arith, h), e))
-in_placed v w u ws false f there = there
-
-in_with : (v u : Value) (ws : List Value) → Contains (with_value v ws) u → Contains (v ∷ ws) u
-in_with v u [] there = there
-in_with v u (w ∷ ws) there = in_placed v w u ws (is_lt (value_cmp w v)) (in_with v u ws) there
-
-behind : (v u : Value) (vs ws : List Value) → (Contains ws u → Contains vs u) → Contains (v ∷ ws) u → Contains (v ∷ vs) u
-behind v u vs ws f (zero, h, e) = (0, omega arith, e)
-behind v u vs ws f (suc k, h, e) = let there = f (k, omega (arith, h), e) in (suc there.0, omega (arith, there.1), there.2)
-
-in_ordered : (u : Value) (vs : List Value) → Contains (ordered_values vs) u → Contains vs u
-in_ordered u [] there = there
-in_ordered u (v ∷ vs) there = behind v u vs (ordered_values vs) (in_ordered u vs) (in_with v u (ordered_values vs) there)
-
 get_mapped : {X Y : Type 0} (f : X → Y) (xs : List X) (k : ℕ) → slice_get (map f xs) k ≡ option_map f (slice_get xs k)
 get_mapped f [] k = refl
 get_mapped f (x ∷ xs) zero = refl
@@ -115,7 +92,7 @@ module _ (system : System) (good : Good system) where
   sound_at : (place : ℕ) (v : Value) (found : Option Place) → slice_get places place ≡ found → Contains (tokens_of found) v → IsSoundToken system (initial_marking system) main place v
   sound_at place v None e there = absurd (not_in_nil v there)
   sound_at place v (Some p) e there =
-      let token : IsGoodToken p.kind v = All-contains (IsGoodToken p.kind) p.initial v (at_place IsGoodPlace places place p (good_net system main good main_there).places e).initial (in_ordered v p.initial there) in
+      let token : IsGoodToken p.kind v = All-contains (IsGoodToken p.kind) p.initial v (at_place IsGoodPlace places place p (good_net system main good main_there).places e).initial (from_ordered v p.initial there) in
       let kind : place_kind system main place ≡ p.kind = rw e refl in
       record {
         kind = subst (HasKind v) (sym kind) token.fits;

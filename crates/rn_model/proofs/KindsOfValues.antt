@@ -1,9 +1,10 @@
 -- An expression with a kind has values of that kind, where its variables have values of their kinds.
 use Rattle.std.proofs.Common.{◌≡◌, ℕ, ℤ, zero, suc, pos, Bool, true, false, List, [], ◌∷◌, ◌++◌, map, refl, sym, ap, ◌∙◌, subst, arith}
-use Rattle.std.specs.Prelude.{Option, Some, None, Contains, option_map, option_and_then, nat_eq, zip, if◌then◌else◌}
+use Rattle.std.specs.Prelude.{Option, Some, Contains, option_map, option_and_then, nat_eq, zip, if◌then◌else◌}
 use Rattle.std.specs.List.{list_all, AllZip}
 use Rattle.std.proofs.lemmas.Bool.{eqb-true}
 use Rattle.std.proofs.lemmas.Option.{same_Some, option_and_then_some}
+use Rattle.rn_items.proofs.Options.{option_map_some}
 use Rattle.rn_items.proofs.Bools.{both_true, true_both}
 use Rattle.rn_value.specs.Kinds.{HasKind, value_has_kind, kind_step, fit_all}
 use Rattle.rn_value.specs.declared.value.InstRef.{InstRef}
@@ -93,10 +94,6 @@ both_lists kind (v ∷ vs) ws e f =
     let both = both_true (value_has_kind v kind) (list_all (λ fits. fits kind) (map value_has_kind vs)) e in
     true_both (value_has_kind v kind) (list_all (λ fits. fits kind) (map value_has_kind (vs ++ ws))) both.0 (both_lists kind vs ws both.1 f)
 
-mapped : {A B P : Type 0} (f : A → B) (o : Option A) (y : B) → option_map f o ≡ Some y → ((x : A) → o ≡ Some x → Some (f x) ≡ Some y → P) → P
-mapped f None y e k = absurd (let no : ⊥ = cc in no)
-mapped f (Some x) y e k = k x refl e
-
 module _ (kinds : ℕ → Kind) (env : Env) (well : (x : ℕ) (v : Value) → value_beside env.pairs x ≡ Some v → HasKind v (kinds x)) where
   abbrev HasItsKind : Expr → Type 0
   HasItsKind e = (kind : Kind) → HasExprKind kinds e kind → (v : Value) → worth e env ≡ Some v → HasKind v kind
@@ -114,7 +111,7 @@ module _ (kinds : ℕ → Kind) (env : Env) (well : (x : ℕ) (v : Value) → va
   parts_fit (part ∷ parts) (k ∷ ks) vs e f =
       let both = both_true (expr_has_kind part.0 kinds k) (fit_all (map (λ test. test kinds) (map expr_has_kind (exprs parts))) ks) e in
       option_and_then_some (λ v. option_map (λ ws. v ∷ ws) (worths (map worth (exprs parts)) env)) (worth part.0 env) vs f (λ v first rest.
-      mapped (λ ws. v ∷ ws) (worths (map worth (exprs parts)) env) vs rest (λ ws others made.
+      option_map_some (λ ws. v ∷ ws) (worths (map worth (exprs parts)) env) vs rest (λ ws others made.
       ap (λ us. fit_all (map value_has_kind us) (k ∷ ks)) (sym (same_Some (v ∷ ws) vs made)) ∙ true_both (value_has_kind v k) (fit_all (map value_has_kind ws) ks) (part.1 k both.0 v first) (parts_fit parts ks ws both.1 others)))
 
   parts_all : (parts : List Part) (k : Kind) (vs : List Value) → list_all (λ test. test kinds k) (map expr_has_kind (exprs parts)) ≡ true → worths (map worth (exprs parts)) env ≡ Some vs → list_all (λ fits. fits k) (map value_has_kind vs) ≡ true
@@ -122,7 +119,7 @@ module _ (kinds : ℕ → Kind) (env : Env) (well : (x : ℕ) (v : Value) → va
   parts_all (part ∷ parts) k vs e f =
       let both = both_true (expr_has_kind part.0 kinds k) (list_all (λ test. test kinds k) (map expr_has_kind (exprs parts))) e in
       option_and_then_some (λ v. option_map (λ ws. v ∷ ws) (worths (map worth (exprs parts)) env)) (worth part.0 env) vs f (λ v first rest.
-      mapped (λ ws. v ∷ ws) (worths (map worth (exprs parts)) env) vs rest (λ ws others made.
+      option_map_some (λ ws. v ∷ ws) (worths (map worth (exprs parts)) env) vs rest (λ ws others made.
       ap (λ us. list_all (λ fits. fits k) (map value_has_kind us)) (sym (same_Some (v ∷ ws) vs made)) ∙ true_both (value_has_kind v k) (list_all (λ fits. fits k) (map value_has_kind ws)) (part.1 k both.0 v first) (parts_all parts k ws both.1 others)))
 
   -- one layer of an expression, of its test and of its value
@@ -181,18 +178,18 @@ module _ (kinds : ℕ → Kind) (env : Env) (well : (x : ℕ) (v : Value) → va
   layer (O.Var x) kind e v f = ap (value_has_kind v) (sym (same_is_equal (kinds x) kind e)) ∙ well x v f
   layer O.This kind e v f = ap (λ u. value_has_kind u kind) (sym (same_Some (Value.Inst env.this) v f)) ∙ kinded_is (Value.Inst env.this) kind ∙ kinded-Inst env.this (out-Kind kind) ∙ this_at env.this (out-Kind kind) e
   layer O.Step kind e v f =
-      mapped (λ n. Value.Int (pos n)) env.step v f (λ n there is.
+      option_map_some (λ n. Value.Int (pos n)) env.step v f (λ n there is.
       ap (λ u. value_has_kind u kind) (sym (same_Some (Value.Int (pos n)) v is)) ∙ kinded_is (Value.Int (pos n)) kind ∙ kinded-Int (pos n) (out-Kind kind) ∙ step_at (pos n) (out-Kind kind) e)
   layer (O.Tuple parts) kind e v f =
-      mapped (λ vs. Value.Tuple vs) (worths (map worth (exprs parts)) env) v f (λ vs there is.
+      option_map_some (λ vs. Value.Tuple vs) (worths (map worth (exprs parts)) env) v f (λ vs there is.
       ap (λ u. value_has_kind u kind) (sym (same_Some (Value.Tuple vs) v is)) ∙ kinded_is (Value.Tuple vs) kind ∙ kinded-Tuple vs (out-Kind kind) ∙ tuple_at parts vs (out-Kind kind) e there)
   layer (O.List parts) kind e v f =
-      mapped (λ vs. Value.List vs) (worths (map worth (exprs parts)) env) v f (λ vs there is.
+      option_map_some (λ vs. Value.List vs) (worths (map worth (exprs parts)) env) v f (λ vs there is.
       ap (λ u. value_has_kind u kind) (sym (same_Some (Value.List vs) v is)) ∙ kinded_is (Value.List vs) kind ∙ kinded-List vs (out-Kind kind) ∙ list_at parts vs (out-Kind kind) e there)
   layer (O.Cons parts tail) kind e v f =
       option_and_then_some (λ vs. option_and_then (list_onto vs) (worth tail.0 env)) (worths (map worth (exprs parts)) env) v f (λ vs each rest.
       option_and_then_some (list_onto vs) (worth tail.0 env) v rest (λ w last joined.
-      mapped (λ others. Value.List (vs ++ others)) (list_of w) v joined (λ others listed is.
+      option_map_some (λ others. Value.List (vs ++ others)) (list_of w) v joined (λ others listed is.
       ap (λ u. value_has_kind u kind) (sym (same_Some (Value.List (vs ++ others)) v is)) ∙ kinded_is (Value.List (vs ++ others)) kind ∙ kinded-List (vs ++ others) (out-Kind kind) ∙ cons_at parts tail vs others w (out-Kind kind) e each last listed)))
   layer (O.Neg part) kind e v f =
       let int = neg_is (worth part.0 env) v f in

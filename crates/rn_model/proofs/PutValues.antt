@@ -8,6 +8,7 @@ use Rattle.std.specs.List.{list_all, AllByRecursion}
 use Rattle.std.proofs.lemmas.Bool.{eqb-true}
 use Rattle.std.proofs.lemmas.Option.{same_Some, option_and_then_some}
 use Rattle.std.proofs.lemmas.List.Elements.{Contains-append_cases}
+use Rattle.rn_items.proofs.Options.{option_map_some}
 use Rattle.rn_items.proofs.Bools.{both_true, true_both}
 use Rattle.rn_value.specs.Order.{inst_cmp}
 use Rattle.rn_value.specs.declared.value.InstRef.{InstRef}
@@ -123,10 +124,6 @@ module _ (system : System) (step : ℕ) (P : Node → Env → Type 0) where
   tail_stays : (node : Node) (nodes : List Node) → StaysSo system step (node ∷ nodes) P → StaysSo system step nodes P
   tail_stays node nodes s = record { begins = λ n there. s.begins n (later node n nodes there); goes_on = λ n x e v env there. s.goes_on n x e v env (later node n nodes there) }
 
-  mapped : {T : Type 0} (f : Effects → Effects) (o : Option Effects) (y : Effects) → option_map f o ≡ Some y → ((x : Effects) → o ≡ Some x → f x ≡ y → T) → T
-  mapped f None y e k = absurd (let no : ⊥ = cc in no)
-  mapped f (Some x) y e k = k x refl (same_Some (f x) y e)
-
   -- each reading is of a node that is there, and what stays so holds of it
   pub reading_stays : (nodes : List Node) → StaysSo system step nodes P → (acts : Effects) → all_effects system step nodes ≡ Some acts → (r : Reading) → Contains acts.read r → Contains nodes r.node × P r.node r.env
   reading_stays [] s acts e r there =
@@ -134,9 +131,9 @@ module _ (system : System) (step : ℕ) (P : Node → Env → Type 0) where
       absurd (not_in_nil r (subst (λ a. Contains a.read r) (sym none) there))
   reading_stays (node ∷ nodes) s acts e r there =
       option_and_then_some (λ acts. option_map (effects_with node acts) (all_effects system step nodes)) (node_acts system step node) acts e (λ a first rest.
-      mapped (effects_with node a) (all_effects system step nodes) acts rest (λ others come made.
+      option_map_some (effects_with node a) (all_effects system step nodes) acts rest (λ others come made.
       let P_of = λ (q : Reading). Contains (node ∷ nodes) q.node × P q.node q.env in
-      let there_too : Contains ((record { node = node; env = a.env }) ∷ others.read) r = subst (λ a. Contains a.read r) (sym made) there in
+      let there_too : Contains ((record { node = node; env = a.env }) ∷ others.read) r = subst (λ a. Contains a.read r) (sym (same_Some (effects_with node a others) acts made)) there in
       first_or_later (record { node = node; env = a.env }) others.read r P_of ((0, omega arith, refl), node_stays (node ∷ nodes) s node a (0, omega arith, refl) first)
       (λ in_others. let found = reading_stays nodes (tail_stays node nodes s) others come r in_others in (later node r.node nodes found.0, found.1)) there_too))
     where
@@ -178,8 +175,8 @@ module _ (system : System) (step : ℕ) (P : Node → Env → Type 0) (Q : Value
       absurd (not_in_nil v (subst (λ a. Contains a.outs v) (sym none) there))
   printed (node ∷ nodes) s prints acts e v there =
       option_and_then_some (λ acts. option_map (effects_with node acts) (all_effects system step nodes)) (node_acts system step node) acts e (λ a first rest.
-      mapped system step P (effects_with node a) (all_effects system step nodes) acts rest (λ others come made.
-      elim (Contains-append_cases a.outs others.outs v (subst (λ a. Contains a.outs v) (sym made) there)) as (λ _. Q v) [
+      option_map_some (effects_with node a) (all_effects system step nodes) acts rest (λ others come made.
+      elim (Contains-append_cases a.outs others.outs v (subst (λ a. Contains a.outs v) (sym (same_Some (effects_with node a others) acts made)) there)) as (λ _. Q v) [
         | inl own ↦ node_prints (node ∷ nodes) s prints node a (0, omega arith, refl) first v own
         | inr behind ↦ printed nodes (tail_stays system step P node nodes s) (λ n e w env there. prints n e w env (later node n nodes there)) others come v behind
       ]))
