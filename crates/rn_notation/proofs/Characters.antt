@@ -1,4 +1,4 @@
--- Characters at the front of bytes.
+-- Characters at the start of bytes.
 use Rattle.std.proofs.Common.{◌≡◌, ◌<◌, ◌≤◌, ◌+◌, ℕ, List, ◌∷◌, ◌++◌, length, take, Bool, true, false, cond, nat_eq, refl, sym, ap, ◌∙◌, subst, arith}
 use Rattle.std.specs.Prelude.{encode_utf8, ◌⊎◌, IsUtf8}
 use Rattle.std.specs.Char.{IsScalar}
@@ -29,20 +29,20 @@ other_number a b h = by (nat_eq a b) refl
 pub ascii_scalar : (c : ℕ) → c < 128 → IsScalar c
 ascii_scalar c h = low_scalar c (omega arith)
 
-pub ascii_front : (c : ℕ) (text : List ℕ) → c < 128 → c ∷ text ≡ encode_utf8 c ++ text
-ascii_front c text h = ap (λ bytes. bytes ++ text) (sym (encode_ascii c h))
+pub ascii_prefix : (c : ℕ) (text : List ℕ) → c < 128 → c ∷ text ≡ encode_utf8 c ++ text
+ascii_prefix c text h = ap (λ bytes. bytes ++ text) (sym (encode_ascii c h))
 
 pub byte_char : (c d : ℕ) (r t : List ℕ) → c < 128 → c ∷ r ≡ encode_utf8 d ++ t → (c ≡ d) × (r ≡ t)
-byte_char c d r t h e = encode_same c d r t (sym (ascii_front c r h) ∙ e)
+byte_char c d r t h e = encode_same c d r t (sym (ascii_prefix c r h) ∙ e)
 
 pub not_broken : (c : ℕ) (text : List ℕ) → c < 128 → ¬ StartsWithNoChar (c ∷ text)
-not_broken c text h none = none c text (ascii_scalar c h) (ascii_front c text h)
+not_broken c text h none = none c text (ascii_scalar c h) (ascii_prefix c text h)
 
 pub some_bytes : (c : ℕ) → 0 < length (encode_utf8 c)
 some_bytes c = let e = length-encode c in let b = len_utf8_bounds c in omega (arith, e, b.0)
 
-pub none_at_empty : (text front : List ℕ) (n : ℕ) → front ≡ take n text → length front ≡ n → (0 < length text → 0 < n) → length front ≡ 0 → StartsWithNoChar text
-none_at_empty text front n e l some none c rest scalar whole =
+pub none_at_empty : (text prefix : List ℕ) (n : ℕ) → prefix ≡ take n text → length prefix ≡ n → (0 < length text → 0 < n) → length prefix ≡ 0 → StartsWithNoChar text
+none_at_empty text prefix n e l some none c rest scalar whole =
     let long : length text ≡ length (encode_utf8 c) + length rest = ap length whole ∙ length-append (encode_utf8 c) rest in
     let few = some_bytes c in
     let positive = some (omega arith) in
@@ -51,15 +51,15 @@ none_at_empty text front n e l some none c rest scalar whole =
 within : (l n k : ℕ) → (l < 4 → n ≡ l) → (4 ≤ l → n ≡ 4) → k ≤ l → k ≤ 4 → k ≤ n
 within l n k short long a b = grind arith
 
-pub none_at_fault : (text front : List ℕ) (n m : ℕ) → front ≡ take n text → (length text < 4 → n ≡ length text) → (4 ≤ length text → n ≡ 4) →
-    IsValidUpTo front m → m ≡ 0 → StartsWithNoChar text
-none_at_fault text front n m e short long valid zero c rest scalar whole =
+pub none_at_fault : (text prefix : List ℕ) (n m : ℕ) → prefix ≡ take n text → (length text < 4 → n ≡ length text) → (4 ≤ length text → n ≡ 4) →
+    IsValidUpTo prefix m → m ≡ 0 → StartsWithNoChar text
+none_at_fault text prefix n m e short long valid zero c rest scalar whole =
     let few = some_bytes c in
     let size = length-encode c in
     let most = len_utf8_bounds c in
     let longer : length text ≡ length (encode_utf8 c) + length rest = ap length whole ∙ length-append (encode_utf8 c) rest in
     let within : length (encode_utf8 c) ≤ n = within (length text) n (length (encode_utf8 c)) short long (omega arith) (omega arith) in
-    let same : take (length (encode_utf8 c)) front ≡ encode_utf8 c = ap (take (length (encode_utf8 c))) e ∙ take-take (length (encode_utf8 c)) n text within ∙ ap (take (length (encode_utf8 c))) whole ∙ take_at (encode_utf8 c) rest (length (encode_utf8 c)) refl in
+    let same : take (length (encode_utf8 c)) prefix ≡ encode_utf8 c = ap (take (length (encode_utf8 c))) e ∙ take-take (length (encode_utf8 c)) n text within ∙ ap (take (length (encode_utf8 c))) whole ∙ take_at (encode_utf8 c) rest (length (encode_utf8 c)) refl in
     valid.longest (length (encode_utf8 c)) (omega arith) (subst IsUtf8 (sym same) (IsUtf8-encode c scalar))
 
 -- each byte of a character is high, or is the character

@@ -9,14 +9,14 @@ use Rattle.std.proofs.lemmas.Option.{same_Some}
 use Rattle.rn_items.proofs.Bools.{both_true}
 use Rattle.rn_value.specs.Characters.{is_letter, is_digit, is_name_byte}
 use Rattle.rn_value.specs.Words.{begins_with, is_identifier, index_of, reserved_words}
-use Rattle.rn_notation.specs.Words.{is_blank, are_digits, number_of, greatest, is_front, signs, begins_with_sign, is_longest_sign, opens_comment}
+use Rattle.rn_notation.specs.Words.{is_blank, are_digits, number_of, greatest_number, is_prefix_of, signs, begins_with_sign, is_longest_sign, opens_comment}
 use Rattle.rn_notation.specs.Texts.{Part, AreParts, written, meant, is_closed, IsInComment, IsBroken, IsNoEscape}
 use Rattle.rn_notation.specs.Tokens.{IsGap, IsToken}
 use Rattle.rn_notation.specs.Faults.{IsFault, begins_something}
-use Rattle.rn_notation.specs.Steps.{Found, gap, token, fault, Stands}
+use Rattle.rn_notation.specs.Scanning.{Found, gap, token, fault, IsSpelledBy}
 use Rattle.rn_notation.specs.declared.token.TokenKind.TheVariants.{Name, Word, Number, Text, Sign}
 use Rattle.rn_notation.specs.declared.token.Cause.TheVariants.{P1, P3, P4, P7}
-use Rattle.rn_notation.proofs.WordLemmas.{passes, among_fronts, front_of_itself}
+use Rattle.rn_notation.proofs.WordLemmas.{passes, among_prefixes, prefix_of_itself}
 use Rattle.rn_value.proofs.WordLemmas.{name_byte-letter, name_byte-low}
 use Rattle.rn_notation.proofs.Characters.{not_broken, heads, tails, some_bytes, other_number}
 use Rattle.std.proofs.lemmas.List.{length-append}
@@ -59,7 +59,7 @@ abbrev word_found : List ℕ → List ℕ → Outcome
 word_found w rest = word_found_at (index_of reserved_words w) w rest
 
 abbrev number_found : List ℕ → List ℕ → Outcome
-number_found ds rest = if nat_le (number_of ds) greatest then (token (Number (pos (number_of ds))), ds, rest) else (fault P3, [], ds ++ rest)
+number_found ds rest = if nat_le (number_of ds) greatest_number then (token (Number (pos (number_of ds))), ds, rest) else (fault P3, [], ds ++ rest)
 
 abbrev text_found : List Part → List ℕ → Outcome
 text_found parts [] = (fault P4, 34 ∷ written parts, [])
@@ -222,7 +222,7 @@ class_sign (c ∷ sign) rest k at code =
     by (nat_lt c 128) (is_blank c) (is_letter c) (is_digit c) (nat_eq c 34) refl refl refl refl refl (passes begins_sign signs (c ∷ sign) k signs_begin at)
   where
     by : (l b a d q : Bool) → nat_lt c 128 ≡ l → is_blank c ≡ b → is_letter c ≡ a → is_digit c ≡ d → nat_eq c 34 ≡ q → (l && (not b && (not a && (not d && not q)))) ≡ true → class_of (c ∷ sign ++ rest) ≡ others
-    by true false false false false e f g h i t = rw (e, f, g, h, i, among_fronts signs (c ∷ sign) rest k at, code) refl
+    by true false false false false e f g h i t = rw (e, f, g, h, i, among_prefixes signs (c ∷ sign) rest k at, code) refl
     by false b a d q e f g h i t = absurd (true≢false (sym t))
     by true true a d q e f g h i t = absurd (true≢false (sym t))
     by true false true d q e f g h i t = absurd (true≢false (sym t))
@@ -295,9 +295,9 @@ first_digit : (ds rest : List ℕ) → are_digits ds ≡ true → begins_with is
 first_digit [] rest h = absurd (true≢false (sym h))
 first_digit (d ∷ ds) rest h = (both_true (is_digit d) (list_all is_digit (d ∷ ds)) h).0
 
-gap_class : (front rest : List ℕ) → IsGap front rest → Read (class_of (front ++ rest)) (front ++ rest) (gap, front, rest)
-gap_class front rest (IsGap.blank {c = c} h) = at_class blanks (c ∷ rest) (gap, c ∷ [], rest) (class_blank c rest h) refl
-gap_class front rest (IsGap.comment cs all stops) = at_class comments (47 ∷ 47 ∷ encode_utf8_all cs ++ rest) (gap, 47 ∷ 47 ∷ encode_utf8_all cs, rest) (class_comment (encode_utf8_all cs ++ rest))
+gap_class : (prefix rest : List ℕ) → IsGap prefix rest → Read (class_of (prefix ++ rest)) (prefix ++ rest) (gap, prefix, rest)
+gap_class prefix rest (IsGap.blank {c = c} h) = at_class blanks (c ∷ rest) (gap, c ∷ [], rest) (class_blank c rest h) refl
+gap_class prefix rest (IsGap.comment cs all stops) = at_class comments (47 ∷ 47 ∷ encode_utf8_all cs ++ rest) (gap, 47 ∷ 47 ∷ encode_utf8_all cs, rest) (class_comment (encode_utf8_all cs ++ rest))
     record { cs = cs; stop = rest; whole = refl; are = all; ends = ends rest stops; made = made rest stops }
   where
     ends : (rest : List ℕ) → begins_with (λ c. not (nat_eq c 10)) rest ≡ false → EndsComment rest
@@ -321,46 +321,46 @@ text_class : (parts : List Part) (stop : List ℕ) (o : Outcome) → AreParts pa
 text_class parts stop o are stuck closed made = at_class quotes (34 ∷ written parts ++ stop) o (class_quote (written parts ++ stop))
     (inr (written parts ++ stop, refl, closed, record { parts = parts; stop = stop; whole = refl; are = are; stuck = stuck; made = made }))
 
-token_class : (kind : TokenKind) (front rest : List ℕ) → IsToken kind front rest → Read (class_of (front ++ rest)) (front ++ rest) (token kind, front, rest)
-token_class kind front rest (IsToken.name is stops none) = word_class front rest (token kind, front, rest) is stops (rw none refl)
-token_class kind front rest (IsToken.word is stops at) = word_class front rest (token kind, front, rest) is stops (rw at refl)
-token_class kind front rest (IsToken.number is stops small) = number_class front rest (token kind, front, rest) is stops (rw (le_true (number_of front) greatest small) refl)
-token_class kind front rest (IsToken.text parts are) =
+token_class : (kind : TokenKind) (prefix rest : List ℕ) → IsToken kind prefix rest → Read (class_of (prefix ++ rest)) (prefix ++ rest) (token kind, prefix, rest)
+token_class kind prefix rest (IsToken.name is stops none) = word_class prefix rest (token kind, prefix, rest) is stops (rw none refl)
+token_class kind prefix rest (IsToken.word is stops at) = word_class prefix rest (token kind, prefix, rest) is stops (rw at refl)
+token_class kind prefix rest (IsToken.number is stops small) = number_class prefix rest (token kind, prefix, rest) is stops (rw (le_true (number_of prefix) greatest_number small) refl)
+token_class kind prefix rest (IsToken.text parts are) =
     let whole : (34 ∷ written parts ++ 34 ∷ []) ++ rest ≡ 34 ∷ written parts ++ (34 ∷ rest) = ap (λ t. 34 ∷ t) (append_assoc (written parts) (34 ∷ []) rest) in
-    subst (λ text. Read (class_of text) text (token kind, front, rest)) (sym whole)
-    (text_class parts (34 ∷ rest) (token kind, front, rest) are (stuck_at_quote rest) (closed_parts parts (34 ∷ rest) are ∙ closed_quote rest) refl)
-token_class kind front rest (IsToken.sign {k = k} at longest code) = at_class others (front ++ rest) (token kind, front, rest) (class_sign front rest k at code)
-    record { k = k; sign = front; rest = rest; whole = refl; at = at; longest = longest; made = refl }
+    subst (λ text. Read (class_of text) text (token kind, prefix, rest)) (sym whole)
+    (text_class parts (34 ∷ rest) (token kind, prefix, rest) are (stuck_at_quote rest) (closed_parts parts (34 ∷ rest) are ∙ closed_quote rest) refl)
+token_class kind prefix rest (IsToken.sign {k = k} at longest code) = at_class others (prefix ++ rest) (token kind, prefix, rest) (class_sign prefix rest k at code)
+    record { k = k; sign = prefix; rest = rest; whole = refl; at = at; longest = longest; made = refl }
 
-fault_class : (cause : Cause) (front rest : List ℕ) → IsFault cause front rest → Read (class_of (front ++ rest)) (front ++ rest) (fault cause, front, rest)
-fault_class cause front rest (IsFault.stray c after scalar none) = at_class nothing rest (fault cause, [], rest) (class_stray rest none) (inl (refl, c, after, scalar, refl))
-fault_class cause front rest (IsFault.no_escape parts are none closed) = text_class parts rest (fault cause, front, rest) are (stuck_at_escape rest none) closed (made rest none)
+fault_class : (cause : Cause) (prefix rest : List ℕ) → IsFault cause prefix rest → Read (class_of (prefix ++ rest)) (prefix ++ rest) (fault cause, prefix, rest)
+fault_class cause prefix rest (IsFault.stray c after scalar none) = at_class nothing rest (fault cause, [], rest) (class_stray rest none) (inl (refl, c, after, scalar, refl))
+fault_class cause prefix rest (IsFault.no_escape parts are none closed) = text_class parts rest (fault cause, prefix, rest) are (stuck_at_escape rest none) closed (made rest none)
   where
     made : (rest : List ℕ) → IsNoEscape rest → (fault P1, 34 ∷ written parts, rest) ≡ text_found parts rest
     made [] none = absurd none
     made (a ∷ []) none = absurd none
     made (a ∷ c ∷ rest) none = rw none.0 refl
-fault_class cause front rest (IsFault.too_great ds after is stops great) = number_class ds after (fault cause, [], rest) is stops (rw (le_false (number_of ds) greatest great) refl)
-fault_class cause front rest (IsFault.broken broken) = at_class nothing rest (fault cause, [], rest) (class_broken rest broken) (inr (refl, no_char rest broken))
-fault_class cause front rest (IsFault.broken_comment cs all broken) = at_class comments (47 ∷ 47 ∷ encode_utf8_all cs ++ rest) (fault cause, front, rest) (class_comment (encode_utf8_all cs ++ rest))
+fault_class cause prefix rest (IsFault.too_great ds after is stops great) = number_class ds after (fault cause, [], rest) is stops (rw (le_false (number_of ds) greatest_number great) refl)
+fault_class cause prefix rest (IsFault.broken broken) = at_class nothing rest (fault cause, [], rest) (class_broken rest broken) (inr (refl, no_char rest broken))
+fault_class cause prefix rest (IsFault.broken_comment cs all broken) = at_class comments (47 ∷ 47 ∷ encode_utf8_all cs ++ rest) (fault cause, prefix, rest) (class_comment (encode_utf8_all cs ++ rest))
     record { cs = cs; stop = rest; whole = refl; are = all; ends = comment_at_broken rest broken; made = made rest broken }
   where
     made : (rest : List ℕ) → IsBroken rest → (fault P4, 47 ∷ 47 ∷ encode_utf8_all cs, rest) ≡ comment_found cs rest
     made [] broken = absurd broken
     made (c ∷ rest) broken = rw (not_low c 10 rest broken (omega arith)) refl
-fault_class cause front rest (IsFault.broken_text parts are broken closed) = text_class parts rest (fault cause, front, rest) are (stuck_at_broken rest broken) closed (made rest broken)
+fault_class cause prefix rest (IsFault.broken_text parts are broken closed) = text_class parts rest (fault cause, prefix, rest) are (stuck_at_broken rest broken) closed (made rest broken)
   where
     made : (rest : List ℕ) → IsBroken rest → (fault P4, 34 ∷ written parts, rest) ≡ text_found parts rest
     made [] broken = absurd broken
     made (c ∷ rest) broken = rw (not_low c 34 rest broken (omega arith), not_low c 92 rest broken (omega arith)) refl
-fault_class cause front rest (IsFault.not_closed {after = after} open_) = at_class quotes (34 ∷ after) (fault cause, [], rest) (class_quote after) (inl (after, refl, open_, refl))
+fault_class cause prefix rest (IsFault.not_closed {after = after} open_) = at_class quotes (34 ∷ after) (fault cause, [], rest) (class_quote after) (inl (after, refl, open_, refl))
 
-classed : (found : Found) (front rest : List ℕ) → Stands found front rest → Read (class_of (front ++ rest)) (front ++ rest) (found, front, rest)
-classed gap front rest h = gap_class front rest h
-classed (token kind) front rest h = token_class kind front rest h
-classed (fault cause) front rest h = fault_class cause front rest h
+classed : (found : Found) (prefix rest : List ℕ) → IsSpelledBy found prefix rest → Read (class_of (prefix ++ rest)) (prefix ++ rest) (found, prefix, rest)
+classed gap prefix rest h = gap_class prefix rest h
+classed (token kind) prefix rest h = token_class kind prefix rest h
+classed (fault cause) prefix rest h = fault_class cause prefix rest h
 
--- a longest front has one end
+-- a longest prefix has one end
 one_run : (test : ℕ → Bool) (v w r s : List ℕ) → list_all test v ≡ true → list_all test w ≡ true → begins_with test r ≡ false → begins_with test s ≡ false → v ++ r ≡ w ++ s → (v ≡ w) × (r ≡ s)
 one_run test [] [] r s hv hw nr ns e = (refl, e)
 one_run test [] (x ∷ w) r s hv hw nr ns e = absurd (true≢false (sym (both_true (test x) (list_all test w) hw).0 ∙ sym (ap (begins_with test) e) ∙ nr))
@@ -371,14 +371,14 @@ one_run test (x ∷ v) (y ∷ w) r s hv hw nr ns e =
     let others = one_run test v w r s (both_true (test x) (list_all test v) hv).1 (both_true (test y) (list_all test w) hw).1 nr ns more in
     (ap (λ x. x ∷ v) first ∙ ap (λ v. y ∷ v) others.0, others.1)
 
--- fronts of one length are one
-one_front : (v w r s : List ℕ) → length v ≡ length w → v ++ r ≡ w ++ s → (v ≡ w) × (r ≡ s)
-one_front [] [] r s l e = (refl, e)
-one_front [] (y ∷ w) r s l e = absurd (omega (arith, l))
-one_front (x ∷ v) [] r s l e = absurd (omega (arith, l))
-one_front (x ∷ v) (y ∷ w) r s l e =
+-- prefixes of one length are one
+one_prefix : (v w r s : List ℕ) → length v ≡ length w → v ++ r ≡ w ++ s → (v ≡ w) × (r ≡ s)
+one_prefix [] [] r s l e = (refl, e)
+one_prefix [] (y ∷ w) r s l e = absurd (omega (arith, l))
+one_prefix (x ∷ v) [] r s l e = absurd (omega (arith, l))
+one_prefix (x ∷ v) (y ∷ w) r s l e =
     let first = heads x y (v ++ r) (w ++ s) e in
-    let others = one_front v w r s (omega (arith, l)) (tails x y (v ++ r) (w ++ s) e) in
+    let others = one_prefix v w r s (omega (arith, l)) (tails x y (v ++ r) (w ++ s) e) in
     (ap (λ x. x ∷ v) first ∙ ap (λ v. y ∷ v) others.0, others.1)
 
 both_made : (f : List ℕ → List ℕ → Outcome) (v w r s : List ℕ) (o p : Outcome) → o ≡ f v r → p ≡ f w s → (v ≡ w) × (r ≡ s) → o ≡ p
@@ -404,21 +404,21 @@ one_text_read after o p a b =
 
 no_longer : (sign other text rest : List ℕ) (k : ℕ) → is_longest_sign sign text ≡ true → text ≡ other ++ rest → index_of signs other ≡ Some k → length other ≤ length sign
 no_longer sign other text rest k longest whole at =
-    by (is_front other text) (nat_le (length other) (length sign)) (ap (is_front other) whole ∙ front_of_itself other rest) refl
-    (passes (λ other. not (is_front other text) || nat_le (length other) (length sign)) signs other k longest at)
+    by (is_prefix_of other text) (nat_le (length other) (length sign)) (ap (is_prefix_of other) whole ∙ prefix_of_itself other rest) refl
+    (passes (λ other. not (is_prefix_of other text) || nat_le (length other) (length sign)) signs other k longest at)
   where
     by : (f l : Bool) → f ≡ true → nat_le (length other) (length sign) ≡ l → (not f || l) ≡ true → length other ≤ length sign
-    by true true front e h = leb→le (length other) (length sign) (subst T (sym e) tt)
-    by true false front e h = absurd (true≢false (sym h))
-    by false l front e h = absurd (true≢false (sym front))
+    by true true prefix e h = leb→le (length other) (length sign) (subst T (sym e) tt)
+    by true false prefix e h = absurd (true≢false (sym h))
+    by false l prefix e h = absurd (true≢false (sym prefix))
 
 one_sign : (text : List ℕ) (o p : Outcome) → IsSignRead text o → IsSignRead text p → o ≡ p
 one_sign text o p a b =
     let up = no_longer a.sign b.sign text b.rest b.k a.longest b.whole b.at in
     let down = no_longer b.sign a.sign text a.rest a.k b.longest a.whole a.at in
-    let same = one_front a.sign b.sign a.rest b.rest (omega (arith, up, down)) (sym a.whole ∙ b.whole) in
-    let place = same_Some a.k b.k (sym a.at ∙ ap (index_of signs) same.0 ∙ b.at) in
-    a.made ∙ ap (λ k. (token (Sign k), a.sign, a.rest)) place ∙ ap (λ sign. (token (Sign b.k), sign, a.rest)) same.0 ∙ ap (λ rest. (token (Sign b.k), b.sign, rest)) same.1 ∙ sym b.made
+    let same = one_prefix a.sign b.sign a.rest b.rest (omega (arith, up, down)) (sym a.whole ∙ b.whole) in
+    let index = same_Some a.k b.k (sym a.at ∙ ap (index_of signs) same.0 ∙ b.at) in
+    a.made ∙ ap (λ k. (token (Sign k), a.sign, a.rest)) index ∙ ap (λ sign. (token (Sign b.k), sign, a.rest)) same.0 ∙ ap (λ rest. (token (Sign b.k), b.sign, rest)) same.1 ∙ sym b.made
 
 one_outcome : (class : Class) (text : List ℕ) (o p : Outcome) → Read class text o → Read class text p → o ≡ p
 one_outcome blanks [] o p a b = absurd a
@@ -437,6 +437,6 @@ one_outcome nothing text o p (inr a) (inl b) = absurd (a.1 b.1 b.2 b.3 b.4)
 one_outcome nothing text o p (inr a) (inr b) = a.0 ∙ sym b.0
 
 -- at most one thing stands first in a text
-pub one_stands : (x y : Found) (f g r s : List ℕ) → Stands x f r → Stands y g s → f ++ r ≡ g ++ s → ◌≡◌ {A = Outcome} (x, f, r) (y, g, s)
+pub one_stands : (x y : Found) (f g r s : List ℕ) → IsSpelledBy x f r → IsSpelledBy y g s → f ++ r ≡ g ++ s → ◌≡◌ {A = Outcome} (x, f, r) (y, g, s)
 one_stands x y f g r s a b e =
     one_outcome (class_of (g ++ s)) (g ++ s) (x, f, r) (y, g, s) (subst (λ text. Read (class_of text) text (x, f, r)) e (classed x f r a)) (classed y g s b)

@@ -12,9 +12,9 @@ use Rattle.rn_notation.specs.Words.{opens_comment}
 use Rattle.rn_notation.specs.Texts.{IsInComment, IsBroken}
 use Rattle.rn_notation.specs.Tokens.{IsGap}
 use Rattle.rn_notation.specs.Faults.{IsFault}
-use Rattle.rn_notation.specs.Steps.{Cuts, gap, fault}
+use Rattle.rn_notation.specs.Scanning.{Cuts, gap, fault}
 use Rattle.rn_notation.specs.declared.token.Cause.TheVariants.{P4}
-use Rattle.rn_notation.proofs.Characters.{heads, ascii_front}
+use Rattle.rn_notation.proofs.Characters.{heads, ascii_prefix}
 
 -- the source is a comment so far, and then this rest
 pub record Commented (source rest : List ℕ) : Type 0 where
@@ -22,9 +22,9 @@ pub record Commented (source rest : List ℕ) : Type 0 where
   pub are : AllByRecursion IsInComment cs
   pub whole : source ≡ 47 ∷ 47 ∷ encode_utf8_all cs ++ rest
 
--- the number of bytes in front of a rest
-pub size_of_front : (source front rest : List ℕ) → source ≡ front ++ rest → length source - length rest ≡ length front
-size_of_front source front rest e = let long = ap length e ∙ length-append front rest in omega (arith, long)
+-- the number of bytes before a rest
+pub size_of_prefix : (source prefix rest : List ℕ) → source ≡ prefix ++ rest → length source - length rest ≡ length prefix
+size_of_prefix source prefix rest e = let long = ap length e ∙ length-append prefix rest in omega (arith, long)
 
 pub comment_starts : (source rest : List ℕ) → opens_comment source ≡ true → rest ≡ drop 2 source → Commented source rest
 comment_starts (a ∷ b ∷ text) rest h e = by (nat_eq 47 a) (nat_eq 47 b) refl refl h
@@ -47,7 +47,7 @@ no_line_feed first c others rest e h = by (nat_eq c 10) refl
     by : (b : Bool) → nat_eq c 10 ≡ b → nat_eq c 10 ≡ false
     by true t =
         let ten : c ≡ 10 = eqb-true c 10 t in
-        let whole : first ∷ others ≡ c ∷ rest = e ∙ sym (ascii_front c rest (omega (arith, ten))) in
+        let whole : first ∷ others ≡ c ∷ rest = e ∙ sym (ascii_prefix c rest (omega (arith, ten))) in
         let same = heads first c others rest whole in
         ap (λ c. nat_eq c 10) (sym same) ∙ h
     by false t = t
@@ -67,19 +67,19 @@ comment_goes_on source rest more others first c so e h scalar whole = record {
 
 pub comment_ends : (source rest : List ℕ) (n : ℕ) → Commented source rest → begins_with (λ c. not (nat_eq c 10)) rest ≡ false → n ≡ length source - length rest → Cuts source n gap
 comment_ends source rest n so h e = record {
-  front = 47 ∷ 47 ∷ encode_utf8_all so.cs;
+  prefix = 47 ∷ 47 ∷ encode_utf8_all so.cs;
   rest = rest;
   whole = so.whole;
-  size = e ∙ size_of_front source (47 ∷ 47 ∷ encode_utf8_all so.cs) rest so.whole;
+  size = e ∙ size_of_prefix source (47 ∷ 47 ∷ encode_utf8_all so.cs) rest so.whole;
   stands = IsGap.comment so.cs so.are h;
 }
 
 pub comment_breaks : (source rest others : List ℕ) (first : ℕ) → Commented source rest → rest ≡ first ∷ others → StartsWithNoChar rest → Cuts source (length source - length rest) (fault P4)
 comment_breaks source rest others first so e h = record {
-  front = 47 ∷ 47 ∷ encode_utf8_all so.cs;
+  prefix = 47 ∷ 47 ∷ encode_utf8_all so.cs;
   rest = rest;
   whole = so.whole;
-  size = size_of_front source (47 ∷ 47 ∷ encode_utf8_all so.cs) rest so.whole;
+  size = size_of_prefix source (47 ∷ 47 ∷ encode_utf8_all so.cs) rest so.whole;
   stands = IsFault.broken_comment so.cs so.are (subst IsBroken (sym e) (subst StartsWithNoChar e h));
 }
 

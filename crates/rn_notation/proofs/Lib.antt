@@ -3,7 +3,7 @@ pub mod Classes
 pub mod CommentLemmas
 pub mod NumberLemmas
 pub mod OneReading
-pub mod OtherLemmas
+pub mod BlankLemmas
 pub mod Parts
 pub mod ReadingLemmas
 pub mod TextLemmas

@@ -4,7 +4,7 @@ use Rattle.std.specs.Prelude.{encode_utf8, encode_utf8_all, ◌⊎◌}
 use Rattle.std.specs.List.{AllByRecursion}
 use Rattle.std.proofs.lemmas.Str.{encode_same, encode_ascii}
 use Rattle.rn_notation.specs.Texts.{Part, itself, escape, IsPart, spelled, meaning, AreParts, written, escaped_byte, is_special, is_closed, IsBroken, IsNoEscape, IsInComment}
-use Rattle.rn_notation.proofs.Characters.{heads, tails, other_number, byte_char, not_broken, bytes_of_char, ascii_front}
+use Rattle.rn_notation.proofs.Characters.{heads, tails, other_number, byte_char, not_broken, bytes_of_char, ascii_prefix}
 use Rattle.std.proofs.lemmas.Bool.{eqb-true}
 use mathlib.Core.Logic.{inl, inr}
 
@@ -129,7 +129,7 @@ plain_char first c others rest e h = by (is_special c) refl
     by : (b : Bool) → is_special c ≡ b → is_special c ≡ false
     by true t =
         let small = low (nat_eq c 34) (nat_eq c 92) (nat_eq c 10) refl refl refl t in
-        let whole : first ∷ others ≡ c ∷ rest = e ∙ sym (ascii_front c rest small) in
+        let whole : first ∷ others ≡ c ∷ rest = e ∙ sym (ascii_prefix c rest small) in
         let same = heads c first rest others (sym whole) in
         absurd (true≢false (sym t ∙ ap is_special same ∙ h))
     by false t = t

@@ -8,13 +8,13 @@ use Rattle.rn_value.specs.Words.{begins_with}
 use Rattle.rn_notation.specs.Texts.{Part, itself, escape, IsPart, AreParts, spelled, meaning, written, meant, is_closed, IsBroken, IsNoEscape}
 use Rattle.rn_notation.specs.Tokens.{IsToken}
 use Rattle.rn_notation.specs.Faults.{IsFault}
-use Rattle.rn_notation.specs.Steps.{Cuts, Reads, HasPart, token, fault}
+use Rattle.rn_notation.specs.Scanning.{Cuts, IsFirstPiece, HasPart, token, fault}
 use Rattle.rn_notation.specs.Inside.{fault_in_text}
 use Rattle.rn_notation.specs.declared.token.TokenKind.TheVariants.{Text}
 use Rattle.rn_notation.specs.declared.token.Cause.{Cause}
 use Rattle.rn_notation.specs.declared.token.Cause.TheVariants.{P1, P4, P7}
 use Rattle.rn_notation.specs.declared.piece.Piece.{Piece}
-use Rattle.rn_notation.proofs.CommentLemmas.{size_of_front}
+use Rattle.rn_notation.proofs.CommentLemmas.{size_of_prefix}
 use Rattle.rn_notation.proofs.Parts.{closed_parts}
 use Rattle.rn_notation.proofs.Characters.{some_bytes}
 
@@ -48,16 +48,16 @@ text_goes_on source rest more bytes longer c so has e = record {
 
 pub text_closes : (source rest after bytes : List ℕ) (n : ℕ) → ReadText source rest bytes → rest ≡ 34 ∷ after → n ≡ length source - length rest + 1 → Cuts source n (token (Text bytes))
 text_closes source rest after bytes n so e f = record {
-  front = 34 ∷ written so.parts ++ 34 ∷ [];
+  prefix = 34 ∷ written so.parts ++ 34 ∷ [];
   rest = after;
   whole = so.whole ∙ ap (λ t. 34 ∷ written so.parts ++ t) e ∙ ap (λ t. 34 ∷ t) (sym (append_assoc (written so.parts) (34 ∷ []) after));
-  size = let size = size_of_front source (34 ∷ written so.parts) rest so.whole in let long = length-append (written so.parts) (34 ∷ []) in f ∙ ap (λ n. n + 1) size ∙ omega (arith, long);
+  size = let size = size_of_prefix source (34 ∷ written so.parts) rest so.whole in let long = length-append (written so.parts) (34 ∷ []) in f ∙ ap (λ n. n + 1) size ∙ omega (arith, long);
   stands = subst (λ bytes. IsToken (Text bytes) (34 ∷ written so.parts ++ 34 ∷ []) after) (sym so.means) (IsToken.text so.parts so.are);
 }
 
 pub text_is_open : (source rest bytes : List ℕ) → ReadText source rest bytes → is_closed rest ≡ false → Cuts source 0 (fault P7)
 text_is_open source rest bytes so h = record {
-  front = [];
+  prefix = [];
   rest = source;
   whole = refl;
   size = refl;
@@ -65,23 +65,23 @@ text_is_open source rest bytes so h = record {
 }
 
 text_fails : (source rest bytes : List ℕ) (cause : Cause) → ReadText source rest bytes → (is_closed rest ≡ true → (parts : List Part) → AreParts parts → is_closed (written parts ++ rest) ≡ true → IsFault cause (34 ∷ written parts) rest) →
-    (piece : Piece) → piece ≡ fault_in_text source cause rest → Reads source piece
-text_fails source rest bytes cause so fails piece e = subst (Reads source) (sym e) (by (is_closed rest) refl)
+    (piece : Piece) → piece ≡ fault_in_text source cause rest → IsFirstPiece source piece
+text_fails source rest bytes cause so fails piece e = subst (IsFirstPiece source) (sym e) (by (is_closed rest) refl)
   where
-    by : (b : Bool) → is_closed rest ≡ b → Reads source (if b then Piece.Fault cause (length source - length rest) else Piece.Fault P7 0)
+    by : (b : Bool) → is_closed rest ≡ b → IsFirstPiece source (if b then Piece.Fault cause (length source - length rest) else Piece.Fault P7 0)
     by true shut = record {
-      front = 34 ∷ written so.parts;
+      prefix = 34 ∷ written so.parts;
       rest = rest;
       whole = so.whole;
-      size = size_of_front source (34 ∷ written so.parts) rest so.whole;
+      size = size_of_prefix source (34 ∷ written so.parts) rest so.whole;
       stands = fails shut so.parts so.are (closed_parts so.parts rest so.are ∙ shut);
     }
     by false shut = text_is_open source rest bytes so shut
 
-pub text_no_escape : (source rest bytes : List ℕ) → ReadText source rest bytes → IsNoEscape rest → (piece : Piece) → piece ≡ fault_in_text source P1 rest → Reads source piece
+pub text_no_escape : (source rest bytes : List ℕ) → ReadText source rest bytes → IsNoEscape rest → (piece : Piece) → piece ≡ fault_in_text source P1 rest → IsFirstPiece source piece
 text_no_escape source rest bytes so none = text_fails source rest bytes P1 so (λ closed parts are all. IsFault.no_escape parts are none all)
 
-pub text_broken : (source rest bytes : List ℕ) → ReadText source rest bytes → IsBroken rest → (piece : Piece) → piece ≡ fault_in_text source P4 rest → Reads source piece
+pub text_broken : (source rest bytes : List ℕ) → ReadText source rest bytes → IsBroken rest → (piece : Piece) → piece ≡ fault_in_text source P4 rest → IsFirstPiece source piece
 text_broken source rest bytes so none = text_fails source rest bytes P4 so (λ closed parts are all. IsFault.broken_text parts are none all)
 
 pub no_more : (source rest : List ℕ) (bytes : List ℕ) → ReadText source rest bytes → length rest ≤ length source

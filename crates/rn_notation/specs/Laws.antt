@@ -8,7 +8,7 @@ use Rattle.rn_notation.specs.declared.token.LexFault.{LexFault}
 abbrev pub OneReading : Type 0
 OneReading = (text : List ℕ) (s t : List Token) → Tokens text s → Tokens text t → s ≡ t
 
--- a text has one first fault at most, behind one list of tokens
+-- a text has one first fault at most, after one list of tokens
 abbrev pub OneFault : Type 0
 OneFault = (text : List ℕ) (s t : List Token) (f g : LexFault) →
     FirstFault text s f → FirstFault text t g → (s ≡ t) × (f ≡ g)

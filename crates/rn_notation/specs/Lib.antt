@@ -1,9 +1,12 @@
+pub mod Bytes
 pub mod Words
-pub mod Places
+pub mod Spots
 pub mod Texts
 pub mod Tokens
 pub mod Faults
 pub mod Reading
-pub mod Steps
+pub mod Scanning
 pub mod Inside
 pub mod Laws
+pub mod Limits
+pub mod NamedTokens

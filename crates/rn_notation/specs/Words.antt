@@ -2,6 +2,7 @@
 use Rattle.std.specs.Prelude.{ℕ, ◌+◌, ◌-◌, ◌*◌, Bool, true, false, not, ◌&&◌, ◌||◌, List, []}
 use Rattle.std.specs.Prelude.{◌∷◌, length, nat_eq, nat_le, codes}
 use Rattle.std.specs.List.{list_any, list_all}
+use Rattle.rn_notation.specs.Bytes.{slash}
 use Rattle.rn_value.specs.Characters.{is_digit}
 use Rattle.rn_value.specs.Words.{begins_with}
 
@@ -13,24 +14,24 @@ is_blank c = list_any (nat_eq c) (32 ∷ 9 ∷ 13 ∷ 10 ∷ [])
 abbrev pub are_digits : List ℕ → Bool
 are_digits ds = begins_with is_digit ds && list_all is_digit ds
 
--- the number that these digits spell behind a number: each digit makes it ten times as great
-abbrev pub number_behind : ℕ → List ℕ → ℕ
-number_behind n [] = n
-number_behind n (d ∷ ds) = number_behind (n * 10 + (d - 48)) ds
+-- the number that these digits spell after a number: each digit makes it ten times as great
+abbrev pub number_after : ℕ → List ℕ → ℕ
+number_after n [] = n
+number_after n (d ∷ ds) = number_after (n * 10 + (d - 48)) ds
 
 -- the number that digits spell
 abbrev pub number_of : List ℕ → ℕ
-number_of ds = number_behind 0 ds
+number_of ds = number_after 0 ds
 
 -- the greatest number that can be written
-abbrev pub greatest : ℕ
-greatest = 9223372036854775807
+abbrev pub greatest_number : ℕ
+greatest_number = 9223372036854775807
 
--- whether the first of two texts is a front of the second
-abbrev pub is_front : List ℕ → List ℕ → Bool
-is_front [] text = true
-is_front (c ∷ front) [] = false
-is_front (c ∷ front) (d ∷ text) = nat_eq c d && is_front front text
+-- whether the first of two texts is a prefix of the second
+abbrev pub is_prefix_of : List ℕ → List ℕ → Bool
+is_prefix_of [] text = true
+is_prefix_of (c ∷ prefix) [] = false
+is_prefix_of (c ∷ prefix) (d ∷ text) = nat_eq c d && is_prefix_of prefix text
 
 -- the signs, in the order of their numbers
 unfoldable pub signs : List (List ℕ)
@@ -41,15 +42,15 @@ signs =
     ∷ codes "+" ∷ codes "-" ∷ codes "*" ∷ codes "/" ∷ codes "%"
     ∷ codes "&&" ∷ codes "||" ∷ codes "!" ∷ []
 
--- whether a sign is a front of a text
+-- whether a sign is a prefix of a text
 abbrev pub begins_with_sign : List ℕ → Bool
-begins_with_sign text = list_any (λ sign. is_front sign text) signs
+begins_with_sign text = list_any (λ sign. is_prefix_of sign text) signs
 
--- whether no sign that is a front of a text is longer than this
+-- whether no sign that is a prefix of a text is longer than this
 abbrev pub is_longest_sign : List ℕ → List ℕ → Bool
 is_longest_sign sign text =
-    list_all (λ other. not (is_front other text) || nat_le (length other) (length sign)) signs
+    list_all (λ other. not (is_prefix_of other text) || nat_le (length other) (length sign)) signs
 
 -- `//`
 abbrev pub opens_comment : List ℕ → Bool
-opens_comment text = is_front (47 ∷ 47 ∷ []) text
+opens_comment text = is_prefix_of (slash ∷ slash ∷ []) text

@@ -1,21 +1,22 @@
+//! Comments.
 ghost use Rattle.std.specs.Prelude.{◌≡◌, true};
 ghost use Rattle.rn_notation.specs.Words.{opens_comment};
-ghost use Rattle.rn_notation.specs.Steps.{Reads};
+ghost use Rattle.rn_notation.specs.Scanning.{IsFirstPiece};
 
 use crate::chars::first_char;
 use crate::piece::Piece;
 use crate::token::Cause;
 
-pub fn opens_comment(text: &[u8]) -> bool
+pub(crate) fn opens_comment(text: &[u8]) -> bool
     ensures { result ≡ opens_comment text.now }
 {
     matches!(text, [b'/', b'/', ..])
 }
 
-/// The comment at the front of a text, up to the next line feed or the end.
-pub fn comment_piece(text: &[u8]) -> Piece
+/// The comment at the start of a text, up to the next line feed or the end.
+pub(crate) fn comment_piece(text: &[u8]) -> Piece
     requires { opens_comment text.now ≡ true }
-    ensures { Reads text.now result }
+    ensures { IsFirstPiece text.now result }
 {
     let (_, inside) = text.split_at(2);
     let mut rest = inside;

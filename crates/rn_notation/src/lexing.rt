@@ -1,13 +1,15 @@
+//! From bytes to tokens, up to the first fault.
 ghost use Rattle.std.specs.Prelude.{◌≡◌, ◌↔◌, ◌≤◌, List, length, IfOk, IfSome, IfNone, Some, None};
 ghost use Rattle.std.specs.List.{AllByRecursion};
-ghost use Rattle.rn_notation.specs.Places.{place_after};
-ghost use Rattle.rn_notation.specs.Reading.{Tokens, FirstFault, Reads, fault_at};
-ghost use Rattle.rn_notation.specs.Reading.{NoOthers, NoOthersBefore, TellsFault, IsTokens};
+ghost use Rattle.rn_notation.specs.Limits.{longest_text};
+ghost use Rattle.rn_notation.specs.Spots.{spot_after};
+ghost use Rattle.rn_notation.specs.Reading.{Tokens, FirstFault, IsReadingOf, fault_at};
+ghost use Rattle.rn_notation.specs.Reading.{NoOthers, NoOthersBefore, ReportsFault, IsTokens};
 ghost use Rattle.rn_notation.specs.Reading.{IsSlice, Ascend};
 
 use crate::piece::Piece;
-use crate::pieces::first_piece;
-use crate::places::place_on;
+use crate::scanning::first_piece;
+use crate::spots::spot_on;
 use crate::token::{Cause, LexFault, Lexed, Spot, Token};
 use rn_items::Items;
 use rn_value::NoMemory;
@@ -26,9 +28,9 @@ fn fault_at(cause: Cause, spot: Spot) -> LexFault
 
 /// Reads piece by piece, up to the first fault or the end.
 fn read(alloc: Global, bytes: &[u8]) -> Result<Lexed, NoMemory>
-    requires { length bytes.now ≤ 67108864 }
-    ensures reads { IfOk result (λ lexed. Reads bytes.now lexed.tokens lexed.fault) }
-    ensures end { IfOk result (λ lexed. lexed.end ≡ place_after bytes.now) }
+    requires { length bytes.now ≤ longest_text }
+    ensures reads { IfOk result (λ lexed. IsReadingOf bytes.now lexed.tokens lexed.fault) }
+    ensures end { IfOk result (λ lexed. lexed.end ≡ spot_after bytes.now) }
 {
     let mut tokens = Vec::new(alloc);
     let mut spot = Spot { line: 1, column: 1 };
@@ -36,8 +38,8 @@ fn read(alloc: Global, bytes: &[u8]) -> Result<Lexed, NoMemory>
     while !rest.is_empty() {
         let piece = first_piece(alloc, rest)?;
         let start = bytes.len() - rest.len();
-        let (front, after) = rest.split_at(piece.size());
-        let next = place_on(spot, front);
+        let (prefix, after) = rest.split_at(piece.size());
+        let next = spot_on(spot, prefix);
         match piece {
             Piece::Gap(_) => {
                 spot = next;
@@ -58,7 +60,7 @@ fn read(alloc: Global, bytes: &[u8]) -> Result<Lexed, NoMemory>
                 return Ok(Lexed {
                     tokens: Items::from_vec(tokens),
                     fault: Some(fault_at(cause, next)),
-                    end: place_on(next, after),
+                    end: spot_on(next, after),
                 });
             }
         }
@@ -74,20 +76,20 @@ fn read(alloc: Global, bytes: &[u8]) -> Result<Lexed, NoMemory>
 ///
 /// Each byte is looked at a fixed number of times, whatever the text.
 pub fn lex(alloc: Global, bytes: &[u8]) -> Result<Lexed, NoMemory>
-    requires { length bytes.now ≤ 67108864 }
+    requires { length bytes.now ≤ longest_text }
     // Without a fault, the text is these tokens, and no others.
     ensures tokens { IfOk result (λ lexed. IfNone lexed.fault (Tokens bytes.now lexed.tokens)) }
     ensures only { IfOk result (λ lexed. NoOthers bytes.now lexed.tokens) }
-    // Where there is a fault, it is the first, behind these tokens, and no others.
+    // Where there is a fault, it is the first, after these tokens, and no others.
     ensures fault { IfOk result (λ lexed. IfSome lexed.fault (FirstFault bytes.now lexed.tokens)) }
     ensures only_before { IfOk result (λ lexed. NoOthersBefore bytes.now lexed.tokens) }
-    // A fault is told exactly where the text has it, and none exactly where the text is tokens.
-    ensures fault_exactly { IfOk result (λ lexed. TellsFault bytes.now lexed.fault) }
+    // A fault is reported exactly where the text has it, and none exactly where the text is tokens.
+    ensures fault_exactly { IfOk result (λ lexed. ReportsFault bytes.now lexed.fault) }
     ensures none_exactly { IfOk result (λ lexed. (lexed.fault ≡ None) ↔ IsTokens bytes.now) }
-    // Each token's text is its slice, and the slices stand one behind the other.
+    // Each token's text is its slice, and the slices stand one after the other.
     ensures slices { IfOk result (λ lexed. AllByRecursion (IsSlice bytes.now) lexed.tokens) }
     ensures ascend { IfOk result (λ lexed. Ascend 0 lexed.tokens (length bytes.now)) }
-    ensures end { IfOk result (λ lexed. lexed.end ≡ place_after bytes.now) }
+    ensures end { IfOk result (λ lexed. lexed.end ≡ spot_after bytes.now) }
 {
     let lexed = read(alloc, bytes)?;
     Ok(lexed)

@@ -5,16 +5,19 @@ mod chars;
 mod comments;
 mod laws;
 mod lexing;
+pub mod limits;
 mod numbers;
 mod piece;
-mod pieces;
-mod places;
+mod scanning;
+pub mod sign;
+mod spots;
 #[cfg(test)]
 mod tests;
 mod texts;
 mod token;
+pub mod word;
 mod words;
 
-pub use laws::token_laws;
+pub use laws::{names_of_signs, names_of_words, token_laws};
 pub use lexing::lex;
 pub use token::{LexFault, Lexed, Spot, Token, TokenKind, Tokens};

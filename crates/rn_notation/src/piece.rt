@@ -1,19 +1,20 @@
+//! What stands first in a text.
 ghost use Rattle.std.specs.Prelude.{◌≡◌};
-ghost use Rattle.rn_notation.specs.Steps.{size_of};
+ghost use Rattle.rn_notation.specs.Scanning.{size_of};
 
 use crate::token::{Cause, TokenKind};
 
 /// What stands first in a text, with the number of its bytes. Those of a fault stand before its
-/// place.
+/// spot.
 #[derive(Debug, Drop)]
-pub enum Piece {
+pub(crate) enum Piece {
     Gap(usize),
     Token(TokenKind, usize),
     Fault(Cause, usize),
 }
 
 impl Piece {
-    pub fn size(&self) -> usize
+    pub(crate) fn size(&self) -> usize
         ensures { result ≡ size_of self.now }
     {
         match self {

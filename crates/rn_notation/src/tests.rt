@@ -1,17 +1,76 @@
+//! Tokens and faults of texts.
 ghost use Rattle.std.specs.Prelude.{◌≤◌, length};
+ghost use Rattle.rn_notation.specs.Limits.{longest_text};
 
-use crate::{LexFault, Spot, TokenKind, lex};
+use crate::{LexFault, Spot, TokenKind, lex, sign, word};
 use rn_value::NoMemory;
 use std::alloc::Global;
 use std::test::Fail;
 
+/// A reserved word in capitals.
+fn word_shown(number: u32) -> &'static str {
+    match number {
+        word::NET => "NET",
+        word::PLACE => "PLACE",
+        word::TRANS => "TRANS",
+        word::CHANNEL => "CHANNEL",
+        word::VAR => "VAR",
+        word::IN => "IN",
+        word::OUT => "OUT",
+        word::TEST => "TEST",
+        word::RESERVE => "RESERVE",
+        word::FLEXIN => "FLEXIN",
+        word::FLEXOUT => "FLEXOUT",
+        word::INHIBIT => "INHIBIT",
+        word::CLEAR => "CLEAR",
+        word::GUARD => "GUARD",
+        word::ACTION => "ACTION",
+        word::PRINT => "PRINT",
+        word::NEW => "NEW",
+        word::THIS => "THIS",
+        word::INT => "INT",
+        word::TEXT => "TEXT",
+        _ => "no word",
+    }
+}
+
+fn sign_shown(number: u32) -> &'static str {
+    match number {
+        sign::LEFT_BRACE => "{",
+        sign::RIGHT_BRACE => "}",
+        sign::LEFT_BRACKET => "[",
+        sign::RIGHT_BRACKET => "]",
+        sign::LEFT_PAREN => "(",
+        sign::RIGHT_PAREN => ")",
+        sign::COMMA => ",",
+        sign::SEMICOLON => ";",
+        sign::COLON => ":",
+        sign::EQUALS => "=",
+        sign::SAME => "==",
+        sign::DIFFERS => "!=",
+        sign::LESS => "<",
+        sign::AT_MOST => "<=",
+        sign::GREATER => ">",
+        sign::AT_LEAST => ">=",
+        sign::PLUS => "+",
+        sign::MINUS => "-",
+        sign::STAR => "*",
+        sign::SLASH => "/",
+        sign::PERCENT => "%",
+        sign::AND => "&&",
+        sign::OR => "||",
+        sign::NOT => "!",
+        _ => "no sign",
+    }
+}
+
 fn kind_shown(alloc: Global, kind: &TokenKind) -> Result<String, NoMemory> {
     match kind {
         TokenKind::Name(name) => Ok(format!(in alloc; "{}", name.as_str())?),
-        TokenKind::Word(place) => Ok(format!(in alloc; "word {}", *place)?),
+        TokenKind::Word(index) => Ok(String::from_str(alloc, word_shown(*index))?),
         TokenKind::Number(number) => Ok(format!(in alloc; "{}", *number)?),
         TokenKind::Text(text) => Ok(format!(in alloc; "'{}'", text.as_str())?),
-        TokenKind::Sign(place) => Ok(format!(in alloc; "#{}", *place)?),
+        TokenKind::Sign(index) => Ok(String::from_str(alloc, sign_shown(*index))?),
     }
 }
 
@@ -30,7 +89,7 @@ fn fault_shown(alloc: Global, fault: LexFault) -> Result<String, NoMemory> {
 
 /// The tokens, and then the fault.
 fn kinds(alloc: Global, bytes: &[u8]) -> Result<String, NoMemory>
-    requires { length bytes.now ≤ 67108864 }
+    requires { length bytes.now ≤ longest_text }
 {
     let lexed = lex(alloc, bytes)?;
     let mut shown = String::new(alloc);
@@ -44,9 +103,9 @@ fn kinds(alloc: Global, bytes: &[u8]) -> Result<String, NoMemory>
     Ok(shown)
 }
 
-/// The places and slices of the tokens, and the place of the end.
+/// The spots and slices of the tokens, and the spot of the end.
 fn places(alloc: Global, bytes: &[u8]) -> Result<String, NoMemory>
-    requires { length bytes.now ≤ 67108864 }
+    requires { length bytes.now ≤ longest_text }
 {
     let lexed = lex(alloc, bytes)?;
     let mut shown = String::new(alloc);
@@ -68,38 +127,38 @@ fn signs_and_words(rt: HostRuntime) -> Result<(), Fail> {
             b"{ } [ ] ( ) , ; : = == != < <= > >= + - * / % && || !"
         )?
         .as_str(),
-        "#0 #1 #2 #3 #4 #5 #6 #7 #8 #9 #10 #11 #12 #13 #14 #15 #16 #17 #18 #19 #20 #21 #22 #23 "
+        "{ } [ ] ( ) , ; : = == != < <= > >= + - * / % && || ! "
     );
     assert_eq!(rt;
         kinds(alloc, b"a==b=c<=d<e")?.as_str(),
-        "a #10 b #9 c #13 d #12 e "
+        "a == b = c <= d < e "
     );
     assert_eq!(rt;
         kinds(alloc, b"===!==>=>&&||")?.as_str(),
-        "#10 #9 #11 #9 #15 #14 #21 #22 "
+        "== = != = >= > && || "
     );
     assert_eq!(rt; kinds(alloc, b"a&b")?.as_str(), "a P1 1:2");
-    assert_eq!(rt; kinds(alloc, b"|||")?.as_str(), "#22 P1 1:3");
+    assert_eq!(rt; kinds(alloc, b"|||")?.as_str(), "|| P1 1:3");
     assert_eq!(rt;
         kinds(
             alloc,
             b"net place trans channel var in out test reserve flexin flexout"
         )?
         .as_str(),
-        "word 0 word 1 word 2 word 3 word 4 word 5 word 6 word 7 word 8 word 9 word 10 "
+        "NET PLACE TRANS CHANNEL VAR IN OUT TEST RESERVE FLEXIN FLEXOUT "
     );
     assert_eq!(rt;
         kinds(alloc, b"inhibit clear guard action print new this int text")?.as_str(),
-        "word 11 word 12 word 13 word 14 word 15 word 16 word 17 word 18 word 19 "
+        "INHIBIT CLEAR GUARD ACTION PRINT NEW THIS INT TEXT "
     );
     assert_eq!(rt;
         kinds(alloc, b"in inn step i In a_1")?.as_str(),
-        "word 5 inn step i In a_1 "
+        "IN inn step i In a_1 "
     );
     assert_eq!(rt; kinds(alloc, b"_a")?.as_str(), "P1 1:1");
     assert_eq!(rt;
         kinds(alloc, b"a / b // c / d\n/ e")?.as_str(),
-        "a #19 b #19 e "
+        "a / b / e "
     );
     Ok(())
 }
@@ -119,11 +178,11 @@ fn numbers(rt: HostRuntime) -> Result<(), Fail> {
     assert_eq!(rt; kinds(alloc, b"9223372036854775808")?.as_str(), "P3 1:1");
     assert_eq!(rt;
         kinds(alloc, b"-99999999999999999999999")?.as_str(),
-        "#17 P3 1:2"
+        "- P3 1:2"
     );
     assert_eq!(rt;
         kinds(alloc, b"net main { place p: int = 9223372036854775808; }")?.as_str(),
-        "word 0 main #0 word 1 p #8 word 18 #9 P3 1:27"
+        "NET main { PLACE p : INT = P3 1:27"
     );
     Ok(())
 }
@@ -146,7 +205,7 @@ fn texts(rt: HostRuntime) -> Result<(), Fail> {
     assert_eq!(rt; kinds(alloc, b"\"a\\\"")?.as_str(), "P7 1:1");
     assert_eq!(rt;
         kinds(alloc, b"net main { place p: text = \"a")?.as_str(),
-        "word 0 main #0 word 1 p #8 word 19 #9 P7 1:28"
+        "NET main { PLACE p : TEXT = P7 1:28"
     );
     Ok(())
 }
@@ -156,11 +215,11 @@ fn bytes(rt: HostRuntime) -> Result<(), Fail> {
     let alloc = rt.alloc();
     assert_eq!(rt;
         kinds(alloc, b"net main { @ }")?.as_str(),
-        "word 0 main #0 P1 1:12"
+        "NET main { P1 1:12"
     );
     assert_eq!(rt;
         kinds(alloc, b"net main { // \xFF")?.as_str(),
-        "word 0 main #0 P4 1:15"
+        "NET main { P4 1:15"
     );
     assert_eq!(rt; kinds(alloc, b"a \xFF")?.as_str(), "a P4 1:3");
     assert_eq!(rt; kinds(alloc, b"\"a\xFF\"")?.as_str(), "P4 1:3");

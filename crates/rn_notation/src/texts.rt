@@ -1,9 +1,11 @@
+//! Texts in quotes.
 ghost use Rattle.std.specs.Prelude.{◌≡◌, ◌++◌, ◌∷◌, ◌⊎◌, List, ℕ, true, false, IsTrue, IfOk};
 ghost use Rattle.std.specs.Prelude.{length, nat_eq, ◌≤◌};
+ghost use Rattle.rn_notation.specs.Bytes.{quote, backslash};
 ghost use Rattle.rn_value.specs.Words.{begins_with};
 ghost use Rattle.rn_notation.specs.Texts.{escaped_byte, is_closed, IsNoEscape, IsBroken};
-ghost use Rattle.rn_notation.specs.Steps.{HasPart, Reads};
-ghost use Rattle.rn_notation.specs.Inside.{Looks, fault_in_text};
+ghost use Rattle.rn_notation.specs.Scanning.{HasPart, IsFirstPiece};
+ghost use Rattle.rn_notation.specs.Inside.{GoesOnWith, fault_in_text};
 
 use crate::chars::first_char;
 use crate::piece::Piece;
@@ -11,10 +13,10 @@ use crate::token::{Cause, TokenKind};
 use rn_value::{NoMemory, Str};
 use std::alloc::Global;
 
-/// What stands at a place inside a text.
+/// What stands at an offset inside a text.
 #[derive(Clone, Copy)]
-pub enum Inside<'a> {
-    /// A part, by the character that it stands for, and the bytes behind it.
+pub(crate) enum Inside<'a> {
+    /// A part, by the character that it stands for, and the bytes after it.
     Part(char, &'a [u8]),
 
     /// The closing quote.
@@ -43,8 +45,8 @@ fn escaped_char(byte: u8) -> Option<char>
 }
 
 fn escape_at<'a>(text: &[u8], others: &'a [u8]) -> Inside<'a>
-    requires { text.now ≡ 92 ∷ others.now }
-    ensures { Looks text.now result }
+    requires { text.now ≡ backslash ∷ others.now }
+    ensures { GoesOnWith text.now result }
 {
     let Some((byte, rest)) = others.split_first() else {
         return Inside::Open;
@@ -56,7 +58,7 @@ fn escape_at<'a>(text: &[u8], others: &'a [u8]) -> Inside<'a>
 }
 
 fn look_inside(text: &[u8]) -> Inside<'_>
-    ensures { Looks text.now result }
+    ensures { GoesOnWith text.now result }
 {
     let Some((first, others)) = text.split_first() else {
         return Inside::Open;
@@ -72,7 +74,7 @@ fn look_inside(text: &[u8]) -> Inside<'_>
     }
 }
 
-/// Whether a quote comes before the line's end, a backslash and the byte behind it being a pair.
+/// Whether a quote comes before the line's end, a backslash and the byte after it being a pair.
 fn is_closed(text: &[u8]) -> bool
     ensures { result ≡ is_closed text.now }
 {
@@ -91,7 +93,7 @@ fn is_closed(text: &[u8]) -> bool
     false
 }
 
-/// A fault inside a text that begins at the front of the source, and that goes on with this rest.
+/// A fault inside a text that begins at the start of the source, and that goes on with this rest.
 /// It counts only where the text is closed.
 fn faulty_text(source: &[u8], cause: Cause, rest: &[u8]) -> Piece
     requires { length rest.now ≤ length source.now }
@@ -104,10 +106,10 @@ fn faulty_text(source: &[u8], cause: Cause, rest: &[u8]) -> Piece
     }
 }
 
-/// The text at the front of a source that begins with a quote.
-pub fn text_piece(alloc: Global, source: &[u8]) -> Result<Piece, NoMemory>
-    requires { IsTrue (begins_with (nat_eq 34) source.now) }
-    ensures { IfOk result (λ piece. Reads source.now piece) }
+/// The text at the start of a source that begins with a quote.
+pub(crate) fn text_piece(alloc: Global, source: &[u8]) -> Result<Piece, NoMemory>
+    requires { IsTrue (begins_with (nat_eq quote) source.now) }
+    ensures { IfOk result (λ piece. IsFirstPiece source.now piece) }
 {
     let mut text = String::new(alloc);
     let (_, inside) = source.split_at(1);

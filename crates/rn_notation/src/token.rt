@@ -1,7 +1,8 @@
+//! Tokens, and the faults of a text that is none.
 use rn_items::Items;
 use rn_value::Str;
 
-/// A place in a text. Lines and columns count from 1, and a column is a byte.
+/// A spot in a text. Lines and columns count from 1, and a column is a byte.
 #[derive(Clone, Copy, Debug, PartialEq, Eq)]
 pub struct Spot {
     pub line: u32,
@@ -13,8 +14,7 @@ pub struct Spot {
 pub enum TokenKind {
     Name(Str),
 
-    /// The reserved word with this number, from 0, in this order: `net place trans channel var in
-    /// out test reserve flexin flexout inhibit clear guard action print new this int text`.
+    /// The reserved word with this number: the constants of `word`, such as `word::NET`.
     Word(u32),
 
     Number(i64),
@@ -22,8 +22,7 @@ pub enum TokenKind {
     /// The characters of a text, with its escapes resolved.
     Text(Str),
 
-    /// The sign with this number, from 0, in this order: `{ } [ ] ( ) , ; : = == != < <= > >= + - * /
-    /// % && || !`.
+    /// The sign with this number: the constants of `sign`, such as `sign::SEMICOLON`.
     Sign(u32),
 }
 
@@ -54,16 +53,16 @@ pub enum LexFault {
     P7(Spot),
 }
 
-/// A fault without its place.
+/// A fault without its spot.
 #[derive(Clone, Copy, Debug)]
-pub enum Cause {
+pub(crate) enum Cause {
     P1,
     P3,
     P4,
     P7,
 }
 
-/// The tokens before the first fault, that fault or none, and the place behind the last byte.
+/// The tokens before the first fault, that fault or none, and the spot after the last byte.
 #[derive(Debug, Drop)]
 pub struct Lexed {
     pub tokens: Tokens,

@@ -1,11 +1,12 @@
+//! Blanks, words and signs.
 ghost use Rattle.std.specs.Prelude.{◌≡◌, ◌<◌, ◌^◌, length, map, MatchOption};
 ghost use Rattle.std.specs.Prelude.{IsTrue, IfOk, IfSome, IfNone, OnSome, take, false};
 ghost use Rattle.std.specs.List.{prefix_len};
 ghost use Rattle.rn_value.specs.Characters.{is_letter, is_name_byte};
 ghost use Rattle.rn_value.specs.Words.{begins_with, index_of, reserved_words};
 ghost use Rattle.rn_notation.specs.Words.{is_blank, signs, begins_with_sign, opens_comment};
-ghost use Rattle.rn_notation.specs.Steps.{Reads, Cuts, long_sign};
-ghost use Rattle.rn_notation.specs.Steps.{token as a_token};
+ghost use Rattle.rn_notation.specs.Scanning.{IsFirstPiece, Cuts, long_sign};
+ghost use Rattle.rn_notation.specs.Scanning.{token as a_token};
 ghost use Rattle.rn_notation.specs.declared.token.TokenKind.TheVariants.{Sign as SignToken};
 
 use crate::chars::ascii_text;
@@ -19,7 +20,7 @@ const SIGNS: [&str; 24] = [
     "*", "/", "%", "&&", "||", "!",
 ];
 
-pub fn is_blank(byte: u8) -> bool
+pub(crate) fn is_blank(byte: u8) -> bool
     ensures { result ≡ is_blank byte }
 {
     matches!(byte, b' ' | b'\t' | b'\r' | b'\n')
@@ -38,22 +39,22 @@ fn word_length(text: &[u8]) -> usize
 }
 
 #[tactic(auto, unfolding(crate::specs::Words::signs))]
-fn sign_place(sign: &[u8]) -> Option<u32>
+fn sign_index(sign: &[u8]) -> Option<u32>
     ensures { result ≡ index_of signs sign.now }
 {
     let words: [&str; 24] = SIGNS;
     index_of(words.as_slice(), sign)
 }
 
-/// The name or reserved word at the front of a text that begins with a letter.
-pub fn word_piece(alloc: Global, text: &[u8]) -> Result<Piece, NoMemory>
+/// The name or reserved word at the start of a text that begins with a letter.
+pub(crate) fn word_piece(alloc: Global, text: &[u8]) -> Result<Piece, NoMemory>
     requires { IsTrue (begins_with is_letter text.now) }
-    ensures { IfOk result (λ piece. Reads text.now piece) }
+    ensures { IfOk result (λ piece. IsFirstPiece text.now piece) }
 {
     let length = word_length(text);
     let (word, _) = text.split_at(length);
-    if let Some(place) = reserved_word(word) {
-        return Ok(Piece::Token(TokenKind::Word(place), length));
+    if let Some(index) = reserved_word(word) {
+        return Ok(Piece::Token(TokenKind::Word(index), length));
     }
     Ok(Piece::Token(TokenKind::Name(ascii_text(alloc, word)?), length))
 }
@@ -65,23 +66,23 @@ fn long_sign(text: &[u8]) -> Option<u32>
     if text.len() < 2 {
         return None;
     }
-    let (front, _) = text.split_at(2);
-    sign_place(front)
+    let (prefix, _) = text.split_at(2);
+    sign_index(prefix)
 }
 
-/// The sign at the front of a text, and how many bytes it takes.
-pub fn sign_at(text: &[u8]) -> Option<(u32, usize)>
+/// The sign at the start of a text, and how many bytes it takes.
+pub(crate) fn sign_at(text: &[u8]) -> Option<(u32, usize)>
     requires some { 0 < length text.now }
     requires code { opens_comment text.now ≡ false }
     ensures found { IfSome result (λ found. Cuts text.now found.1 (a_token (SignToken found.0))) }
     ensures none { IfNone result (begins_with_sign text.now ≡ false) }
 {
-    if let Some(place) = long_sign(text) {
-        return Some((place, 2));
+    if let Some(index) = long_sign(text) {
+        return Some((index, 2));
     }
-    let (front, _) = text.split_at(1);
-    match sign_place(front) {
-        Some(place) => Some((place, 1)),
+    let (prefix, _) = text.split_at(1);
+    match sign_index(prefix) {
+        Some(index) => Some((index, 1)),
         None => None,
     }
 }

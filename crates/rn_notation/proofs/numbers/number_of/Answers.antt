@@ -3,7 +3,7 @@ use Rattle.std.specs.Prelude.{IsTrue}
 use Rattle.std.specs.List.{list_all}
 use Rattle.rn_items.proofs.Bools.{both_true}
 use Rattle.rn_value.specs.Characters.{is_digit}
-use Rattle.rn_notation.specs.Words.{number_behind, greatest}
+use Rattle.rn_notation.specs.Words.{number_after, greatest_number}
 use Rattle.rn_notation.proofs.NumberLemmas.{too_great, digit_units}
 use Rattle.std.proofs.lemmas.List.{drop_more}
 use Rattle.rn_notation.proofs.numbers.number_of.Goals as goal
@@ -17,4 +17,4 @@ returns-then-units-number-clause-none c =
     let split : drop i digits ≡ d ∷ drop (i + 1) digits = drop_more digits i 0 c.loop-digit-test.true in
     let all : IsTrue (list_all is_digit (d ∷ drop (i + 1) digits)) = subst (λ ds. IsTrue (list_all is_digit ds)) split c.loop-digit.invariant.digits in
     let few = digit_units d (both_true (is_digit d) (list_all is_digit (drop (i + 1) digits)) all).0 in
-    too_great greatest (d - 48) n d (drop (i + 1) digits) digits (omega arith) few (omega arith) c.if-units-number.true (sym (ap (number_behind n) split) ∙ c.loop-digit.invariant.spelled)
+    too_great greatest_number (d - 48) n d (drop (i + 1) digits) digits (omega arith) few (omega arith) c.if-units-number.true (sym (ap (number_after n) split) ∙ c.loop-digit.invariant.spelled)

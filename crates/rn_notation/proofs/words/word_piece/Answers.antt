@@ -9,7 +9,7 @@ split_at-requires c = rw c.word_length-length.ensures (prefix_len-le-length is_n
 pub returns-in-Some : goal.returns-in-Some
 returns-in-Some c =
     let whole = word_whole c.args.text.now c.split_at.result.0.now c.word_length-length.result c.requires c.split_at.ensures.front c.word_length-length.ensures in
-    reserved_stands c.args.text.now c.split_at.result.0.now c.word_length-length.result c.in-Some.place whole c.in-Some.ensures
+    reserved_stands c.args.text.now c.split_at.result.0.now c.word_length-length.result c.in-Some.index whole c.in-Some.ensures
 
 pub ascii_text-requires : goal.ascii_text-requires
 ascii_text-requires c =
