@@ -5,7 +5,7 @@ use Rattle.std.specs.List.{AllByRecursion}
 use Rattle.std.proofs.lemmas.List.{length-map, length-replicate}
 use Rattle.std.proofs.lemmas.List.Elements.{All-from_recursion, All-map}
 use Rattle.rn_model.specs.declared.system.System.{System}
-use Rattle.rn_app.specs.Tokens.{Token, word, sign, is_word, Begins, Tokens}
+use Rattle.rn_app.specs.Tokens.{Token, word, sign, is_word, Begins, SmallTokens}
 use Rattle.rn_app.specs.SmallNets.{SmallPlace, SmallTransition, SmallNet, blacks_spelled, initial_spelled, place_spelled, arc_spelled, transition_spelled, net_spelled, AreWords, IsNamed, IsDeclared, Accepted, black, place_of, arc_of, transition_of, place_names, system_of}
 use Rattle.rn_app.specs.SmallRuns.{IsModest}
 use Rattle.rn_app.specs.Reading.{HasOnly}
@@ -17,7 +17,7 @@ begins_long from (word []) rest b = absurd (true≢false (sym b.1))
 begins_long from (word (x ∷ w)) rest b = let e = ap length b.0 in let f = length-append w rest in omega (arith, e, f)
 
 -- a text has at least a byte for each token
-pub few_tokens : (text : List ℕ) (tokens : List Token) → Tokens text tokens → length tokens ≤ length text
+pub few_tokens : (text : List ℕ) (tokens : List Token) → SmallTokens text tokens → length tokens ≤ length text
 few_tokens text [] t = omega arith
 few_tokens text (token ∷ tokens) t =
     let fewer = few_tokens t.0 tokens t.2 in
@@ -35,7 +35,7 @@ begins_fine : (from : List ℕ) (token : Token) (rest : List ℕ) → Begins fro
 begins_fine from (sign c) rest b = tt
 begins_fine from (word w) rest b = b.1
 
-pub fine_tokens : (text : List ℕ) (tokens : List Token) → Tokens text tokens → AllByRecursion IsFine tokens
+pub fine_tokens : (text : List ℕ) (tokens : List Token) → SmallTokens text tokens → AllByRecursion IsFine tokens
 fine_tokens text [] t = tt
 fine_tokens text (token ∷ tokens) t = (begins_fine t.1.from token t.0 t.1.begins, fine_tokens t.0 tokens t.2)
 
@@ -125,7 +125,7 @@ module _ (text : List ℕ) (tokens : List Token) (only : HasOnly text tokens) (s
   not_declared net read none a = none (subst IsDeclared (one_net a.net net (only (net_spelled a.net) a.spelled ∙ read)) a.declared)
 
 -- what is known of the net of the tokens of a short text
-module _ (text : List ℕ) (tokens : List Token) (spelled : Tokens text tokens) (short : length text ≤ 4194304) (net : SmallNet) (read : tokens ≡ net_spelled net) where
+module _ (text : List ℕ) (tokens : List Token) (spelled : SmallTokens text tokens) (short : length text ≤ 4194304) (net : SmallNet) (read : tokens ≡ net_spelled net) where
   net_long : length (net_spelled net) ≤ 4194304
   net_long = let f = few_tokens text tokens spelled in let e = ap length read in omega (arith, f, e)
 
@@ -140,4 +140,4 @@ module _ (text : List ℕ) (tokens : List Token) (spelled : Tokens text tokens) 
     system_fits = subst IsModest (sym numbered) (is_modest net net_long)
 
     pub accepted : IsNamed net → IsDeclared net → Accepted text system
-    accepted named declared = record { short = short; net = net; spelled = subst (Tokens text) read spelled; named = named; declared = declared; numbered = numbered }
+    accepted named declared = record { short = short; net = net; spelled = subst (SmallTokens text) read spelled; named = named; declared = declared; numbered = numbered }

@@ -17,7 +17,7 @@ digits n = IsNumeral-digits (IsNumeral-numeral n)
 pub one_numeral : (m n : ℕ) → numeral m ≡ numeral n → m ≡ n
 one_numeral m n e = IsNumeral-same (subst (IsNumeral m) e (IsNumeral-numeral m)) (IsNumeral-numeral n)
 
--- what stands behind the number of a firing: its line and what follows that
+-- what stands after the number of a firing: its line and what follows that
 abbrev pub behind_number : ℕ → List ℕ → List ℕ → List ℕ → List ℕ
 behind_number w inst name rest = codes " w" ++ (numeral w ++ (codes " " ++ (inst ++ (codes "." ++ (name ++ (codes "\n" ++ rest))))))
 

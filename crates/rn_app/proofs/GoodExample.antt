@@ -7,8 +7,8 @@ use Rattle.rn_model.specs.declared.system.System.{System}
 use Rattle.rn_model.specs.Systems.{net_at}
 use Rattle.rn_value.specs.Words.{reserved_words}
 use Rattle.rn_app.specs.Limits.{IsPlaceWithinLimits, IsTransitionWithinLimits, IsNetWithinLimits, IsWithinLimits}
-use Rattle.rn_app.specs.Tokens.{Token, word, sign, is_word, is_sign, is_blank, goes_on, Begins, Tokens}
-use Rattle.rn_app.specs.SmallNets.{SmallPlace, SmallArc, SmallTransition, SmallNet, IsFree, IsFreeTransition, IsNamed, AreDistinct, IsDeclared, Accepted, place_of, transition_of, system_of}
+use Rattle.rn_app.specs.Tokens.{Token, word, sign, is_word, is_sign, is_blank, goes_on, Begins, SmallTokens}
+use Rattle.rn_app.specs.SmallNets.{SmallPlace, SmallArc, SmallTransition, SmallNet, IsUnreserved, IsUnreservedTransition, IsNamed, AreDistinct, IsDeclared, Accepted, place_of, transition_of, system_of}
 use Rattle.rn_app.proofs.TokenLemmas.{both_true}
 
 -- A text in pieces: each has blanks, and then a token.
@@ -41,7 +41,7 @@ stand : (token : Token) (rest : List ℕ) → IsTrue (stands token rest) → Beg
 stand (word w) rest h = let both = both_true (is_word w) (not (goes_on rest)) h in (refl, both.0, is_false (goes_on rest) both.1)
 stand (sign c) rest h = (refl, h)
 
-read : (pieces : List Piece) → IsTrue (all_stand pieces) → Tokens (text_of pieces) (map (λ piece. piece.1) pieces)
+read : (pieces : List Piece) → IsTrue (all_stand pieces) → SmallTokens (text_of pieces) (map (λ piece. piece.1) pieces)
 read [] h = refl
 read (piece ∷ pieces) h =
     let others = both_true (list_all is_blank piece.0 && stands piece.1 (text_of pieces)) (all_stand pieces) h in
@@ -90,15 +90,15 @@ net = record { places = p ∷ q ∷ []; transitions = t ∷ [] }
 abbrev names : List (List ℕ)
 names = codes "p" ∷ codes "q" ∷ []
 
-free_arcs : All (λ (arc : SmallArc). IsFree arc.place) (in_p ∷ out_q ∷ [])
+free_arcs : All (λ (arc : SmallArc). IsUnreserved arc.place) (in_p ∷ out_q ∷ [])
 unfolding reserved_words
-free_arcs = All-cons (λ (arc : SmallArc). IsFree arc.place) in_p (out_q ∷ []) refl (All-cons (λ (arc : SmallArc). IsFree arc.place) out_q [] refl (All-nil (λ (arc : SmallArc). IsFree arc.place)))
+free_arcs = All-cons (λ (arc : SmallArc). IsUnreserved arc.place) in_p (out_q ∷ []) refl (All-cons (λ (arc : SmallArc). IsUnreserved arc.place) out_q [] refl (All-nil (λ (arc : SmallArc). IsUnreserved arc.place)))
 
 named : IsNamed net
 unfolding reserved_words
 named = record {
-  places = All-cons (λ (p : SmallPlace). IsFree p.name) p (q ∷ []) refl (All-cons (λ (p : SmallPlace). IsFree p.name) q [] refl (All-nil (λ (p : SmallPlace). IsFree p.name)));
-  transitions = All-cons IsFreeTransition t [] (record { name = refl; arcs = free_arcs }) (All-nil IsFreeTransition);
+  places = All-cons (λ (p : SmallPlace). IsUnreserved p.name) p (q ∷ []) refl (All-cons (λ (p : SmallPlace). IsUnreserved p.name) q [] refl (All-nil (λ (p : SmallPlace). IsUnreserved p.name)));
+  transitions = All-cons IsUnreservedTransition t [] (record { name = refl; arcs = free_arcs }) (All-nil IsUnreservedTransition);
 }
 
 p_and_q : AreDistinct names

@@ -27,7 +27,7 @@ use Rattle.rn_model.proofs.DerivationLemmas.{vars_in-Tuple}
 use Rattle.rn_model.proofs.EnablingLemmas.{not_in_nil}
 use Rattle.rn_app.specs.Limits.{IsPlaceWithinLimits, IsTransitionWithinLimits, IsNetWithinLimits, IsWithinLimits}
 use Rattle.rn_app.specs.Tokens.{is_word}
-use Rattle.rn_app.specs.SmallNets.{SmallPlace, SmallArc, SmallTransition, SmallNet, IsFree, IsFreeTransition, IsNamed, AreWords, AreDistinct, IsDeclared, Accepted, black, place_of, arc_of, transition_of, place_names, net_spelled, system_of}
+use Rattle.rn_app.specs.SmallNets.{SmallPlace, SmallArc, SmallTransition, SmallNet, IsUnreserved, IsUnreservedTransition, IsNamed, AreWords, AreDistinct, IsDeclared, Accepted, black, place_of, arc_of, transition_of, place_names, net_spelled, system_of}
 use Rattle.rn_app.proofs.AcceptedLemmas.{fine_tokens, are_words}
 use Rattle.rn_app.proofs.FiringRuns.{number_below}
 use Rattle.rn_app.proofs.NameLemmas.{map-map}
@@ -80,7 +80,7 @@ both : (a b : Bool) → IsTrue a → IsTrue b → IsTrue (a && b)
 both true b h k = k
 both false b h k = absurd (true≢false (sym h))
 
-is_a_name : (name : List ℕ) → IsTrue (is_word name) → IsFree name → length name ≤ 64 → IsGoodName name
+is_a_name : (name : List ℕ) → IsTrue (is_word name) → IsUnreserved name → length name ≤ 64 → IsGoodName name
 is_a_name name word free short = (both (is_word name) (not (is_reserved name)) word (ap not free), short)
 
 is_short : (name : List ℕ) → IsGoodName name → length name ≤ 64
@@ -90,7 +90,7 @@ named_main : IsGoodName (codes "main")
 unfolding reserved_words
 named_main = (refl, omega arith)
 
-good_place : (p : SmallPlace) → IsTrue (is_word p.name) → IsFree p.name → IsPlaceWithinLimits (place_of p) → IsGoodPlace (place_of p)
+good_place : (p : SmallPlace) → IsTrue (is_word p.name) → IsUnreserved p.name → IsPlaceWithinLimits (place_of p) → IsGoodPlace (place_of p)
 good_place p word free within = record {
   name = is_a_name p.name word free within.name;
   kind = good_kind;
@@ -98,11 +98,11 @@ good_place p word free within = record {
   many = within.initial;
 }
 
-good_places : (ps : List SmallPlace) → All (λ p. IsTrue (is_word p.name)) ps → All (λ p. IsFree p.name) ps → All IsPlaceWithinLimits (map place_of ps) → All IsGoodPlace (map place_of ps)
+good_places : (ps : List SmallPlace) → All (λ p. IsTrue (is_word p.name)) ps → All (λ p. IsUnreserved p.name) ps → All IsPlaceWithinLimits (map place_of ps) → All IsGoodPlace (map place_of ps)
 good_places [] words free within = All-nil IsGoodPlace
 good_places (p ∷ ps) words free within = All-cons IsGoodPlace (place_of p) (map place_of ps)
     (good_place p (words 0 p (omega arith)) (free 0 p (omega arith)) (within 0 (place_of p) (omega arith)))
-    (good_places ps (All-tail (λ p. IsTrue (is_word p.name)) p ps words) (All-tail (λ p. IsFree p.name) p ps free) (All-tail IsPlaceWithinLimits (place_of p) (map place_of ps) within))
+    (good_places ps (All-tail (λ p. IsTrue (is_word p.name)) p ps words) (All-tail (λ p. IsUnreserved p.name) p ps free) (All-tail IsPlaceWithinLimits (place_of p) (map place_of ps) within))
 
 -- The expressions of a transition are empty tuples.
 
@@ -215,7 +215,7 @@ module _ (small : SmallNet) where
     arcs = good_arcs t.arcs there;
   }
 
-  good_transition : (t : SmallTransition) → IsTrue (is_word t.name) → IsFree t.name → All (λ arc. Contains names arc.place) t.arcs → IsTransitionWithinLimits (transition_of names t) →
+  good_transition : (t : SmallTransition) → IsTrue (is_word t.name) → IsUnreserved t.name → All (λ arc. Contains names arc.place) t.arcs → IsTransitionWithinLimits (transition_of names t) →
       IsGoodTransition whole net (transition_of names t)
   good_transition t word free there within = record {
     name = is_a_name t.name word free within.name;
@@ -229,12 +229,12 @@ module _ (small : SmallNet) where
     many = let few = within.arcs in omega (arith, few);
   }
 
-  good_transitions : (ts : List SmallTransition) → All (λ t. IsTrue (is_word t.name)) ts → All IsFreeTransition ts → All (λ t. All (λ arc. Contains names arc.place) t.arcs) ts →
+  good_transitions : (ts : List SmallTransition) → All (λ t. IsTrue (is_word t.name)) ts → All IsUnreservedTransition ts → All (λ t. All (λ arc. Contains names arc.place) t.arcs) ts →
       All IsTransitionWithinLimits (map (transition_of names) ts) → All (IsGoodTransition whole net) (map (transition_of names) ts)
   good_transitions [] words free there within = All-nil (IsGoodTransition whole net)
   good_transitions (t ∷ ts) words free there within = All-cons (IsGoodTransition whole net) (transition_of names t) (map (transition_of names) ts)
       (good_transition t (words 0 t (omega arith)) (free 0 t (omega arith)).name (there 0 t (omega arith)) (within 0 (transition_of names t) (omega arith)))
-      (good_transitions ts (All-tail (λ t. IsTrue (is_word t.name)) t ts words) (All-tail IsFreeTransition t ts free) (All-tail (λ t. All (λ arc. Contains names arc.place) t.arcs) t ts there)
+      (good_transitions ts (All-tail (λ t. IsTrue (is_word t.name)) t ts words) (All-tail IsUnreservedTransition t ts free) (All-tail (λ t. All (λ arc. Contains names arc.place) t.arcs) t ts there)
       (All-tail IsTransitionWithinLimits (transition_of names t) (map (transition_of names) ts) within))
 
   good_net : AreWords small → IsNamed small → IsDeclared small → IsNetWithinLimits net → IsGoodNet whole net

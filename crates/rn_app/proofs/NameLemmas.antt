@@ -24,7 +24,7 @@ same_name x y h = (bytes_decides x y).0 h
 abbrev pub texts : List (Vec ℕ Global) → List (List ℕ)
 texts = map (λ name. name.items)
 
--- a name is found just where it is among the names
+-- a name is found exactly where it is among the names
 any_name : (ks : List (Vec ℕ Global)) (name : List ℕ) → list_any (λ k. pointwise nat_eq name k.items) ks ≡ true → Contains (texts ks) name
 any_name [] name h = absurd (true≢false (sym h))
 any_name (k ∷ ks) name h =

@@ -72,7 +72,7 @@ module _ (net : SmallNet) (t step : ℕ) (within : t < length net.transitions) w
       rw one
 
   makes_none : creations_of system (single t) ≡ []
-  makes_none = ap (λ (T : Transition). map (λ c. record { path = []; place = c.0; net = c.1.net }) (enumerate_from 0 T.creations) ++ []) at
+  makes_none = ap (λ (T : Transition). map (λ c. record { path = []; index = c.0; net = c.1.net }) (enumerate_from 0 T.creations) ++ []) at
 
   -- one place after the firing
   place_after : (p before after : ℕ) → takes_from (arcs_at net t) p ≤ before → after + takes_from (arcs_at net t) p ≡ before + puts_into (arcs_at net t) p →

@@ -7,9 +7,9 @@ use Rattle.std.proofs.lemmas.Grind.{flat_map-append}
 use Rattle.std.proofs.lemmas.List.Elements.{All-contains, Contains-append_right}
 use Rattle.rn_app.specs.Tokens.{Token, word, sign}
 use Rattle.rn_app.specs.Reading.{begins_with, begins_arc}
-use Rattle.rn_app.specs.SmallNets.{SmallPlace, SmallArc, SmallTransition, SmallNet, blacks_spelled, initial_spelled, place_spelled, arc_spelled, transition_spelled, net_spelled, IsFree, IsFreeTransition, IsNamed}
+use Rattle.rn_app.specs.SmallNets.{SmallPlace, SmallArc, SmallTransition, SmallNet, blacks_spelled, initial_spelled, place_spelled, arc_spelled, transition_spelled, net_spelled, IsUnreserved, IsUnreservedTransition, IsNamed}
 
--- one more token behind the others
+-- one more token after the others
 pub blacks_more : (count : ℕ) (rest : List Token) → blacks_spelled (suc count) ++ rest ≡ blacks_spelled count ++ sign 44 ∷ sign 91 ∷ sign 93 ∷ rest
 blacks_more zero rest = refl
 blacks_more (suc count) rest = ap (λ more. sign 91 ∷ sign 93 ∷ sign 44 ∷ more) (blacks_more count rest)
@@ -34,7 +34,7 @@ other_sign a b x y apart e = apart (ap first_sign e)
 no_comma : (x y : List Token) → ¬ (sign 59 ∷ x ≡ sign 44 ∷ y)
 no_comma x y = other_sign 59 44 x y (λ h. let no : ⊥ = omega (arith, h) in no)
 
--- What the text of some tokens, up to `;`, has behind fewer of them.
+-- What the text of some tokens, up to `;`, has after fewer of them.
 pub blacks_go_on : (count all : ℕ) (rest end : List Token) → blacks_spelled count ++ rest ≡ blacks_spelled all ++ sign 59 ∷ end →
     ((count ≡ all) × (rest ≡ sign 59 ∷ end)) ⊎ ((more : List Token) × (rest ≡ sign 44 ∷ sign 91 ∷ sign 93 ∷ more))
 unfolding after_one after_two
@@ -158,7 +158,7 @@ one_transition t u x y e =
     let arcs = one_arcs t.arcs u.arcs (sign 125 ∷ x) y refl (sym (append_assoc (flat_map arc_spelled t.arcs) (sign 125 ∷ []) x) ∙ ap rest_of name.1) in
     (λ i. record { name = name.0 i; arcs = arcs.0 i }, (same_sign 125 125 x y arcs.1).1)
 
--- one more thing behind the others
+-- one more thing after the others
 pub spelled_push : {A X : Type 0} (spelled : X → List Token) (f : A → X) (xs : List A) (x : A) (rest : List Token) →
     flat_map spelled (map f (xs ++ x ∷ [])) ++ rest ≡ flat_map spelled (map f xs) ++ (spelled (f x) ++ rest)
 spelled_push spelled f xs x rest =
@@ -173,7 +173,7 @@ no_place (t ∷ ts) = refl
 abbrev pub net_of : List Token → List Token
 net_of rest = word (codes "net") ∷ word (codes "main") ∷ sign 123 ∷ rest
 
--- What the spelling of a net has behind its places, and behind its transitions.
+-- What the spelling of a net has after its places, and after its transitions.
 pub behind_start : (net : SmallNet) (rest : List Token) → net_of rest ≡ net_spelled net →
     rest ≡ flat_map place_spelled net.places ++ (flat_map transition_spelled net.transitions ++ sign 125 ∷ [])
 unfolding rest_of
@@ -199,13 +199,13 @@ pub no_start : (tokens : List Token) → ((rest : List Token) → ¬ (tokens ≡
 no_start tokens none net e = none (flat_map place_spelled net.places ++ flat_map transition_spelled net.transitions ++ sign 125 ∷ []) e
 
 pub no_places : (tokens rest : List Token) → tokens ≡ net_of rest →
-    ((ps : List SmallPlace) (end : List Token) → All (λ p. IsFree p.name) ps → begins_with (codes "place") end ≡ false → ¬ (rest ≡ flat_map place_spelled ps ++ end)) →
+    ((ps : List SmallPlace) (end : List Token) → All (λ p. IsUnreserved p.name) ps → begins_with (codes "place") end ≡ false → ¬ (rest ≡ flat_map place_spelled ps ++ end)) →
     (net : SmallNet) → IsNamed net → ¬ (tokens ≡ net_spelled net)
 no_places tokens rest start none net named e =
     none net.places (flat_map transition_spelled net.transitions ++ sign 125 ∷ []) named.places (no_place net.transitions) (behind_start net rest (sym start ∙ e))
 
 pub no_transitions : (tokens rest behind : List Token) (ps : List SmallPlace) → tokens ≡ net_of rest → rest ≡ flat_map place_spelled ps ++ behind → begins_with (codes "place") behind ≡ false →
-    ((ts : List SmallTransition) (end : List Token) → All IsFreeTransition ts → begins_with (codes "trans") end ≡ false → ¬ (behind ≡ flat_map transition_spelled ts ++ end)) →
+    ((ts : List SmallTransition) (end : List Token) → All IsUnreservedTransition ts → begins_with (codes "trans") end ≡ false → ¬ (behind ≡ flat_map transition_spelled ts ++ end)) →
     (net : SmallNet) → IsNamed net → ¬ (tokens ≡ net_spelled net)
 no_transitions tokens rest behind ps start read ended none net named e =
     none net.transitions (sign 125 ∷ []) named.transitions refl (behind_places net ps behind ended (ap net_of (sym read) ∙ sym start ∙ e)).1

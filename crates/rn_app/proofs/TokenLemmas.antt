@@ -6,7 +6,7 @@ use Rattle.std.proofs.Math.Dec.{T, eqb→eq}
 use Rattle.std.proofs.lemmas.List.{append-nil, take-append-drop}
 use Rattle.rn_value.specs.Characters.{is_letter, is_name_byte}
 use Rattle.rn_value.specs.Words.{begins_with}
-use Rattle.rn_app.specs.Tokens.{Token, word, sign, is_blank, is_sign, is_word, goes_on, Begins, Leads, Tokens}
+use Rattle.rn_app.specs.Tokens.{Token, word, sign, is_blank, is_sign, is_word, goes_on, Begins, Leads, SmallTokens}
 
 pub both_true : (a b : Bool) → IsTrue (a && b) → IsTrue a × IsTrue b
 both_true true b h = (refl, h)
@@ -85,12 +85,12 @@ leads_token c text t rest h l = by l.blanks l.from l.blank l.whole l.begins
         let same : c ≡ x = cc in
         absurd (true≢false (sym (both_true (is_blank x) (list_all is_blank blanks) all).0 ∙ ap is_blank (sym same) ∙ h))
 
-more_blank : (c : ℕ) (text : List ℕ) → is_blank c ≡ true → (tokens : List Token) → Tokens text tokens → Tokens (c ∷ text) tokens
+more_blank : (c : ℕ) (text : List ℕ) → is_blank c ≡ true → (tokens : List Token) → SmallTokens text tokens → SmallTokens (c ∷ text) tokens
 more_blank c text h [] t = rw h t
 more_blank c text h (token ∷ tokens) t =
     (t.0, record { blanks = c ∷ t.1.blanks; from = t.1.from; blank = rw h t.1.blank; whole = ap (λ text. c ∷ text) t.1.whole; begins = t.1.begins }, t.2)
 
-less_blank : (c : ℕ) (text : List ℕ) → is_blank c ≡ true → (tokens : List Token) → Tokens (c ∷ text) tokens → Tokens text tokens
+less_blank : (c : ℕ) (text : List ℕ) → is_blank c ≡ true → (tokens : List Token) → SmallTokens (c ∷ text) tokens → SmallTokens text tokens
 less_blank c text h [] t = (both_true (is_blank c) (list_all is_blank text) t).1
 less_blank c text h (token ∷ tokens) t = (t.0, leads_blank c text token t.0 h t.1, t.2)
 
@@ -106,8 +106,8 @@ nothing_begins token rest l = by token l.blanks l.from l.whole l.begins
 
 -- What is known where these tokens have been read, and this rest is left: all readings begin with these tokens, and go on as readings of the rest.
 pub record Reads (text : List ℕ) (sofar : List Token) (rest : List ℕ) : Type 0 where
-  pub led : (more : List Token) → Tokens rest more → Tokens text (sofar ++ more)
-  pub only : (tokens : List Token) → Tokens text tokens → (more : List Token) × (tokens ≡ sofar ++ more) × Tokens rest more
+  pub led : (more : List Token) → SmallTokens rest more → SmallTokens text (sofar ++ more)
+  pub only : (tokens : List Token) → SmallTokens text tokens → (more : List Token) × (tokens ≡ sofar ++ more) × SmallTokens rest more
 
 pub reads_nothing : (text : List ℕ) → Reads text [] text
 reads_nothing text = record { led = λ more t. t; only = λ tokens t. (tokens, refl, t) }
@@ -121,33 +121,33 @@ reads_blank text sofar c rest h r = record {
 pub reads_token : (text : List ℕ) (sofar : List Token) (c : ℕ) (before after : List ℕ) (token : Token) →
     is_blank c ≡ false → Begins (c ∷ before) token after → Reads text sofar (c ∷ before) → Reads text (sofar ++ token ∷ []) after
 reads_token text sofar c before after token h b r = record {
-  led = λ more t. subst (Tokens text) (sym (append_assoc sofar (token ∷ []) more)) (r.led (token ∷ more) (after, record { blanks = []; from = c ∷ before; blank = refl; whole = refl; begins = b }, t));
+  led = λ more t. subst (SmallTokens text) (sym (append_assoc sofar (token ∷ []) more)) (r.led (token ∷ more) (after, record { blanks = []; from = c ∷ before; blank = refl; whole = refl; begins = b }, t));
   only = λ tokens t. let found = r.only tokens t in by tokens found.0 found.1 found.2;
 }
   where
-    by : (tokens more : List Token) → tokens ≡ sofar ++ more → Tokens (c ∷ before) more → (others : List Token) × (tokens ≡ (sofar ++ token ∷ []) ++ others) × Tokens after others
+    by : (tokens more : List Token) → tokens ≡ sofar ++ more → SmallTokens (c ∷ before) more → (others : List Token) × (tokens ≡ (sofar ++ token ∷ []) ++ others) × SmallTokens after others
     by tokens [] e t = absurd (true≢false (sym (both_true (is_blank c) (list_all is_blank before) t).0 ∙ h))
     by tokens (u ∷ more) e t =
         let same = one_token (c ∷ before) u token t.0 after (leads_token c before u t.0 h t.1) b in
-        (more, e ∙ ap (λ u. sofar ++ u ∷ more) same.0 ∙ sym (append_assoc sofar (token ∷ []) more), subst (λ rest. Tokens rest more) same.1 t.2)
+        (more, e ∙ ap (λ u. sofar ++ u ∷ more) same.0 ∙ sym (append_assoc sofar (token ∷ []) more), subst (λ rest. SmallTokens rest more) same.1 t.2)
 
 -- where the rest begins no token, there is no reading
 pub reads_stuck : (text : List ℕ) (sofar : List Token) (c : ℕ) (rest : List ℕ) → is_blank c ≡ false → ((token : Token) (after : List ℕ) → ¬ Begins (c ∷ rest) token after) →
-    Reads text sofar (c ∷ rest) → (tokens : List Token) → ¬ Tokens text tokens
+    Reads text sofar (c ∷ rest) → (tokens : List Token) → ¬ SmallTokens text tokens
 reads_stuck text sofar c rest h none r tokens t = let found = r.only tokens t in by found.0 found.2
   where
-    by : (more : List Token) → ¬ Tokens (c ∷ rest) more
+    by : (more : List Token) → ¬ SmallTokens (c ∷ rest) more
     by [] t = true≢false (sym (both_true (is_blank c) (list_all is_blank rest) t).0 ∙ h)
     by (u ∷ more) t = none u t.0 (leads_token c rest u t.0 h t.1)
 
 -- where nothing is left, the tokens are the one reading
-pub reads_all : (text : List ℕ) (sofar : List Token) → Reads text sofar [] → Tokens text sofar
-reads_all text sofar r = subst (Tokens text) (append-nil sofar) (r.led [] refl)
+pub reads_all : (text : List ℕ) (sofar : List Token) → Reads text sofar [] → SmallTokens text sofar
+reads_all text sofar r = subst (SmallTokens text) (append-nil sofar) (r.led [] refl)
 
-pub reads_only : (text : List ℕ) (sofar : List Token) → Reads text sofar [] → (tokens : List Token) → Tokens text tokens → tokens ≡ sofar
+pub reads_only : (text : List ℕ) (sofar : List Token) → Reads text sofar [] → (tokens : List Token) → SmallTokens text tokens → tokens ≡ sofar
 reads_only text sofar r tokens t = let found = r.only tokens t in found.1 ∙ ap (λ more. sofar ++ more) (no_more found.0 found.2) ∙ append-nil sofar
   where
-    no_more : (more : List Token) → Tokens [] more → more ≡ []
+    no_more : (more : List Token) → SmallTokens [] more → more ≡ []
     no_more [] t = refl
     no_more (sign c ∷ more) t = absurd (nothing_begins (sign c) t.0 t.1)
     no_more (word w ∷ more) t = absurd (nothing_begins (word w) t.0 t.1)

@@ -38,7 +38,7 @@ pub told_net : (left after : Option (List ℕ)) (text : List ℕ) (P : Type 0) �
 told_net None after text P run = tt
 told_net (Some l) after text P run = λ none. absurd (subst IsNoNetText (sym run.read.all) none run.is_run.system run.is_run.accepted)
 
--- a refusal of a net text, without faults, comes for want of memory
+-- a refusal of a net text, without faults, comes where memory ran out
 pub no_fault : (words : List (List ℕ)) (left : Option (List ℕ)) (faults faults_after : ℕ) (refusal : Refusal) (D E : Type 0) (result : ℕ) → HasCause words left faults faults_after refusal →
     (result ≢ 5 → result ≡ status_of refusal) → (result ≡ 5 → E) → AreRunWords words →
     IfSome left (λ bytes. (system : System) → Accepted bytes system → ¬ Rose faults faults_after → ¬ D → ¬ E → (result ≡ 0) ⊎ (result ≡ 6))

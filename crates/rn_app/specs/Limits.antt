@@ -5,23 +5,25 @@ use Rattle.rn_model.specs.declared.system.System.{System}
 use Rattle.rn_model.specs.declared.system.Net.{Net}
 use Rattle.rn_model.specs.declared.system.Place.{Place}
 use Rattle.rn_model.specs.declared.system.Transition.{Transition}
+use Rattle.rn_model.specs.Limits.{longest_name, most_initial, most_inscriptions}
+use Rattle.rn_model.specs.Limits.{most_places, most_transitions}
 
--- a place's name has at most 64 bytes, and the place has at most 10,000 initial tokens
+-- a place's name isn't too long, and the place hasn't too many initial tokens
 pub record IsPlaceWithinLimits (place : Place) : Type 0 where
-  pub name : length place.name ≤ 64
-  pub initial : length place.initial ≤ 10000
+  pub name : length place.name ≤ longest_name
+  pub initial : length place.initial ≤ most_initial
 
--- a transition's name has at most 64 bytes, and the transition has at most 200 arcs
+-- a transition's name isn't too long, and the transition hasn't too many arcs
 pub record IsTransitionWithinLimits (t : Transition) : Type 0 where
-  pub name : length t.name ≤ 64
-  pub arcs : length t.arcs ≤ 200
+  pub name : length t.name ≤ longest_name
+  pub arcs : length t.arcs ≤ most_inscriptions
 
--- a net has at most 1000 places and at most 1000 transitions, each within its limits
+-- a net hasn't too many places and transitions, each within its limits
 pub record IsNetWithinLimits (net : Net) : Type 0 where
   pub places : All IsPlaceWithinLimits net.places
   pub transitions : All IsTransitionWithinLimits net.transitions
-  pub few_places : length net.places ≤ 1000
-  pub few_transitions : length net.transitions ≤ 1000
+  pub few_places : length net.places ≤ most_places
+  pub few_transitions : length net.transitions ≤ most_transitions
 
 -- each net of a system is within its limits
 abbrev pub IsWithinLimits : System → Type 0

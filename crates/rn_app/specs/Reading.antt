@@ -10,7 +10,7 @@ use Rattle.rn_app.specs.declared.small.SmallPlace.{SmallPlace}
 use Rattle.rn_app.specs.declared.small.SmallArc.{SmallArc}
 use Rattle.rn_app.specs.declared.small.SmallTransition.{SmallTransition}
 use Rattle.rn_app.specs.declared.small.SmallNet.{SmallNet}
-use Rattle.rn_app.specs.Tokens.{Token, word, sign, Tokens}
+use Rattle.rn_app.specs.Tokens.{Token, word, sign, SmallTokens}
 use Rattle.rn_app.specs.SmallNets as small
 
 -- a token, and one whose word lies in the text
@@ -37,11 +37,11 @@ begins_arc tokens = begins_with (codes "in") tokens || begins_with (codes "out")
 
 -- the text is no other tokens than these
 abbrev pub HasOnly : List ℕ → List Token → Type 0
-HasOnly text tokens = (others : List Token) → Tokens text others → others ≡ tokens
+HasOnly text tokens = (others : List Token) → SmallTokens text others → others ≡ tokens
 
 -- the text isn't made of tokens
 abbrev pub IsNoTokens : List ℕ → Type 0
-IsNoTokens text = (tokens : List Token) → ¬ Tokens text tokens
+IsNoTokens text = (tokens : List Token) → ¬ SmallTokens text tokens
 
 -- the parts of a net, wherever their names lie in memory
 abbrev pub place_seen : SmallPlace → small.SmallPlace

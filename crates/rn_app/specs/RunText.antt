@@ -33,7 +33,7 @@ abbrev pub node_text : System → Node → List ℕ
 node_text system node = instance_text system node.net node.inst ++ codes "."
     ++ (transition_of system node).name
 
--- a line for each node behind the lead, that of each called one with `+ ` before the node
+-- a line for each node after the lead, that of each called one with `+ ` before the node
 abbrev pub called_lines : System → List ℕ → List Node → List ℕ
 called_lines system lead =
     flat_map (λ node. lead ++ codes "+ " ++ node_text system node ++ codes "\n")
@@ -76,8 +76,8 @@ abbrev pub run_text : System → List Firing → Reason → List MarkLine → Li
 run_text system fs reason marks =
     firings_text system 1 fs ++ end_text system reason ++ flat_map (mark_text system) marks
 
--- The text tells a run of the small net in which these transitions fired, which ended so, with so
--- many tokens in each place: its marks are those of the live part.
+-- The text is that of a run of the small net: these transitions fired, it ended so, and there are
+-- so many tokens in each place. Its marks are those of the live part.
 pub record TellsRun (system : System) (fired : List ℕ) (ending : Ending) (counts text : List ℕ)
     : Type 0 where
   pub marks : List MarkLine

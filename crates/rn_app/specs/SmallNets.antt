@@ -14,7 +14,8 @@ use Rattle.rn_model.specs.declared.system.NetArc.{NetArc}
 use Rattle.rn_model.specs.declared.system.ArcKind.TheVariants.{Input, Output}
 use Rattle.rn_value.specs.Words.{is_reserved}
 use Rattle.rn_model.specs.Systems.{empty_transition}
-use Rattle.rn_app.specs.Tokens.{Token, word, sign, is_word, Tokens}
+use Rattle.rn_app.specs.Tokens.{Token, word, sign, is_word, SmallTokens}
+use Rattle.rn_notation.specs.Limits.{longest_net_text}
 
 -- a place: its name, and how many black tokens it begins with
 pub record SmallPlace : Type 0 where
@@ -36,7 +37,7 @@ pub record SmallNet : Type 0 where
 
 -- How a net is spelled in tokens.
 
--- `[]` and then as many more, each behind a comma
+-- `[]` and then as many more, each after a comma
 abbrev pub blacks_spelled : ℕ → List Token
 blacks_spelled zero = sign 91 ∷ sign 93 ∷ []
 blacks_spelled (suc n) = sign 91 ∷ sign 93 ∷ sign 44 ∷ blacks_spelled n
@@ -67,18 +68,18 @@ net_spelled net =
     ++ flat_map transition_spelled net.transitions ++ sign 125 ∷ []
 
 -- a reserved word is no name
-abbrev pub IsFree : List ℕ → Type 0
-IsFree name = is_reserved name ≡ false
+abbrev pub IsUnreserved : List ℕ → Type 0
+IsUnreserved name = is_reserved name ≡ false
 
 -- no name in the transition is a reserved word
-pub record IsFreeTransition (t : SmallTransition) : Type 0 where
-  pub name : IsFree t.name
-  pub arcs : All (λ arc. IsFree arc.place) t.arcs
+pub record IsUnreservedTransition (t : SmallTransition) : Type 0 where
+  pub name : IsUnreserved t.name
+  pub arcs : All (λ arc. IsUnreserved arc.place) t.arcs
 
 -- no name in the net is a reserved word
 pub record IsNamed (net : SmallNet) : Type 0 where
-  pub places : All (λ p. IsFree p.name) net.places
-  pub transitions : All IsFreeTransition net.transitions
+  pub places : All (λ p. IsUnreserved p.name) net.places
+  pub transitions : All IsUnreservedTransition net.transitions
 
 -- each declared name is a word
 pub record AreWords (net : SmallNet) : Type 0 where
@@ -140,9 +141,9 @@ system_of net =
 
 -- The bytes are a net text, of this system.
 pub record Accepted (bytes : List ℕ) (system : System) : Type 0 where
-  pub short : length bytes ≤ 4194304
+  pub short : length bytes ≤ longest_net_text
   pub net : SmallNet
-  pub spelled : Tokens bytes (net_spelled net)
+  pub spelled : SmallTokens bytes (net_spelled net)
   pub named : IsNamed net
   pub declared : IsDeclared net
   pub numbered : system ≡ system_of net

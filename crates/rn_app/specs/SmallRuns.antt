@@ -20,10 +20,15 @@ use Rattle.rn_model.specs.Runs.{Firing, end_of}
 use Rattle.rn_app.specs.declared.firing.Ending.{Ending}
 use Rattle.rn_app.specs.declared.firing.Ending.TheVariants.{Dead, Steps}
 use Rattle.rn_app.specs.SmallNets.{SmallNet, IsDeclared, system_of, black}
+use Rattle.rn_notation.specs.Limits.{longest_net_text}
 
--- one worker, at most 1000 firings
+-- how many firings a run has at most
+abbrev pub step_limit : ℕ
+step_limit = 1000
+
+-- one worker, and the step limit
 abbrev pub run_options : Options
-run_options = record { workers = 1; steps = 1000; depth = 4; sweep_every = 64 }
+run_options = record { workers = 1; steps = step_limit; depth = 4; sweep_every = 64 }
 
 -- the binding of one transition of instance 1
 abbrev pub single : ℕ → Binding
@@ -56,8 +61,8 @@ IsSmall system = (net : SmallNet) × IsDeclared net × (system ≡ system_of net
 
 -- few enough initial tokens and arcs that no number of tokens grows beyond 64 bits in a run
 pub record IsModest (system : System) : Type 0 where
-  pub initial : All (λ p. length p.initial ≤ 4194304) (net_at system 0).places
-  pub arcs : All (λ t. length t.arcs ≤ 4194304) (net_at system 0).transitions
+  pub initial : All (λ p. length p.initial ≤ longest_net_text) (net_at system 0).places
+  pub arcs : All (λ t. length t.arcs ≤ longest_net_text) (net_at system 0).transitions
 
 -- why a run ended, as the model says it
 abbrev pub reason_of : Ending → Reason

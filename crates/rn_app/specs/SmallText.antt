@@ -19,7 +19,7 @@ firing_lines transitions step (t ∷ ts) =
     firing_line step (unwrap_or (slice_get transitions t) empty_transition).name
     ++ firing_lines transitions (suc step) ts
 
--- so many black tokens, each behind a space
+-- so many black tokens, each after a space
 abbrev pub blacks_text : ℕ → List ℕ
 blacks_text count = flat_map (λ token. token) (replicate count (codes " []"))
 

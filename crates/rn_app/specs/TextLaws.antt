@@ -1,4 +1,4 @@
--- What the text of a run tells its reader.
+-- What the text of a run determines.
 use Rattle.std.specs.Prelude.{ℕ, ◌≡◌, List, Some}
 use Rattle.rn_model.specs.declared.system.System.{System}
 use Rattle.rn_model.specs.declared.log.MarkLine.{MarkLine}

@@ -39,7 +39,7 @@ pub record Leads (text : List ℕ) (token : Token) (rest : List ℕ) : Type 0 wh
   pub whole : text ≡ blanks ++ from
   pub begins : Begins from token rest
 
--- The text is these tokens one after another, with any blanks before, between and behind them.
-abbrev pub Tokens : List ℕ → List Token → Type 0
-Tokens text [] = IsTrue (list_all is_blank text)
-Tokens text (token ∷ tokens) = (rest : List ℕ) × Leads text token rest × Tokens rest tokens
+-- The text is these tokens one after another, with any blanks before, between and after them.
+abbrev pub SmallTokens : List ℕ → List Token → Type 0
+SmallTokens text [] = IsTrue (list_all is_blank text)
+SmallTokens text (token ∷ tokens) = (rest : List ℕ) × Leads text token rest × SmallTokens rest tokens

@@ -1,4 +1,4 @@
--- What the top call answers, and what it leaves on the sinks.
+-- What the top call returns, and what it leaves on the sinks.
 use Rattle.std.specs.Prelude.{ℕ, ◌≡◌, ◌⊎◌, List, [], ◌∷◌, Bool, true, false, Option, Some}
 use Rattle.std.specs.Prelude.{IfSome, ◌≢◌, ◌≤◌, codes}
 use Rattle.rn_model.specs.declared.system.System.{System}
@@ -14,6 +14,8 @@ use Rattle.rn_app.specs.declared.top.Refusal.TheVariants as kind
 use Rattle.rn_app.specs.SmallNets.{Accepted}
 use Rattle.rn_app.specs.SmallRuns.{run_options}
 use Rattle.rn_app.specs.RunText.{run_text}
+use Rattle.rn_app.specs.declared.top.TheConstants.{NET_REFUSED, WORDS_REFUSED, READ_FAULT}
+use Rattle.rn_app.specs.declared.top.TheConstants.{WRITE_FAULT, NO_MEMORY}
 
 -- the words that are accepted
 abbrev pub AreRunWords : List (List ℕ) → Type 0
@@ -54,7 +56,7 @@ pub record WritesPartOfRun (left left_after held held_after : Option (List ℕ))
   pub run : ReadsRun left left_after text
   pub written : AppendsPrefix held text held_after
 
--- why a refusal comes; for want of memory there is no cause
+-- why a refusal comes; that memory ran out has no cause
 abbrev pub HasCause : List (List ℕ) → Option (List ℕ) → ℕ → ℕ → Refusal → Type 0
 HasCause words left faults faults_after kind.Net = AreRunWords words × IfSome left IsNoNetText
 HasCause words left faults faults_after kind.Words = ¬ AreRunWords words
@@ -71,10 +73,10 @@ line_of kind.NoMemory = codes "memory\n"
 
 -- its status
 abbrev pub status_of : Refusal → ℕ
-status_of kind.Net = 1
-status_of kind.Words = 2
-status_of kind.ReadFault = 4
-status_of kind.NoMemory = 6
+status_of kind.Net = NET_REFUSED
+status_of kind.Words = WORDS_REFUSED
+status_of kind.ReadFault = READ_FAULT
+status_of kind.NoMemory = NO_MEMORY
 
 -- whether the status gives way where the line can't be written
 abbrev pub gives_way : Refusal → Bool
@@ -96,10 +98,11 @@ pub record FailsToRefuse (words : List (List ℕ)) (left held held_after : Optio
       ⊎ (refusal ≡ kind.Words × (¬ AreRunWords words))
   pub written : AppendsPrefix held (line_of refusal) held_after
 
--- the statuses that are answered
+-- the statuses that are returned
 abbrev pub IsStatus : ℕ → Type 0
-IsStatus status = (status ≤ 6) × (status ≢ 3)
+IsStatus status = (status ≤ NO_MEMORY) × (status ≢ 3)
 
 -- those that may come in place of another
-abbrev pub IsFault : ℕ → Type 0
-IsFault status = (status ≡ 4) ⊎ ((status ≡ 5) ⊎ (status ≡ 6))
+abbrev pub IsFaultStatus : ℕ → Type 0
+IsFaultStatus status =
+    (status ≡ READ_FAULT) ⊎ ((status ≡ WRITE_FAULT) ⊎ (status ≡ NO_MEMORY))

@@ -6,6 +6,7 @@ ghost use Rattle.rn_model.specs.Runs.{Log, end_of};
 ghost use Rattle.rn_app.specs.SmallRuns.{run_options, firings_of, marking_of, reason_of, IsSmall};
 ghost use Rattle.rn_app.specs.SmallRuns.{IsModest, AreFirst, is_input, takes_from, puts_into};
 ghost use Rattle.rn_app.specs.SmallRuns.{IsEnoughFor, AreTaken, ArePut, HasFired, AreOfPlaces};
+ghost use Rattle.rn_notation.specs.Limits.{longest_net_text};
 
 use rn_model::{ArcKind, NetArc, Place, System, Transition};
 use rn_value::NoMemory;
@@ -14,7 +15,7 @@ use std::alloc::Global;
 /// How many transitions a run fires at most.
 const STEPS: usize = 1000;
 
-/// Why a run ended: no transition could fire, or 1,000 had fired.
+/// Why a run ended: no transition could fire, or as many as may had fired.
 #[derive(Clone, Copy, Debug, PartialEq, Eq)]
 pub enum Ending {
     Dead,
@@ -87,8 +88,8 @@ fn take_all(arcs: &[NetArc], counts: &mut [u64]) -> bool
 /// Fires the first transition that can fire, and answers its number.
 fn fire_first(transitions: &[Transition], counts: &mut [u64]) -> Option<usize>
     requires places { All (λ t. AreOfPlaces (length counts.old) t.arcs) transitions.now }
-    requires short { All (λ t. length t.arcs ≤ 4194304) transitions.now }
-    requires room { (p : ℕ) → slice_index counts.old p + 4194304 < 2 ^ 64 }
+    requires short { All (λ t. length t.arcs ≤ longest_net_text) transitions.now }
+    requires room { (p : ℕ) → slice_index counts.old p + longest_net_text < 2 ^ 64 }
     ensures fired { IfSome result (λ t. HasFired transitions.now t counts.old counts.new) }
     ensures first { IfSome result (λ n.
         All (λ t. ¬ IsEnoughFor t.arcs counts.old) (take n transitions.now)) }

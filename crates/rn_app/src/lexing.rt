@@ -2,7 +2,7 @@
 ghost use Rattle.std.specs.Prelude.{◌≡◌, ◌<◌, ℕ, List, length, IfOk, IfSome, IfNone};
 ghost use Rattle.std.specs.List.{prefix_len};
 ghost use Rattle.rn_value.specs.Characters.{is_name_byte};
-ghost use Rattle.rn_app.specs.Tokens.{is_blank, is_sign, Begins, Tokens};
+ghost use Rattle.rn_app.specs.Tokens.{is_blank, is_sign, Begins, SmallTokens};
 ghost use Rattle.rn_app.specs.Tokens.{Token as Seen};
 ghost use Rattle.rn_app.specs.Reading.{piece_seen, seen, seen_all, HasOnly, IsNoTokens};
 
@@ -77,7 +77,7 @@ fn token_of(alloc: Global, piece: Piece<'_>) -> Result<Token, NoMemory>
 /// The tokens of a text, or nothing where it is no tokens.
 pub fn lex(alloc: Global, text: &[u8]) -> Result<Option<Vec<Token>>, NoMemory>
     ensures found { IfOk result
-        (λ found. IfSome found (λ tokens. Tokens text.now (seen_all tokens.items))) }
+        (λ found. IfSome found (λ tokens. SmallTokens text.now (seen_all tokens.items))) }
     ensures only { IfOk result
         (λ found. IfSome found (λ tokens. HasOnly text.now (seen_all tokens.items))) }
     ensures none { IfOk result (λ found. IfNone found (IsNoTokens text.now)) }

@@ -6,7 +6,7 @@ ghost use Rattle.rn_app.specs.Tokens.{word as word_of, sign as sign_of, Token as
 ghost use Rattle.rn_app.specs.Reading.{seen, seen_all, place_seen, arc_seen, transition_seen};
 ghost use Rattle.rn_app.specs.Reading.{net_seen, begins_with, begins_arc};
 ghost use Rattle.rn_value.specs.Words.{is_reserved};
-ghost use Rattle.rn_app.specs.SmallNets.{IsFree, IsFreeTransition, blacks_spelled};
+ghost use Rattle.rn_app.specs.SmallNets.{IsUnreserved, IsUnreservedTransition, blacks_spelled};
 ghost use Rattle.rn_app.specs.SmallNets.{initial_spelled, place_spelled, arc_spelled};
 ghost use Rattle.rn_app.specs.SmallNets.{transition_spelled, net_spelled, IsNamed};
 ghost use Rattle.rn_app.specs.SmallNets.{SmallPlace as Place, SmallArc as Arc};
@@ -25,7 +25,7 @@ fn first(tokens: &[Token]) -> Option<(&Token, &[Token])>
     tokens.split_first()
 }
 
-/// What comes behind this sign, where the tokens begin with it.
+/// What comes after this sign, where the tokens begin with it.
 fn sign(tokens: &[Token], wanted: u8) -> Option<&[Token]>
     ensures found { IfSome result
         (λ rest. seen_all tokens.now ≡ sign_of wanted ∷ seen_all rest.now) }
@@ -38,7 +38,7 @@ fn sign(tokens: &[Token], wanted: u8) -> Option<&[Token]>
     }
 }
 
-/// What comes behind this word, where the tokens begin with it.
+/// What comes after this word, where the tokens begin with it.
 fn word<'t>(tokens: &'t [Token], wanted: &[u8]) -> Option<&'t [Token]>
     ensures found { IfSome result
         (λ rest. seen_all tokens.now ≡ word_of wanted.now ∷ seen_all rest.now) }
@@ -51,21 +51,24 @@ fn word<'t>(tokens: &'t [Token], wanted: &[u8]) -> Option<&'t [Token]>
     }
 }
 
-/// A name and what comes behind it, where the tokens begin with one.
+/// A name and what comes after it, where the tokens begin with one.
 fn name(tokens: &[Token]) -> Option<(&[u8], &[Token])>
     ensures found { IfSome result
         (λ found. seen_all tokens.now ≡ word_of found.0.now ∷ seen_all found.1.now) }
-    ensures free { IfSome result (λ found. IsFree found.0.now) }
-    ensures none { IfNone result ((name : List ℕ) (rest : List Seen) → IsFree name →
+    ensures free { IfSome result (λ found. IsUnreserved found.0.now) }
+    ensures none { IfNone result ((name : List ℕ) (rest : List Seen) → IsUnreserved name →
         seen_all tokens.now ≢ word_of name ∷ rest) }
 {
     match first(tokens)? {
-        (Token::Word(word), others) if reserved_word(word).is_none() => Some((word.as_slice(), others)),
+        (Token::Word(word), others) if reserved_word(word).is_none() => Some((
+            word.as_slice(),
+            others,
+        )),
         _ => None,
     }
 }
 
-/// What comes behind `[]`.
+/// What comes after `[]`.
 fn black(tokens: &[Token]) -> Option<&[Token]>
     ensures found { IfSome result
         (λ rest. seen_all tokens.now ≡ sign_of 91 ∷ sign_of 93 ∷ seen_all rest.now) }
@@ -75,7 +78,7 @@ fn black(tokens: &[Token]) -> Option<&[Token]>
     sign(sign(tokens, b'[')?, b']')
 }
 
-/// How many black tokens follow the first one, up to `;`, and what comes behind that.
+/// How many black tokens follow the first one, up to `;`, and what comes after that.
 fn blacks(tokens: &[Token]) -> Option<(usize, &[Token])>
     ensures found { IfSome result (λ found. seen_all tokens.now ≡ blacks_spelled found.0
         ++ sign_of 59 ∷ seen_all found.1.now) }
@@ -92,7 +95,7 @@ fn blacks(tokens: &[Token]) -> Option<(usize, &[Token])>
     Some((count, sign(rest, b';')?))
 }
 
-/// With how many black tokens a place begins, and what comes behind the `;`.
+/// With how many black tokens a place begins, and what comes after the `;`.
 fn initial(tokens: &[Token]) -> Option<(usize, &[Token])>
     ensures found { IfSome result (λ found. seen_all tokens.now ≡ initial_spelled found.0
         ++ sign_of 59 ∷ seen_all found.1.now) }
@@ -108,12 +111,12 @@ fn initial(tokens: &[Token]) -> Option<(usize, &[Token])>
     }
 }
 
-/// The place that the tokens begin with, and what comes behind it.
+/// The place that the tokens begin with, and what comes after it.
 fn place(tokens: &[Token]) -> Option<(SmallPlace<'_>, &[Token])>
     ensures found { IfSome result (λ found. seen_all tokens.now ≡ place_spelled (place_seen found.0)
         ++ seen_all found.1.now) }
-    ensures free { IfSome result (λ found. IsFree found.0.name.now) }
-    ensures none { IfNone result ((place : Place) (rest : List Seen) → IsFree place.name →
+    ensures free { IfSome result (λ found. IsUnreserved found.0.name.now) }
+    ensures none { IfNone result ((place : Place) (rest : List Seen) → IsUnreserved place.name →
         seen_all tokens.now ≢ place_spelled place ++ rest) }
 {
     let (name, after) = name(word(tokens, b"place")?)?;
@@ -137,7 +140,7 @@ fn begins(tokens: &[Token], wanted: &[u8]) -> bool
     }
 }
 
-/// All places that the tokens begin with, and what comes behind them.
+/// All places that the tokens begin with, and what comes after them.
 fn places(
     alloc: Global,
     tokens: &[Token],
@@ -146,11 +149,11 @@ fn places(
         seen_all tokens.now ≡ flat_map place_spelled (map place_seen found.0.items)
         ++ seen_all found.1.now)) }
     ensures free { IfOk result
-        (λ r. IfSome r (λ found. All (λ p. IsFree p.name) (map place_seen found.0.items))) }
+        (λ r. IfSome r (λ found. All (λ p. IsUnreserved p.name) (map place_seen found.0.items))) }
     ensures ended { IfOk result
         (λ r. IfSome r (λ found. begins_with (codes "place") (seen_all found.1.now) ≡ false)) }
     ensures none { IfOk result
-        (λ r. IfNone r ((places : List Place) (rest : List Seen) → All (λ p. IsFree p.name) places →
+        (λ r. IfNone r ((places : List Place) (rest : List Seen) → All (λ p. IsUnreserved p.name) places →
         begins_with (codes "place") rest ≡ false →
         seen_all tokens.now ≢ flat_map place_spelled places ++ rest)) }
 {
@@ -168,12 +171,12 @@ fn places(
     Ok(Some((places, rest)))
 }
 
-/// The arc that the tokens begin with, and what comes behind it.
+/// The arc that the tokens begin with, and what comes after it.
 fn arc(tokens: &[Token]) -> Option<(SmallArc<'_>, &[Token])>
     ensures found { IfSome result (λ found. seen_all tokens.now ≡ arc_spelled (arc_seen found.0)
         ++ seen_all found.1.now) }
-    ensures free { IfSome result (λ found. IsFree found.0.place.now) }
-    ensures none { IfNone result ((arc : Arc) (rest : List Seen) → IsFree arc.place →
+    ensures free { IfSome result (λ found. IsUnreserved found.0.place.now) }
+    ensures none { IfNone result ((arc : Arc) (rest : List Seen) → IsUnreserved arc.place →
         seen_all tokens.now ≢ arc_spelled arc ++ rest) }
 {
     let (takes, after) = match word(tokens, b"in") {
@@ -191,17 +194,17 @@ fn begins_arc(tokens: &[Token]) -> bool
     begins(tokens, b"in") || begins(tokens, b"out")
 }
 
-/// All arcs that the tokens begin with, and what comes behind them.
+/// All arcs that the tokens begin with, and what comes after them.
 fn arcs(alloc: Global, tokens: &[Token]) -> Result<Option<(Vec<SmallArc<'_>>, &[Token])>, NoMemory>
     ensures found { IfOk result (λ r. IfSome r (λ found.
         seen_all tokens.now ≡ flat_map arc_spelled (map arc_seen found.0.items)
         ++ seen_all found.1.now)) }
     ensures free { IfOk result
-        (λ r. IfSome r (λ found. All (λ arc. IsFree arc.place) (map arc_seen found.0.items))) }
+        (λ r. IfSome r (λ found. All (λ arc. IsUnreserved arc.place) (map arc_seen found.0.items))) }
     ensures ended { IfOk result
         (λ r. IfSome r (λ found. begins_arc (seen_all found.1.now) ≡ false)) }
     ensures none { IfOk result
-        (λ r. IfNone r ((arcs : List Arc) (rest : List Seen) → All (λ arc. IsFree arc.place) arcs →
+        (λ r. IfNone r ((arcs : List Arc) (rest : List Seen) → All (λ arc. IsUnreserved arc.place) arcs →
         begins_arc rest ≡ false →
         seen_all tokens.now ≢ flat_map arc_spelled arcs ++ rest)) }
 {
@@ -218,7 +221,7 @@ fn arcs(alloc: Global, tokens: &[Token]) -> Result<Option<(Vec<SmallArc<'_>>, &[
     Ok(Some((arcs, rest)))
 }
 
-/// The transition that the tokens begin with, and what comes behind it.
+/// The transition that the tokens begin with, and what comes after it.
 fn transition(
     alloc: Global,
     tokens: &[Token],
@@ -227,9 +230,9 @@ fn transition(
         seen_all tokens.now ≡ transition_spelled (transition_seen found.0)
         ++ seen_all found.1.now)) }
     ensures free { IfOk result
-        (λ r. IfSome r (λ found. IsFreeTransition (transition_seen found.0))) }
+        (λ r. IfSome r (λ found. IsUnreservedTransition (transition_seen found.0))) }
     ensures none { IfOk result
-        (λ r. IfNone r ((transition : Transition) (rest : List Seen) → IsFreeTransition transition →
+        (λ r. IfNone r ((transition : Transition) (rest : List Seen) → IsUnreservedTransition transition →
         seen_all tokens.now ≢ transition_spelled transition ++ rest)) }
 {
     let Some((name, after)) = transition_name(tokens) else {
@@ -244,20 +247,20 @@ fn transition(
     Ok(Some((SmallTransition { name, arcs }, rest)))
 }
 
-/// The name in `trans t {`, and what comes behind that.
+/// The name in `trans t {`, and what comes after that.
 fn transition_name(tokens: &[Token]) -> Option<(&[u8], &[Token])>
     ensures found { IfSome result (λ found.
         seen_all tokens.now ≡ word_of (codes "trans") ∷ word_of found.0.now
         ∷ sign_of 123 ∷ seen_all found.1.now) }
-    ensures free { IfSome result (λ found. IsFree found.0.now) }
-    ensures none { IfNone result ((name : List ℕ) (rest : List Seen) → IsFree name →
+    ensures free { IfSome result (λ found. IsUnreserved found.0.now) }
+    ensures none { IfNone result ((name : List ℕ) (rest : List Seen) → IsUnreserved name →
         seen_all tokens.now ≢ word_of (codes "trans") ∷ word_of name ∷ sign_of 123 ∷ rest) }
 {
     let (name, after) = name(word(tokens, b"trans")?)?;
     Some((name, sign(after, b'{')?))
 }
 
-/// All transitions that the tokens begin with, and what comes behind them.
+/// All transitions that the tokens begin with, and what comes after them.
 fn transitions(
     alloc: Global,
     tokens: &[Token],
@@ -266,11 +269,11 @@ fn transitions(
         seen_all tokens.now ≡ flat_map transition_spelled (map transition_seen found.0.items)
         ++ seen_all found.1.now)) }
     ensures free { IfOk result
-        (λ r. IfSome r (λ found. All IsFreeTransition (map transition_seen found.0.items))) }
+        (λ r. IfSome r (λ found. All IsUnreservedTransition (map transition_seen found.0.items))) }
     ensures ended { IfOk result
         (λ r. IfSome r (λ found. begins_with (codes "trans") (seen_all found.1.now) ≡ false)) }
     ensures none { IfOk result (λ r. IfNone r ((transitions : List Transition) (rest : List Seen) →
-        All IsFreeTransition transitions →
+        All IsUnreservedTransition transitions →
         begins_with (codes "trans") rest ≡ false →
         seen_all tokens.now ≢ flat_map transition_spelled transitions ++ rest)) }
 {
@@ -287,7 +290,7 @@ fn transitions(
     Ok(Some((transitions, rest)))
 }
 
-/// What comes behind `net main {`.
+/// What comes after `net main {`.
 fn net_start(tokens: &[Token]) -> Option<&[Token]>
     ensures found { IfSome result (λ rest.
         seen_all tokens.now ≡ word_of (codes "net") ∷ word_of (codes "main")

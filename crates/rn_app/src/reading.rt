@@ -6,11 +6,9 @@ ghost use Rattle.rn_app.specs.SmallRuns.{IsSmall, IsModest};
 
 use crate::{lexing, numbering, parsing};
 use rn_model::System;
+use rn_notation::limits::LONGEST_NET_TEXT;
 use rn_value::NoMemory;
 use std::alloc::Global;
-
-/// The most bytes that a net text has.
-pub const LONGEST_TEXT: usize = 4_194_304;
 
 /// The system of a net text, or nothing where the text isn't accepted.
 pub fn read_net(alloc: Global, text: &[u8]) -> Result<Option<System>, NoMemory>
@@ -19,7 +17,7 @@ pub fn read_net(alloc: Global, text: &[u8]) -> Result<Option<System>, NoMemory>
     ensures small { IfOk result (λ r. IfSome r IsSmall) }
     ensures modest { IfOk result (λ r. IfSome r IsModest) }
 {
-    if text.len() > LONGEST_TEXT {
+    if text.len() > LONGEST_NET_TEXT {
         return Ok(None);
     }
     let Some(tokens) = lexing::lex(alloc, text)? else {

@@ -1,3 +1,4 @@
+//! The top call, over texts of nets.
 use crate::renew_top;
 use rn_outside::{MemSink, MemSource, Source, SourceFailed};
 use std::alloc::Global;
@@ -107,7 +108,7 @@ fn net_texts(rt: HostRuntime) -> Result<(), Fail> {
     Ok(())
 }
 
-// Blanks behind a net text count too.
+// Blanks after a net text count too.
 #[test]
 fn a_text_has_at_most_its_limit(rt: HostRuntime) -> Result<(), Fail> {
     let limit = 4_194_304;

@@ -2,15 +2,16 @@
 ghost use Rattle.std.specs.Prelude.{◌≡◌, ◌≢◌, ◌↔◌, ◌⊎◌, ◌<◌, map, length, string_bytes};
 ghost use Rattle.std.specs.Prelude.{IsTrue, IfOk, IfErr, IfSome, IsErrOf, OnErr, codes};
 ghost use Rattle.rn_model.specs.declared.system.System.{System as Whole};
+ghost use Rattle.rn_notation.specs.Limits.{longest_net_text};
 ghost use Rattle.rn_outside.specs.Bytes.{GivesAll, GivesPrefix, Appends, AppendsPrefix};
 ghost use Rattle.rn_outside.specs.Faults.{Rose};
 ghost use Rattle.rn_app.specs.SmallNets.{Accepted};
 ghost use Rattle.rn_app.specs.TopCall.{AreRunWords, IsNoNetText, IsRunOf, ReadsRun, WritesRun};
 ghost use Rattle.rn_app.specs.TopCall.{WritesPartOfRun, HasCause, FailsToRefuse, TakesLine};
-ghost use Rattle.rn_app.specs.TopCall.{IsStatus, IsFault, line_of, status_of, gives_way};
+ghost use Rattle.rn_app.specs.TopCall.{IsStatus, IsFaultStatus, line_of, status_of, gives_way};
 
-use crate::reading::{self, LONGEST_TEXT};
-use crate::{firing, writing};
+use crate::{firing, reading, writing};
+use rn_notation::limits::LONGEST_NET_TEXT;
 use rn_outside::{ReadAllFault, Sink, Source, read_all, write_all};
 use rn_value::NoMemory;
 use std::alloc::Global;
@@ -25,7 +26,7 @@ pub const WORDS_REFUSED: u8 = 2;
 pub const READ_FAULT: u8 = 4;
 /// The status where a write failed.
 pub const WRITE_FAULT: u8 = 5;
-/// The status where memory failed.
+/// The status where memory ran out.
 pub const NO_MEMORY: u8 = 6;
 
 /// Why no run is written.
@@ -69,13 +70,13 @@ fn read_input<I: Source>(alloc: Global, input: &mut I) -> Result<Vec<u8>, Refusa
     ensures all { IfOk result (λ bytes.
         GivesAll (I.left input.old) bytes.items (I.left input.new)) }
     ensures net { IsErrOf result Refusal.Net →
-        IfSome (I.left input.old) (λ left. 4194304 < length left) }
+        IfSome (I.left input.old) (λ left. longest_net_text < length left) }
     ensures words { ¬ IsErrOf result Refusal.Words }
     ensures cause { IsErrOf result Refusal.ReadFault →
         Rose (I.faults input.old) (I.faults input.new) }
-    ensures front { OnErr result (GivesPrefix (I.left input.old) (I.left input.new)) }
+    ensures prefix { OnErr result (GivesPrefix (I.left input.old) (I.left input.new)) }
 {
-    match read_all(alloc, input, LONGEST_TEXT) {
+    match read_all(alloc, input, LONGEST_NET_TEXT) {
         Ok(bytes) => Ok(bytes),
         Err(ReadAllFault::ReadFault) => Err(Refusal::ReadFault),
         Err(ReadAllFault::TooLong) => Err(Refusal::Net),
@@ -105,7 +106,7 @@ fn answer<I: Source>(alloc: Global, words: &[String], input: &mut I) -> Result<V
     ensures refused { IfErr result (HasCause (map string_bytes words.now)
         (I.left input.old) (I.faults input.old) (I.faults input.new)) }
     ensures untouched { ¬ AreRunWords (map string_bytes words.now) → input.new ≡ input.old }
-    ensures front { GivesPrefix (I.left input.old) (I.left input.new) }
+    ensures prefix { GivesPrefix (I.left input.old) (I.left input.new) }
 {
     if !are_run_words(words) {
         return Err(Refusal::Words);
@@ -116,10 +117,10 @@ fn answer<I: Source>(alloc: Global, words: &[String], input: &mut I) -> Result<V
 
 /// Writes the text of a run.
 fn write_text<O: Sink>(out: &mut O, text: &[u8]) -> u8
-    ensures done { result ≡ 0 → Appends (O.held out.old) text.now (O.held out.new) }
-    ensures failed { result ≡ 5 → AppendsPrefix (O.held out.old) text.now (O.held out.new)
+    ensures done { result ≡ DONE → Appends (O.held out.old) text.now (O.held out.new) }
+    ensures failed { result ≡ WRITE_FAULT → AppendsPrefix (O.held out.old) text.now (O.held out.new)
         × Rose (O.faults out.old) (O.faults out.new) }
-    ensures only { (result ≡ 0) ⊎ (result ≡ 5) }
+    ensures only { (result ≡ DONE) ⊎ (result ≡ WRITE_FAULT) }
 {
     match write_all(out, text) {
         Ok(()) => DONE,
@@ -127,14 +128,14 @@ fn write_text<O: Sink>(out: &mut O, text: &[u8]) -> u8
     }
 }
 
-/// Writes the line of a refusal, and answers its status.
+/// Writes the line of a refusal, and returns its status.
 fn refuse<E: Sink>(err: &mut E, refusal: Refusal) -> u8
-    ensures own { result ≢ 5 → result ≡ status_of refusal }
-    ensures line { result ≢ 5 → TakesLine (E.held err.old) (E.held err.new)
+    ensures own { result ≢ WRITE_FAULT → result ≡ status_of refusal }
+    ensures line { result ≢ WRITE_FAULT → TakesLine (E.held err.old) (E.held err.new)
         (E.faults err.old) (E.faults err.new) (line_of refusal) }
-    ensures whole { result ≢ 5 → IsTrue (gives_way refusal) →
+    ensures whole { result ≢ WRITE_FAULT → IsTrue (gives_way refusal) →
         Appends (E.held err.old) (line_of refusal) (E.held err.new) }
-    ensures failed { result ≡ 5 → IsTrue (gives_way refusal)
+    ensures failed { result ≡ WRITE_FAULT → IsTrue (gives_way refusal)
         × AppendsPrefix (E.held err.old) (line_of refusal) (E.held err.new)
         × Rose (E.faults err.old) (E.faults err.new) }
 {
@@ -151,7 +152,7 @@ fn refuse<E: Sink>(err: &mut E, refusal: Refusal) -> u8
 }
 
 /// Does all that the program does: it accepts the words, reads the net text, runs its net, and
-/// writes the run. `words` are those after the program's name. It answers one of the statuses
+/// writes the run. `words` are those after the program's name. It returns one of the statuses
 /// above.
 pub fn renew_top<I: Source, O: Sink, E: Sink>(
     alloc: Global,
@@ -161,46 +162,46 @@ pub fn renew_top<I: Source, O: Sink, E: Sink>(
     err: &mut E,
 ) -> u8
     // Done: the words are accepted, and `out` took the text of a run of the net text.
-    ensures run { result ≡ 0 → AreRunWords (map string_bytes words.now)
+    ensures run { result ≡ DONE → AreRunWords (map string_bytes words.now)
         × WritesRun (I.left input.old) (I.left input.new) (O.held out.old) (O.held out.new) }
-    ensures quiet { result ≡ 0 → err.new ≡ err.old }
+    ensures quiet { result ≡ DONE → err.new ≡ err.old }
 
     // Each refusal has its cause, and its line on `err`.
-    ensures net_refused { result ≡ 1 → AreRunWords (map string_bytes words.now)
+    ensures net_refused { result ≡ NET_REFUSED → AreRunWords (map string_bytes words.now)
         × IfSome (I.left input.old) IsNoNetText
         × Appends (E.held err.old) (codes "P0 1:1\n") (E.held err.new) }
-    ensures words_refused { result ≡ 2 → (¬ AreRunWords (map string_bytes words.now))
+    ensures words_refused { result ≡ WORDS_REFUSED → (¬ AreRunWords (map string_bytes words.now))
         × Appends (E.held err.old) (codes "U0 1\n") (E.held err.new) }
-    ensures read_fault { result ≡ 4 → Rose (I.faults input.old) (I.faults input.new)
+    ensures read_fault { result ≡ READ_FAULT → Rose (I.faults input.old) (I.faults input.new)
         × TakesLine (E.held err.old) (E.held err.new) (E.faults err.old) (E.faults err.new)
         (codes "read fault\n") }
-    ensures write_fault { result ≡ 5 →
+    ensures write_fault { result ≡ WRITE_FAULT →
         (Rose (O.faults out.old) (O.faults out.new) × err.new ≡ err.old
         × WritesPartOfRun (I.left input.old) (I.left input.new) (O.held out.old) (O.held out.new))
         ⊎ (Rose (E.faults err.old) (E.faults err.new) × out.new ≡ out.old
         × FailsToRefuse (map string_bytes words.now) (I.left input.old)
         (E.held err.old) (E.held err.new)) }
-    ensures memory { result ≡ 6 →
+    ensures memory { result ≡ NO_MEMORY →
         TakesLine (E.held err.old) (E.held err.new) (E.faults err.old) (E.faults err.new)
         (codes "memory\n") }
     ensures only { IsStatus result }
 
-    // Each cause has its refusal, but for faults and want of memory.
+    // Each cause has its refusal, but for faults and where memory runs out.
     ensures refuses_words { ¬ AreRunWords (map string_bytes words.now) →
-        ((result ≡ 2) ⊎ (result ≡ 5)) × input.new ≡ input.old }
+        ((result ≡ WORDS_REFUSED) ⊎ (result ≡ WRITE_FAULT)) × input.new ≡ input.old }
     ensures refuses_net { AreRunWords (map string_bytes words.now) →
-        IfSome (I.left input.old) (λ bytes. IsNoNetText bytes → (result ≡ 1) ⊎ IsFault result) }
+        IfSome (I.left input.old) (λ bytes. IsNoNetText bytes → (result ≡ NET_REFUSED) ⊎ IsFaultStatus result) }
 
-    // Without faults, a net text is run, but for want of memory.
+    // Without faults, a net text is run, unless memory runs out.
     ensures complete { AreRunWords (map string_bytes words.now) →
         IfSome (I.left input.old) (λ bytes. (system : Whole) → Accepted bytes system →
         ¬ Rose (I.faults input.old) (I.faults input.new) →
         ¬ Rose (O.faults out.old) (O.faults out.new) →
-        ¬ Rose (E.faults err.old) (E.faults err.new) → (result ≡ 0) ⊎ (result ≡ 6)) }
+        ¬ Rose (E.faults err.old) (E.faults err.new) → (result ≡ DONE) ⊎ (result ≡ NO_MEMORY)) }
 
     // What a refusal leaves.
-    ensures nothing_out { result ≢ 0 → result ≢ 5 → out.new ≡ out.old }
-    ensures front { GivesPrefix (I.left input.old) (I.left input.new) }
+    ensures nothing_out { result ≢ DONE → result ≢ WRITE_FAULT → out.new ≡ out.old }
+    ensures prefix { GivesPrefix (I.left input.old) (I.left input.new) }
 {
     match answer(alloc, words, input) {
         Ok(text) => write_text(out, text.as_slice()),

@@ -47,7 +47,7 @@ fn put_firings(
     Ok(())
 }
 
-/// So many black tokens, each behind a space.
+/// So many black tokens, each after a space.
 fn put_blacks(count: u64, out: &mut Vec<u8>) -> Result<(), NoMemory>
     ensures { OnOk result (out.new.items ≡ out.old.items ++ blacks_text count) }
 {

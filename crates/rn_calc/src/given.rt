@@ -1,3 +1,4 @@
+//! What an expression is read under.
 use rn_items::Items;
 use rn_value::{InstRef, Value};
 

@@ -4,13 +4,13 @@
 //! alternatives by a loop. It looks at each part once, and copies the values that it gives back.
 #![tactic(auto)]
 
-mod calculating;
+mod conditions;
+mod evaluation;
 mod given;
-mod holding;
 mod integers;
 #[cfg(test)]
 mod tests;
 
-pub use calculating::calc;
+pub use conditions::holds;
+pub use evaluation::calc;
 pub use given::{Given, VarVals};
-pub use holding::holds;

@@ -1,7 +1,10 @@
+//! Values of expressions and answers of conditions.
 ghost use Rattle.std.specs.Prelude.{◌≤◌, IfOk};
+ghost use Rattle.rn_model.specs.Limits.{greatest_step};
 
 use crate::{Given, calc, holds};
 use rn_items::{Boxed, Items};
+use rn_model::limits::GREATEST_STEP;
 use rn_model::{Alts, CompareKind, Cond, Expr, Exprs, OpKind, Simple, Simples};
 use rn_value::{InstRef, NoMemory, Str, Value, same};
 use std::alloc::Global;
@@ -11,14 +14,14 @@ type Cases = Vec<(Expr, Option<Value>)>;
 
 // Variable 3 is 7, and variable 5 is the list of 2 and 3.
 fn given(alloc: Global) -> Result<Given, NoMemory>
-    ensures { IfOk result (λ given. given.step ≤ 200001) }
+    ensures { IfOk result (λ given. given.step ≤ greatest_step) }
 {
     let mut pairs = Items::new(alloc);
     pairs.push((3, Value::Int(7)))?;
     pairs.push((5, list(alloc, &[2, 3])?))?;
     Ok(Given {
         this: InstRef::Old(4),
-        step: 200001,
+        step: GREATEST_STEP,
         pairs,
     })
 }
@@ -52,7 +55,7 @@ fn result_of(
     a: i64,
     b: i64,
 ) -> Result<Option<i64>, NoMemory>
-    requires { given.now.step ≤ 200001 }
+    requires { given.now.step ≤ greatest_step }
 {
     let expr = op(alloc, kind, a, b)?;
     match calc(alloc, &expr, given)? {
@@ -94,7 +97,7 @@ fn leaves(alloc: Global) -> Result<Cases, NoMemory> {
     cases.push((Expr::Var(3), Some(Value::Int(7))))?;
     cases.push((Expr::Var(4), None))?;
     cases.push((Expr::This, Some(Value::Inst(InstRef::Old(4)))))?;
-    cases.push((Expr::Step, Some(Value::Int(200001))))?;
+    cases.push((Expr::Step, Some(Value::Int(GREATEST_STEP as i64))))?;
     Ok(cases)
 }
 
@@ -143,7 +146,7 @@ fn are_alike(a: &Option<Value>, b: &Option<Value>) -> bool {
 
 // The first case whose value isn't the one that is wanted.
 fn first_wrong(alloc: Global, given: &Given, cases: &Cases) -> Result<Option<usize>, NoMemory>
-    requires { given.now.step ≤ 200001 }
+    requires { given.now.step ≤ greatest_step }
 {
     for i in 0..cases.len() {
         let case = &cases[i];
@@ -236,7 +239,7 @@ fn negations(alloc: Global) -> Result<Guards, NoMemory> {
 
 // The first guard whose answer isn't the one that is wanted.
 fn wrong_guard(alloc: Global, given: &Given, cases: &Guards) -> Result<Option<usize>, NoMemory>
-    requires { given.now.step ≤ 200001 }
+    requires { given.now.step ≤ greatest_step }
 {
     for i in 0..cases.len() {
         let case = &cases[i];
@@ -259,7 +262,7 @@ fn guards(rt: HostRuntime) -> Result<(), Fail> {
 
 // Whether a comparison with 1 holds.
 fn compared(alloc: Global, given: &Given, kind: CompareKind, a: Expr) -> Result<bool, NoMemory>
-    requires { given.now.step ≤ 200001 }
+    requires { given.now.step ≤ greatest_step }
 {
     let cond = all(alloc, simple(kind, a, Expr::Int(1)), less(0, 1))?;
     holds(alloc, &cond, given)

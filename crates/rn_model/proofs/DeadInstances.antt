@@ -106,7 +106,7 @@ module _ (system : System) (m : Marking) (b : Binding) (depth step : ℕ) (f : F
 
   renames : (live : ℕ → Bool) (i : InstRef) → live_or_new live i ≡ true → live_or_later live m.next (numbered_inst made m.next i) ≡ true
   renames live (Old n) e = or_left (live n) (nat_le m.next n) e
-  renames live (New path j) e = numbers_pass live path j (position (λ c. pointwise nat_eq c.path path && nat_eq c.place j) made)
+  renames live (New path j) e = numbers_pass live path j (position (λ c. pointwise nat_eq c.path path && nat_eq c.index j) made)
 
   -- an instance that was there and that a put token names is live
   put_live : (h place n : ℕ) (v : Value) → Contains (asked_at puts system fired.acts.read (Old h) place) v → IsTrue (mentions v n) → IsThere m n → IsLive system m n

@@ -46,14 +46,14 @@ not_last : (p : List ℕ) (i : ℕ) → [] ≡ p ++ i ∷ [] → ⊥
 not_last [] i e = let no : ⊥ = cc in no
 not_last (j ∷ p) i e = let no : ⊥ = cc in no
 
-same_front : (p q : List ℕ) (i j : ℕ) → p ++ i ∷ [] ≡ q ++ j ∷ [] → p ≡ q
-same_front [] [] i j e = refl
-same_front [] (k ∷ q) i j e = let rest : [] ≡ q ++ j ∷ [] = cc in absurd (not_last q j rest)
-same_front (k ∷ p) [] i j e = let rest : [] ≡ p ++ i ∷ [] = cc in absurd (not_last p i rest)
-same_front (k ∷ p) (l ∷ q) i j e =
+same_prefix : (p q : List ℕ) (i j : ℕ) → p ++ i ∷ [] ≡ q ++ j ∷ [] → p ≡ q
+same_prefix [] [] i j e = refl
+same_prefix [] (k ∷ q) i j e = let rest : [] ≡ q ++ j ∷ [] = cc in absurd (not_last q j rest)
+same_prefix (k ∷ p) [] i j e = let rest : [] ≡ p ++ i ∷ [] = cc in absurd (not_last p i rest)
+same_prefix (k ∷ p) (l ∷ q) i j e =
     let rest : p ++ i ∷ [] ≡ q ++ j ∷ [] = cc in
     let first : k ≡ l = cc in
-    let front : p ≡ q = same_front p q i j rest in
+    let prefix : p ≡ q = same_prefix p q i j rest in
     cc
 
 pub same_entry : (x y : Node) → entry x ≡ entry y → x ≡ y
@@ -131,7 +131,7 @@ module _ (system : System) (m : Marking) (b : Binding) (good : InstRef → Bool)
     -- a node has one caller
     one_caller : (node caller also : Node) (i j : ℕ) (d e : Downlink) → Calls system b caller i d node → Calls system b also j e node → caller ≡ also
     one_caller node caller also i j d e calls calls_too =
-        let path : caller.path ≡ also.path = same_front caller.path also.path i j (sym calls.path ∙ calls_too.path) in
+        let path : caller.path ≡ also.path = same_prefix caller.path also.path i j (sym calls.path ∙ calls_too.path) in
         same_Some caller also (sym (node_at-path system b depth caller enabled.shape calls.caller_there) ∙ ap (node_at b) path ∙ node_at-path system b depth also enabled.shape calls_too.caller_there)
 
     new_holds : (n : ℕ) → Reached n → (item : Item) → Contains (items_of system b) item → MayEnter system b (InBy system b n) item → Holds system b other item

@@ -28,7 +28,7 @@ pub each_filter : {X : Type 0} (P : X → Type 0) (test : X → Bool) (xs : List
 each_filter P test [] p = tt
 each_filter P test (x ∷ xs) p = kept_or_not P x (filter test xs) (test x) p.0 (each_filter P test xs p.1)
 
--- each element beside its place, from n
+-- each element beside its index, from n
 pub each_enumerated : {X : Type 0} (P : ℕ × X → Type 0) (n : ℕ) (xs : List X) → ((k : ℕ) (x : X) → slice_get xs k ≡ Some x → P (n + k, x)) → AllByRecursion P (enumerate_from n xs)
 each_enumerated P n [] f = tt
 each_enumerated P n (x ∷ xs) f =
@@ -37,17 +37,17 @@ each_enumerated P n (x ∷ xs) f =
       each_enumerated P (n + 1) xs (λ k y e. let place : n + suc k ≡ (n + 1) + k = omega arith in subst (λ j. P (j, y)) place (f (suc k) y e)),
     )
 
--- each element beside its place
+-- each element beside its index
 pub each_place : {X : Type 0} (P : ℕ × X → Type 0) (xs : List X) → ((k : ℕ) (x : X) → slice_get xs k ≡ Some x → P (k, x)) → AllByRecursion P (enumerate_from 0 xs)
 each_place P xs f = each_enumerated P 0 xs (λ k x e. let place : k ≡ 0 + k = omega arith in subst (λ j. P (j, x)) place (f k x e))
 
--- what holds of each element holds of the one at a place
+-- what holds of each element holds of the one at an index
 pub at_place : {X : Type 0} (P : X → Type 0) (xs : List X) (k : ℕ) (x : X) → All P xs → slice_get xs k ≡ Some x → P x
 at_place P [] k x all e = absurd (let no : ⊥ = cc in no)
 at_place P (y ∷ ys) zero x all e = let same : y ≡ x = cc in subst P same (all 0 y (omega arith))
 at_place P (y ∷ ys) (suc k) x all e = at_place P ys k x (λ j d h. all (suc j) d (omega (arith, h))) e
 
--- what holds of two lists place by place holds of the elements at a place
+-- what holds of two lists index by index holds of the elements at an index
 pub at_places : {X Y : Type 0} (R : X → Y → Type 0) (xs : List X) (ys : List Y) (k : ℕ) (x : X) (y : Y) → AllZip R xs ys → slice_get xs k ≡ Some x → slice_get ys k ≡ Some y → R x y
 at_places R [] ys k x y all e f = absurd (let no : ⊥ = cc in no)
 at_places R (a ∷ xs) [] k x y all e f = absurd (let no : ⊥ = cc in no)

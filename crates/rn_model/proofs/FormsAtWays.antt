@@ -18,7 +18,7 @@ use Rattle.rn_model.proofs.EachElement.{each_append, each_map, each_weaker}
 abbrev Formed : Type 0
 Formed = Expr × (List ℕ → Option Expr)
 
--- the form at a way that begins with the place of a part
+-- the form at a way that begins with the index of a part
 abbrev form_in : List Formed → List ℕ → Option Expr
 form_in parts [] = None
 form_in parts (i ∷ way) = option_and_then (λ part. part.1 way) (slice_get parts i)
@@ -63,7 +63,7 @@ with_holes e = (e, holes_in e)
 abbrev with_forms : Expr → Formed
 with_forms e = (e, form_at e)
 
--- these parts stand from place i on
+-- these parts stand from index i on
 abbrev StandFrom : List Formed → ℕ → List Part → Type 0
 StandFrom all i parts = (k : ℕ) (x : Formed) → slice_get (map with_forms (exprs parts)) k ≡ Some x → slice_get all (i + k) ≡ Some x
 

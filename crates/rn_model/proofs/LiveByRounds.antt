@@ -179,7 +179,7 @@ module _ (system : System) (m : Marking) where
       let holder : list_any (λ h. live_by j h && names h n) numbers ≡ true = contained_any (λ h. live_by j h && names h n) numbers h (numbered m.instances h named.0 named.1) (true_both (live_by j h) (names h n) live_h named_h) in
       none n (or_right (live_by j n) (is_there n && list_any (λ h. live_by j h && names h n) numbers) (true_both (is_there n) (list_any (λ h. live_by j h && names h n) numbers) (ap is_some there.1) holder))
 
--- A test that just the live instances pass.
+-- A test that the live instances pass, and no others.
 pub record DecidesLive (system : System) (m : Marking) (live : ℕ → Bool) : Type 0 where
   pub sound : (n : ℕ) → live n ≡ true → IsLive system m n
   pub whole : (n : ℕ) → IsLive system m n → live n ≡ true

@@ -37,7 +37,7 @@ made_of_nets system b good nodes =
     each_flat_map (IsOfNet system) (made_by system) b.nodes
     (each_weaker (IsNodeOf system) (λ node. AllByRecursion (IsOfNet system) (made_by system node)) (λ node of.
     let t = good_transition system node.net node.transition good of.net of.transition in
-    each_map (IsOfNet system) (λ c. record { path = node.path; place = c.0; net = c.1.net }) (enumerate_from 0 (transition_of system node).creations)
+    each_map (IsOfNet system) (λ c. record { path = node.path; index = c.0; net = c.1.net }) (enumerate_from 0 (transition_of system node).creations)
     (each_place (λ c. c.1.net < length system.nets) (transition_of system node).creations (λ j c there.
     (at_place (λ c. (c.net < length system.nets) × (var_kind_in (net_at system node.net) c.var ≡ Kind.Net)) (transition_of system node).creations j c t.kinds.creations there).0)))
     b.nodes (recursion_from_All (IsNodeOf system) b.nodes nodes))
@@ -88,7 +88,7 @@ place_of : {X : Type 0} (test : X → Bool) (x : X) (xs : List X) (place : Optio
 place_of test x xs None e = omega arith
 place_of test x xs (Some k) e = (position-Some test (x ∷ xs) k x e).0
 
--- the place of what passes a test, where something does
+-- the index of what passes a test, where something does
 pub place_within : {X : Type 0} (test : X → Bool) (xs : List X) → count_by test xs ≡ 1 → unwrap_or (position test xs) 0 < length xs
 place_within test [] e = absurd (let no : ⊥ = omega (arith, e) in no)
 place_within test (x ∷ xs) e = place_of test x xs (position test (x ∷ xs)) refl

@@ -1,24 +1,24 @@
--- Fronts of runs, and what follows their ends.
+-- Prefixes of runs, and what follows their ends.
 use Rattle.std.proofs.Common.{◌≡◌, ℕ, suc, ◌+◌, ◌≤◌, List, [], ◌∷◌, ◌++◌, length, length-append, sym, ◌∙◌, subst, ap, arith}
 use Rattle.rn_model.specs.declared.system.System.{System}
 use Rattle.rn_model.specs.Markings.{Marking, initial_marking}
 use Rattle.rn_model.specs.Runs.{Firing, Fires, RunFrom, after_firing, end_from, end_of}
-use Rattle.rn_model.specs.Laws.{FrontsAreRuns, FrontsAreLogs, RunsGrow, EndsFollow, DeadRunsStop, LogsEndOnce}
+use Rattle.rn_model.specs.Laws.{PrefixesAreRuns, PrefixesAreLogs, RunsGrow, EndsFollow, DeadRunsStop, LogsEndOnce}
 
-front_from : (system : System) (depth step : ℕ) (m : Marking) (fs gs : List Firing) → RunFrom system depth step m (fs ++ gs) → RunFrom system depth step m fs
-front_from system depth step m [] gs run = tt
-front_from system depth step m (f ∷ fs) gs (fires, rest) = (fires, front_from system depth (suc step) (after_firing system step m f) fs gs rest)
+prefix_from : (system : System) (depth step : ℕ) (m : Marking) (fs gs : List Firing) → RunFrom system depth step m (fs ++ gs) → RunFrom system depth step m fs
+prefix_from system depth step m [] gs run = tt
+prefix_from system depth step m (f ∷ fs) gs (fires, rest) = (fires, prefix_from system depth (suc step) (after_firing system step m f) fs gs rest)
 
-pub fronts_are_runs : FrontsAreRuns
-fronts_are_runs system depth fs gs run = front_from system depth 1 (initial_marking system) fs gs run
+pub prefixes_are_runs : PrefixesAreRuns
+prefixes_are_runs system depth fs gs run = prefix_from system depth 1 (initial_marking system) fs gs run
 
-pub fronts_are_logs : FrontsAreLogs
-fronts_are_logs system options fs gs ended log =
+pub prefixes_are_logs : PrefixesAreLogs
+prefixes_are_logs system options fs gs ended log =
     let both : length (fs ++ gs) ≡ length fs + length gs = length-append fs gs in
     let few : length fs ≤ options.steps = omega (arith, both, log.steps) in
-    record { run = fronts_are_runs system options.depth fs gs log.run; steps = few; ends = tt }
+    record { run = prefixes_are_runs system options.depth fs gs log.run; steps = few; ends = tt }
 
--- the firings behind a front are a run from its end
+-- the firings after a prefix are a run from its end
 pub rest_from : (system : System) (depth step : ℕ) (m : Marking) (fs gs : List Firing) → RunFrom system depth step m (fs ++ gs) → RunFrom system depth (step + length fs) (end_from system step m fs) gs
 rest_from system depth step m [] gs run =
     let here : step ≡ step + length {A = Firing} [] = omega arith in
@@ -40,7 +40,7 @@ pub runs_grow : RunsGrow
 runs_grow system depth fs f =
     let m = initial_marking system in
     let place : 1 + length fs ≡ suc (length fs) = omega arith in (
-      λ run. (fronts_are_runs system depth fs (f ∷ []) run, subst (λ k. Fires system depth k (end_of system fs) f) place (rest_from system depth 1 m fs (f ∷ []) run).0),
+      λ run. (prefixes_are_runs system depth fs (f ∷ []) run, subst (λ k. Fires system depth k (end_of system fs) f) place (rest_from system depth 1 m fs (f ∷ []) run).0),
       λ both. joined_from system depth 1 m fs (f ∷ []) both.0 (subst (λ k. Fires system depth k (end_of system fs) f) (sym place) both.1, tt),
     )
 

@@ -51,7 +51,7 @@ of_nodes system (n ∷ m ∷ others) depth shape none =
     let second : m.path ≡ [] = path_of system b depth shape none m (1, omega arith, refl) in
     absurd (not_below n.path m.path first second (shape.ascending 0 n (omega arith)))
 
--- a binding whose transitions have no downlinks has just one node, on the empty path
+-- a binding whose transitions have no downlinks has exactly one node, on the empty path
 pub single_node : (system : System) (b : Binding) (depth : ℕ) → Shape system b depth → ((node : Node) → Contains b.nodes node → (transition_of system node).downlinks ≡ []) →
     (n : Node) × (b ≡ record { nodes = n ∷ [] }) × (n.path ≡ [])
 single_node system b depth shape none = of_nodes system b.nodes depth shape none

@@ -33,7 +33,7 @@ use Rattle.rn_model.specs.Enabling.{Enabled}
 use Rattle.rn_model.specs.Liveness.{held}
 use Rattle.rn_model.specs.SoundTokens.{HasSoundTokens, IsSoundToken}
 use Rattle.rn_model.specs.Firing.{Made, Fired, fire, creations_of, made_by, named, numbered_inst, renamed_value, renamed_node, marking_after, instance_after, new_instance}
-use Rattle.rn_model.specs.LivenessLaws.{FiringsKeepTokensSound, NamesWhatIsThere, TellsWhatIsThere, FiringsTellWhatIsThere}
+use Rattle.rn_model.specs.LivenessLaws.{FiringsKeepTokensSound, NamesWhatIsThere, ReportsWhatIsThere, FiringsReportWhatIsThere}
 use Rattle.rn_model.proofs.InitialTokens.{apart}
 use Rattle.rn_model.proofs.NodesByPath.{node_at-path}
 use Rattle.rn_model.proofs.MarkingsOfRuns.{good_transition}
@@ -46,15 +46,15 @@ use Rattle.rn_model.proofs.AskedValues.{contained_mapped, contained_flat, map_so
 use Rattle.rn_model.proofs.AfterFiring.{was_there, is_new, at_least, token_from}
 use Rattle.rn_model.proofs.PutValues.{StaysSo, reading_stays, put_from, put_passes, outs_pass, renamed_passes}
 use Rattle.rn_model.proofs.KindsOfValues.{worth_has_kind, put_has_kind, beside_has_kind}
-use Rattle.rn_model.proofs.PlacesInLists.{in_enumerated, from_enumerated, has_position}
+use Rattle.rn_model.proofs.IndicesInLists.{in_enumerated, from_enumerated, has_position}
 
 abbrev is_made_at : List ℕ → ℕ → Made → Bool
-is_made_at path j c = pointwise nat_eq c.path path && nat_eq c.place j
+is_made_at path j c = pointwise nat_eq c.path path && nat_eq c.index j
 
 -- live ones, and those that a binding makes
 abbrev live_or_made : (ℕ → Bool) → List Made → InstRef → Bool
 live_or_made live made (Old n) = live n
-live_or_made live made (New path j) = is_some (position (λ c. pointwise nat_eq c.path path && nat_eq c.place j) made)
+live_or_made live made (New path j) = is_some (position (λ c. pointwise nat_eq c.path path && nat_eq c.index j) made)
 
 -- those that are there
 abbrev there_in : Marking → InstRef → Bool
@@ -90,23 +90,23 @@ module _ (system : System) (m : Marking) (b : Binding) (depth step : ℕ) (f : F
 
   -- A creation that a firing gives this number.
   abbrev IsNumbered : ℕ → List ℕ → ℕ → Type 0
-  IsNumbered n path j = (c : Made) × Contains made c × (c.path ≡ path) × (c.place ≡ j) × (instance_at after n ≡ Some (new_instance system named_b fired.acts (n, c)))
+  IsNumbered n path j = (c : Made) × Contains made c × (c.path ≡ path) × (c.index ≡ j) × (instance_at after n ≡ Some (new_instance system named_b fired.acts (n, c)))
 
-  numbered_at : (path : List ℕ) (j k : ℕ) → position (λ c. pointwise nat_eq c.path path && nat_eq c.place j) made ≡ Some k → IsNumbered (m.next + k) path j
+  numbered_at : (path : List ℕ) (j k : ℕ) → position (λ c. pointwise nat_eq c.path path && nat_eq c.index j) made ≡ Some k → IsNumbered (m.next + k) path j
   numbered_at path j k e =
-      let d : Made = record { path = path; place = j; net = 0 } in
-      let at = position-Some (λ c. pointwise nat_eq c.path path && nat_eq c.place j) made k d e in
+      let d : Made = record { path = path; index = j; net = 0 } in
+      let at = position-Some (λ c. pointwise nat_eq c.path path && nat_eq c.index j) made k d e in
       let c = get_or made k d in
-      let both = both_true (pointwise nat_eq c.path path) (nat_eq c.place j) at.1 in (
+      let both = both_true (pointwise nat_eq c.path path) (nat_eq c.index j) at.1 in (
         c,
         Contains-get_or made k d at.0,
         same_numbers c.path path both.0,
-        eqb-true c.place j both.1,
+        eqb-true c.index j both.1,
         is_new system m made named_b fired.acts (m.next + k, c) (none_yet system m (m.next + k) is (omega arith)) (in_enumerated m.next made k c (slice_get-get_or made k d at.0)),
       )
 
   -- new instances have numbers of instances that are there after
-  new_there : (path : List ℕ) (j : ℕ) (o : Option ℕ) → position (λ c. pointwise nat_eq c.path path && nat_eq c.place j) made ≡ o → is_some o ≡ true → there_in after (option_map_or (λ k. Old (m.next + k)) o (New path j)) ≡ true
+  new_there : (path : List ℕ) (j : ℕ) (o : Option ℕ) → position (λ c. pointwise nat_eq c.path path && nat_eq c.index j) made ≡ o → is_some o ≡ true → there_in after (option_map_or (λ k. Old (m.next + k)) o (New path j)) ≡ true
   new_there path j None e h = absurd (let no : ⊥ = cc in no)
   new_there path j (Some k) e h = ap is_some (numbered_at path j k e).4
 
@@ -115,15 +115,15 @@ module _ (system : System) (m : Marking) (b : Binding) (depth step : ℕ) (f : F
 
   renames : (live : ℕ → Bool) → DecidesLive system m live → (i : InstRef) → live_or_made live made i ≡ true → there_in after (name i) ≡ true
   renames live decides (Old n) e = ap is_some (still_there n (live_there system m n (decides.sound n e))).1
-  renames live decides (New path j) e = new_there path j (position (λ c. pointwise nat_eq c.path path && nat_eq c.place j) made) refl e
+  renames live decides (New path j) e = new_there path j (position (λ c. pointwise nat_eq c.path path && nat_eq c.index j) made) refl e
 
-  is_made : (node : Node) (j : ℕ) (c : Creation) → Contains b.nodes node → slice_get (transition_of system node).creations j ≡ Some c → is_some (position (λ c. pointwise nat_eq c.path node.path && nat_eq c.place j) made) ≡ true
+  is_made : (node : Node) (j : ℕ) (c : Creation) → Contains b.nodes node → slice_get (transition_of system node).creations j ≡ Some c → is_some (position (λ c. pointwise nat_eq c.path node.path && nat_eq c.index j) made) ≡ true
   is_made node j c there here =
-      let own : Made = record { path = node.path; place = j; net = c.net } in
+      let own : Made = record { path = node.path; index = j; net = c.net } in
       let first : 0 + j ≡ j = omega arith in
       let listed = subst (λ k. Contains (enumerate_from 0 (transition_of system node).creations) (k, c)) first (in_enumerated 0 (transition_of system node).creations j c here) in
-      let in_node : Contains (made_by system node) own = contained_mapped (λ c. record { path = node.path; place = c.0; net = c.1.net }) (enumerate_from 0 (transition_of system node).creations) (j, c) listed in
-      has_position (λ c. pointwise nat_eq c.path node.path && nat_eq c.place j) made own (contained_flat (made_by system) b.nodes node own there in_node)
+      let in_node : Contains (made_by system node) own = contained_mapped (λ c. record { path = node.path; index = c.0; net = c.1.net }) (enumerate_from 0 (transition_of system node).creations) (j, c) listed in
+      has_position (λ c. pointwise nat_eq c.path node.path && nat_eq c.index j) made own (contained_flat (made_by system) b.nodes node own there in_node)
       (true_both (pointwise nat_eq node.path node.path) (nat_eq j j) (numbers_themselves node.path) (eq-eqb j j refl))
 
   passes_on : (live : ℕ → Bool) → DecidesLive system m live → PassesOn system m b (live_or_made live made)
@@ -165,8 +165,8 @@ module _ (system : System) (m : Marking) (b : Binding) (depth step : ℕ) (f : F
     there = λ k said. is_there_in after k (instance_at after k) refl (only_mentions (there_in after) v passes k said);
   }
 
-  tells_after : TellsWhatIsThere system m b (record { marking = after; outs = fired.acts.outs })
-  tells_after =
+  reports_after : ReportsWhatIsThere system m b (record { marking = after; outs = fired.acts.outs })
+  reports_after =
       let live = live_decided system m in
       let before = live_or_made live.0 made in
       let passes = passes_on live.0 live.1 in
@@ -228,19 +228,19 @@ module _ (system : System) (m : Marking) (b : Binding) (depth step : ℕ) (f : F
   abbrev HasNet : ℕ → ℕ → Type 0
   HasNet n net = net_of after n ≡ Some net
 
-  new_net : (node : Node) (path : List ℕ) (j n net k : ℕ) → Contains b.nodes node → node.inst ≡ New path j → position (λ c. pointwise nat_eq c.path path && nat_eq c.place j) made ≡ Some k → m.next + k ≡ n → HasNet n net → node.net ≡ net
+  new_net : (node : Node) (path : List ℕ) (j n net k : ℕ) → Contains b.nodes node → node.inst ≡ New path j → position (λ c. pointwise nat_eq c.path path && nat_eq c.index j) made ≡ Some k → m.next + k ≡ n → HasNet n net → node.net ≡ net
   new_net node path j n net k there inst e number has =
       let at = numbered_at path j k e in
       let c = at.0 in
       let by = flat_source (made_by system) b.nodes c at.1 in
-      let from = map_source (λ c. record { path = by.0.path; place = c.0; net = c.1.net }) (enumerate_from 0 (transition_of system by.0).creations) c by.2 in
+      let from = map_source (λ c. record { path = by.0.path; index = c.0; net = c.1.net }) (enumerate_from 0 (transition_of system by.0).creations) c by.2 in
       let creation = from_enumerated 0 (transition_of system by.0).creations from.0 from.1 in
       let created = All-contains (IsOfCreation system b) b.nodes node enabled.shape.created there path j inst in
       let path_is : by.0.path ≡ path = ap (λ c. c.path) from.2 ∙ at.2 in
       let maker : created.0 ≡ by.0 = same_Some created.0 by.0 (sym created.2 ∙ ap (node_at b) (sym path_is) ∙ node_at-path system b depth by.0 enabled.shape by.1) in
-      let place_is : from.0.0 ≡ j = ap (λ c. c.place) from.2 ∙ at.3 in
-      let place_too : creation.0 ≡ j = let of = creation.1 in omega (arith, of, place_is) in
-      let here : slice_get (transition_of system by.0).creations j ≡ Some from.0.1 = ap (λ k. slice_get (transition_of system by.0).creations k) (sym place_too) ∙ creation.2 in
+      let index_is : from.0.0 ≡ j = ap (λ c. c.index) from.2 ∙ at.3 in
+      let index_too : creation.0 ≡ j = let of = creation.1 in omega (arith, of, index_is) in
+      let here : slice_get (transition_of system by.0).creations j ≡ Some from.0.1 = ap (λ k. slice_get (transition_of system by.0).creations k) (sym index_too) ∙ creation.2 in
       let also : slice_get (transition_of system by.0).creations j ≡ Some created.1 = ap (λ w. slice_get (transition_of system w).creations j) (sym maker) ∙ created.3 in
       let same : created.1 ≡ from.0.1 = same_Some created.1 from.0.1 (sym also ∙ here) in
       let own : c.net ≡ net = same_Some c.net net (sym (ap (option_map (λ i. i.net)) at.4) ∙ ap (net_of after) number ∙ has) in
@@ -252,9 +252,9 @@ module _ (system : System) (m : Marking) (b : Binding) (depth step : ℕ) (f : F
       let own = All-contains (λ node. (n : ℕ) → node.inst ≡ Old n → net_of m n ≡ Some node.net) b.nodes node enabled.fits.there there k inst in
       let found = there_of_net m k node.net own in
       sym found.2 ∙ same_Some found.0.net net (sym (ap (option_map (λ i. i.net)) (was_there system m made named_b fired.acts k found.0 found.1)) ∙ ap (net_of after) number ∙ has)
-  inst_net node (New path j) n net there inst e has = by_position (position (λ c. pointwise nat_eq c.path path && nat_eq c.place j) made) refl e
+  inst_net node (New path j) n net there inst e has = by_position (position (λ c. pointwise nat_eq c.path path && nat_eq c.index j) made) refl e
     where
-      by_position : (o : Option ℕ) → position (λ c. pointwise nat_eq c.path path && nat_eq c.place j) made ≡ o → option_map_or (λ k. Old (m.next + k)) o (New path j) ≡ Old n → node.net ≡ net
+      by_position : (o : Option ℕ) → position (λ c. pointwise nat_eq c.path path && nat_eq c.index j) made ≡ o → option_map_or (λ k. Old (m.next + k)) o (New path j) ≡ Old n → node.net ≡ net
       by_position None at e = absurd (let no : ⊥ = cc in no)
       by_position (Some k) at e = new_net node path j n net k there inst at (same_old (m.next + k) n e) has
 
@@ -286,12 +286,12 @@ module _ (system : System) (m : Marking) (b : Binding) (depth step : ℕ) (f : F
               there = λ k said. still_there k (token.there k said);
             }
         | inr other ↦ elim other as (λ _. IsSoundToken system after net place v) [
-          | inl (c, p, new, place_is, first) ↦
+          | inl (c, p, new, index_is, first) ↦
               let at_new = is_new system m made named_b fired.acts (n, c) (none_yet system m n is (at_least m.next made (n, c) new)) new in
               let net_is : c.net ≡ net = same_Some c.net net (sym (ap (option_map (λ i. i.net)) at_new) ∙ has) in
-              let token = first_token system b depth m.next m n c place p v good enabled new place_is first in
+              let token = first_token system b depth m.next m n c place p v good enabled new index_is first in
               let none = apart v token.apart in
-              let kind : place_kind system c.net place ≡ p.kind = rw place_is refl in
+              let kind : place_kind system c.net place ≡ p.kind = rw index_is refl in
               record {
                 kind = subst (λ k. HasKind v (place_kind system k place)) net_is (subst (HasKind v) (sym kind) token.fits);
                 old = none.0;
@@ -306,14 +306,14 @@ module _ (system : System) (m : Marking) (b : Binding) (depth step : ℕ) (f : F
   pub sound_fired : HasSoundTokens system f.marking
   sound_fired = subst (HasSoundTokens system) fired.marking sound_after
 
-  pub tells_fired : TellsWhatIsThere system m b f
-  tells_fired =
+  pub reports_fired : ReportsWhatIsThere system m b f
+  reports_fired =
       let given : Fired = record { marking = after; outs = fired.acts.outs } in
       let same : given ≡ f = ap (λ x. record { marking = x; outs = fired.acts.outs }) fired.marking ∙ ap (λ o. record { marking = f.marking; outs = o }) fired.outs in
-      subst (TellsWhatIsThere system m b) same tells_after
+      subst (ReportsWhatIsThere system m b) same reports_after
 
-pub firings_tell_what_is_there : FiringsTellWhatIsThere
-firings_tell_what_is_there system m b depth step f good is sound enabled fires = tells_fired system m b depth step f good is sound enabled fires
+pub firings_report_what_is_there : FiringsReportWhatIsThere
+firings_report_what_is_there system m b depth step f good is sound enabled fires = reports_fired system m b depth step f good is sound enabled fires
 
 pub firings_keep_tokens_sound : FiringsKeepTokensSound
 firings_keep_tokens_sound system m b depth step f good is sound enabled fires = sound_fired system m b depth step f good is sound enabled fires

@@ -12,7 +12,7 @@ use Rattle.rn_model.specs.Runs.{Firing, RunFrom, after_firing, end_from, end_of}
 use Rattle.rn_model.specs.LivenessLaws.{RunsEndSound, DeadStayDeadInRuns}
 use Rattle.rn_model.proofs.InitialTokens.{initial_tokens_are_sound}
 use Rattle.rn_model.proofs.MarkingsOfRuns.{firings_keep_markings, initial_is_marking}
-use Rattle.rn_model.proofs.RunLemmas.{fronts_are_runs, rest_from}
+use Rattle.rn_model.proofs.RunLemmas.{prefixes_are_runs, rest_from}
 use Rattle.rn_model.proofs.MarkingsOfRuns.{runs_end_in_markings}
 use Rattle.rn_model.proofs.DeadInstances.{dead_stay_dead, fired_as}
 use Rattle.rn_model.proofs.AfterFiring.{was_there}
@@ -53,6 +53,6 @@ end_joined system step m (f ∷ fs) gs =
 
 pub dead_stay_dead_in_runs : DeadStayDeadInRuns
 dead_stay_dead_in_runs system depth fs gs good run n there dead live =
-    let front = fronts_are_runs system depth fs gs run in
-    dead_from system depth (1 + length fs) (end_of system fs) gs good (runs_end_in_markings system depth fs good front) (runs_end_sound system depth fs good front) (rest_from system depth 1 (initial_marking system) fs gs run) n there dead
+    let prefix = prefixes_are_runs system depth fs gs run in
+    dead_from system depth (1 + length fs) (end_of system fs) gs good (runs_end_in_markings system depth fs good prefix) (runs_end_sound system depth fs good prefix) (rest_from system depth 1 (initial_marking system) fs gs run) n there dead
     (subst (λ x. IsLive system x n) (end_joined system 1 (initial_marking system) fs gs) live)

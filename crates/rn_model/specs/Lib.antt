@@ -9,6 +9,7 @@ pub mod Firing
 pub mod Good
 pub mod Kinds
 pub mod Laws
+pub mod Limits
 pub mod ListLaws
 pub mod Lists
 pub mod Liveness

@@ -110,10 +110,10 @@ pub record NamesWhatIsThere (m : Marking) (v : Value) : Type 0 where
   pub old : holds_new v ≡ false
   pub there : (n : ℕ) → IsTrue (mentions v n) → IsThere m n
 
--- What a firing tells of itself: under the numbers of the new instances, the nodes of its binding
--- stand on instances that are there after it, and their values and those that are printed name
--- such ones alone.
-pub record TellsWhatIsThere (system : System) (m : Marking) (b : Binding) (f : Fired)
+-- What a firing reports: under the numbers of the new instances, the nodes of its binding stand on
+-- instances that are there after it, and their values and those that are printed name such ones
+-- alone.
+pub record ReportsWhatIsThere (system : System) (m : Marking) (b : Binding) (f : Fired)
     : Type 0 where
   pub insts : (node : Node) → Contains (named system b m.next).nodes node →
       (n : ℕ) × (node.inst ≡ Old n) × IsThere f.marking n
@@ -121,9 +121,9 @@ pub record TellsWhatIsThere (system : System) (m : Marking) (b : Binding) (f : F
       Contains node.values v → NamesWhatIsThere f.marking v
   pub outs : (v : Value) → Contains f.outs v → NamesWhatIsThere f.marking v
 
--- the firing of an enabled binding tells only of instances that are there after it
-abbrev pub FiringsTellWhatIsThere : Type 0
-FiringsTellWhatIsThere = (system : System) (m : Marking) (b : Binding) (depth step : ℕ)
+-- the firing of an enabled binding reports only instances that are there after it
+abbrev pub FiringsReportWhatIsThere : Type 0
+FiringsReportWhatIsThere = (system : System) (m : Marking) (b : Binding) (depth step : ℕ)
     (f : Fired) →
     Good system → IsMarking system m → HasSoundTokens system m → Enabled system m b depth →
-    fire system m b step ≡ Ok f → TellsWhatIsThere system m b f
+    fire system m b step ≡ Ok f → ReportsWhatIsThere system m b f

@@ -1,5 +1,5 @@
 //! Laws over the definitions, each the contract of a function that does nothing.
-ghost use Rattle.rn_model.specs.Laws.{NextIsFree, FrontsAreRuns, FrontsAreLogs, RunsGrow};
+ghost use Rattle.rn_model.specs.Laws.{NextIsFree, PrefixesAreRuns, PrefixesAreLogs, RunsGrow};
 ghost use Rattle.rn_model.specs.ListLaws.{OrderedValuesAscend, OrderedValuesStay, OthersAreTaken};
 ghost use Rattle.rn_model.specs.MarkingLaws.{InitialIsMarking, FiringsKeepMarkings};
 ghost use Rattle.rn_model.specs.MarkingLaws.{RunsEndInMarkings, InitialTokensAreSound};
@@ -9,7 +9,7 @@ ghost use Rattle.rn_model.specs.LivenessLaws.{TablesHaveTheSameLive, TablesEnabl
 ghost use Rattle.rn_model.specs.LivenessLaws.{TablesFireAlike, TablesStandAfter, StandingIsTransitive};
 ghost use Rattle.rn_model.specs.LivenessLaws.{DroppingKeeps, MarkingsStandForThemselves};
 ghost use Rattle.rn_model.specs.LivenessLaws.{FiringsKeepTokensSound, RunsEndSound};
-ghost use Rattle.rn_model.specs.LivenessLaws.{FiringsTellWhatIsThere};
+ghost use Rattle.rn_model.specs.LivenessLaws.{FiringsReportWhatIsThere};
 ghost use Rattle.rn_model.specs.Laws.{EndsFollow, DeadRunsStop, LogsEndOnce, LooksAtItsOwn};
 
 /// Whether a binding is enabled doesn't depend on the number that the next instance gets.
@@ -22,14 +22,14 @@ pub fn bindings_look_at_their_own()
     ensures { LooksAtItsOwn }
 {}
 
-/// A front of a run is a run.
-pub fn fronts_are_runs()
-    ensures { FrontsAreRuns }
+/// A prefix of a run is a run.
+pub fn prefixes_are_runs()
+    ensures { PrefixesAreRuns }
 {}
 
 /// The first firings of a log are a log that hasn't ended.
-pub fn fronts_are_logs()
-    ensures { FrontsAreLogs }
+pub fn prefixes_are_logs()
+    ensures { PrefixesAreLogs }
 {}
 
 /// Firings with one more are a run exactly where they are a run and the last one fires at their
@@ -44,7 +44,8 @@ pub fn dead_runs_stop()
     ensures { DeadRunsStop }
 {}
 
-/// No two of the ends Dead, Steps and Fault are true after the same firings.
+/// After the same firings at most one of the ends Dead, Steps and Fault is true. Two faults may
+/// both be, by different bindings.
 pub fn logs_end_once()
     ensures { LogsEndOnce }
 {}
@@ -116,8 +117,8 @@ pub fn tables_stand()
     ensures dropped { DroppingKeeps }
 {}
 
-/// What the firing of an enabled binding tells, under the numbers of the new instances, names only
-/// instances that are there after it.
-pub fn firings_tell_what_is_there()
-    ensures { FiringsTellWhatIsThere }
+/// What the firing of an enabled binding reports, under the numbers of the new instances, names
+/// only instances that are there after it.
+pub fn firings_report_what_is_there()
+    ensures { FiringsReportWhatIsThere }
 {}

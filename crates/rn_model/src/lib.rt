@@ -5,6 +5,7 @@ mod binding;
 mod copying;
 mod expr;
 mod laws;
+pub mod limits;
 mod log;
 mod ordering;
 mod sharing;
@@ -17,9 +18,9 @@ pub use copying::{copy_binding, copy_entry};
 pub use expr::{Alts, CompareKind, Cond, Conds, Expr, Exprs, OpKind, Pairs, Simple, Simples};
 pub use laws::{
     bindings_look_at_their_own, dead_runs_stop, dead_stay_dead, enabled_name_live,
-    firings_tell_what_is_there, forced_is_own, fronts_are_logs, fronts_are_runs,
-    initial_tokens_are_sound, lists_of_values, logs_end_once, next_number_is_free,
-    own_values_satisfy, runs_end_in_markings, runs_grow, tables_stand, tokens_stay_sound,
+    firings_report_what_is_there, forced_is_own, initial_tokens_are_sound, lists_of_values,
+    logs_end_once, next_number_is_free, own_values_satisfy, prefixes_are_logs, prefixes_are_runs,
+    runs_end_in_markings, runs_grow, tables_stand, tokens_stay_sound,
 };
 pub use log::{Entries, Entry, FaultKind, MarkLine, MarkLines, Options, Reason, Told};
 pub use ordering::{binding_order_is_total, compare_bindings, same_binding};

@@ -1,4 +1,4 @@
-//! Which data threads may share. A type that they couldn't share would be refused here.
+//! Which data threads may share: a type that they couldn't share would be refused here.
 use crate::binding::Binding;
 use crate::log::{Entry, Options, Told};
 use crate::system::System;

@@ -1,3 +1,4 @@
+//! The order of bindings, and copies.
 use crate::{
     Binding, Entry, FaultKind, Node, Reason, compare_bindings, copy_binding, copy_entry,
     same_binding,

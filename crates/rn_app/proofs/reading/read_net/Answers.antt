@@ -9,14 +9,14 @@ pub number-requires-clause-few : goal.number-requires-clause-few
 number-requires-clause-few c =
     let spelled = rw c.in-Some.is at c.in_ok-tokens.ensures.found in
     let read = ap seen_all (sym c.as_slice.ensures.value) ∙ (rw c.in-Some-2.is at c.in_ok-net.ensures.found) in
-    places_fit c.args.text.now (seen_all c.in-Some.tokens.items) spelled c.if-text-gt-LONGEST_TEXT.false (net_seen c.in-Some-2.net) read (length c.in-Some-2.net.places.items)
+    places_fit c.args.text.now (seen_all c.in-Some.tokens.items) spelled c.if-text-gt-LONGEST_NET_TEXT.false (net_seen c.in-Some-2.net) read (length c.in-Some-2.net.places.items)
     (sym (length-map c.in-Some-2.net.places.items place_seen))
 
 pub number-requires-clause-words : goal.number-requires-clause-words
 number-requires-clause-words c =
     let spelled = rw c.in-Some.is at c.in_ok-tokens.ensures.found in
     let read = ap seen_all (sym c.as_slice.ensures.value) ∙ (rw c.in-Some-2.is at c.in_ok-net.ensures.found) in
-    words_fit c.args.text.now (seen_all c.in-Some.tokens.items) spelled c.if-text-gt-LONGEST_TEXT.false (net_seen c.in-Some-2.net) read
+    words_fit c.args.text.now (seen_all c.in-Some.tokens.items) spelled c.if-text-gt-LONGEST_NET_TEXT.false (net_seen c.in-Some-2.net) read
 
 pub returns-in_default-clause-none : goal.returns-in_default-clause-none
 returns-in_default-clause-none c =
@@ -42,4 +42,4 @@ returns-clause-modest c =
     let spelled = rw c.in-Some.is at c.in_ok-tokens.ensures.found in
     let read = ap seen_all (sym c.as_slice.ensures.value) ∙ (rw c.in-Some-2.is at c.in_ok-net.ensures.found) in
     let numbered = rw c.in-Some-3.is at c.in_ok-system.ensures.system in
-    system_fits c.args.text.now (seen_all c.in-Some.tokens.items) spelled c.if-text-gt-LONGEST_TEXT.false (net_seen c.in-Some-2.net) read c.in-Some-3.system numbered
+    system_fits c.args.text.now (seen_all c.in-Some.tokens.items) spelled c.if-text-gt-LONGEST_NET_TEXT.false (net_seen c.in-Some-2.net) read c.in-Some-3.system numbered

@@ -1,6 +1,6 @@
 use Rattle.std.proofs.Common.{◌≡◌, ◌⊎◌, map, string_bytes, IfOk, IfErr, subst}
 use Rattle.rn_outside.specs.Faults.{Rose}
-use Rattle.rn_app.specs.TopCall.{IsFault, ReadsRun, HasCause}
+use Rattle.rn_app.specs.TopCall.{IsFaultStatus, ReadsRun, HasCause}
 use Rattle.rn_app.proofs.TopLemmas.{told_net, no_fault}
 use Rattle.rn_app.proofs.top.renew_top.Goals as goal
 
@@ -9,7 +9,7 @@ returns-in-Ok-clause-refuses_net g c = λ are.
     let before = g.I.Source.left c.args.input.now in
     let after = g.I.Source.left c.answer.new.input in
     let told : IfOk c.answer.result (λ text. ReadsRun before after text.items) = c.answer.ensures.run in
-    told_net before after c.in-Ok.text.items ((c.write_text.result ≡ 1) ⊎ IsFault c.write_text.result) (subst (λ r. IfOk r (λ text. ReadsRun before after text.items)) c.in-Ok.is told)
+    told_net before after c.in-Ok.text.items ((c.write_text.result ≡ 1) ⊎ IsFaultStatus c.write_text.result) (subst (λ r. IfOk r (λ text. ReadsRun before after text.items)) c.in-Ok.is told)
 
 pub returns-in-Err-clause-complete : goal.returns-in-Err-clause-complete
 returns-in-Err-clause-complete g c = λ are.

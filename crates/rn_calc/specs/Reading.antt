@@ -1,8 +1,0 @@
--- What an expression is read under, as the calls are given it.
-use Rattle.std.specs.Prelude.{Some}
-use Rattle.rn_calc.specs.declared.given.Given.{Given}
-use Rattle.rn_model.specs.Evaluation.{Env}
-
--- the instance, the number of the firing, and the values of the variables
-abbrev pub env_of : Given → Env
-env_of given = record { this = given.this; step = Some given.step; pairs = given.pairs }

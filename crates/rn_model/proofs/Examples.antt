@@ -1,0 +1,19 @@
+-- Worked examples: small systems, and what the definitions say of them.
+pub mod ActionsAndNumbers
+pub mod CallsNeedTargets
+pub mod CallsWhatItMakes
+pub mod ChainOfCalls
+pub mod EndsOfLogs
+pub mod EqualitiesAreSolved
+pub mod ExampleSystems
+pub mod ExpressionExamples
+pub mod FiresOnce
+pub mod GoodSystem
+pub mod LiveInstances
+pub mod NewPlacesAreEmpty
+pub mod NotDerived
+pub mod StrictGuards
+pub mod SumForces
+pub mod TokenForces
+pub mod UndefinedFiring
+pub mod WhatArcsAsk

@@ -1,5 +1,0 @@
-use Rattle.rn_model.proofs.SoundAfter.{firings_tell_what_is_there}
-use Rattle.rn_model.proofs.laws.firings_tell_what_is_there.Goals as goal
-
-pub returns : goal.returns
-returns c = firings_tell_what_is_there
