@@ -60,7 +60,7 @@ got_contained (y ∷ xs) zero x e = let same : y ≡ x = cc in (0, omega arith, 
 got_contained (y ∷ xs) (suc k) x e = later y x xs (got_contained xs k x e)
 
 -- A value is in a list where it is there at least once.
-same_itself : (v : Value) → same_value v v ≡ true
+pub same_itself : (v : Value) → same_value v v ≡ true
 same_itself v = (Equal-is (value_cmp v v)).1 (tied_itself value_cmp-total v)
 
 once_or_more : (v w : Value) (ws : List Value) (same : Bool) → same_value v w ≡ same → 0 < count_of v (w ∷ ws) → (0 < count_of v ws → Contains ws v) → Contains (w ∷ ws) v

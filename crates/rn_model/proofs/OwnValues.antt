@@ -63,7 +63,7 @@ token_is_value FlexOutput finds = absurd (let no : ⊥ = cc in no)
 token_is_value Inhibit finds = absurd (let no : ⊥ = cc in no)
 
 -- the expression at a site
-abbrev expr_at : Transition → Site → Option Expr
+abbrev pub expr_at : Transition → Site → Option Expr
 expr_at t (left k) = option_map (λ e. e.0) (slice_get t.equalities k)
 expr_at t (right k) = option_map (λ e. e.1) (slice_get t.equalities k)
 expr_at t (uplink_arg k) = slice_get (uplink_args t) k
@@ -109,7 +109,7 @@ module _ (system : System) (b : Binding) where
       each_weaker (IsFormOf (form_at e)) (λ hole. (v : Value) → worth hole.form (env_of system node) ≡ Some v → own.hole node.path site hole.way ≡ v) (hole_is node site e is stands) (holes_in e) (holes_of_expr e).forms
 
   -- an expression that has a value is read as it
-  read : (node : Node) (site : Site) (e : Expr) (v : Value) → IsOnItsPath node → expr_at (transition_of system node) site ≡ Some e → worth e (env_of system node) ≡ Some v → term_value_at own node site e ≡ Some v
+  pub read : (node : Node) (site : Site) (e : Expr) (v : Value) → IsOnItsPath node → expr_at (transition_of system node) site ≡ Some e → worth e (env_of system node) ≡ Some v → term_value_at own node site e ≡ Some v
   read node site e v is stands value = term_value-worth e (env_of system node) (seen_at node site) (sees node site is) (fills node site e is stands) v value
 
   -- the site is the expression's, and the expression has a value
@@ -225,7 +225,7 @@ module _ (system : System) (b : Binding) (depth : ℕ) (shape : Shape system b d
   in_rounds (suc n) item (inl before) = in_rounds n item before
   in_rounds (suc n) item (inr (there, may)) = items_hold item there
 
-  are_own_values : AreOwnValues system b (own_values system b)
+  pub are_own_values : AreOwnValues system b (own_values system b)
   are_own_values = record { values = λ node x v there value. var_is system b node (on_path node there) x v value; items = items_hold; rounds = in_rounds; targets = λ caller i d node calls. read system b caller (target i) d.target (Value.Inst node.inst) (on_path caller calls.caller_there) (rw calls.downlink_there refl) (agrees.calls caller i d node calls).target }
 
 pub own_values_satisfy : OwnValuesSatisfy

@@ -4,10 +4,14 @@
 mod binding;
 mod copying;
 mod expr;
+mod expression_laws;
+mod firing_laws;
 mod laws;
 pub mod limits;
+mod live_laws;
 mod log;
 mod ordering;
+mod round_laws;
 mod sharing;
 mod system;
 #[cfg(test)]
@@ -16,14 +20,23 @@ mod tests;
 pub use binding::{Binding, Node, Nodes};
 pub use copying::{copy_binding, copy_entry};
 pub use expr::{Alts, CompareKind, Cond, Conds, Expr, Exprs, OpKind, Pairs, Simple, Simples};
+pub use expression_laws::{
+    agreeing_values_have_kinds, expressions_are_renamed, expressions_look_up, kinds_are_kept,
+};
+pub use firing_laws::{
+    each_number_is_there, firings_give_numbers, firings_move_tokens,
+    tokens_after_firing_are_counted,
+};
 pub use laws::{
     bindings_look_at_their_own, dead_runs_stop, dead_stay_dead, enabled_name_live,
     firings_report_what_is_there, forced_is_own, initial_tokens_are_sound, lists_of_values,
     logs_end_once, next_number_is_free, own_values_satisfy, prefixes_are_logs, prefixes_are_runs,
     runs_end_in_markings, runs_grow, tables_stand, tokens_stay_sound,
 };
+pub use live_laws::{live_part_is_unique, places_fit_by_arcs};
 pub use log::{Entries, Entry, FaultKind, MarkLine, MarkLines, Options, Reason, Told};
 pub use ordering::{binding_order_is_total, compare_bindings, same_binding};
+pub use round_laws::{forced_terms_are_own, items_come_in, more_items_force_more};
 pub use system::{
     Action, Actions, ArcKind, Channel, Channels, Creation, Creations, Downlink, Downlinks, Net,
     NetArc, NetArcs, Nets, Nums, Place, Places, System, Transition, Transitions, Uplink, Var, Vars,
