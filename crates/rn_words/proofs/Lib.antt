@@ -1,0 +1,4 @@
+mod AcceptedWords
+mod FirstBadWord
+mod ReadingLemmas
+mod WordParts

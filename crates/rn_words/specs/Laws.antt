@@ -1,0 +1,35 @@
+-- Laws of words: which are accepted, and which word is the first bad one.
+use Rattle.std.specs.Prelude.{ℕ, ◌≡◌, ◌≤◌, ◌+◌, ◌-◌, ◌↔◌, List, ◌++◌, length, take, Ok, Err}
+use Rattle.rn_words.specs.declared.command.Command.{Command}
+use Rattle.rn_words.specs.declared.command.WordsFault.{WordsFault}
+use Rattle.rn_words.specs.declared.command.WordsFault.TheVariants.{U1, U2, U3}
+use Rattle.rn_words.specs.Commands.{WordsOk}
+use Rattle.rn_words.specs.Reading.{reading}
+
+-- reading gives a command exactly where the words are accepted and give it
+abbrev pub ReadsWhatIsAccepted : Type 0
+ReadsWhatIsAccepted = (words : List (List ℕ)) (c : Command) → reading words ≡ Ok c ↔ WordsOk words c
+
+-- some accepted words begin with these
+abbrev pub CanGoOn : List (List ℕ) → Type 0
+CanGoOn words = (rest : List (List ℕ)) × (c : Command) × WordsOk (words ++ rest) c
+
+-- the number of the bad word
+abbrev pub number_of_fault : WordsFault → ℕ
+number_of_fault (U1 at) = at
+number_of_fault (U2 at) = at
+number_of_fault (U3 at) = at
+
+-- The first bad word: some accepted words begin with those before it, and none begin with those up
+-- to and with it; or it is one past the last, and the words aren't accepted.
+pub record IsFirstBad (words : List (List ℕ)) (at : ℕ) : Type 0 where
+  pub number : 1 ≤ at
+  pub within : at ≤ length words + 1
+  pub before : CanGoOn (take (at - 1) words)
+  pub stuck : at ≤ length words → ¬ CanGoOn (take at words)
+  pub refused : (c : Command) → ¬ WordsOk words c
+
+-- a fault names the first bad word
+abbrev pub FaultsNameTheFirst : Type 0
+FaultsNameTheFirst = (words : List (List ℕ)) (fault : WordsFault) →
+    reading words ≡ Err fault → IsFirstBad words (number_of_fault fault)

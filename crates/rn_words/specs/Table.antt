@@ -1,0 +1,69 @@
+-- The commands and their options: names, limits, and which command takes which.
+use Rattle.std.specs.Prelude.{ℕ, List, Bool, true, false, Option, Some, None, codes, bytes_eq}
+use Rattle.std.specs.Prelude.{if◌then◌else◌}
+use Rattle.rn_words.specs.declared.table.Verb.{Verb}
+use Rattle.rn_words.specs.declared.table.Verb.TheVariants.{Run, Check, Print, Enabled, Replay, Gen}
+use Rattle.rn_words.specs.declared.table.Setting.{Setting}
+use Rattle.rn_words.specs.declared.table.Setting.TheVariants.{Workers, Steps, Depth, Sweep}
+
+-- the command of a word
+abbrev pub verb_named : List ℕ → Option Verb
+verb_named word =
+    if bytes_eq word (codes "run") then Some Run
+    else if bytes_eq word (codes "check") then Some Check
+    else if bytes_eq word (codes "print") then Some Print
+    else if bytes_eq word (codes "enabled") then Some Enabled
+    else if bytes_eq word (codes "replay") then Some Replay
+    else if bytes_eq word (codes "gen") then Some Gen
+    else None
+
+-- the option of a name, which stands after `--`
+abbrev pub setting_named : List ℕ → Option Setting
+setting_named name =
+    if bytes_eq name (codes "workers") then Some Workers
+    else if bytes_eq name (codes "steps") then Some Steps
+    else if bytes_eq name (codes "depth") then Some Depth
+    else if bytes_eq name (codes "drop") then Some Sweep
+    else None
+
+-- the word of a command
+abbrev pub verb_word : Verb → List ℕ
+verb_word Run = codes "run"
+verb_word Check = codes "check"
+verb_word Print = codes "print"
+verb_word Enabled = codes "enabled"
+verb_word Replay = codes "replay"
+verb_word Gen = codes "gen"
+
+-- the name of an option, which stands after `--`
+abbrev pub setting_name : Setting → List ℕ
+setting_name Workers = codes "workers"
+setting_name Steps = codes "steps"
+setting_name Depth = codes "depth"
+setting_name Sweep = codes "drop"
+
+-- whether a command takes an option
+abbrev pub takes : Verb → Setting → Bool
+takes Run setting = true
+takes Enabled Depth = true
+takes Replay Steps = true
+takes Replay Depth = true
+takes Gen Workers = true
+takes Gen Sweep = true
+takes verb setting = false
+
+-- the least value of an option
+abbrev pub least : Setting → ℕ
+least Workers = 1
+least setting = 0
+
+-- the greatest value of an option
+abbrev pub most : Setting → ℕ
+most Workers = 64
+most Steps = 200000
+most Sweep = 200000
+most Depth = 16
+
+-- the most workers that the workload text is made for
+abbrev pub most_copies : ℕ
+most_copies = 10000

@@ -1,0 +1,24 @@
+-- Values of options.
+use Rattle.std.specs.Prelude.{ℕ, ◌+◌, ◌*◌, ◌-◌, List, [], ◌∷◌, Bool, ◌&&◌, Option, Some, None, length}
+use Rattle.std.specs.Prelude.{nat_le, if◌then◌else◌}
+use Rattle.std.specs.List.{list_all}
+
+-- an ASCII digit
+abbrev pub is_digit : ℕ → Bool
+is_digit c = nat_le 48 c && nat_le c 57
+
+-- the number that these digits spell after a number: each digit makes it ten times as great
+abbrev pub number_after : ℕ → List ℕ → ℕ
+number_after n [] = n
+number_after n (d ∷ ds) = number_after (n * 10 + (d - 48)) ds
+
+-- whether a word is one to six digits
+abbrev pub is_number : List ℕ → Bool
+is_number word = nat_le 1 (length word) && nat_le (length word) 6 && list_all is_digit word
+
+-- the number that a word spells, where it is one to six digits, leading zeros allowed, and is
+-- within these limits
+abbrev pub value_within : ℕ → ℕ → List ℕ → Option ℕ
+value_within least most word =
+    if is_number word && nat_le least (number_after 0 word) && nat_le (number_after 0 word) most
+    then Some (number_after 0 word) else None

@@ -1,0 +1,107 @@
+//! The options that are given so far.
+ghost use Rattle.std.specs.Prelude.{◌≡◌, is_some};
+ghost use Rattle.rn_words.specs.Choices.{given, with_given, nothing, options_of, command_of};
+
+use crate::command::Command;
+use crate::table::{Setting, Verb};
+use rn_model::Options;
+
+/// The workers of a run that names none.
+const WORKERS: u32 = 4;
+
+/// The step limit of a run that names none.
+const STEPS: u32 = 1_000;
+
+/// The step limit of a run of the workload text.
+const GEN_STEPS: u32 = 200_000;
+
+/// The depth of a search that names none.
+const DEPTH: u32 = 4;
+
+/// After how many firings of its own a worker drops instances, where a run names none.
+const SWEEP_EVERY: u32 = 64;
+
+/// The value of each option that is given.
+#[derive(Clone, Copy, Debug)]
+pub(crate) struct Chosen {
+    pub(crate) workers: Option<u32>,
+    pub(crate) steps: Option<u32>,
+    pub(crate) depth: Option<u32>,
+    pub(crate) sweep: Option<u32>,
+}
+
+impl Chosen {
+    /// No option is given.
+    pub(crate) fn nothing() -> Chosen
+        ensures { result ≡ nothing }
+    {
+        Chosen {
+            workers: None,
+            steps: None,
+            depth: None,
+            sweep: None,
+        }
+    }
+
+    /// Whether an option is given.
+    pub(crate) fn has(&self, setting: Setting) -> bool
+        ensures { result ≡ is_some (given self.now setting) }
+    {
+        match setting {
+            Setting::Workers => self.workers.is_some(),
+            Setting::Steps => self.steps.is_some(),
+            Setting::Depth => self.depth.is_some(),
+            Setting::Sweep => self.sweep.is_some(),
+        }
+    }
+
+    /// The same with one more option given.
+    pub(crate) fn with(self, setting: Setting, value: u32) -> Chosen
+        ensures { result ≡ with_given self setting value }
+    {
+        match setting {
+            Setting::Workers => Chosen {
+                workers: Some(value),
+                ..self
+            },
+            Setting::Steps => Chosen {
+                steps: Some(value),
+                ..self
+            },
+            Setting::Depth => Chosen {
+                depth: Some(value),
+                ..self
+            },
+            Setting::Sweep => Chosen {
+                sweep: Some(value),
+                ..self
+            },
+        }
+    }
+}
+
+// The options, with this limit of steps where none is given.
+fn options_of(steps: u32, chosen: Chosen) -> Options
+    ensures { result ≡ options_of steps chosen }
+{
+    Options {
+        workers: chosen.workers.unwrap_or(WORKERS),
+        steps: chosen.steps.unwrap_or(steps),
+        depth: chosen.depth.unwrap_or(DEPTH),
+        sweep_every: chosen.sweep.unwrap_or(SWEEP_EVERY),
+    }
+}
+
+/// The command of its word, the number after it (for `gen` alone), and the options.
+pub(crate) fn command_of(verb: Verb, copies: u32, chosen: Chosen) -> Command
+    ensures { result ≡ command_of verb copies chosen }
+{
+    match verb {
+        Verb::Run => Command::Run(options_of(STEPS, chosen)),
+        Verb::Check => Command::Check,
+        Verb::Print => Command::Print,
+        Verb::Enabled => Command::Enabled(chosen.depth.unwrap_or(DEPTH)),
+        Verb::Replay => Command::Replay(options_of(STEPS, chosen)),
+        Verb::Gen => Command::Gen(copies, options_of(GEN_STEPS, chosen)),
+    }
+}

@@ -1,0 +1,31 @@
+//! What the words of the command line give.
+use rn_model::Options;
+
+/// A command with its options. Options that a command doesn't take have their defaults.
+#[derive(Clone, Copy, Debug, PartialEq, Eq)]
+pub enum Command {
+    /// Run a net text and write the run.
+    Run(Options),
+    /// Check a net text.
+    Check,
+    /// Write the canonical text of a net text.
+    Print,
+    /// Write the bindings that are enabled at the start, within this depth.
+    Enabled(u32),
+    /// Run a record again.
+    Replay(Options),
+    /// Run the workload text of so many workers.
+    Gen(u32, Options),
+}
+
+/// The first bad word, by its number from 1.
+#[derive(Clone, Copy, Debug, PartialEq, Eq)]
+pub enum WordsFault {
+    /// There is no word, or the first is no command. The number is 1.
+    U1(usize),
+    /// Where an option may stand, the word is none that the command takes, or it is given again.
+    U2(usize),
+    /// A value is missing, is no number, or is out of range. The number of a missing one is one
+    /// more than that of the last word.
+    U3(usize),
+}

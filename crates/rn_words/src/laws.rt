@@ -1,0 +1,9 @@
+//! Laws of words.
+ghost use Rattle.rn_words.specs.Laws.{ReadsWhatIsAccepted, FaultsNameTheFirst};
+
+/// Reading gives a command exactly where the words are accepted and give it, and a fault names the
+/// first bad word: some accepted words begin with those before it, and none with those up to it.
+pub fn words_laws()
+    ensures accepted { ReadsWhatIsAccepted }
+    ensures first { FaultsNameTheFirst }
+{}

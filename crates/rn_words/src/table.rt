@@ -1,0 +1,98 @@
+//! The commands and their options: names, limits, defaults, and which command takes which.
+ghost use Rattle.std.specs.Prelude.{◌≡◌};
+ghost use Rattle.rn_words.specs.Table.{verb_named, setting_named, takes, least, most};
+
+/// The first word of a command line.
+#[derive(Clone, Copy, Debug, PartialEq, Eq)]
+pub(crate) enum Verb {
+    Run,
+    Check,
+    Print,
+    Enabled,
+    Replay,
+    Gen,
+}
+
+/// An option: `--workers`, `--steps`, `--depth`, `--drop`.
+#[derive(Clone, Copy, Debug, PartialEq, Eq)]
+pub(crate) enum Setting {
+    Workers,
+    Steps,
+    Depth,
+    Sweep,
+}
+
+/// The most workers that the workload text is made for.
+pub(crate) const MOST_COPIES: u32 = 10_000;
+
+/// The command of a word.
+pub(crate) fn verb_named(word: &[u8]) -> Option<Verb>
+    ensures { result ≡ verb_named word.now }
+{
+    if word == b"run".as_slice() {
+        Some(Verb::Run)
+    } else if word == b"check".as_slice() {
+        Some(Verb::Check)
+    } else if word == b"print".as_slice() {
+        Some(Verb::Print)
+    } else if word == b"enabled".as_slice() {
+        Some(Verb::Enabled)
+    } else if word == b"replay".as_slice() {
+        Some(Verb::Replay)
+    } else if word == b"gen".as_slice() {
+        Some(Verb::Gen)
+    } else {
+        None
+    }
+}
+
+/// The option of a name, which stands after `--`.
+pub(crate) fn setting_named(name: &[u8]) -> Option<Setting>
+    ensures { result ≡ setting_named name.now }
+{
+    if name == b"workers".as_slice() {
+        Some(Setting::Workers)
+    } else if name == b"steps".as_slice() {
+        Some(Setting::Steps)
+    } else if name == b"depth".as_slice() {
+        Some(Setting::Depth)
+    } else if name == b"drop".as_slice() {
+        Some(Setting::Sweep)
+    } else {
+        None
+    }
+}
+
+/// Whether a command takes an option.
+pub(crate) fn takes(verb: Verb, setting: Setting) -> bool
+    ensures { result ≡ takes verb setting }
+{
+    match verb {
+        Verb::Run => true,
+        Verb::Check | Verb::Print => false,
+        Verb::Enabled => matches!(setting, Setting::Depth),
+        Verb::Replay => matches!(setting, Setting::Steps | Setting::Depth),
+        Verb::Gen => matches!(setting, Setting::Workers | Setting::Sweep),
+    }
+}
+
+/// The least value of an option.
+pub(crate) fn least(setting: Setting) -> u32
+    ensures { result ≡ least setting }
+{
+    match setting {
+        Setting::Workers => 1,
+        _ => 0,
+    }
+}
+
+/// The greatest value of an option.
+pub(crate) fn most(setting: Setting) -> u32
+    ensures { result ≡ most setting }
+{
+    match setting {
+        Setting::Workers => 64,
+        Setting::Steps | Setting::Sweep => 200_000,
+        Setting::Depth => 16,
+    }
+}
