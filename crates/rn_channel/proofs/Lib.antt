@@ -1,0 +1,5 @@
+mod CallsBelow
+mod LeastHeights
+mod LevelLemmas
+mod ListLemmas
+mod NetLemmas

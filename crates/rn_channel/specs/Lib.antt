@@ -1,0 +1,4 @@
+pub mod Answering
+pub mod Heights
+pub mod Kept
+pub mod Uplinks

@@ -1,0 +1,13 @@
+//! Which transitions answer a call, and how deep the calls below a transition go at least.
+#![tactic(auto)]
+
+mod heights;
+mod laws;
+mod rows;
+mod sharing;
+#[cfg(test)]
+mod tests;
+mod uplinks;
+
+pub use laws::calls_need_levels;
+pub use uplinks::Uplinks;
