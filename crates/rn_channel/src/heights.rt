@@ -8,11 +8,9 @@ ghost use Rattle.rn_channel.specs.Heights.{calls_answered, net_answers};
 ghost use Rattle.rn_channel.specs.Kept.{IsLevel, AreLevelsFrom, least_height};
 
 use rn_items::{Items, NoMemory};
+use rn_model::limits::GREATEST_DEPTH;
 use rn_model::{Net, System, Transition, Uplink};
 use std::alloc::Global;
-
-/// The greatest depth of a binding.
-pub(crate) const GREATEST_DEPTH: usize = 16;
 
 // Whether a channel is answered, by a list that says so of each.
 fn has_answer(answered: &[bool], channel: u32) -> bool
@@ -96,7 +94,7 @@ pub(crate) fn levels_of(alloc: Global, system: &System) -> Result<Vec<Items<bool
 {
     let mut levels = Vec::new(alloc);
     let mut level = vec![in alloc; false; system.channels.len()]?;
-    for k in 0..GREATEST_DEPTH + 1 {
+    for k in 0..GREATEST_DEPTH as usize + 1 {
         let next = next_level(alloc, system, level.as_slice())?;
         levels.push(Items::from_vec(level))?;
         level = next;

@@ -1,6 +1,7 @@
 -- The commands and their options: names, limits, and which command takes which.
 use Rattle.std.specs.Prelude.{ℕ, List, Bool, true, false, Option, Some, None, codes, bytes_eq}
 use Rattle.std.specs.Prelude.{if◌then◌else◌}
+use Rattle.rn_model.specs.Limits.{most_workers, most_steps, greatest_depth, greatest_sweep}
 use Rattle.rn_words.specs.declared.table.Verb.{Verb}
 use Rattle.rn_words.specs.declared.table.Verb.TheVariants.{Run, Check, Print, Enabled, Replay, Gen}
 use Rattle.rn_words.specs.declared.table.Setting.{Setting}
@@ -59,10 +60,10 @@ least setting = 0
 
 -- the greatest value of an option
 abbrev pub most : Setting → ℕ
-most Workers = 64
-most Steps = 200000
-most Sweep = 200000
-most Depth = 16
+most Workers = most_workers
+most Steps = most_steps
+most Sweep = greatest_sweep
+most Depth = greatest_depth
 
 -- the most workers that the workload text is made for
 abbrev pub most_copies : ℕ

@@ -2,10 +2,7 @@
 use Rattle.std.specs.Prelude.{ℕ, ◌+◌, ◌*◌, ◌-◌, List, [], ◌∷◌, Bool, ◌&&◌, Option, Some, None, length}
 use Rattle.std.specs.Prelude.{nat_le, if◌then◌else◌}
 use Rattle.std.specs.List.{list_all}
-
--- an ASCII digit
-abbrev pub is_digit : ℕ → Bool
-is_digit c = nat_le 48 c && nat_le c 57
+use Rattle.rn_value.specs.Characters.{is_digit}
 
 -- the number that these digits spell after a number: each digit makes it ten times as great
 abbrev pub number_after : ℕ → List ℕ → ℕ

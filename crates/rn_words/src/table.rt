@@ -2,6 +2,8 @@
 ghost use Rattle.std.specs.Prelude.{◌≡◌};
 ghost use Rattle.rn_words.specs.Table.{verb_named, setting_named, takes, least, most};
 
+use rn_model::limits;
+
 /// The first word of a command line.
 #[derive(Clone, Copy, Debug, PartialEq, Eq)]
 pub(crate) enum Verb {
@@ -91,8 +93,9 @@ pub(crate) fn most(setting: Setting) -> u32
     ensures { result ≡ most setting }
 {
     match setting {
-        Setting::Workers => 64,
-        Setting::Steps | Setting::Sweep => 200_000,
-        Setting::Depth => 16,
+        Setting::Workers => limits::MOST_WORKERS,
+        Setting::Steps => limits::MOST_STEPS,
+        Setting::Depth => limits::GREATEST_DEPTH,
+        Setting::Sweep => limits::GREATEST_SWEEP,
     }
 }

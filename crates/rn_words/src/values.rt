@@ -1,7 +1,10 @@
 //! Values of options: numbers of one to six digits, within limits.
 ghost use Rattle.std.specs.Prelude.{◌≡◌, ◌≤◌, ◌<◌, length, IsTrue};
 ghost use Rattle.std.specs.List.{list_all};
-ghost use Rattle.rn_words.specs.Values.{is_number, is_digit, number_after, value_within};
+ghost use Rattle.rn_value.specs.Characters.{is_digit};
+ghost use Rattle.rn_words.specs.Values.{is_number, number_after, value_within};
+
+use rn_value::is_digit;
 
 /// The most digits of a number.
 const MOST_DIGITS: usize = 6;
@@ -24,7 +27,7 @@ fn are_digits(word: &[u8]) -> bool
     ensures { result ≡ list_all is_digit word.now }
 {
     for byte in word {
-        if !byte.is_ascii_digit() {
+        if !is_digit(*byte) {
             return false;
         }
     }

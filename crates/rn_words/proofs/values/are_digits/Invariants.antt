@@ -1,6 +1,6 @@
 use Rattle.std.proofs.Common.{◌≡◌, drop}
 use Rattle.std.specs.List.{list_all}
-use Rattle.rn_words.specs.Values.{is_digit}
+use Rattle.rn_value.specs.Characters.{is_digit}
 use Rattle.rn_words.proofs.values.are_digits.Given as goal
 
 abbrev pub invariant-loop-byte : goal.invariant-loop-byte
