@@ -24,13 +24,13 @@ next_value sizes clashes ds s (a ∷ rest) within solution is =
 
 pub goes_on : (sizes : List ℕ) (clashes : List Clash) (ds s : List ℕ) → length ds < length sizes →
     Leads sizes clashes ds s → (a : ℕ) × (a < slice_index sizes (length ds))
-        × Leads sizes clashes (ds ++ a ∷ []) s
+    × Leads sizes clashes (ds ++ a ∷ []) s
 goes_on sizes clashes ds s within led = next_value sizes clashes ds s led.1.0 within led.0 led.1.1
 
 pub goes_on_alone : (sizes : List ℕ) (clashes : List Clash) (ds s : List ℕ) →
     length ds < length sizes →
     slice_index sizes (length ds) ≡ 1 → Leads sizes clashes ds s →
-        Leads sizes clashes (ds ++ 0 ∷ []) s
+    Leads sizes clashes (ds ++ 0 ∷ []) s
 goes_on_alone sizes clashes ds s within alone led =
     let goes = goes_on sizes clashes ds s within led in
     let below = goes.1 in

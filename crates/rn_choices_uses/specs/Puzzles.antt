@@ -30,13 +30,19 @@ FitIn sizes ds =
 
 pub leads_shorter : (sizes : List ℕ) (clashes : List Clash) (ds es s : List ℕ) →
     Leads sizes clashes (ds ++ es) s → Leads sizes clashes ds s
-leads_shorter sizes clashes ds es s led = (led.0, (es ++ led.1.0, led.1.1
-    ∙ append_assoc ds es led.1.0))
+leads_shorter sizes clashes ds es s led = (
+  led.0,
+  (
+    es ++ led.1.0,
+    led.1.1
+        ∙ append_assoc ds es led.1.0,
+  ),
+)
 
 pub leads_one_way : (sizes : List ℕ) (clashes : List Clash) (ds : List ℕ) (a b : ℕ) (s : List ℕ) →
     Leads sizes clashes (ds ++ a ∷ []) s → Leads sizes clashes (ds ++ b ∷ []) s → a ≡ b
 leads_one_way sizes clashes ds a b s one other =
     let same : a ∷ one.1.0 ≡ b ∷ other.1.0 = append_cancel_left ds (a ∷ one.1.0) (b ∷ other.1.0)
     (sym (append_assoc ds (a ∷ []) one.1.0) ∙ sym one.1.1 ∙ other.1.1
-        ∙ append_assoc ds (b ∷ []) other.1.0) in
+    ∙ append_assoc ds (b ∷ []) other.1.0) in
     cc

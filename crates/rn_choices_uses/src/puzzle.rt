@@ -5,8 +5,7 @@ ghost use Rattle.std.specs.Prelude.{IfOk, IfSome, IsNone, length, slice_index};
 ghost use Rattle.rn_choices_uses.specs.Puzzles.{IsSolution, Clashes};
 
 use rn_choices::{Choices, Grows, Next};
-use rn_items::Items;
-use rn_items::NoMemory;
+use rn_items::{Items, NoMemory};
 use std::alloc::Global;
 
 /// Two numbers that don't go together: `value` at the cell `one`, and `other_value` at `other`.

@@ -52,7 +52,10 @@ pub(crate) fn posts_of(
 }
 
 /// The passes and the tallies, each in order.
-pub(crate) fn parted(alloc: Global, posts: Vec<Post>) -> Result<(Vec<Pass<Sheet>>, Vec<Tally>), NoMemory>
+pub(crate) fn parted(
+    alloc: Global,
+    posts: Vec<Post>,
+) -> Result<(Vec<Pass<Sheet>>, Vec<Tally>), NoMemory>
     ensures passes { IfOk result (λ r. r.0.items ≡ map (λ p. p.pass) posts.items) }
     ensures tallies { IfOk result (λ r. r.1.items ≡ map (λ p. p.tally) posts.items) }
 {

@@ -8,9 +8,11 @@ returns-in-1-clause-says c =
     let ds = c.args.self.now.values.items in
     let within : length ds < length sizes = search rules in
     let alone : slice_index sizes (length ds) ≡ 1 = search rules in
-    let fits : 0 < slice_index sizes (length ds) = omega arith in
-    ((within, fits), λ s led. goes_on_alone sizes c.args.problem.now.clashes.now ds s within
-        alone led)
+    let fits : 0 < slice_index sizes (length ds) = omega arith in (
+      (within, fits),
+      λ s led. goes_on_alone sizes c.args.problem.now.clashes.now ds s within
+          alone led,
+    )
 
 pub returns-in_default-clause-says : goal.returns-in_default-clause-says
 returns-in_default-clause-says c =
