@@ -71,10 +71,10 @@ agree s vs ws keeps sat other =
     (λ p is. parts p is (λ var free there. same var free (Occurs.in_part is there)))
     (λ to is. bound to is (λ var free there. same var free (Occurs.in_bound is there))))
 
--- fronts of one length of two lists that are equal are equal, and so are the rests
-same_fronts : {A : Type 0} (xs ys us ws : List A) → length xs ≡ length us →
+-- prefixes of one length of two lists that are equal are equal, and so are the rests
+same_prefixes : {A : Type 0} (xs ys us ws : List A) → length xs ≡ length us →
     xs ++ ys ≡ us ++ ws → xs ≡ us
-same_fronts xs ys us ws long is =
+same_prefixes xs ys us ws long is =
     sym (take_at xs ys (length xs) refl) ∙ ap (take (length xs)) is
     ∙ take_at us ws (length xs) (sym long)
 
@@ -105,8 +105,8 @@ same_part vs ws (T.List ids) v w p has other same is =
     (same_parts_of_lists (map (value_at vs) ids) (map (value_at ws) ids)
     (sym has ∙ same ∙ other)) is
 same_part vs ws (T.Cons ids tail) v w p has other same is = ⊎_elim
-    (λ front. same_element (value_at vs) (value_at ws) ids p
-    (same_fronts (map (value_at vs) ids) has.0 (map (value_at ws) ids) other.0 long joined) front)
+    (λ prefix. same_element (value_at vs) (value_at ws) ids p
+    (same_prefixes (map (value_at vs) ids) has.0 (map (value_at ws) ids) other.0 long joined) prefix)
     (λ end. sym (ap (value_at vs) end) ∙ has.1
     ∙ ap (λ xs. Value.List xs)
     (same_rests (map (value_at vs) ids) has.0 (map (value_at ws) ids) other.0 long joined)

@@ -20,7 +20,7 @@ use Rattle.rn_term.proofs.ListEnds.{at_end}
 use Rattle.rn_term.proofs.LinkLemmas.{none_or_some, link-stays, link-new, link-here}
 use Rattle.rn_term.proofs.LinkLemmas.{noted_link}
 
--- a value stays as others come behind it
+-- a value stays as others come after it
 pub value_stays : (vs ws : List Value) (id : ℕ) → id < length vs →
     value_at (vs ++ ws) id ≡ value_at vs id
 value_stays vs ws id within = get_or_append_left vs ws (Value.Tuple []) id within
@@ -137,7 +137,7 @@ satisfied_before s var to vs none sat = (
   sat.links var to (link-here s.notes var to var none refl),
 )
 
--- just the assignments from before that give both ids one value satisfy one more note
+-- exactly the assignments from before that give both ids one value satisfy one more note
 pub note_means : (s : State) (var to : ℕ) (vs : List Value) (new : List (ℕ × ℕ)) →
     link_of s.notes var ≡ None → new ≡ s.notes ++ (var, to) ∷ [] →
     Satisfies (record { terms = s.terms; notes = new }) vs

@@ -3,7 +3,7 @@ use Rattle.std.proofs.Common.{◌≡◌, ℕ, zero, suc, List, [], ◌∷◌, re
 use Rattle.rn_value.specs.declared.value.Value.{Value}
 use Rattle.rn_value.specs.declared.value.Value.TheVariants as Value
 use Rattle.rn_term.specs.declared.term.Term.TheVariants as T
-use Rattle.rn_term.specs.Stores.{State, term_at}
+use Rattle.rn_term.specs.Stores.{State, Leads, term_at}
 use Rattle.rn_term.specs.Assignments.{value_at, HasValue, MayBeOne, HasListTail}
 use Rattle.rn_term.proofs.LinkLemmas.{none_or_some}
 
@@ -36,6 +36,16 @@ two_variables_agree s x y is =
       },
       rw (all_black x, all_black y) refl,
     )
+
+-- no links lead from one to the other
+pub two_variables_apart : (s : State) (x y : ℕ) →
+    s ≡ record { terms = T.Free ∷ T.Free ∷ []; notes = [] } → (x ≡ y → ⊥) → ¬ Leads s.notes x y
+two_variables_apart s x y is other =
+    subst (λ store. ¬ Leads store.notes x y) (sym is) (no_way x other)
+  where
+    no_way : (from : ℕ) → (from ≡ y → ⊥) → ¬ Leads [] from y
+    no_way _ other Leads.here = other refl
+    no_way from other (Leads.next {to = to} link rest) = none_or_some to link
 
 abbrev one_list : State
 one_list = record { terms = T.List [] ∷ []; notes = [] }

@@ -12,8 +12,8 @@ forced_is_ground s id keeps within = (
     value_at keeps.satisfied.0 id,
     λ vs sat. ground_is_forced s id ground vs keeps.satisfied.0 sat keeps.satisfied.1,
   ),
-  λ told. ⊎_elim
-      (λ free. absurd (free_is_not_forced s keeps id within free told.0 told.1))
+  λ answer. ⊎_elim
+      (λ free. absurd (free_is_not_forced s keeps id within free answer.0 answer.1))
       (λ ground. ground)
       (free_or_ground s keeps id within),
 )

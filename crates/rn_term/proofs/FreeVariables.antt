@@ -17,7 +17,7 @@ use Rattle.rn_term.proofs.Filling.{FitsTails, filled, stays_list}
 use Rattle.rn_value.proofs.Variants.{same_parts_of_lists}
 
 -- all free variables may have one list
-all_lists : (s : State) (items : List Value) → Keeps s →
+pub all_lists : (s : State) (items : List Value) → Keeps s →
     (vs : List Value) × Satisfies s vs ×
     ((var : ℕ) → IsFree s var → value_at vs var ≡ Value.List items)
 all_lists s items keeps =
@@ -110,3 +110,10 @@ free_may_be s keeps var to free within apart list =
     ∙ one_value-other var v other (λ e. apart (subst (λ x. Occurs s x to) e occurs))
     ∙ sym (all.2 other there)) in
     (some.0, some.1, some.2 var free ∙ one_value-here var v var refl ∙ sym same)
+
+-- two free variables may be one
+pub free_agree : (s : State) → Keeps s → (var to : ℕ) → IsFree s var → IsFree s to →
+    MayBeOne s var to
+free_agree s keeps var to free other =
+    let all = all_lists s [] keeps in
+    (all.0, all.1, all.2 var free ∙ sym (all.2 to other))

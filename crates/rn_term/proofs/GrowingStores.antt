@@ -31,9 +31,9 @@ value_here : (vs : List Value) (v : Value) (n : ℕ) → length vs ≡ n → val
 value_here vs v n each =
     subst (λ k. value_at (vs ++ v ∷ []) k ≡ v) each (get_or-append_seam vs v [] (Value.Tuple []))
 
-satisfied_front : (s : State) (t : Term) (vs : List Value) (v : Value) → Keeps s →
+satisfied_prefix : (s : State) (t : Term) (vs : List Value) (v : Value) → Keeps s →
     length vs ≡ length s.terms → Satisfies (with_term s t) (vs ++ v ∷ []) → Satisfies s vs
-satisfied_front s t vs v keeps each sat =
+satisfied_prefix s t vs v keeps each sat =
     let long : length (s.terms ++ t ∷ []) ≡ length s.terms + 1 = length-append s.terms (t ∷ []) in
     record {
       each = each;
@@ -65,6 +65,6 @@ last_has s t vs v built each sat =
 
 pub terms_extend : TermsExtend
 terms_extend s t vs v keeps built each = (
-  λ sat. (satisfied_front s t vs v keeps each sat, last_has s t vs v built each sat),
+  λ sat. (satisfied_prefix s t vs v keeps each sat, last_has s t vs v built each sat),
   λ both. satisfies_term s t vs v keeps built both.0 both.1,
 )

@@ -1,17 +1,19 @@
 -- A store stays sound as terms and notes come and go.
-use Rattle.std.proofs.Common.{◌≡◌, ⊎_elim, ◌≤◌, ◌+◌, ℕ, List, [], ◌∷◌, ◌++◌, refl}
+use Rattle.std.proofs.Common.{◌≡◌, ⊎_elim, ◌<◌, ◌≤◌, ◌+◌, ℕ, zero, suc, List, [], ◌∷◌, ◌++◌, refl}
+use Rattle.std.proofs.Common.{subst}
 use Rattle.std.proofs.Common.{arith}
 use Rattle.std.proofs.Common.{length, sym, ◌∙◌, ap, get_or, set, take, length-append}
 use Rattle.std.specs.Prelude.{Option, Some, None}
 use Rattle.std.proofs.lemmas.List.{get_or_append_left, get_or-take, length-set, length-take}
 use Rattle.std.proofs.lemmas.List.{get_or_past}
 use Rattle.std.proofs.lemmas.Bool.{cases_lt}
+use Rattle.std.proofs.Math.Seq.{get_or-append_seam}
 use Rattle.rn_term.specs.declared.term.Term.{Term}
 use Rattle.rn_term.specs.declared.term.Term.TheVariants as T
 use Rattle.rn_term.specs.Stores.{State, link_of, IsBuiltBelow, with_term, with_note}
 use Rattle.rn_term.specs.Assignments.{HasListTail, MayBeOne, IsNote, Keeps}
-use Rattle.rn_term.specs.Kept.{KeepsAll}
-use Rattle.rn_term.proofs.ListEnds.{at_end, after_front, none_at_end}
+use Rattle.rn_term.specs.Kept.{KeepsAll, AreLastLists, last_cons, or_cons}
+use Rattle.rn_term.proofs.ListEnds.{at_end, after_prefix, none_at_end}
 use Rattle.rn_term.proofs.LinkLemmas.{set_link}
 use Rattle.rn_term.proofs.AssignmentLemmas.{new_value, satisfies_term, satisfies_note, link_within}
 
@@ -45,31 +47,79 @@ pub keeps_note : (s : State) (var to : ℕ) → Keeps s → IsNote s.terms s.not
     MayBeOne s var to → Keeps (with_note s var to)
 keeps_note s var to keeps note one = record {
   built = keeps.built;
-  noted = after_front (0, 0) (λ before n. IsNote s.terms before n) s.notes (var, to)
+  noted = after_prefix (0, 0) (λ before n. IsNote s.terms before n) s.notes (var, to)
       keeps.noted note;
   satisfied = (one.0, satisfies_note s var to one.0 one.1 one.2 note.fresh);
 }
 
+-- which list is the last depends on the terms up to it alone
+same_last : (terms others : List Term) (n : ℕ) →
+    ((k : ℕ) → k < n → get_or terms k T.Free ≡ get_or others k T.Free) →
+    last_cons terms n ≡ last_cons others n
+same_last terms others zero same = refl
+same_last terms others (suc n) same =
+    ap (λ t. or_cons t n (last_cons terms n)) (same n (omega arith))
+    ∙ ap (or_cons (get_or others n T.Free) n)
+    (same_last terms others n (λ k small. same k (omega (arith, small))))
+
+-- the last lists beside one more term
+one_list_more : (terms : List Term) (lists : List (Option ℕ)) (t : Term) (last : Option ℕ) →
+    length lists ≡ length terms → AreLastLists lists terms →
+    last ≡ or_cons t (length terms) (last_cons terms (length terms)) →
+    AreLastLists (lists ++ last ∷ []) (terms ++ t ∷ [])
+one_list_more terms lists t last counted are is id within = ⊎_elim
+    (λ small. get_or_append_left lists (last ∷ []) None id (rw counted small)
+    ∙ are id small
+    ∙ same_last terms (terms ++ t ∷ []) (suc id)
+    (λ k less. sym (get_or_append_left terms (t ∷ []) T.Free k (omega (arith, less, small)))))
+    (λ big.
+    let long : length (terms ++ t ∷ []) ≡ length terms + 1 = length-append terms (t ∷ []) in
+    let here : id ≡ length terms = omega (arith, big, within, long) in
+    subst (λ n. get_or (lists ++ last ∷ []) n None ≡ last_cons (terms ++ t ∷ []) (suc n)) (sym here)
+    (ap (λ n. get_or (lists ++ last ∷ []) n None) (sym counted)
+    ∙ get_or-append_seam lists last [] None ∙ is
+    ∙ ap (or_cons t (length terms)) (same_last terms (terms ++ t ∷ []) (length terms)
+    (λ k less. sym (get_or_append_left terms (t ∷ []) T.Free k less)))
+    ∙ ap (λ u. or_cons u (length terms) (last_cons (terms ++ t ∷ []) (length terms)))
+    (sym (get_or-append_seam terms t [] T.Free))))
+    (cases_lt id (length terms))
+
+-- the last lists beside the first terms
+fewer_lists : (terms : List Term) (lists : List (Option ℕ)) (n : ℕ) → n ≤ length terms →
+    AreLastLists lists terms → AreLastLists (take n lists) (take n terms)
+fewer_lists terms lists n room are id within =
+    let small : id < n = omega (arith, within, length-take n terms) in
+    get_or-take n lists id None small ∙ are id (omega (arith, small, room))
+    ∙ same_last terms (take n terms) (suc id)
+    (λ k less. sym (get_or-take n terms k T.Free (omega (arith, less, small))))
+
 -- the same of how a store is kept
-pub kept_term : (terms : List Term) (links : List (Option ℕ)) (notes : List (ℕ × ℕ)) (t : Term) →
-    KeepsAll terms links notes → IsBuiltBelow (length terms) t →
+pub kept_term : (terms : List Term) (links lists : List (Option ℕ)) (notes : List (ℕ × ℕ))
+    (t : Term) (last : Option ℕ) → KeepsAll terms links lists notes →
+    last ≡ or_cons t (length terms) (last_cons terms (length terms)) →
+    IsBuiltBelow (length terms) t →
     HasListTail (record { terms = terms; notes = notes }) t →
-    KeepsAll (terms ++ t ∷ []) (links ++ None ∷ []) notes
-kept_term terms links notes t kept built tail = record {
+    KeepsAll (terms ++ t ∷ []) (links ++ None ∷ []) (lists ++ last ∷ []) notes
+kept_term terms links lists notes t last kept is built tail = record {
   sound = keeps_term (record { terms = terms; notes = notes }) t kept.sound built tail;
   each = length-append links (None ∷ []) ∙ ap (λ n. n + 1) kept.each
       ∙ sym (length-append terms (t ∷ []));
   linked = λ id. none_at_end links id ∙ kept.linked id;
+  counted = length-append lists (last ∷ []) ∙ ap (λ n. n + 1) kept.counted
+      ∙ sym (length-append terms (t ∷ []));
+  last = one_list_more terms lists t last kept.counted kept.last is;
 }
 
-pub kept_note : (terms : List Term) (links : List (Option ℕ)) (notes : List (ℕ × ℕ)) (var to : ℕ) →
-    KeepsAll terms links notes → IsNote terms notes (var, to) →
+pub kept_note : (terms : List Term) (links lists : List (Option ℕ)) (notes : List (ℕ × ℕ))
+    (var to : ℕ) → KeepsAll terms links lists notes → IsNote terms notes (var, to) →
     MayBeOne (record { terms = terms; notes = notes }) var to →
-    KeepsAll terms (set links var (Some to)) (notes ++ (var, to) ∷ [])
-kept_note terms links notes var to kept note one = record {
+    KeepsAll terms (set links var (Some to)) lists (notes ++ (var, to) ∷ [])
+kept_note terms links lists notes var to kept note one = record {
   sound = keeps_note (record { terms = terms; notes = notes }) var to kept.sound note one;
   each = length-set links var (Some to) ∙ kept.each;
   linked = set_link links notes var to kept.linked (rw kept.each note.var) note.fresh;
+  counted = kept.counted;
+  last = kept.last;
 }
 
 -- what lies past the terms has no link
@@ -82,11 +132,13 @@ no_link s id keeps past = split (link_of s.notes id) refl where
       let none : ⊥ = omega (arith, both.0, past) in absurd none
 
 -- a store that is cut where it is sound
-pub kept_front : (terms : List Term) (links : List (Option ℕ)) (notes : List (ℕ × ℕ)) (n : ℕ) →
+pub kept_prefix : (terms : List Term) (links lists : List (Option ℕ)) (notes : List (ℕ × ℕ))
+    (n : ℕ) →
     Keeps (record { terms = take n terms; notes = notes }) → n ≤ length terms →
     length links ≡ length terms → ((id : ℕ) → get_or links id None ≡ link_of notes id) →
-    KeepsAll (take n terms) (take n links) notes
-kept_front terms links notes n keeps within each linked = record {
+    length lists ≡ length terms → AreLastLists lists terms →
+    KeepsAll (take n terms) (take n links) (take n lists) notes
+kept_prefix terms links lists notes n keeps within each linked counted last = record {
   sound = keeps;
   each = length-take n links ∙ rw each refl ∙ sym (length-take n terms);
   linked = λ id. ⊎_elim
@@ -95,4 +147,6 @@ kept_front terms links notes n keeps within each linked = record {
       ∙ sym (no_link (record { terms = take n terms; notes = notes }) id keeps
       (omega (arith, big, length-take n terms))))
       (cases_lt id n);
+  counted = length-take n lists ∙ rw counted refl ∙ sym (length-take n terms);
+  last = fewer_lists terms lists n within last;
 }

@@ -1,5 +1,6 @@
 pub mod Agreement
 pub mod AssignmentLemmas
+pub mod Bulks
 pub mod ElementsOfTerms
 pub mod Examples
 pub mod Extents
@@ -12,6 +13,7 @@ pub mod FreeVariables
 pub mod GroundingLemmas
 pub mod GrowingStores
 pub mod KeepingLemmas
+pub mod LastLists
 pub mod LinkLemmas
 pub mod LinkRanks
 pub mod ListEnds
@@ -26,3 +28,4 @@ pub mod Ranks
 pub mod ReadingLemmas
 pub mod TakingBack
 pub mod ValueSizes
+pub mod Walks

@@ -26,42 +26,42 @@ picked : (b : Bool) (to : ℕ) (x y : Option ℕ) →
 picked true to x y = refl
 picked false to x y = refl
 
-pub link-after : (front back : List (ℕ × ℕ)) (id : ℕ) →
-    link_of (front ++ back) id ≡ or_link (link_of front id) (link_of back id)
+pub link-after : (prefix back : List (ℕ × ℕ)) (id : ℕ) →
+    link_of (prefix ++ back) id ≡ or_link (link_of prefix id) (link_of back id)
 link-after [] back id = refl
-link-after (note ∷ front) back id =
-    ap (λ o. if nat_eq note.0 id then Some note.1 else o) (link-after front back id)
-    ∙ picked (nat_eq note.0 id) note.1 (link_of front id) (link_of back id)
+link-after (note ∷ prefix) back id =
+    ap (λ o. if nat_eq note.0 id then Some note.1 else o) (link-after prefix back id)
+    ∙ picked (nat_eq note.0 id) note.1 (link_of prefix id) (link_of back id)
 
 -- a link stays as notes come
-pub link-stays : (front back : List (ℕ × ℕ)) (id to : ℕ) →
-    link_of front id ≡ Some to → link_of (front ++ back) id ≡ Some to
-link-stays front back id to is =
-    link-after front back id ∙ ap (λ o. or_link o (link_of back id)) is
+pub link-stays : (prefix back : List (ℕ × ℕ)) (id to : ℕ) →
+    link_of prefix id ≡ Some to → link_of (prefix ++ back) id ≡ Some to
+link-stays prefix back id to is =
+    link-after prefix back id ∙ ap (λ o. or_link o (link_of back id)) is
 
 -- where there was no link, the new note gives the link
-pub link-new : (front : List (ℕ × ℕ)) (var to id : ℕ) → link_of front id ≡ None →
-    link_of (front ++ (var, to) ∷ []) id ≡ (if nat_eq var id then Some to else None)
-link-new front var to id none =
-    link-after front ((var, to) ∷ []) id ∙ ap (λ o. or_link o (link_of ((var, to) ∷ []) id)) none
+pub link-new : (prefix : List (ℕ × ℕ)) (var to id : ℕ) → link_of prefix id ≡ None →
+    link_of (prefix ++ (var, to) ∷ []) id ≡ (if nat_eq var id then Some to else None)
+link-new prefix var to id none =
+    link-after prefix ((var, to) ∷ []) id ∙ ap (λ o. or_link o (link_of ((var, to) ∷ []) id)) none
 
 -- the link of the variable of a new note
-pub link-here : (front : List (ℕ × ℕ)) (var to id : ℕ) → link_of front var ≡ None → id ≡ var →
-    link_of (front ++ (var, to) ∷ []) id ≡ Some to
-link-here front var to id none is =
-    ap (link_of (front ++ (var, to) ∷ [])) is ∙ link-new front var to var none
+pub link-here : (prefix : List (ℕ × ℕ)) (var to id : ℕ) → link_of prefix var ≡ None → id ≡ var →
+    link_of (prefix ++ (var, to) ∷ []) id ≡ Some to
+link-here prefix var to id none is =
+    ap (link_of (prefix ++ (var, to) ∷ [])) is ∙ link-new prefix var to var none
     ∙ ap (λ b. if b then Some to else None) (eqb_true var)
   where
     eqb_true : (n : ℕ) → nat_eq n n ≡ true
     eqb_true n = ⊎_elim (λ e. e.0) (λ e. absurd (e.1 refl)) (eqb_tells n n)
 
 -- every other id keeps its link
-pub link-other : (front : List (ℕ × ℕ)) (var to id : ℕ) → id ≢ var →
-    link_of (front ++ (var, to) ∷ []) id ≡ link_of front id
-link-other front var to id other =
-    link-after front ((var, to) ∷ []) id
-    ∙ ap (λ b. or_link (link_of front id) (if b then Some to else None)) apart
-    ∙ alone (link_of front id)
+pub link-other : (prefix : List (ℕ × ℕ)) (var to id : ℕ) → id ≢ var →
+    link_of (prefix ++ (var, to) ∷ []) id ≡ link_of prefix id
+link-other prefix var to id other =
+    link-after prefix ((var, to) ∷ []) id
+    ∙ ap (λ b. or_link (link_of prefix id) (if b then Some to else None)) apart
+    ∙ alone (link_of prefix id)
   where
     apart : nat_eq var id ≡ false
     apart = ⊎_elim (λ e. absurd (other (sym e.1))) (λ e. e.0) (eqb_tells var id)

@@ -25,15 +25,15 @@ at_end {A} d P xs x all last k within = ⊎_elim same other (eqb_tells k (length
       subst (λ y. P k y) (sym (get_or_append_left xs (x ∷ []) d k small)) (all k small)
 
 -- the same of each element with those before it
-pub after_front : {A : Type 0} (d : A) (P : List A → A → Type 0) (xs : List A) (x : A) →
+pub after_prefix : {A : Type 0} (d : A) (P : List A → A → Type 0) (xs : List A) (x : A) →
     ((k : ℕ) → k < length xs → P (take k xs) (get_or xs k d)) → P xs x →
     (k : ℕ) → k < length (xs ++ x ∷ []) →
     P (take k (xs ++ x ∷ [])) (get_or (xs ++ x ∷ []) k d)
-after_front {A} d P xs x all last =
+after_prefix {A} d P xs x all last =
     at_end d (λ k y. P (take k (xs ++ x ∷ [])) y) xs x
-    (λ k small. subst (λ front. P front (get_or xs k d))
+    (λ k small. subst (λ prefix. P prefix (get_or xs k d))
     (sym (take-append-le k xs (x ∷ []) (omega (arith, small)))) (all k small))
-    (subst (λ front. P front x) (sym (take-append_seam xs (x ∷ []))) last)
+    (subst (λ prefix. P prefix x) (sym (take-append_seam xs (x ∷ []))) last)
 
 -- no link at the end is what stands past the end
 pub none_at_end : {A : Type 0} (xs : List (Option A)) (k : ℕ) →

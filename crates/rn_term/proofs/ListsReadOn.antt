@@ -10,7 +10,7 @@ use Rattle.rn_term.specs.declared.term.Term.TheVariants as T
 use Rattle.rn_term.specs.Stores.{State, term_at, Leads}
 use Rattle.rn_term.specs.Assignments.{value_at, Satisfies, Keeps}
 use Rattle.rn_term.specs.Occurring.{parts_of, Occurs, HasFree}
-use Rattle.rn_term.specs.Forcing.{IsForced, IsList, IsAlwaysList, AreTold}
+use Rattle.rn_term.specs.Forcing.{IsForced, IsList, IsAlwaysList, AreAnswers}
 use Rattle.rn_term.proofs.Extents.{extent, extent-tail}
 use Rattle.rn_term.proofs.Following.{extent-leads}
 use Rattle.rn_term.proofs.Occurrences.{occurs-through, leads_occurs, part_within}
@@ -22,7 +22,7 @@ pub record IsReadTo (s : State) (id rest : ℕ) (values : List Value) : Type 0 w
   pub within : rest < length s.terms
   pub no_larger : extent s rest ≤ extent s id
   pub occurs : Occurs s rest id
-  pub told : (vs : List Value) → Satisfies s vs →
+  pub answer : (vs : List Value) → Satisfies s vs →
       (others : List Value) × (value_at vs rest ≡ Value.List others) ×
       (value_at vs id ≡ Value.List (values ++ others))
 
@@ -33,7 +33,7 @@ read_none s id values within list none = record {
   within = within;
   no_larger = omega arith;
   occurs = Occurs.here;
-  told = λ vs sat.
+  answer = λ vs sat.
       let here = list vs sat in (
         here.0,
         here.1,
@@ -44,7 +44,7 @@ read_none s id values within list none = record {
 -- what is left of it is always a list
 rest_is_list : (s : State) (id rest : ℕ) (values : List Value) → IsReadTo s id rest values →
     IsAlwaysList s rest
-rest_is_list s id rest values read vs sat = let here = read.told vs sat in (here.0, here.1)
+rest_is_list s id rest values read vs sat = let here = read.answer vs sat in (here.0, here.1)
 
 -- a free variable that occurs in the rest occurs in the list
 pub free_in_rest : (s : State) (id rest : ℕ) (values : List Value) → IsReadTo s id rest values →
@@ -52,11 +52,11 @@ pub free_in_rest : (s : State) (id rest : ℕ) (values : List Value) → IsReadT
 free_in_rest s id rest values read (var, free, occurs) =
     (var, free, occurs-through s var rest id occurs read.occurs)
 
--- the elements at the start of a rest come behind those that were read
-front_of_rest : (values front more others : List Value) (whole : Value) → more ≡ values ++ front →
-    whole ≡ Value.List (values ++ (front ++ others)) → whole ≡ Value.List (more ++ others)
-front_of_rest values front more others whole are is =
-    is ∙ ap (λ xs. Value.List xs) (sym (append_assoc values front others))
+-- the elements at the start of a rest come after those that were read
+prefix_of_rest : (values prefix more others : List Value) (whole : Value) → more ≡ values ++ prefix →
+    whole ≡ Value.List (values ++ (prefix ++ others)) → whole ≡ Value.List (more ++ others)
+prefix_of_rest values prefix more others whole are is =
+    is ∙ ap (λ xs. Value.List xs) (sym (append_assoc values prefix others))
     ∙ ap (λ xs. Value.List (xs ++ others)) (sym are)
 
 -- the elements of a list are those that were read and then those of its rest
@@ -64,16 +64,16 @@ rest_is : (s : State) (vs : List Value) (id rest : ℕ) (values others : List Va
     IsReadTo s id rest values → Satisfies s vs → value_at vs rest ≡ Value.List others →
     value_at vs id ≡ Value.List (values ++ others)
 rest_is s vs id rest values others read sat is =
-    let here = read.told vs sat in
+    let here = read.answer vs sat in
     here.2 ∙ ap (λ xs. Value.List (values ++ xs))
     (same_parts_of_lists here.0 others (sym here.1 ∙ is))
 
 -- a list is read on to the tail of its rest
 pub read_on : (s : State) (id rest end : ℕ) (values : List Value) (ids : List ℕ) (tail : ℕ)
     (more : List Value) → Keeps s → IsReadTo s id rest values → Leads s.notes rest end →
-    end < length s.terms → T.Cons ids tail ≡ term_at s end → AreTold s ids values more true →
+    end < length s.terms → T.Cons ids tail ≡ term_at s end → AreAnswers s ids values more true →
     IsReadTo s id tail more
-read_on s id rest end values ids tail more keeps read leads within is told = record {
+read_on s id rest end values ids tail more keeps read leads within is answer = record {
   within = part_within s keeps end tail is_part;
   no_larger = omega (
     arith,
@@ -85,11 +85,11 @@ read_on s id rest end values ids tail more keeps read leads within is told = rec
       (occurs-through s tail end rest (Occurs.in_part is_part Occurs.here)
       (leads_occurs s rest end leads))
       read.occurs;
-  told = λ vs sat.
+  answer = λ vs sat.
       let has = value_at_end s vs rest end (T.Cons ids tail) sat leads within is in (
         has.0,
         has.1,
-        front_of_rest values (map (value_at vs) ids) more has.0 (value_at vs id) (told vs sat)
+        prefix_of_rest values (map (value_at vs) ids) more has.0 (value_at vs id) (answer vs sat)
             (rest_is s vs id rest values (map (value_at vs) ids ++ has.0) read sat has.2),
       );
 }
@@ -107,15 +107,15 @@ read_less s rest end ids tail keeps start leads within is = omega (
   extent-tail s keeps end ids tail within (sym is),
 )
 
--- a list of terms is its end, and tells the last elements
+-- a list of terms ends a list, and gives the last elements
 pub read_all : (s : State) (id rest end : ℕ) (values : List Value) (ids : List ℕ)
     (more : List Value) → IsReadTo s id rest values → Leads s.notes rest end →
-    end < length s.terms → T.List ids ≡ term_at s end → AreTold s ids values more true →
+    end < length s.terms → T.List ids ≡ term_at s end → AreAnswers s ids values more true →
     IsForced s id (Value.List more)
-read_all s id rest end values ids more read leads within is told vs sat =
+read_all s id rest end values ids more read leads within is answer vs sat =
     rest_is s vs id rest values (map (value_at vs) ids) read sat
     (value_at_end s vs rest end (T.List ids) sat leads within is)
-    ∙ ap (λ xs. Value.List xs) (sym (told vs sat))
+    ∙ ap (λ xs. Value.List xs) (sym (answer vs sat))
 
 -- so does a value, which is then a list
 pub last_is_list : (s : State) (id rest end : ℕ) (values : List Value) (w : Value) → Keeps s →
@@ -130,7 +130,7 @@ pub read_last : (s : State) (id rest end : ℕ) (values : List Value) (w v : Val
     ((others : List Value) → w ≡ Value.List others → v ≡ Value.List (values ++ others)) →
     IsForced s id v
 read_last s id rest end values w v read leads within is joined vs sat =
-    let here = read.told vs sat in
+    let here = read.answer vs sat in
     here.2
     ∙ sym (joined here.0
     (sym (value_at_end s vs rest end (T.Atom w) sat leads within is) ∙ here.1))

@@ -1,13 +1,13 @@
 -- What marks lead back to, as a store changes.
 use Rattle.std.proofs.Common.{◌≡◌, ⊎_elim, ℕ, List, [], ◌∷◌, refl, arith, ◌∙◌, ap}
-use Rattle.std.proofs.Common.{subst}
+use Rattle.std.proofs.Common.{subst, length, take}
 use Rattle.std.proofs.lemmas.List.{length-take, take-take}
 use Rattle.std.proofs.Math.Seq.{take-length}
 use Rattle.rn_term.specs.declared.term.Mark.{Mark}
 use Rattle.rn_term.specs.declared.term.Term.{Term}
 use Rattle.rn_term.specs.Stores.{State}
 use Rattle.rn_term.specs.Undoing.{Rolled, mark_of, IsNotLater, Changes, IsSince}
-use Rattle.rn_term.specs.Undoing.{last_of, MarksLeadBack}
+use Rattle.rn_term.specs.Undoing.{last_of, MarksLeadBack, MarksStay}
 
 state_is : (terms others : List Term) (notes more : List (ℕ × ℕ)) → terms ≡ others →
     notes ≡ more →
@@ -44,3 +44,28 @@ pub marks_lead_back : MarksLeadBack
 marks_lead_back s later since =
     leads_back (mark_of s) s later (omega arith, omega arith) since
     ∙ state_is _ _ _ _ (take-length s.terms) (take-length s.notes)
+
+-- a mark that isn't later stays so where a store is left what it was there
+pub marks_stay : MarksStay
+marks_stay before after m leaves not_later =
+    let same : Rolled after (mark_of before) ≡ Rolled before (mark_of before) =
+    leaves (mark_of before) (omega arith, omega arith) in
+    let terms : take (length before.terms) after.terms ≡ take (length before.terms) before.terms =
+    ap (λ s. s.terms) same in
+    let notes : take (length before.notes) after.notes ≡ take (length before.notes) before.notes =
+    ap (λ s. s.notes) same in (
+      omega (
+        arith,
+        not_later.0,
+        ap length terms,
+        length-take (length before.terms) after.terms,
+        length-take (length before.terms) before.terms,
+      ),
+      omega (
+        arith,
+        not_later.1,
+        ap length notes,
+        length-take (length before.notes) after.notes,
+        length-take (length before.notes) before.notes,
+      ),
+    )

@@ -72,12 +72,12 @@ occurs_at_end s keeps var id end unbound (Leads.next {to = to} there rest) is =
     occurs_at_end s keeps var to end unbound rest (occurs_past s var id to keeps unbound there is)
 
 -- what an unbound id leads to is that id
-end_is_here : (s : State) (id end : ℕ) → link_of s.notes id ≡ None → Leads s.notes id end → id ≡ end
+pub end_is_here : (s : State) (id end : ℕ) → link_of s.notes id ≡ None → Leads s.notes id end → id ≡ end
 end_is_here s id _ none Leads.here = refl
 end_is_here s id end none (Leads.next {to = to} is rest) = unbound_is_not_bound s id to none is
 
 -- what a bound id leads to, if it isn't bound itself, is that to which the id was bound leads
-leads_past : (s : State) (id to end : ℕ) → link_of s.notes end ≡ None →
+pub leads_past : (s : State) (id to end : ℕ) → link_of s.notes end ≡ None →
     link_of s.notes id ≡ Some to → Leads s.notes id end → Leads s.notes to end
 leads_past s id to _ none is Leads.here = unbound_is_not_bound s id to none is
 leads_past s id to end none is (Leads.next {to = other} there rest) =

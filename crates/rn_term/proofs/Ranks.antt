@@ -20,7 +20,7 @@ pub record IsRanked (s : State) (rank : ℕ → ℕ) : Type 0 where
   pub part : (id p : ℕ) → Contains (parts_of (term_at s id)) p → rank p < rank id
   pub bound : (id to : ℕ) → link_of s.notes id ≡ Some to → rank to < rank id
 
--- a place in an earlier row is before every place in a later one
+-- an index in an earlier row is before every index in a later one
 earlier_row : (width row column later other : ℕ) → row < later → column < width →
     row * width + column < later * width + other
 earlier_row width row column later other first fits =

@@ -49,7 +49,7 @@ cons_is_list s id end ids tail leads within is vs sat =
     let has = value_at_end s vs id end (T.Cons ids tail) sat leads within is in
     (map (value_at vs) ids ++ has.0, has.2)
 
--- a value is always a list just where it is one
+-- a value is always a list exactly where it is one
 pub atom_is_list : (s : State) (id end : ℕ) (v : Value) → Keeps s → Leads s.notes id end →
     end < length s.terms → T.Atom v ≡ term_at s end → IsList v ↔ IsAlwaysList s id
 atom_is_list s id end v keeps leads within is = (
@@ -80,7 +80,7 @@ end_is_list s var (id, ids, tail, within, is, leads) = list_at_end s tail var le
     (has.0, has.1))
 
 -- what names a list with a tail is an id of the store
-cons_within : (s : State) (id : ℕ) (ids : List ℕ) (tail : ℕ) → term_at s id ≡ T.Cons ids tail →
+pub cons_within : (s : State) (id : ℕ) (ids : List ℕ) (tail : ℕ) → term_at s id ≡ T.Cons ids tail →
     id < length s.terms
 cons_within s id ids tail is =
     whole_within s id tail
@@ -100,7 +100,7 @@ other_than_list s id var keeps leads free none list =
 pub no_truth : IsTrue false → ⊥
 no_truth is = cc
 
--- a free variable is always a list just where a list ends in it
+-- a free variable is always a list exactly where a list ends in it
 pub free_is_list : (s : State) (id var : ℕ) (ends : Bool) → Keeps s → Leads s.notes id var →
     var < length s.terms → T.Free ≡ term_at s var → link_of s.notes var ≡ None →
     IsTrue ends ↔ EndsAList s var → IsTrue ends ↔ IsAlwaysList s id

@@ -48,10 +48,10 @@ part_in_total (v ∷ vs) zero d within = omega arith
 part_in_total (v ∷ vs) (suc k) d within =
     omega (arith, part_in_total vs k d (omega (arith, within)))
 
-end_in_total : (front back : List Value) →
-    total (map size_of back) ≤ total (map size_of (front ++ back))
+end_in_total : (prefix back : List Value) →
+    total (map size_of back) ≤ total (map size_of (prefix ++ back))
 end_in_total [] back = omega arith
-end_in_total (v ∷ front) back = omega (arith, end_in_total front back)
+end_in_total (v ∷ prefix) back = omega (arith, end_in_total prefix back)
 
 pub size-tuple_part : (vs : List Value) (k : ℕ) (d : Value) → k < length vs →
     size_of (get_or vs k d) < size_of (Value.Tuple vs)
@@ -61,14 +61,14 @@ pub size-list_part : (vs : List Value) (k : ℕ) (d : Value) → k < length vs �
     size_of (get_or vs k d) < size_of (Value.List vs)
 size-list_part vs k d within = omega (arith, size-List vs, part_in_total vs k d within)
 
-pub size-list_end : (front back : List Value) → 0 < length front →
-    size_of (Value.List back) < size_of (Value.List (front ++ back))
+pub size-list_end : (prefix back : List Value) → 0 < length prefix →
+    size_of (Value.List back) < size_of (Value.List (prefix ++ back))
 size-list_end [] back some = absurd (let no : ⊥ = omega (arith, some) in no)
-size-list_end (v ∷ front) back some =
+size-list_end (v ∷ prefix) back some =
     omega (
       arith,
       size-List back,
-      size-List (v ∷ front ++ back),
-      end_in_total front back,
+      size-List (v ∷ prefix ++ back),
+      end_in_total prefix back,
       size-positive v,
     )

@@ -33,16 +33,17 @@ IsAlwaysList s id = (vs : List Value) → Satisfies s vs → IsList (value_at vs
 abbrev pub MayBeList : State → ℕ → Type 0
 MayBeList s id = (vs : List Value) × Satisfies s vs × IsList (value_at vs id)
 
--- what is told of an id: the value to which it is forced, or that a free variable occurs in it
-abbrev pub IsTold : State → ℕ → Option Value → Type 0
-IsTold s id None = HasFree s id
-IsTold s id (Some v) = IsForced s id v
+-- an answer of `ground`: the value to which an id is forced, or none where a free variable occurs
+-- in it
+abbrev pub IsAnswer : State → ℕ → Option Value → Type 0
+IsAnswer s id None = HasFree s id
+IsAnswer s id (Some v) = IsForced s id v
 
--- what is told of ids: their values come behind others, or a free variable occurs in one of them
-abbrev pub AreTold : State → List ℕ → List Value → List Value → Bool → Type 0
-AreTold s ids before after true =
+-- an answer for ids: their values stand after others, or a free variable occurs in one of them
+abbrev pub AreAnswers : State → List ℕ → List Value → List Value → Bool → Type 0
+AreAnswers s ids before after true =
     (vs : List Value) → Satisfies s vs → after ≡ before ++ map (value_at vs) ids
-AreTold s ids before after false =
+AreAnswers s ids before after false =
     (k : ℕ) × (k < length ids) × HasFree s (slice_index_or ids k 0)
 
 -- a list ends in a variable: links lead to it from the list's tail

@@ -24,7 +24,7 @@ abbrev pub GroundIsForced : Type 0
 GroundIsForced = (s : State) (id : ℕ) → IsGround s id → (vs ws : List Value) →
     Satisfies s vs → Satisfies s ws → value_at vs id ≡ value_at ws id
 
--- A term of a store that is kept is ground just where it is forced.
+-- A term of a store that is kept is ground exactly where it is forced.
 abbrev pub ForcedIsGround : Type 0
 ForcedIsGround = (s : State) (id : ℕ) → Keeps s → id < length s.terms →
     (IsGround s id ↔ ((v : Value) × IsForced s id v))

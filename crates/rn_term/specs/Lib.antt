@@ -4,5 +4,6 @@ pub mod GroundTerms
 pub mod Kept
 pub mod Laws
 pub mod Occurring
+pub mod Seen
 pub mod Stores
 pub mod Undoing

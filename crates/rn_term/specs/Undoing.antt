@@ -1,4 +1,4 @@
--- What a store was at a mark.
+-- What a store was at an undo mark.
 use Rattle.std.specs.Prelude.{◌≡◌, ◌≤◌, ◌⊎◌, ⊤, List, [], ◌∷◌, take, length}
 use Rattle.rn_term.specs.declared.term.Mark.{Mark}
 use Rattle.rn_term.specs.Stores.{State}
@@ -18,6 +18,12 @@ IsNotLater m s = (m.size ≤ length s.terms) × (m.notes ≤ length s.notes)
 -- what changed a store leaves it, at every mark that isn't later than it was, as it was there
 abbrev pub LeavesEarlier : State → State → Type 0
 LeavesEarlier before after = (m : Mark) → IsNotLater m before → Rolled after m ≡ Rolled before m
+
+-- An undo mark that isn't later than a store isn't later after a call that leaves it what it was
+-- there, so after any but undoing.
+abbrev pub MarksStay : Type 0
+MarksStay = (before after : State) (m : Mark) → LeavesEarlier before after → IsNotLater m before →
+    IsNotLater m after
 
 -- one change of a store: by a call that leaves earlier marks as they were, or by undoing to a mark
 abbrev pub Changes : State → State → Type 0

@@ -4,7 +4,7 @@ ghost use Rattle.rn_value.specs.declared.value.Value.{Value};
 ghost use Rattle.rn_value.specs.declared.value.Value.TheVariants as Worth;
 ghost use Rattle.rn_term.specs.Assignments.{Keeps};
 ghost use Rattle.rn_term.specs.Occurring.{HasFree};
-ghost use Rattle.rn_term.specs.Forcing.{IsForced, IsAlwaysList, IsTold, AreTold};
+ghost use Rattle.rn_term.specs.Forcing.{IsForced, IsAlwaysList, IsAnswer, AreAnswers};
 
 use crate::store::Store;
 use crate::term::Term;
@@ -13,24 +13,36 @@ use rn_value::{NoMemory, Value, copy};
 use std::alloc::Global;
 
 impl Store {
-    /// The value of an id, or none where a free variable occurs in its term. So it is told just
-    /// where all assignments give the id the same.
+    /// The value of an id, or none where a free variable occurs in its term. So there is one
+    /// exactly where all assignments give the id the same.
     ///
-    /// It recurses as deep as the value nests, and goes along links and tails by loops. A term that
+    /// A free variable is looked for first, once through each shared term. What makes the value
+    /// recurses as deep as the value nests, and goes along links and tails by loops. There a term that
     /// occurs several times is gone through each time, as it then stands in the value.
     pub fn ground(&self, alloc: Global, id: usize) -> Result<Option<Value>, NoMemory>
         requires within { id < length self.now.terms }
-        ensures none { IfOk result (λ told. IsNone told ↔ HasFree self.now id) }
+        ensures none { IfOk result (λ answer. IsNone answer ↔ HasFree self.now id) }
         ensures some { IfOk result
-            (λ told. (v : Value) → (told ≡ Some v) ↔ IsForced self.now id v) }
+            (λ answer. (v : Value) → (answer ≡ Some v) ↔ IsForced self.now id v) }
     {
+        if self.is_composed(id) && self.has_sought(alloc, None, id)? {
+            return Ok(None);
+        }
         self.value_of(alloc, id)
+    }
+
+    /// Whether links lead to a term that is built of others.
+    fn is_composed(&self, id: usize) -> bool
+        requires within { id < length self.now.terms }
+        ensures kept { Keeps self.now }
+    {
+        !matches!(self.term(self.follow(id)), Term::Free | Term::Atom(_))
     }
 
     #[cycle(ground)]
     fn value_of(&self, alloc: Global, id: usize) -> Result<Option<Value>, NoMemory>
         requires within { id < length self.now.terms }
-        ensures told { IfOk result (λ told. IsTold self.now id told) }
+        ensures answer { IfOk result (λ answer. IsAnswer self.now id answer) }
         ensures kept { Keeps self.now }
     {
         let end = self.follow(id);
@@ -50,7 +62,7 @@ impl Store {
         }
     }
 
-    /// Puts the values of ids behind others, up to one in which a free variable occurs.
+    /// Appends the values of ids to others, up to one in which a free variable occurs.
     #[cycle(ground)]
     fn values_onto(
         &self,
@@ -59,8 +71,8 @@ impl Store {
         values: &mut Vec<Value>,
     ) -> Result<bool, NoMemory>
         requires within { All (λ id. id < length self.now.terms) ids.now }
-        ensures told { IfOk result
-            (λ all. AreTold self.now ids.now values.old.items values.new.items all) }
+        ensures answer { IfOk result
+            (λ all. AreAnswers self.now ids.now values.old.items values.new.items all) }
     {
         for id in ids {
             match self.value_of(alloc, *id)? {
@@ -76,7 +88,7 @@ impl Store {
     fn list_value(&self, alloc: Global, id: usize) -> Result<Option<Value>, NoMemory>
         requires within { id < length self.now.terms }
         requires list { IsAlwaysList self.now id }
-        ensures told { IfOk result (λ told. IsTold self.now id told) }
+        ensures answer { IfOk result (λ answer. IsAnswer self.now id answer) }
     {
         let mut values = Vec::new(alloc);
         let mut rest = id;

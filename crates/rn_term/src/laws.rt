@@ -1,7 +1,7 @@
 //! Laws over the definitions, each the contract of a function that does nothing.
 ghost use Rattle.rn_term.specs.GroundTerms.{ForcedIsGround, GroundIsForced};
 ghost use Rattle.rn_term.specs.Laws.{TermsExtend};
-ghost use Rattle.rn_term.specs.Undoing.{MarksLeadBack};
+ghost use Rattle.rn_term.specs.Undoing.{MarksLeadBack, MarksStay};
 
 /// What a store says with one more term: the assignments from before go on with each value that the
 /// term has under them, and there are no others.
@@ -20,8 +20,13 @@ pub fn forced_is_ground()
     ensures { ForcedIsGround }
 {}
 
-/// Undoing to a mark gives the store as it was when the mark was taken, where no earlier mark was
-/// undone since.
+/// Undoing to an undo mark gives the store as it was when the mark was taken, where no earlier mark
+/// was undone since.
 pub fn marks_lead_back()
     ensures { MarksLeadBack }
+{}
+
+/// A mark that isn't later than a store isn't later after any call but `undo`.
+pub fn marks_stay()
+    ensures { MarksStay }
 {}

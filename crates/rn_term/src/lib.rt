@@ -5,14 +5,16 @@
 //! values, one for each term, that fit its terms and its links.
 #![tactic(auto)]
 
+mod free_variables;
 mod grounding;
 mod laws;
-mod reading;
+mod lists;
+mod seen;
 mod store;
 mod term;
 #[cfg(test)]
 mod tests;
 
-pub use laws::{forced_is_ground, ground_is_forced, marks_lead_back, terms_extend};
+pub use laws::{forced_is_ground, ground_is_forced, marks_lead_back, marks_stay, terms_extend};
 pub use store::Store;
 pub use term::{Ids, Mark, Term};

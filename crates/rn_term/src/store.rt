@@ -1,11 +1,14 @@
+//! The store: its terms, the links of its variables, and the trail by which bindings are undone.
 ghost use Rattle.std.specs.Prelude.{◌≡◌, ◌↔◌, ◌<◌, ◌≤◌, ◌++◌, ◌∷◌, [], length, IfOk, OnOk, OnErr};
+ghost use Rattle.std.specs.Prelude.{◌⊎◌, ◌≢◌};
 ghost use Rattle.std.specs.Prelude.{ℕ, List, Some, None, slice_index_or, take};
 ghost use Rattle.rn_term.specs.declared.term.Term.TheVariants as T;
 ghost use Rattle.rn_term.specs.declared.term.Mark.{Mark};
 ghost use Rattle.rn_value.specs.declared.value.Value.{Value};
 ghost use Rattle.rn_term.specs.Stores.{link_of, term_at, Leads, IsBuiltBelow, with_term, with_note};
 ghost use Rattle.rn_term.specs.Assignments.{Satisfies, value_at, HasListTail, MayBeOne, Keeps};
-ghost use Rattle.rn_term.specs.Kept.{AreFresh, AreLinks};
+ghost use Rattle.rn_term.specs.Occurring.{IsFree};
+ghost use Rattle.rn_term.specs.Kept.{AreFresh, AreLinks, last_cons, or_cons};
 ghost use Rattle.rn_term.specs.Undoing.{Rolled, mark_of, IsNotLater, LeavesEarlier};
 
 use crate::term::{Mark, Term};
@@ -18,6 +21,8 @@ use std::marker::Model;
 pub struct Store {
     terms: Vec<Term>,
     links: Vec<Option<usize>>,
+    lists: Vec<Option<usize>>,
+    weights: Vec<usize>,
     notes: Vec<(usize, usize)>,
 }
 
@@ -34,7 +39,7 @@ impl Model for Store {
 
     ghost use Rattle.rn_term.specs.Kept.{KeepsAll};
 
-    ghost invariant = { λ s. KeepsAll s.terms.items s.links.items s.notes.items };
+    ghost invariant = { λ s. KeepsAll s.terms.items s.links.items s.lists.items s.notes.items };
 }
 
 impl Store {
@@ -45,6 +50,8 @@ impl Store {
         Store {
             terms: Vec::new(alloc),
             links: Vec::new(alloc),
+            lists: Vec::new(alloc),
+            weights: Vec::new(alloc),
             notes: Vec::new(alloc),
         }
     }
@@ -88,7 +95,27 @@ impl Store {
         end
     }
 
-    /// Adds a variable that isn't bound, and answers its id.
+    /// The last list before a tail that was added under an id below this one.
+    pub(crate) fn last_list(&self, end: usize) -> Option<usize>
+        requires within { end ≤ length self.now.terms }
+        ensures { result ≡ last_cons self.now.terms end }
+    {
+        if end == 0 { None } else { self.lists[end - 1] }
+    }
+
+    /// The last list before a tail where this term is added.
+    fn last_with(&self, term: &Term) -> Option<usize>
+        ensures { result ≡ or_cons term.now (length self.now.terms)
+            (last_cons self.now.terms (length self.now.terms)) }
+    {
+        let size = self.terms.len();
+        match term {
+            Term::Cons(_, _) => Some(size),
+            _ => self.last_list(size),
+        }
+    }
+
+    /// Adds a variable that isn't bound, and returns its id.
     pub fn new_var(&mut self) -> Result<usize, NoMemory>
         ensures id { IfOk result (λ id. id ≡ length self.old.terms) }
         ensures added { OnOk result (self.new ≡ with_term self.old T.Free) }
@@ -98,7 +125,10 @@ impl Store {
         self.add(Term::Free)
     }
 
-    /// Adds a term whose parts are there, and answers its id.
+    /// Adds a term whose parts are there, and returns its id.
+    ///
+    /// Adding a `Cons` is itself an equation on its tail: from then on all assignments give the tail
+    /// a list, whoever uses the term.
     pub fn add(&mut self, term: Term) -> Result<usize, NoMemory>
         requires built { IsBuiltBelow (length self.old.terms) term }
         requires list { HasListTail self.old term }
@@ -107,14 +137,19 @@ impl Store {
         ensures err { OnErr result (self.new ≡ self.old) }
         ensures earlier { LeavesEarlier self.old self.new }
     {
-        self.links.reserve(1)?;
         let id = self.terms.len();
+        let last = self.last_with(&term);
+        self.links.reserve(1)?;
+        self.lists.reserve(1)?;
+        self.weights.reserve(1)?;
         self.terms.push(term)?;
         self.links.push(None)?;
+        self.lists.push(last)?;
+        self.weights.push(0)?;
         Ok(id)
     }
 
-    /// Binds a variable, and notes that in the trail. The assignments of the store are then just
+    /// Binds a variable, and notes that in the trail. The assignments of the store are then exactly
     /// those from before that give both ids one value.
     pub fn bind(&mut self, var: usize, to: usize) -> Result<(), NoMemory>
         requires var_within { var < length self.old.terms }
@@ -131,10 +166,40 @@ impl Store {
     {
         self.notes.push((var, to))?;
         self.links[var] = Some(to);
+        add_weight(&mut self.weights, var, to);
         Ok(())
     }
 
-    /// The sizes of the store and of its trail.
+    /// Makes two free variables one: the one to which fewer variables were bound is bound to the
+    /// other. So links lead to their ends in few steps.
+    pub fn join(&mut self, a: usize, b: usize) -> Result<(), NoMemory>
+        requires a_free { IsFree self.old a }
+        requires b_free { IsFree self.old b }
+        requires apart { a ≢ b }
+        ensures noted { OnOk result
+            ((self.new ≡ with_note self.old a b) ⊎ (self.new ≡ with_note self.old b a)) }
+        ensures kept { OnOk result (Keeps self.new) }
+        ensures err { OnErr result (self.new ≡ self.old) }
+        ensures earlier { LeavesEarlier self.old self.new }
+    {
+        let _ = &self.terms;
+        if self.weight(a) < self.weight(b) {
+            self.bind(a, b)
+        } else {
+            self.bind(b, a)
+        }
+    }
+
+    /// How many variables were bound to one, directly or not.
+    fn weight(&self, id: usize) -> usize {
+        if id < self.weights.len() {
+            self.weights[id]
+        } else {
+            0
+        }
+    }
+
+    /// An undo mark: the sizes of the store and of its trail.
     pub fn mark(&self) -> Mark
         ensures sizes { result ≡ mark_of self.now }
         ensures now { Rolled self.now result ≡ self.now }
@@ -147,7 +212,7 @@ impl Store {
         }
     }
 
-    /// Takes back what came after a mark: later terms are gone, and later variables are unbound.
+    /// Takes back what came after an undo mark: later terms are gone, later variables are unbound.
     pub fn undo(&mut self, to: &Mark)
         requires not_later { IsNotLater to.now self.old }
         requires keeps { Keeps (Rolled self.old to.now) }
@@ -155,14 +220,40 @@ impl Store {
         ensures earlier { (m : Mark) → IsNotLater m self.new →
             Rolled self.new m ≡ Rolled self.old m }
     {
-        take_back(&mut self.links, &mut self.notes, to.notes);
+        take_back(
+            &mut self.links,
+            &mut self.weights,
+            &mut self.notes,
+            to.notes,
+        );
         self.terms.truncate(to.size);
         self.links.truncate(to.size);
+        self.lists.truncate(to.size);
+        self.weights.truncate(to.size);
+    }
+}
+
+/// Counts a variable, and what was bound to it, where it is bound to another id.
+fn add_weight(weights: &mut Vec<usize>, var: usize, to: usize) {
+    if var < weights.len() && to < weights.len() {
+        weights[to] = weights[to].saturating_add(weights[var]).saturating_add(1);
+    }
+}
+
+/// Counts them no longer.
+fn remove_weight(weights: &mut Vec<usize>, var: usize, to: usize) {
+    if var < weights.len() && to < weights.len() {
+        weights[to] = weights[to].saturating_sub(weights[var]).saturating_sub(1);
     }
 }
 
 /// Takes the later notes back.
-fn take_back(links: &mut Vec<Option<usize>>, notes: &mut Vec<(usize, usize)>, left: usize)
+fn take_back(
+    links: &mut Vec<Option<usize>>,
+    weights: &mut Vec<usize>,
+    notes: &mut Vec<(usize, usize)>,
+    left: usize,
+)
     requires linked { AreLinks links.old.items notes.old.items }
     requires noted { AreFresh (length links.old.items) notes.old.items }
     requires within { left ≤ length notes.old.items }
@@ -171,8 +262,9 @@ fn take_back(links: &mut Vec<Option<usize>>, notes: &mut Vec<(usize, usize)>, le
     ensures each { length links.new.items ≡ length links.old.items }
 {
     while notes.len() > left {
-        if let Some((var, _)) = notes.pop() {
+        if let Some((var, to)) = notes.pop() {
             links[var] = None;
+            remove_weight(weights, var, to);
         }
     }
 }

@@ -1,7 +1,8 @@
+//! Terms, and the undo marks of a store.
 use rn_items::Items;
 use rn_value::Value;
 
-/// Places of terms in a store, from 0.
+/// Indices of terms in a store, from 0.
 pub type Ids = Items<usize>;
 
 /// A term of a store. Its parts are named by their ids.
@@ -17,7 +18,7 @@ pub enum Term {
     Cons(Ids, usize),
 }
 
-/// How many terms a store had, and how many notes its trail had.
+/// An undo mark: how many terms a store had, and how many notes its trail had.
 #[derive(Clone, Copy, Debug, PartialEq, Eq)]
 pub struct Mark {
     pub size: usize,

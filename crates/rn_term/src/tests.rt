@@ -1,6 +1,9 @@
+//! A store by hand: terms of each form, binding and undoing.
 ghost use Rattle.std.specs.Prelude.{◌≡◌, ◌∷◌, [], IfOk};
 
-use crate::{Ids, Store, Term, forced_is_ground, ground_is_forced, marks_lead_back, terms_extend};
+use crate::{
+    Ids, Store, Term, forced_is_ground, ground_is_forced, marks_lead_back, marks_stay, terms_extend,
+};
 use rn_items::Items;
 use rn_value::{NoMemory, Vals, Value, same};
 use std::alloc::Global;
@@ -67,4 +70,5 @@ fn laws() {
     ground_is_forced();
     forced_is_ground();
     marks_lead_back();
+    marks_stay();
 }

@@ -1,29 +1,28 @@
 -- What a store is on the way as the variables of equations are bound.
 use Rattle.std.proofs.Common.{◌≡◌, ◌≢◌, ◌<◌, ◌⊎◌, ⊎_elim, inl, inr, ℕ, List, [], ◌∷◌, ◌++◌, refl}
 use Rattle.std.proofs.Common.{arith, length, sym, ◌∙◌, ap, subst, append_assoc}
-use Rattle.std.specs.Prelude.{None, ◌↔◌}
 use Rattle.std.specs.List.{AllByRecursion}
 use Rattle.std.proofs.lemmas.List.{append-nil}
 use Rattle.rn_value.specs.declared.value.Value.{Value}
-use Rattle.rn_term.specs.Stores.{State, Leads, link_of, with_note}
+use Rattle.rn_term.specs.declared.term.Term.TheVariants as T
+use Rattle.rn_term.specs.Stores.{State, Leads, link_of, term_at}
 use Rattle.rn_term.specs.Assignments.{Satisfies, MayBeOne, Keeps}
-use Rattle.rn_term.specs.Occurring.{IsFree}
-use Rattle.rn_term.proofs.Agreement.{leads-same}
+use Rattle.rn_term.proofs.Occurrences.{end_is_here}
 use Rattle.rn_unify.specs.declared.equation.Equation.{Equation}
 use Rattle.rn_unify.specs.Equations.{Solves, GivesOther, AreEachOne, AreWithin, IsFound, CanStand}
-use Rattle.rn_unify.specs.Equations.{IsPlaced}
-use Rattle.rn_unify.specs.Binding.{Becomes, IsAtEnd, free_number}
+use Rattle.rn_unify.specs.Equations.{IsAdded}
+use Rattle.rn_unify.specs.Binding.{Becomes, IsSolved, free_number}
 use Rattle.rn_unify.specs.Unifying.{AreOne}
-use Rattle.rn_unify.proofs.EarlierMarks.{IsGrown, grown_not, grown_through, grown_by_note}
+use Rattle.rn_unify.proofs.EarlierMarks.{IsGrown, grown_not, grown_through}
 use Rattle.rn_unify.proofs.EarlierMarks.{term_stays}
 use Rattle.rn_unify.proofs.Becoming.{becomes_same, becomes_through, becomes_with}
-use Rattle.rn_unify.proofs.Becoming.{becomes_behind, becomes_note}
+use Rattle.rn_unify.proofs.Becoming.{becomes_after}
 use Rattle.rn_unify.proofs.Findings.{all_joined}
-use Rattle.rn_unify.proofs.FreeNumbers.{free_number-note}
 use Rattle.rn_unify.proofs.PairsLeft.{pairs_within, pairs_stay}
-use Rattle.rn_unify.proofs.Placing.{IsReady, ready, can_stand, equation_stays, apart_from_end}
+use Rattle.rn_unify.proofs.SolvedPairs.{solved}
+use Rattle.rn_unify.proofs.AddedTerms.{IsReady, ready, can_stand, equation_stays, apart_from_end}
 
--- Some equations are left, and the others, behind them, were taken: of those variables were bound,
+-- Some equations are left, and the others, after them, were taken: of those variables were bound,
 -- but for later pairs.
 pub record IsOnTheWay (old : State) (equations : List Equation) (s : State) (rest : List Equation)
     (later : List (ℕ × ℕ)) : Type 0 where
@@ -69,25 +68,15 @@ module _ (old s : State) (equations before rest : List Equation) (later : List (
   var_within : equation.var < length s.terms
   var_within = omega (arith, found_here.free.within, way.grown.not_later.0)
 
-  module _ (new : State) (to : ℕ) (placed : IsPlaced s new equation.other to) where
+  module _ (new : State) (to : ℕ) (added_as : IsAdded s new equation.other to) where
     pub is_ready : IsReady s new equation.var equation.other to
-    is_ready = ready s new equation.var equation.other to way.keeps var_within stands placed
+    is_ready = ready s new equation.var equation.other to way.keeps var_within stands added_as
 
     pub var_within_new : equation.var < length new.terms
     var_within_new = omega (arith, var_within, is_ready.grown.not_later.0)
 
     pub grown_new : IsGrown old new
     grown_new = grown_through old s new way.grown is_ready.grown
-
-    -- where its variable isn't bound it is free
-    pub free_new : link_of new.notes equation.var ≡ None → IsFree new equation.var
-    free_new unbound = record {
-      within = var_within_new;
-      variable =
-          term_stays old new equation.var grown_new found_here.free.within
-          ∙ found_here.free.variable;
-      unbound = unbound;
-    }
 
     -- that the equations taken are satisfied becomes that this variable is one with what it has to
     -- be, and each pair is made one
@@ -97,7 +86,7 @@ module _ (old s : State) (equations before rest : List Equation) (later : List (
         becomes_through old s new (λ vs. Solves vs (equation ∷ way.taken))
         (λ vs. GivesOther vs equation.var equation.other × AreEachOne later vs)
         (λ vs. AreOne equation.var to vs × AreEachOne later vs) way.grown.not_later.0
-        (becomes_behind old s (λ vs. GivesOther vs equation.var equation.other)
+        (becomes_after old s (λ vs. GivesOther vs equation.var equation.other)
         (λ vs. Solves vs way.taken) (AreEachOne later) way.grown.not_later.0
         (equation_stays old equation.var equation.other found_here.free.within found_here.stands)
         way.becomes)
@@ -114,105 +103,50 @@ module _ (old s : State) (equations before rest : List Equation) (later : List (
         let on = becomes_new.forth vs sat taken.1 in
         never (vs ++ on.0, on.1, on.2.0)
 
-    -- the variable is bound, and the pair is left for later
-    pub left_for_later : (link_of new.notes equation.var ≢ None) →
-        (pairs : List (ℕ × ℕ)) → pairs ≡ later ++ (equation.var, to) ∷ [] →
-        IsOnTheWay old equations new rest pairs
-    left_for_later bound pairs is =
-        subst (IsOnTheWay old equations new rest) (sym is) (record {
-          taken = equation ∷ way.taken;
-          all = all_but;
-          grown = grown_new;
-          keeps = is_ready.keeps;
-          within =
-              (all_joined (λ p. (p.0 < length new.terms) × (p.1 < length new.terms)) later
-              ((equation.var, to) ∷ [])).0 (
-                pairs_within s new later is_ready.grown.not_later.0 way.within,
-                ((var_within_new, is_ready.within), tt),
-              );
-          becomes =
-              becomes_through old new new (λ vs. Solves vs (equation ∷ way.taken))
-              (λ vs. AreOne equation.var to vs × AreEachOne later vs)
-              (AreEachOne (later ++ (equation.var, to) ∷ [])) grown_new.not_later.0 becomes_new
-              (becomes_same new (λ vs. AreOne equation.var to vs × AreEachOne later vs)
-              (AreEachOne (later ++ (equation.var, to) ∷ [])) same);
-          number = ⊎_elim
-              (λ both. absurd (bound (ap (λ ns. link_of ns equation.var)
-              (is_ready.notes ∙ ap (λ u. u.notes) both.1) ∙ found_here.free.unbound)))
-              (λ less. inr (omega (arith, less, is_ready.number))) way.number;
-        })
-      where
-        same : (vs : List Value) → Satisfies new vs →
-            (AreOne equation.var to vs × AreEachOne later vs)
-            ↔ AreEachOne (later ++ (equation.var, to) ∷ []) vs
-        same vs sat =
-            let joined = all_joined (λ p. AreOne p.0 p.1 vs) later ((equation.var, to) ∷ []) in (
-              λ both. joined.0 (both.1, (both.0, tt)),
-              λ all. ((joined.1 all).1.0, (joined.1 all).0),
-            )
+    -- a variable that isn't bound yet leads to itself
+    unbound_at_first : (x : ℕ) → s ≡ old → Leads new.notes equation.var x → equation.var ≡ x
+    unbound_at_first x same leads =
+        end_is_here new equation.var x
+        (ap (λ ns. link_of ns equation.var) (is_ready.notes ∙ ap (λ u. u.notes) same)
+        ∙ found_here.free.unbound) leads
 
-    -- the variable was bound, or is what it has to be already
-    pub bound_or_same : (after : State) → IsFree new equation.var →
-        IsAtEnd new after equation.var to → Keeps after → IsOnTheWay old equations after rest later
-    bound_or_same after free end keeps = ⊎_elim
-        (λ both. subst (λ u. IsOnTheWay old equations u rest later) (sym both.1) (same both.0))
-        (λ both. subst (λ u. IsOnTheWay old equations u rest later) (sym both.1)
-        (bound both.0 (subst Keeps both.1 keeps))) end.bound
-      where
-        same : end.end ≡ equation.var → IsOnTheWay old equations new rest later
-        same is = record {
-          taken = equation ∷ way.taken;
-          all = all_but;
-          grown = grown_new;
-          keeps = is_ready.keeps;
-          within = pairs_within s new later is_ready.grown.not_later.0 way.within;
-          becomes =
-              becomes_through old new new (λ vs. Solves vs (equation ∷ way.taken))
-              (λ vs. AreOne equation.var to vs × AreEachOne later vs) (AreEachOne later)
-              grown_new.not_later.0 becomes_new
-              (becomes_same new (λ vs. AreOne equation.var to vs × AreEachOne later vs)
-              (AreEachOne later) (λ vs sat. (
-                λ both. both.1,
-                λ all. (
-                  sym (leads-same new vs to equation.var sat
-                      (subst (λ n. Leads new.notes to n) is end.leads)),
-                  all,
-                ),
-              )));
-          number = ⊎_elim
-              (λ both. absurd (apart_from_end s new equation to end.end way.keeps
-              (subst (λ u. IsFound u equation) (sym both.1) found_here) placed end.leads
-              end.unbound is))
-              (λ less. inr (omega (arith, less, is_ready.number))) way.number;
-        }
+    -- so the first equation binds a variable
+    not_left_at_first : (after : State) (pairs : List (ℕ × ℕ))
+        (is : IsSolved new equation.var to later after pairs) → s ≡ old →
+        (is.x ≡ is.y) ⊎ (term_at new is.x ≢ T.Free) → ⊥
+    not_left_at_first after pairs is same = ⊎_elim
+        (λ one. apart_from_end s new equation to is.y way.keeps
+        (subst (λ u. IsFound u equation) (sym same) found_here) added_as is.ends.second
+        is.ends.second_end (sym one ∙ sym (unbound_at_first is.x same is.ends.first)))
+        (λ built. built
+        (subst (λ n. term_at new n ≡ T.Free) (unbound_at_first is.x same is.ends.first)
+        (term_stays old new equation.var grown_new found_here.free.within
+        ∙ found_here.free.variable)))
 
-        bound : end.end ≢ equation.var → Keeps (with_note new equation.var end.end) →
-            IsOnTheWay old equations (with_note new equation.var end.end) rest later
-        bound apart sound = record {
+    -- the variable and what it has to be are one
+    pub one_more_solved : (after : State) (pairs : List (ℕ × ℕ)) → Keeps after →
+        IsSolved new equation.var to later after pairs →
+        IsOnTheWay old equations after rest pairs
+    one_more_solved after pairs keeps is =
+        let made = solved new after equation.var to later pairs
+        (pairs_within s new later is_ready.grown.not_later.0 way.within) is in
+        record {
           taken = equation ∷ way.taken;
           all = all_but;
-          grown =
-              grown_through old new (with_note new equation.var end.end) grown_new
-              (grown_by_note new equation.var end.end);
-          keeps = sound;
-          within = pairs_within s new later is_ready.grown.not_later.0 way.within;
+          grown = grown_through old new after grown_new made.grown;
+          keeps = keeps;
+          within = made.within;
           becomes =
-              becomes_through old new (with_note new equation.var end.end)
-              (λ vs. Solves vs (equation ∷ way.taken))
-              (λ vs. AreOne equation.var to vs × AreEachOne later vs) (AreEachOne later)
-              grown_new.not_later.0 becomes_new
-              (becomes_note new equation.var to end.end (AreEachOne later) free.unbound end.leads);
+              becomes_through old new after (λ vs. Solves vs (equation ∷ way.taken))
+              (λ vs. AreOne equation.var to vs × AreEachOne later vs) (AreEachOne pairs)
+              grown_new.not_later.0 becomes_new made.becomes;
           number = inr (⊎_elim
-              (λ both. omega (
-                arith,
-                free_number-note new equation.var end.end free,
-                is_ready.number,
-                ap free_number both.1,
-              ))
-              (λ less. omega (
-                arith,
-                less,
-                free_number-note new equation.var end.end free,
-                is_ready.number,
-              )) way.number);
+              (λ fewer. ⊎_elim
+              (λ both. omega (arith, fewer, is_ready.number, ap free_number both.1))
+              (λ less. omega (arith, fewer, less, is_ready.number)) way.number)
+              (λ left. ⊎_elim
+              (λ both. absurd (not_left_at_first after pairs is both.1 left.1))
+              (λ less. omega (arith, less, is_ready.number, ap free_number left.0))
+              way.number)
+              made.number);
         }

@@ -1,4 +1,4 @@
--- The elements of a list that are left from a place on, before its tail.
+-- The elements of a list that are left from a position on, before its tail.
 use Rattle.std.proofs.Common.{◌≡◌, ◌<◌, ◌≤◌, ℕ, List, [], ◌++◌, arith, length, map}
 use Rattle.std.proofs.Common.{refl, sym, ◌∙◌, ap, take, drop}
 use Rattle.std.specs.Prelude.{All}
@@ -15,11 +15,11 @@ use Rattle.rn_unify.specs.declared.rests.Rest.{Rest}
 use Rattle.rn_term.specs.Forcing.{items_of}
 use Rattle.rn_unify.specs.Rests.{IsRest, IsSpelled, elements_of, rest_value}
 use Rattle.rn_term.proofs.OneValue.{said}
-use Rattle.rn_unify.proofs.ListPlaces.{rest-List, rest-Cons}
+use Rattle.rn_unify.proofs.ListPositions.{rest-List, rest-Cons}
 
--- these ids are left of a list from a place on, before its tail
+-- these ids are left of a list from a position on, before its tail
 pub record AreLeft (s : State) (rest : Rest) (ids : List ℕ) : Type 0 where
-  pub place : IsRest s rest
+  pub position : IsRest s rest
   pub spelled : IsSpelled (term_at s rest.id)
   pub are : ids ≡ drop rest.from (elements_of (term_at s rest.id))
 
@@ -40,24 +40,24 @@ rest_begins : (s : State) (vs : List Value) (rest : Rest) (t : Term) → Satisfi
     IsRest s rest → term_at s rest.id ≡ t → IsSpelled t →
     (more : List Value) ×
     (rest_value vs rest ≡ map (value_at vs) (drop rest.from (elements_of t)) ++ more)
-rest_begins s vs rest T.Free sat place is spelled = absurd (let no : ⊥ = cc in no)
-rest_begins s vs rest (T.Atom v) sat place is spelled = absurd (let no : ⊥ = cc in no)
-rest_begins s vs rest (T.Tuple ids) sat place is spelled = absurd (let no : ⊥ = cc in no)
-rest_begins s vs rest (T.List ids) sat place is spelled = (
+rest_begins s vs rest T.Free sat position is spelled = absurd (let no : ⊥ = cc in no)
+rest_begins s vs rest (T.Atom v) sat position is spelled = absurd (let no : ⊥ = cc in no)
+rest_begins s vs rest (T.Tuple ids) sat position is spelled = absurd (let no : ⊥ = cc in no)
+rest_begins s vs rest (T.List ids) sat position is spelled = (
   [],
-  rest-List s vs rest ids sat place.within is
+  rest-List s vs rest ids sat position.within is
       ∙ sym (append-nil (map (value_at vs) (drop rest.from ids))),
 )
-rest_begins s vs rest (T.Cons ids tail) sat place is spelled = (
+rest_begins s vs rest (T.Cons ids tail) sat position is spelled = (
   items_of (value_at vs tail),
-  rest-Cons s vs rest ids tail sat place.within is (omega (arith, place.ahead ids tail is)),
+  rest-Cons s vs rest ids tail sat position.within is (omega (arith, position.ahead ids tail is)),
 )
 
 begins : (s : State) (vs : List Value) (rest : Rest) (ids : List ℕ) → Satisfies s vs →
     AreLeft s rest ids →
     (more : List Value) × (rest_value vs rest ≡ map (value_at vs) ids ++ more)
 begins s vs rest ids sat left =
-    let all = rest_begins s vs rest (term_at s rest.id) sat left.place refl left.spelled in
+    let all = rest_begins s vs rest (term_at s rest.id) sat left.position refl left.spelled in
     (all.0, all.1 ∙ ap (λ xs. map (value_at vs) xs ++ all.0) (sym left.are))
 
 -- the first of them are the first elements
@@ -82,23 +82,23 @@ rest_long s vs rest ids sat left =
       length-map ids (value_at vs),
     )
 
--- where none is left nothing is, since a place isn't just before a tail
+-- where none is left nothing is, since a position isn't just before a tail
 at_end : (s : State) (vs : List Value) (rest : Rest) (t : Term) → Satisfies s vs → IsRest s rest →
     term_at s rest.id ≡ t → IsSpelled t → length (elements_of t) ≤ rest.from →
     rest_value vs rest ≡ []
-at_end s vs rest T.Free sat place is spelled none = absurd (let no : ⊥ = cc in no)
-at_end s vs rest (T.Atom v) sat place is spelled none = absurd (let no : ⊥ = cc in no)
-at_end s vs rest (T.Tuple ids) sat place is spelled none = absurd (let no : ⊥ = cc in no)
-at_end s vs rest (T.List ids) sat place is spelled none =
-    rest-List s vs rest ids sat place.within is
+at_end s vs rest T.Free sat position is spelled none = absurd (let no : ⊥ = cc in no)
+at_end s vs rest (T.Atom v) sat position is spelled none = absurd (let no : ⊥ = cc in no)
+at_end s vs rest (T.Tuple ids) sat position is spelled none = absurd (let no : ⊥ = cc in no)
+at_end s vs rest (T.List ids) sat position is spelled none =
+    rest-List s vs rest ids sat position.within is
     ∙ ap (map (value_at vs)) (drop_all rest.from ids none)
-at_end s vs rest (T.Cons ids tail) sat place is spelled none =
-    absurd (let no : ⊥ = omega (arith, none, place.ahead ids tail is) in no)
+at_end s vs rest (T.Cons ids tail) sat position is spelled none =
+    absurd (let no : ⊥ = omega (arith, none, position.ahead ids tail is) in no)
 
 pub rest_empty : (s : State) (vs : List Value) (rest : Rest) (ids : List ℕ) → Satisfies s vs →
     AreLeft s rest ids → length ids ≡ 0 → rest_value vs rest ≡ []
 rest_empty s vs rest ids sat left none =
-    at_end s vs rest (term_at s rest.id) sat left.place refl left.spelled
+    at_end s vs rest (term_at s rest.id) sat left.position refl left.spelled
     (omega (
       arith,
       none,
@@ -120,8 +120,8 @@ left_within s rest ids count keeps left =
     let P : ℕ → Type 0 = λ id. id < length s.terms in
     let all : List ℕ = elements_of (term_at s rest.id) in
     let below : All (λ id. id < rest.id) all =
-    elements_below rest.id (term_at s rest.id) (keeps.built rest.id left.place.within) in
+    elements_below rest.id (term_at s rest.id) (keeps.built rest.id left.position.within) in
     All-take P count ids (All-same P ids (drop rest.from all) left.are
     (All-drop P rest.from all
-    (All-weaker (λ id. id < rest.id) P (λ id small. omega (arith, small, left.place.within)) all
+    (All-weaker (λ id. id < rest.id) P (λ id small. omega (arith, small, left.position.within)) all
     below)))

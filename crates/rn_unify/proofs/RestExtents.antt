@@ -1,4 +1,4 @@
--- How far lists extend from places in them on, by which going through them ends.
+-- How far lists extend from positions in them on, by which going through them ends.
 use Rattle.std.proofs.Common.{◌≡◌, ⊎_elim, ◌<◌, ◌≤◌, ◌+◌, ◌-◌, ℕ, zero, suc, List, [], ◌∷◌}
 use Rattle.std.proofs.Common.{arith, length, ap, take, drop}
 use Rattle.std.proofs.lemmas.List.{length-drop, length-append}
@@ -11,7 +11,7 @@ use Rattle.rn_term.proofs.Extents.{extent, extent-parts, extent-tail, greatest, 
 use Rattle.rn_term.proofs.Following.{extent-leads}
 use Rattle.rn_unify.specs.declared.rests.Rest.{Rest}
 use Rattle.rn_unify.specs.Rests.{IsRest, IsFurther, elements_of}
-use Rattle.rn_unify.proofs.ListPlaces.{built_at}
+use Rattle.rn_unify.proofs.ListPositions.{built_at}
 use Rattle.rn_unify.proofs.RemainingElements.{AreLeft}
 
 elements_of_parts : (f : ℕ → ℕ) (t : Term) →
@@ -47,7 +47,7 @@ pub left_smaller : (s : State) (rest : Rest) (ids : List ℕ) (count : ℕ) → 
     AreLeft s rest ids → greatest (extent s) (take count ids) < extent s rest.id
 left_smaller s rest ids count keeps left = omega (
   arith,
-  elements_smaller s rest.id keeps left.place.within,
+  elements_smaller s rest.id keeps left.position.within,
   greatest-take (extent s) count ids,
   greatest-drop (extent s) rest.from (elements_of (term_at s rest.id)),
   ap (greatest (extent s)) left.are,
@@ -58,16 +58,16 @@ tail_within : (s : State) (id : ℕ) (ids : List ℕ) (tail : ℕ) → Keeps s �
 tail_within s id ids tail keeps within is =
     omega (arith, within, (built_at s id (T.Cons ids tail) keeps within is).2)
 
--- a place further on in a list is in a term that extends no more
+-- a position further on in a list is in a term that extends no more
 pub further_smaller : (s : State) (rest further : Rest) (count : ℕ) → Keeps s → IsRest s rest →
     IsFurther s rest count further → extent s further.id ≤ extent s rest.id
-further_smaller s rest further count keeps place more = ⊎_elim
+further_smaller s rest further count keeps position more = ⊎_elim
     (λ same. omega (arith, ap (λ (r : Rest). extent s r.id) same))
     (λ (ids, tail, cons, passed, leads, start). omega (
       arith,
-      extent-tail s keeps rest.id ids tail place.within cons,
+      extent-tail s keeps rest.id ids tail position.within cons,
       extent-leads s keeps tail further.id
-          (tail_within s rest.id ids tail keeps place.within cons) leads,
+          (tail_within s rest.id ids tail keeps position.within cons) leads,
     ))
     more
 
@@ -80,7 +80,7 @@ further_less s rest further ids count keeps left some few more = ⊎_elim
       arith,
       some,
       within,
-      elements_smaller s rest.id keeps left.place.within,
+      elements_smaller s rest.id keeps left.position.within,
       ap (λ (r : Rest). extent s r.id) same,
       ap (λ (r : Rest). r.from) same,
     ))
@@ -88,9 +88,9 @@ further_less s rest further ids count keeps left some few more = ⊎_elim
       arith,
       some,
       passed,
-      extent-tail s keeps rest.id all tail left.place.within cons,
+      extent-tail s keeps rest.id all tail left.position.within cons,
       extent-leads s keeps tail further.id
-          (tail_within s rest.id all tail keeps left.place.within cons) leads,
+          (tail_within s rest.id all tail keeps left.position.within cons) leads,
     ))
     more
   where

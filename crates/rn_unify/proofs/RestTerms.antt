@@ -21,8 +21,8 @@ use Rattle.rn_unify.specs.declared.rests.Rest.{Rest}
 use Rattle.rn_unify.specs.Equations.{CanStand, Finds, IsFound, GivesOther, IsRestOf}
 use Rattle.rn_unify.specs.Rests.{IsRest, rest_value}
 use Rattle.rn_unify.proofs.Findings.{finds_one}
-use Rattle.rn_unify.proofs.ListPlaces.{built_at}
-use Rattle.rn_unify.proofs.ListPlaces.{list_of_items, rest-List, rest-Cons, tail_is_list}
+use Rattle.rn_unify.proofs.ListPositions.{built_at}
+use Rattle.rn_unify.proofs.ListPositions.{list_of_items, rest-List, rest-Cons, tail_is_list}
 use Rattle.rn_unify.proofs.TermEquations.{IsNoted}
 
 -- the later ids of a list are below what all are
@@ -36,49 +36,49 @@ later_below low high from ids more below =
 -- the rest of a list may be added to the store
 rest_stands : (s : State) (rest : Rest) (t term : Term) → Keeps s → IsRest s rest →
     term_at s rest.id ≡ t → IsRestOf rest.from t term → CanStand s (O.New term)
-rest_stands s rest T.Free term keeps place is rest_is = absurd rest_is
-rest_stands s rest (T.Atom v) term keeps place is rest_is = absurd rest_is
-rest_stands s rest (T.Tuple ids) term keeps place is rest_is = absurd rest_is
-rest_stands s rest (T.List ids) term keeps place is rest_is =
+rest_stands s rest T.Free term keeps position is rest_is = absurd rest_is
+rest_stands s rest (T.Atom v) term keeps position is rest_is = absurd rest_is
+rest_stands s rest (T.Tuple ids) term keeps position is rest_is = absurd rest_is
+rest_stands s rest (T.List ids) term keeps position is rest_is =
     subst (λ u. CanStand s (O.New u)) (sym rest_is) (
-      later_below rest.id (length s.terms) rest.from ids (omega (arith, place.within))
-          (built_at s rest.id (T.List ids) keeps place.within is),
+      later_below rest.id (length s.terms) rest.from ids (omega (arith, position.within))
+          (built_at s rest.id (T.List ids) keeps position.within is),
       tt,
       λ free. cc,
     )
-rest_stands s rest (T.Cons ids tail) term keeps place is rest_is =
+rest_stands s rest (T.Cons ids tail) term keeps position is rest_is =
     let built : IsBuiltBelow rest.id (T.Cons ids tail) =
-    built_at s rest.id (T.Cons ids tail) keeps place.within is in
+    built_at s rest.id (T.Cons ids tail) keeps position.within is in
     subst (λ u. CanStand s (O.New u)) (sym rest_is) (
       (
-        later_below rest.id (length s.terms) rest.from ids (omega (arith, place.within)) built.0,
-        omega (arith, place.ahead ids tail is, length-drop rest.from ids),
-        omega (arith, built.2, place.within),
+        later_below rest.id (length s.terms) rest.from ids (omega (arith, position.within)) built.0,
+        omega (arith, position.ahead ids tail is, length-drop rest.from ids),
+        omega (arith, built.2, position.within),
       ),
-      λ vs sat. tail_is_list s vs rest.id ids tail sat place.within is,
+      λ vs sat. tail_is_list s vs rest.id ids tail sat position.within is,
       λ free. cc,
     )
 
--- and a list has its value just where it is what is left of the list
+-- and a list has its value exactly where it is what is left of the list
 rest_has : (s : State) (vs : List Value) (rest : Rest) (t term : Term) (v : Value) →
     Satisfies s vs → IsRest s rest → term_at s rest.id ≡ t → IsRestOf rest.from t term →
     IsList v → (items_of v ≡ rest_value vs rest) ↔ HasValue vs term v
-rest_has s vs rest T.Free term v sat place is rest_is list = absurd rest_is
-rest_has s vs rest (T.Atom w) term v sat place is rest_is list = absurd rest_is
-rest_has s vs rest (T.Tuple ids) term v sat place is rest_is list = absurd rest_is
-rest_has s vs rest (T.List ids) term v sat place is rest_is list =
+rest_has s vs rest T.Free term v sat position is rest_is list = absurd rest_is
+rest_has s vs rest (T.Atom w) term v sat position is rest_is list = absurd rest_is
+rest_has s vs rest (T.Tuple ids) term v sat position is rest_is list = absurd rest_is
+rest_has s vs rest (T.List ids) term v sat position is rest_is list =
     let left : rest_value vs rest ≡ map (value_at vs) (drop rest.from ids) =
-    rest-List s vs rest ids sat place.within is in
+    rest-List s vs rest ids sat position.within is in
     subst (λ u. (items_of v ≡ rest_value vs rest) ↔ HasValue vs u v) (sym rest_is) (
       λ same. list_of_items v list ∙ ap (λ xs. Value.List xs) (same ∙ left),
       λ has. ap items_of has ∙ items_of-list (map (value_at vs) (drop rest.from ids)) ∙ sym left,
     )
-rest_has s vs rest (T.Cons ids tail) term v sat place is rest_is list =
-    let end = tail_is_list s vs rest.id ids tail sat place.within is in
-    let front : List Value = map (value_at vs) (drop rest.from ids) in
-    let left : rest_value vs rest ≡ front ++ items_of (value_at vs tail) =
-    rest-Cons s vs rest ids tail sat place.within is
-    (omega (arith, place.ahead ids tail is)) in
+rest_has s vs rest (T.Cons ids tail) term v sat position is rest_is list =
+    let end = tail_is_list s vs rest.id ids tail sat position.within is in
+    let prefix : List Value = map (value_at vs) (drop rest.from ids) in
+    let left : rest_value vs rest ≡ prefix ++ items_of (value_at vs tail) =
+    rest-Cons s vs rest ids tail sat position.within is
+    (omega (arith, position.ahead ids tail is)) in
     subst (λ u. (items_of v ≡ rest_value vs rest) ↔ HasValue vs u v) (sym rest_is) (
       λ same. (
         items_of (value_at vs tail),
@@ -86,15 +86,15 @@ rest_has s vs rest (T.Cons ids tail) term v sat place is rest_is list =
         list_of_items v list ∙ ap (λ xs. Value.List xs) (same ∙ left),
       ),
       λ (more, tail_is, all_is).
-          ap items_of all_is ∙ items_of-list (front ++ more)
-          ∙ ap (λ xs. front ++ xs) (sym (ap items_of tail_is ∙ items_of-list more)) ∙ sym left,
+          ap items_of all_is ∙ items_of-list (prefix ++ more)
+          ∙ ap (λ xs. prefix ++ xs) (sym (ap items_of tail_is ∙ items_of-list more)) ∙ sym left,
     )
 
 -- an equation that was noted
 finds_new : (s : State) (wish : List Value → Type 0) (before after : List Equation)
-    (equation : Equation) (told : Bool) → IsNoted before after equation told → IsFound s equation →
+    (equation : Equation) (answer : Bool) → IsNoted before after equation answer → IsFound s equation →
     ((vs : List Value) → Satisfies s vs → wish vs ↔ GivesOther vs equation.var equation.other) →
-    Finds s wish before after told
+    Finds s wish before after answer
 finds_new s wish before after equation true noted found same =
     finds_one s wish before after equation noted.1 found same
 finds_new s wish before after equation false noted found same =
@@ -102,7 +102,7 @@ finds_new s wish before after equation false noted found same =
 
 -- A free variable whose value is always a list, and what is left of another list.
 module _ (s : State) (var : ℕ) (rest : Rest) (free : IsFree s var) (list : IsAlwaysList s var)
-    (place : IsRest s rest) where
+    (position : IsRest s rest) where
   -- the variable may have to be a new term
   pub rest_noted : {E : Type 0} (term : Term) (before after : List Equation)
       (r : Result Bool E) → Keeps s → IsRestOf rest.from (term_at s rest.id) term →
@@ -111,12 +111,12 @@ module _ (s : State) (var : ℕ) (rest : Rest) (free : IsFree s var) (list : IsA
   rest_noted term before after r keeps rest_is = IfOk-weaker r
       (IsNoted before after (record { var = var; other = O.New term }))
       (Finds s (λ vs. items_of (value_at vs var) ≡ rest_value vs rest) before after)
-      (λ told noted. finds_new s (λ vs. items_of (value_at vs var) ≡ rest_value vs rest)
-      before after (record { var = var; other = O.New term }) told noted
+      (λ answer noted. finds_new s (λ vs. items_of (value_at vs var) ≡ rest_value vs rest)
+      before after (record { var = var; other = O.New term }) answer noted
       (record {
         free = free;
-        stands = rest_stands s rest (term_at s rest.id) term keeps place refl rest_is;
+        stands = rest_stands s rest (term_at s rest.id) term keeps position refl rest_is;
         apart = λ to is. absurd (let no : ⊥ = cc in no);
       })
-      (λ vs sat. rest_has s vs rest (term_at s rest.id) term (value_at vs var) sat place refl
+      (λ vs sat. rest_has s vs rest (term_at s rest.id) term (value_at vs var) sat position refl
       rest_is (list vs sat)))

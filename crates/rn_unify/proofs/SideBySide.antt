@@ -15,20 +15,22 @@ use Rattle.rn_term.specs.Forcing.{items_of}
 use Rattle.rn_term.proofs.Extents.{extent}
 use Rattle.rn_unify.specs.declared.equation.Equation.{Equation}
 use Rattle.rn_unify.specs.declared.rests.Rest.{Rest}
-use Rattle.rn_unify.specs.Equations.{Finds, IsFound, Solves}
+use Rattle.rn_unify.specs.declared.classes.Classes.{Classes}
+use Rattle.rn_unify.specs.Equations.{Finds, Adds, AreMade, IsFound, Solves}
 use Rattle.rn_unify.specs.Rests.{IsRest, IsFurther, IsSpelled, rest_value}
 use Rattle.rn_unify.specs.Unifying.{AreOne}
-use Rattle.rn_unify.proofs.Findings.{finds_same, finds_both, finds_told}
-use Rattle.rn_unify.proofs.ListFronts.{joined}
-use Rattle.rn_unify.proofs.TermEquations.{AreAll, IsSameWish}
-use Rattle.rn_unify.proofs.ListPlaces.{list_of_items, built_at}
+use Rattle.rn_unify.proofs.Findings.{adds_same, adds_then, adds_found, adds_never, finds_answer}
+use Rattle.rn_unify.proofs.ListPrefixes.{joined}
+use Rattle.rn_unify.proofs.TermEquations.{AreAll}
+use Rattle.rn_unify.proofs.ListPositions.{list_of_items, built_at}
 use Rattle.rn_unify.proofs.RemainingElements.{AreLeft, spelled_is_list, first_of_rest, rest_long}
 use Rattle.rn_unify.proofs.RemainingElements.{rest_empty}
 use Rattle.rn_unify.proofs.RestExtents.{further_smaller}
 
--- Two lists were gone through to these places, and equations were found on the way: the lists are
+-- Two lists were gone through to these positions, and equations were found on the way: they are
 -- one where an assignment satisfies these, and where the rests of the lists are one.
-pub record AreAt (s : State) (a b : ℕ) (left right : Rest) (before now : List Equation) : Type 0
+pub record AreAt (s : State) (a b : ℕ) (left right : Rest) (made : Classes)
+    (before now : List Equation) : Type 0
   where
     pub first : IsRest s left
     pub second : IsRest s right
@@ -37,10 +39,11 @@ pub record AreAt (s : State) (a b : ℕ) (left right : Rest) (before now : List 
     pub more : List Equation
     pub behind : now ≡ before ++ more
     pub found : AllByRecursion (IsFound s) more
-    pub same : IsSameWish s (AreOne a b)
-        (λ vs. Solves vs more × (rest_value vs left ≡ rest_value vs right))
+    pub same : (vs : List Value) → Satisfies s vs → Solves vs before →
+        AreOne a b vs ↔ (Solves vs more × (rest_value vs left ≡ rest_value vs right))
+    pub fits : AreMade s made now
 
--- the place at which a list starts
+-- the position at which a list starts
 start_of : (s : State) (id : ℕ) → Keeps s → id < length s.terms → link_of s.notes id ≡ None →
     IsSpelled (term_at s id) → IsRest s (record { id = id; from = 0 })
 start_of s id keeps within unbound spelled = record {
@@ -51,11 +54,12 @@ start_of s id keeps within unbound spelled = record {
   ahead = λ ids tail is. (built_at s id (T.Cons ids tail) keeps within is).1;
 }
 
-pub at_starts : (s : State) (a b : ℕ) (before : List Equation) → Keeps s → a < length s.terms →
+pub at_starts : (s : State) (a b : ℕ) (made : Classes) (before : List Equation) →
+    AreMade s made before → Keeps s → a < length s.terms →
     b < length s.terms → link_of s.notes a ≡ None → link_of s.notes b ≡ None →
     IsSpelled (term_at s a) → IsSpelled (term_at s b) →
-    AreAt s a b (record { id = a; from = 0 }) (record { id = b; from = 0 }) before before
-at_starts s a b before keeps in_a in_b end_a end_b spelled_a spelled_b =
+    AreAt s a b (record { id = a; from = 0 }) (record { id = b; from = 0 }) made before before
+at_starts s a b made before fits keeps in_a in_b end_a end_b spelled_a spelled_b =
     let first = start_of s a keeps in_a end_a spelled_a in
     let second = start_of s b keeps in_b end_b spelled_b in
     record {
@@ -66,7 +70,8 @@ at_starts s a b before keeps in_a in_b end_a end_b spelled_a spelled_b =
       more = [];
       behind = sym (append-nil before);
       found = tt;
-      same = λ vs sat. (
+      fits = fits;
+      same = λ vs sat solves. (
         λ same. (tt, ap items_of same),
         λ (none, same). list_of_items (value_at vs a) (first.list vs sat)
             ∙ ap (λ xs. Value.List xs) same
@@ -74,43 +79,60 @@ at_starts s a b before keeps in_a in_b end_a end_b spelled_a spelled_b =
       );
     }
 
-module _ (s : State) (a b : ℕ) (left right : Rest) (before now : List Equation)
-    (at : AreAt s a b left right before now) where
+module _ (s : State) (a b : ℕ) (left right : Rest) (made : Classes) (before now : List Equation)
+    (at : AreAt s a b left right made before now) where
   -- the equations that were found on the way
-  on_the_way : Finds s (λ vs. Solves vs at.more) before now true
-  on_the_way = (at.more, at.behind, at.found, λ vs sat. (λ all. all, λ all. all))
+  on_the_way : Adds s (λ vs. Solves vs at.more) made before now true
+  on_the_way = (at.more, at.behind, at.found, λ vs sat solves. (λ all. all, λ all. all), at.fits)
 
   -- what is found of the rests is found of the lists
-  found_of_rests : (after : List Equation) (told : Bool) →
-      Finds s (λ vs. rest_value vs left ≡ rest_value vs right) now after told →
-      Finds s (AreOne a b) before after told
-  found_of_rests after true found =
-      finds_same s (AreOne a b)
-      (λ vs. Solves vs at.more × (rest_value vs left ≡ rest_value vs right)) before after true
-      at.same
-      (finds_both s (λ vs. Solves vs at.more) (λ vs. rest_value vs left ≡ rest_value vs right)
-      before now after on_the_way found)
-  found_of_rests after false found = λ vs sat one. found vs sat ((at.same vs sat).0 one).1
+  found_of_rests : (after : List Equation) (answer : Bool) →
+      Finds s (λ vs. rest_value vs left ≡ rest_value vs right) now after answer →
+      Adds s (AreOne a b) made before after answer
+  found_of_rests after answer found =
+      adds_same s (AreOne a b)
+      (λ vs. Solves vs at.more × (rest_value vs left ≡ rest_value vs right)) made before after
+      answer at.same
+      (adds_then s (λ vs. Solves vs at.more) (λ vs. rest_value vs left ≡ rest_value vs right)
+      made made before now after answer on_the_way
+      (adds_found s (λ vs. rest_value vs left ≡ rest_value vs right) made now after answer at.fits
+      found))
 
   pub result_of_rests : {E : Type 0} (after : List Equation) (r : Result Bool E) →
       IfOk r (Finds s (λ vs. rest_value vs left ≡ rest_value vs right) now after) →
-      IfOk r (Finds s (AreOne a b) before after)
+      IfOk r (Adds s (AreOne a b) made before after)
   result_of_rests after r = IfOk-weaker r
       (Finds s (λ vs. rest_value vs left ≡ rest_value vs right) now after)
-      (Finds s (AreOne a b) before after) (found_of_rests after)
+      (Adds s (AreOne a b) made before after) (found_of_rests after)
 
   -- The ids that are left of both lists.
   module _ (xs ys : List ℕ) (first : AreLeft s left xs) (second : AreLeft s right ys) where
     -- lists that are one have the same elements there
-    pub fronts_are_one : (count : ℕ) → count ≤ length xs → count ≤ length ys →
-        (vs : List Value) → Satisfies s vs → AreOne a b vs →
+    pub prefixes_are_one : (count : ℕ) → count ≤ length xs → count ≤ length ys →
+        (vs : List Value) → Satisfies s vs → Solves vs before → AreOne a b vs →
         AreAll (take count xs) (take count ys) vs
-    fronts_are_one count few_left few_right vs sat same =
+    prefixes_are_one count few_left few_right vs sat solves same =
         sym (first_of_rest s vs left xs count sat first few_left)
-        ∙ ap (take count) ((at.same vs sat).0 same).1
+        ∙ ap (take count) ((at.same vs sat solves).0 same).1
         ∙ first_of_rest s vs right ys count sat second few_right
 
-    -- where one of both ends, their rests are one just where the other ends too
+    -- where nothing gives them the same elements there, nothing makes them one
+    pub never_one : (count : ℕ) (others : Classes) (after back : List Equation) →
+        count ≤ length xs → count ≤ length ys →
+        Adds s (AreAll (take count xs) (take count ys)) others now after false →
+        Adds s (AreOne a b) others before back false
+    never_one count others after back few_left few_right never =
+        adds_never s (AreOne a b)
+        (λ vs. Solves vs at.more × AreAll (take count xs) (take count ys) vs) others others before
+        after back
+        (λ vs sat solves same. (
+          ((at.same vs sat solves).0 same).0,
+          prefixes_are_one count few_left few_right vs sat solves same,
+        ))
+        (adds_then s (λ vs. Solves vs at.more) (AreAll (take count xs) (take count ys)) made others
+        before now after false on_the_way never)
+
+    -- where one of both ends, their rests are one exactly where the other ends too
     ends_are_one : (vs : List Value) → Satisfies s vs → min (length xs) (length ys) ≡ 0 →
         (length xs ≡ length ys) ↔ (rest_value vs left ≡ rest_value vs right)
     ends_are_one vs sat none = (
@@ -138,9 +160,9 @@ module _ (s : State) (a b : ℕ) (left right : Rest) (before now : List Equation
         one_ends = grind (arith, none)
 
     pub found_at_end : min (length xs) (length ys) ≡ 0 →
-        Finds s (AreOne a b) before now (nat_eq (length xs) (length ys))
+        Adds s (AreOne a b) made before now (nat_eq (length xs) (length ys))
     found_at_end none = found_of_rests now (nat_eq (length xs) (length ys))
-        (finds_told s (λ vs. rest_value vs left ≡ rest_value vs right) now
+        (finds_answer s (λ vs. rest_value vs left ≡ rest_value vs right) now
         (nat_eq (length xs) (length ys))
         (λ vs sat.
         let ends = ends_are_one vs sat none in (
@@ -148,45 +170,46 @@ module _ (s : State) (a b : ℕ) (left right : Rest) (before now : List Equation
           λ same. eq-eqb (length xs) (length ys) (ends.1 same),
         )))
 
-    -- the rests are one where their first elements are and where what is behind them is
-    fronts_and_rests : (count : ℕ) (more_left more_right : Rest) (vs : List Value) →
+    -- the rests are one where their first elements are and where what is after them is
+    prefixes_and_rests : (count : ℕ) (more_left more_right : Rest) (vs : List Value) →
         Satisfies s vs → count ≤ length xs → count ≤ length ys →
         rest_value vs more_left ≡ drop count (rest_value vs left) →
         rest_value vs more_right ≡ drop count (rest_value vs right) →
         (rest_value vs left ≡ rest_value vs right) ↔
         (AreAll (take count xs) (take count ys) vs
         × (rest_value vs more_left ≡ rest_value vs more_right))
-    fronts_and_rests count more_left more_right vs sat few_left few_right passes_left
+    prefixes_and_rests count more_left more_right vs sat few_left few_right passes_left
         passes_right =
-        let front_left = first_of_rest s vs left xs count sat first few_left in
-        let front_right = first_of_rest s vs right ys count sat second few_right in (
+        let prefix_left = first_of_rest s vs left xs count sat first few_left in
+        let prefix_right = first_of_rest s vs right ys count sat second few_right in (
           λ same. (
-            sym front_left ∙ ap (take count) same ∙ front_right,
+            sym prefix_left ∙ ap (take count) same ∙ prefix_right,
             passes_left ∙ ap (drop count) same ∙ sym passes_right,
           ),
-          λ (fronts, backs). joined count (rest_value vs left) (rest_value vs right)
-              (front_left ∙ fronts ∙ sym front_right)
+          λ (prefixes, backs). joined count (rest_value vs left) (rest_value vs right)
+              (prefix_left ∙ prefixes ∙ sym prefix_right)
               (sym passes_left ∙ backs ∙ passes_right),
         )
 
     -- so many elements further, with what was found of these
-    pub moved_on : (count : ℕ) (more_left more_right : Rest) (after : List Equation) → Keeps s →
-        count ≤ length xs → count ≤ length ys →
-        Finds s (AreAll (take count xs) (take count ys)) now after true →
+    pub moved_on : (count : ℕ) (more_left more_right : Rest) (others : Classes)
+        (after : List Equation) → Keeps s → count ≤ length xs → count ≤ length ys →
+        Adds s (AreAll (take count xs) (take count ys)) others now after true →
         IsRest s more_left → IsFurther s left count more_left →
         ((vs : List Value) → Satisfies s vs →
         rest_value vs more_left ≡ drop count (rest_value vs left)) →
         IsRest s more_right → IsFurther s right count more_right →
         ((vs : List Value) → Satisfies s vs →
         rest_value vs more_right ≡ drop count (rest_value vs right)) →
-        AreAt s a b more_left more_right before after
-    moved_on count more_left more_right after keeps few_left few_right fronts place_left
-        further_left passes_left place_right further_right passes_right =
-        let both = finds_both s (λ vs. Solves vs at.more)
-        (AreAll (take count xs) (take count ys)) before now after on_the_way fronts in
+        AreAt s a b more_left more_right others before after
+    moved_on count more_left more_right others after keeps few_left few_right prefixes position_left
+        further_left passes_left position_right further_right passes_right =
+        let both = adds_then s (λ vs. Solves vs at.more)
+        (AreAll (take count xs) (take count ys)) made others before now after true on_the_way
+        prefixes in
         record {
-          first = place_left;
-          second = place_right;
+          first = position_left;
+          second = position_right;
           first_smaller = omega (
             arith,
             at.first_smaller,
@@ -200,15 +223,16 @@ module _ (s : State) (a b : ℕ) (left right : Rest) (before now : List Equation
           more = both.0;
           behind = both.1;
           found = both.2;
-          same = λ vs sat.
-              let step = fronts_and_rests count more_left more_right vs sat few_left few_right
+          fits = both.4;
+          same = λ vs sat solves.
+              let step = prefixes_and_rests count more_left more_right vs sat few_left few_right
               (passes_left vs sat) (passes_right vs sat) in (
                 λ one.
-                    let (way, rests) = (at.same vs sat).0 one in
-                    let (front, back) = step.0 rests in
-                    ((both.3 vs sat).0 (way, front), back),
+                    let (way, rests) = (at.same vs sat solves).0 one in
+                    let (prefix, back) = step.0 rests in
+                    ((both.3 vs sat solves).0 (way, prefix), back),
                 λ (solved, back).
-                    let (way, front) = (both.3 vs sat).1 solved in
-                    (at.same vs sat).1 (way, step.1 (front, back)),
+                    let (way, prefix) = (both.3 vs sat solves).1 solved in
+                    (at.same vs sat solves).1 (way, step.1 (prefix, back)),
               );
         }

@@ -17,28 +17,30 @@ use Rattle.rn_term.proofs.Agreement.{leads-same}
 use Rattle.rn_term.proofs.OneValue.{said}
 use Rattle.rn_unify.specs.declared.equation.Equation.{Equation}
 use Rattle.rn_unify.specs.declared.equation.Other.TheVariants as O
-use Rattle.rn_unify.specs.Equations.{Finds}
+use Rattle.rn_unify.specs.declared.classes.Classes.{Classes}
+use Rattle.rn_unify.specs.Equations.{Finds, Adds}
 use Rattle.rn_unify.specs.Rests.{IsComposed}
 use Rattle.rn_unify.specs.Unifying.{AreOne}
-use Rattle.rn_unify.proofs.ListPlaces.{built_at}
-use Rattle.rn_unify.proofs.Findings.{finds_same_result, finds_same, finds_both, finds_here}
+use Rattle.rn_unify.proofs.ListPositions.{built_at}
+use Rattle.rn_unify.proofs.Findings.{finds_same_result, finds_here, adds_same, adds_then}
+use Rattle.rn_unify.proofs.Findings.{adds_same_result}
 
 -- the wish that ids have the values of others, one by one
 abbrev pub AreAll : List ℕ → List ℕ → List Value → Type 0
 AreAll xs ys vs = map (value_at vs) xs ≡ map (value_at vs) ys
 
--- under the assignments of a store one wish is true just where another is
+-- under the assignments of a store one wish is true exactly where another is
 abbrev pub IsSameWish : State → (List Value → Type 0) → (List Value → Type 0) → Type 0
 IsSameWish s wish other = (vs : List Value) → Satisfies s vs → wish vs ↔ other vs
 
--- an equation was noted behind others
+-- an equation was noted after others
 abbrev pub IsNoted : List Equation → List Equation → Equation → Bool → Type 0
-IsNoted before after equation told = IsTrue told × (after ≡ before ++ equation ∷ [])
+IsNoted before after equation answer = IsTrue answer × (after ≡ before ++ equation ∷ [])
 
 -- Links lead from two ids to two others.
 module _ (s : State) (a b x y : ℕ) (left : Leads s.notes a x) (right : Leads s.notes b y) where
   -- ids are one where those are to which links lead
-  same_at_ends : IsSameWish s (AreOne a b) (AreOne x y)
+  pub same_at_ends : IsSameWish s (AreOne a b) (AreOne x y)
   same_at_ends vs sat =
       let first = leads-same s vs a x sat left in
       let second = leads-same s vs b y sat right in
@@ -46,12 +48,6 @@ module _ (s : State) (a b x y : ℕ) (left : Leads s.notes a x) (right : Leads s
 
   pub one_at_end : x ≡ y → (vs : List Value) → Satisfies s vs → AreOne a b vs
   one_at_end same vs sat = (same_at_ends vs sat).1 (ap (value_at vs) same)
-
-  -- the same is found of both
-  pub found_of_ends : {E : Type 0} (before after : List Equation) (r : Result Bool E) →
-      IfOk r (Finds s (AreOne x y) before after) → IfOk r (Finds s (AreOne a b) before after)
-  found_of_ends before after r =
-      finds_same_result s (AreOne a b) (AreOne x y) before after r same_at_ends
 
   -- where links lead to a variable, it has to be the other
   pub first_noted : {E : Type 0} (before after : List Equation) (r : Result Bool E) →
@@ -61,7 +57,7 @@ module _ (s : State) (a b x y : ℕ) (left : Leads s.notes a x) (right : Leads s
   first_noted before after r free within unbound apart = IfOk-weaker r
       (IsNoted before after (record { var = x; other = O.Here y }))
       (Finds s (AreOne a b) before after)
-      (λ told noted. finds_here s (AreOne a b) before after x y told noted.0 noted.1 free within
+      (λ answer noted. finds_here s (AreOne a b) before after x y answer noted.0 noted.1 free within
       unbound (λ same. apart (sym same)) same_at_ends)
 
   pub second_noted : {E : Type 0} (before after : List Equation) (r : Result Bool E) →
@@ -71,7 +67,7 @@ module _ (s : State) (a b x y : ℕ) (left : Leads s.notes a x) (right : Leads s
   second_noted before after r free within unbound apart = IfOk-weaker r
       (IsNoted before after (record { var = y; other = O.Here x }))
       (Finds s (AreOne a b) before after)
-      (λ told noted. finds_here s (AreOne a b) before after y x told noted.0 noted.1 free within
+      (λ answer noted. finds_here s (AreOne a b) before after y x answer noted.0 noted.1 free within
       unbound apart
       (λ vs sat.
       let ends = same_at_ends vs sat in
@@ -132,26 +128,27 @@ each_is_one vs xs ys k in_first in_second same =
     ∙ get_or-map (value_at vs) ys k 0 (value_at vs 0) in_second
 
 -- what is found of the first ids and of the next, is found of one more
-pub found_of_more : (s : State) (xs ys : List ℕ) (k : ℕ) (before middle after : List Equation) →
-    Finds s (AreFirst k xs ys) before middle true →
-    Finds s (AreOne (get_or xs k 0) (get_or ys k 0)) middle after true →
-    Finds s (AreFirst (k + 1) xs ys) before after true
-found_of_more s xs ys k before middle after first next =
+pub found_of_more : (s : State) (xs ys : List ℕ) (k : ℕ) (between made : Classes)
+    (before middle after : List Equation) →
+    Adds s (AreFirst k xs ys) between before middle true →
+    Adds s (AreOne (get_or xs k 0) (get_or ys k 0)) made middle after true →
+    Adds s (AreFirst (k + 1) xs ys) made before after true
+found_of_more s xs ys k between made before middle after first next =
     let next_one : List Value → Type 0 = AreOne (get_or xs k 0) (get_or ys k 0) in
-    finds_same s (AreFirst (k + 1) xs ys) (λ vs. AreFirst k xs ys vs × next_one vs) before after
-    true
-    (λ vs sat. (
+    adds_same s (AreFirst (k + 1) xs ys) (λ vs. AreFirst k xs ys vs × next_one vs) made before
+    after true
+    (λ vs sat solves. (
       λ all. (λ i small. all i (omega (arith, small)), all k (omega arith)),
       λ (few, one). below_more _ _ few one,
     ))
-    (finds_both s (AreFirst k xs ys) next_one before middle after first next)
+    (adds_then s (AreFirst k xs ys) next_one between made before middle after true first next)
 
-pub found_of_all : (s : State) (xs ys : List ℕ) (k : ℕ) (before after : List Equation) →
-    length xs ≡ length ys → k ≡ length xs → Finds s (AreFirst k xs ys) before after true →
-    Finds s (AreAll xs ys) before after true
-found_of_all s xs ys k before after each is =
-    finds_same s (AreAll xs ys) (AreFirst k xs ys) before after true
-    (λ vs sat. (
+pub found_of_all : (s : State) (xs ys : List ℕ) (k : ℕ) (made : Classes)
+    (before after : List Equation) → length xs ≡ length ys → k ≡ length xs →
+    Adds s (AreFirst k xs ys) made before after true → Adds s (AreAll xs ys) made before after true
+found_of_all s xs ys k made before after each is =
+    adds_same s (AreAll xs ys) (AreFirst k xs ys) made before after true
+    (λ vs sat solves. (
       λ all i small. each_is_one vs xs ys i (omega (arith, small, is))
           (omega (arith, small, is, each)) all,
       λ first. all_are_one vs xs ys each (λ i small. first i (omega (arith, small, is))),
@@ -171,10 +168,12 @@ module _ (s : State) (a b : ℕ) (xs ys : List ℕ) (in_a : a < length s.terms)
         λ same. first ∙ ap (λ ws. Value.Tuple ws) same ∙ sym second,
       )
 
-  pub found_of_parts : {E : Type 0} (before after : List Equation) (r : Result Bool E) →
-      IfOk r (Finds s (AreAll xs ys) before after) → IfOk r (Finds s (AreOne a b) before after)
-  found_of_parts before after r =
-      finds_same_result s (AreOne a b) (AreAll xs ys) before after r same_parts
+  pub found_of_parts : {E : Type 0} (made : Classes) (before after : List Equation)
+      (r : Result Bool E) → IfOk r (Adds s (AreAll xs ys) made before after) →
+      IfOk r (Adds s (AreOne a b) made before after)
+  found_of_parts made before after r =
+      adds_same_result s (AreOne a b) (AreAll xs ys) made before after r
+      (λ vs sat solves. same_parts vs sat)
 
   -- and never where one has more
   pub other_lengths : (length xs ≡ length ys → ⊥) →

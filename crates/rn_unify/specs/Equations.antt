@@ -12,6 +12,8 @@ use Rattle.rn_term.specs.Forcing.{IsAlwaysList}
 use Rattle.rn_unify.specs.declared.equation.Equation.{Equation}
 use Rattle.rn_unify.specs.declared.equation.Other.{Other}
 use Rattle.rn_unify.specs.declared.equation.Other.TheVariants as O
+use Rattle.rn_unify.specs.declared.classes.Classes.{Classes}
+use Rattle.rn_unify.specs.Classes.{Fits}
 use Rattle.rn_unify.specs.Unifying.{AreOne}
 
 -- where a term has a tail, all assignments of a store give that a list
@@ -43,13 +45,30 @@ Solves vs equations =
     AllByRecursion (λ equation. GivesOther vs equation.var equation.other) equations
 
 -- What is found of a wish on the assignments of a store: that none makes it true, or equations,
--- behind those from before, that an assignment satisfies just where the wish is true.
+-- after those from before, that an assignment satisfies exactly where the wish is true.
 abbrev pub Finds :
     State → (List Value → Type 0) → List Equation → List Equation → Bool → Type 0
 Finds s wish before after true =
     (more : List Equation) × (after ≡ before ++ more) × AllByRecursion (IsFound s) more ×
     ((vs : List Value) → Satisfies s vs → wish vs ↔ Solves vs more)
 Finds s wish before after false = (vs : List Value) → Satisfies s vs → ¬ wish vs
+
+-- the classes of ids are so that all assignments that satisfy the store and the equations fit them
+abbrev pub AreMade : State → Classes → List Equation → Type 0
+AreMade s made found =
+    (vs : List Value) → Satisfies s vs → Solves vs found → Fits made (value_at vs)
+
+-- What is added to equations for a wish, where the classes of ids that were made one go along: that
+-- no assignment which satisfies the equations makes it true, or equations after those from before,
+-- which an assignment that satisfies those satisfies exactly where the wish is true.
+abbrev pub Adds :
+    State → (List Value → Type 0) → Classes → List Equation → List Equation → Bool → Type 0
+Adds s wish made before after true =
+    (more : List Equation) × (after ≡ before ++ more) × AllByRecursion (IsFound s) more ×
+    ((vs : List Value) → Satisfies s vs → Solves vs before → wish vs ↔ Solves vs more) ×
+    AreMade s made after
+Adds s wish made before after false =
+    (vs : List Value) → Satisfies s vs → Solves vs before → ¬ wish vs
 
 -- an assignment gives each of some pairs one value
 abbrev pub AreEachOne : List (ℕ × ℕ) → List Value → Type 0
@@ -60,10 +79,10 @@ abbrev pub AreWithin : State → List (ℕ × ℕ) → Type 0
 AreWithin s pairs =
     AllByRecursion (λ pair. (pair.0 < length s.terms) × (pair.1 < length s.terms)) pairs
 
--- the store after what a variable has to be was put there, and its id
-abbrev pub IsPlaced : State → State → Other → ℕ → Type 0
-IsPlaced old new (O.Here id) to = (new ≡ old) × (to ≡ id)
-IsPlaced old new (O.New term) to = (new ≡ with_term old term) × (to ≡ length old.terms)
+-- the store after what a variable has to be was added where it is new, and its id
+abbrev pub IsAdded : State → State → Other → ℕ → Type 0
+IsAdded old new (O.Here id) to = (new ≡ old) × (to ≡ id)
+IsAdded old new (O.New term) to = (new ≡ with_term old term) × (to ≡ length old.terms)
 
 -- a term is that of the elements of a list from one on, and of its tail
 abbrev pub IsRestOf : ℕ → Term → Term → Type 0

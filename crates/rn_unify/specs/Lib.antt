@@ -1,4 +1,5 @@
 pub mod Binding
+pub mod Classes
 pub mod Equations
 pub mod Laws
 pub mod Rests

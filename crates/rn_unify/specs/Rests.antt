@@ -1,4 +1,4 @@
--- Places in lists, and what is left of a list there.
+-- Positions in lists, and what is left of a list there.
 use Rattle.std.specs.Prelude.{ℕ, ◌+◌, ⊤, ◌≡◌, ◌⊎◌, ◌<◌, ◌≤◌, Bool, true, false, IsTrue, List, []}
 use Rattle.std.specs.Prelude.{None, length, drop}
 use Rattle.rn_value.specs.declared.value.Value.{Value}
@@ -34,8 +34,8 @@ elements_of _ = []
 abbrev pub rest_value : List Value → Rest → List Value
 rest_value vs rest = drop rest.from (items_of (value_at vs rest.id))
 
--- A place in a list: its id is bound to nothing, it has at most the list's elements before it, and
--- it isn't at a tail.
+-- A position in a list: its id is bound to nothing, it has at most the list's elements before it,
+-- and it isn't at a tail.
 pub record IsRest (s : State) (rest : Rest) : Type 0 where
   pub within : rest.id < length s.terms
   pub end : link_of s.notes rest.id ≡ None
@@ -44,8 +44,8 @@ pub record IsRest (s : State) (rest : Rest) : Type 0 where
   pub ahead : (ids : List ℕ) (tail : ℕ) → term_at s rest.id ≡ T.Cons ids tail →
       rest.from < length ids
 
--- A place is so many elements further than another: in the same term, or where links lead from its
--- tail, behind its last element.
+-- A position is so many elements further than another: in the same term, or where links lead from
+-- its tail, after its last element.
 abbrev pub IsFurther : State → Rest → ℕ → Rest → Type 0
 IsFurther s rest count further =
     (further ≡ record { id = rest.id; from = rest.from + count }) ⊎

@@ -1,40 +1,72 @@
-//! What makes two terms one.
-ghost use Rattle.std.specs.Prelude.{◌≡◌, ◌↔◌, ◌<◌, ◌++◌, ◌∷◌, [], IsTrue, map, length, IfOk, All};
+//! Comparing terms: what makes two terms one.
+ghost use Rattle.std.specs.Prelude.{◌≡◌, ◌↔◌, ◌<◌, ◌++◌, ◌∷◌, [], IsTrue, map, length, IfOk, All, None};
 ghost use Rattle.rn_term.specs.declared.term.Term.TheVariants as T;
-ghost use Rattle.rn_term.specs.Stores.{term_at};
+ghost use Rattle.rn_term.specs.Stores.{link_of, term_at};
 ghost use Rattle.rn_term.specs.Assignments.{Keeps, value_at};
-ghost use Rattle.rn_unify.specs.Equations.{Finds};
+ghost use Rattle.rn_unify.specs.Equations.{Adds, AreMade};
 ghost use Rattle.rn_unify.specs.Rests.{IsComposed, IsSpelled};
 ghost use Rattle.rn_unify.specs.Unifying.{AreOne};
 
-use crate::against::against;
+use crate::classes::Classes;
 use crate::equation::{Equation, Other};
 use crate::lists::compare_lists;
+use crate::matching::match_value;
 use crate::rests::is_spelled;
 use rn_term::{Store, Term};
 use rn_value::NoMemory;
 use std::alloc::Global;
 
-/// Puts the equations that make two ids one behind others, or tells that nothing makes them one.
+/// Appends the equations that make two ids one, or reports that nothing makes them one.
 ///
 /// It walks through both terms side by side. Where a free variable stands it notes the equation,
-/// and binds nothing.
+/// and binds nothing. Ids that were made one before are passed over.
 #[cycle(comparing)]
 pub(crate) fn compare(
     alloc: Global,
     store: &Store,
     a: usize,
     b: usize,
+    made: &mut Classes,
     found: &mut Vec<Equation>,
 ) -> Result<bool, NoMemory>
     requires a_within { a < length store.now.terms }
     requires b_within { b < length store.now.terms }
+    requires made { AreMade store.now made.old found.old.items }
     ensures found { IfOk result
-        (λ yes. Finds store.now (AreOne a b) found.old.items found.new.items yes) }
+        (λ yes. Adds store.now (AreOne a b) made.new found.old.items found.new.items yes) }
     ensures kept { Keeps store.now }
 {
     let x = store.follow(a);
     let y = store.follow(b);
+    if made.are_one(x, y) {
+        return Ok(true);
+    }
+    if !compare_ends(alloc, store, x, y, made, found)? {
+        return Ok(false);
+    }
+    made.join(alloc, x, y)?;
+    Ok(true)
+}
+
+/// The same of two ids that are bound to nothing.
+#[cycle(comparing)]
+fn compare_ends(
+    alloc: Global,
+    store: &Store,
+    x: usize,
+    y: usize,
+    made: &mut Classes,
+    found: &mut Vec<Equation>,
+) -> Result<bool, NoMemory>
+    requires kept { Keeps store.now }
+    requires x_within { x < length store.now.terms }
+    requires y_within { y < length store.now.terms }
+    requires x_end { link_of store.now.notes x ≡ None }
+    requires y_end { link_of store.now.notes y ≡ None }
+    requires made { AreMade store.now made.old found.old.items }
+    ensures found { IfOk result
+        (λ yes. Adds store.now (AreOne x y) made.new found.old.items found.new.items yes) }
+{
     if x == y {
         return Ok(true);
     }
@@ -45,15 +77,15 @@ pub(crate) fn compare(
         return note(found, y, Other::Here(x));
     }
     if let Term::Atom(value) = store.term(x) {
-        return against(alloc, value, store, y, found);
+        return match_value(alloc, value, store, y, found);
     }
     if let Term::Atom(value) = store.term(y) {
-        return against(alloc, value, store, x, found);
+        return match_value(alloc, value, store, x, found);
     }
     if is_spelled(store, x) && is_spelled(store, y) {
-        return compare_lists(alloc, store, x, y, found);
+        return compare_lists(alloc, store, x, y, made, found);
     }
-    compare_tuples(alloc, store, x, y, found)
+    compare_tuples(alloc, store, x, y, made, found)
 }
 
 /// Notes an equation.
@@ -65,7 +97,7 @@ pub(crate) fn note(found: &mut Vec<Equation>, var: usize, other: Other) -> Resul
     Ok(true)
 }
 
-fn is_variable(store: &Store, id: usize) -> bool
+pub(crate) fn is_variable(store: &Store, id: usize) -> bool
     requires within { id < length store.now.terms }
     ensures { IsTrue result ↔ (term_at store.now id ≡ T.Free) }
 {
@@ -79,6 +111,7 @@ fn compare_tuples(
     store: &Store,
     a: usize,
     b: usize,
+    made: &mut Classes,
     found: &mut Vec<Equation>,
 ) -> Result<bool, NoMemory>
     requires kept { Keeps store.now }
@@ -87,8 +120,9 @@ fn compare_tuples(
     requires a_built { IsComposed (term_at store.now a) }
     requires b_built { IsComposed (term_at store.now b) }
     requires one { IsSpelled (term_at store.now a) → ¬ IsSpelled (term_at store.now b) }
+    requires made { AreMade store.now made.old found.old.items }
     ensures found { IfOk result
-        (λ yes. Finds store.now (AreOne a b) found.old.items found.new.items yes) }
+        (λ yes. Adds store.now (AreOne a b) made.new found.old.items found.new.items yes) }
 {
     let Term::Tuple(xs) = store.term(a) else {
         return Ok(false);
@@ -97,7 +131,7 @@ fn compare_tuples(
         return Ok(false);
     };
     if xs.len() == ys.len() {
-        compare_each(alloc, store, xs.as_slice(), ys.as_slice(), found)
+        compare_each(alloc, store, xs.as_slice(), ys.as_slice(), made, found)
     } else {
         Ok(false)
     }
@@ -110,17 +144,19 @@ pub(crate) fn compare_each(
     store: &Store,
     xs: &[usize],
     ys: &[usize],
+    made: &mut Classes,
     found: &mut Vec<Equation>,
 ) -> Result<bool, NoMemory>
     requires xs_within { All (λ id. id < length store.now.terms) xs.now }
     requires ys_within { All (λ id. id < length store.now.terms) ys.now }
     requires each { length xs.now ≡ length ys.now }
+    requires made { AreMade store.now made.old found.old.items }
     ensures found { IfOk result
-        (λ yes. Finds store.now (λ vs. map (value_at vs) xs.now ≡ map (value_at vs) ys.now)
+        (λ yes. Adds store.now (λ vs. map (value_at vs) xs.now ≡ map (value_at vs) ys.now) made.new
         found.old.items found.new.items yes) }
 {
     for k in 0..xs.len() {
-        if !compare(alloc, store, xs[k], ys[k], found)? {
+        if !compare(alloc, store, xs[k], ys[k], made, found)? {
             return Ok(false);
         }
     }

@@ -1,3 +1,4 @@
+//! Equations: a free variable, and what it has to be.
 use rn_term::Term;
 
 /// A free variable, and what it has to be.

@@ -5,17 +5,18 @@
 //! was bound already by an equation before, what it has to be besides is looked at in a next walk.
 #![tactic(auto)]
 
-mod against;
+mod binding;
+mod classes;
 mod comparing;
 mod equation;
-mod joining;
 mod laws;
 mod lists;
-mod occurring;
+mod matching;
+mod ordering;
 mod rests;
 #[cfg(test)]
 mod tests;
 mod unifying;
 
-pub use laws::{undo_gives_back, unify_is_symmetric};
+pub use laws::{says_both_in_turn, undo_gives_back, unify_is_symmetric};
 pub use unifying::unify;

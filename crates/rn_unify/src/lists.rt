@@ -1,30 +1,32 @@
-//! What makes two lists one.
+//! Comparing lists along their tails: what makes two lists one.
 ghost use Rattle.std.specs.Prelude.{◌≡◌, ◌<◌, None, drop, length, IfOk};
 ghost use Rattle.rn_term.specs.Stores.{link_of, term_at};
 ghost use Rattle.rn_term.specs.Assignments.{Keeps, value_at};
 ghost use Rattle.rn_term.specs.Occurring.{IsFree};
 ghost use Rattle.rn_term.specs.Forcing.{IsAlwaysList, items_of};
-ghost use Rattle.rn_unify.specs.Equations.{Finds, IsRestOf};
+ghost use Rattle.rn_unify.specs.Equations.{Adds, AreMade, Finds, IsRestOf};
 ghost use Rattle.rn_unify.specs.Rests.{IsRest, IsSpelled, elements_of, rest_value};
 ghost use Rattle.rn_unify.specs.Unifying.{AreOne};
 
-use crate::against::against_rest;
+use crate::classes::Classes;
 use crate::comparing::{compare_each, note};
 use crate::equation::{Equation, Other};
+use crate::matching::match_rest;
 use crate::rests::{Rest, advance, elements, is_spelled, items};
 use rn_items::Items;
 use rn_term::{Store, Term};
 use rn_value::NoMemory;
 use std::alloc::Global;
 
-/// Puts the equations that make two lists one behind others, or tells that nothing makes them one.
-/// They are gone through side by side, along their tails.
+/// Appends the equations that make two lists one, or reports that nothing makes them one. They are
+/// gone through side by side, along their tails.
 #[cycle(comparing)]
 pub(crate) fn compare_lists(
     alloc: Global,
     store: &Store,
     a: usize,
     b: usize,
+    made: &mut Classes,
     found: &mut Vec<Equation>,
 ) -> Result<bool, NoMemory>
     requires kept { Keeps store.now }
@@ -34,8 +36,9 @@ pub(crate) fn compare_lists(
     requires b_end { link_of store.now.notes b ≡ None }
     requires a_spelled { IsSpelled (term_at store.now a) }
     requires b_spelled { IsSpelled (term_at store.now b) }
+    requires made { AreMade store.now made.old found.old.items }
     ensures found { IfOk result
-        (λ yes. Finds store.now (AreOne a b) found.old.items found.new.items yes) }
+        (λ yes. Adds store.now (AreOne a b) made.new found.old.items found.new.items yes) }
 {
     let mut left = Rest { id: a, from: 0 };
     let mut right = Rest { id: b, from: 0 };
@@ -46,17 +49,17 @@ pub(crate) fn compare_lists(
         if count == 0 {
             return Ok(xs.len() == ys.len());
         }
-        if !compare_each(alloc, store, &xs[..count], &ys[..count], found)? {
+        if !compare_each(alloc, store, &xs[..count], &ys[..count], made, found)? {
             return Ok(false);
         }
         left = advance(store, left, count);
         right = advance(store, right, count);
     }
-    compare_ends(alloc, store, left, right, found)
+    compare_rests(alloc, store, left, right, found)
 }
 
 /// The same of the rests of two lists, of which one is a variable or a value.
-fn compare_ends(
+fn compare_rests(
     alloc: Global,
     store: &Store,
     left: Rest,
@@ -74,9 +77,9 @@ fn compare_ends(
 {
     match store.term(left.id) {
         Term::Free => variable_as_rest(alloc, store, left.id, right, found),
-        Term::Atom(value) => against_rest(alloc, items(value), store, right, found),
+        Term::Atom(value) => match_rest(alloc, items(value), store, right, found),
         _ => match store.term(right.id) {
-            Term::Atom(value) => against_rest(alloc, items(value), store, left, found),
+            Term::Atom(value) => match_rest(alloc, items(value), store, left, found),
             _ => variable_as_rest(alloc, store, right.id, left, found),
         },
     }
@@ -122,7 +125,7 @@ fn rest_term(alloc: Global, store: &Store, rest: Rest) -> Result<Term, NoMemory>
     })
 }
 
-/// The elements of a list from a place on, before its tail.
+/// The elements of a list from an index on, before its tail.
 fn remaining(store: &Store, rest: Rest) -> &[usize]
     requires rest { IsRest store.now rest }
     requires spelled { IsSpelled (term_at store.now rest.id) }

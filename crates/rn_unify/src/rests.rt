@@ -1,4 +1,4 @@
-//! Places in lists.
+//! Rests of lists: what is left of a list from an element on.
 ghost use Rattle.std.specs.Prelude.{◌≡◌, ◌<◌, ◌≤◌, ◌+◌, List, drop, length};
 ghost use Rattle.rn_value.specs.declared.value.Value.{Value};
 ghost use Rattle.rn_value.specs.declared.value.Value.TheVariants as Worth;
@@ -11,7 +11,7 @@ use rn_term::{Store, Term};
 use rn_value::Value;
 
 /// What is left of a list from one of its elements on. The list is that of an id, and the element
-/// is one before its tail, by its place from 0.
+/// is one before its tail, by its index from 0.
 #[derive(Clone, Copy, Debug)]
 pub(crate) struct Rest {
     pub(crate) id: usize,
@@ -54,15 +54,14 @@ pub(crate) fn items(list: &Value) -> &[Value]
     }
 }
 
-/// The rest of a list after some more elements. Behind the last one before a tail it is in the
-/// tail.
+/// The rest of a list after some more elements. After the last one before a tail it is in the tail.
 pub(crate) fn advance(store: &Store, rest: Rest, count: usize) -> Rest
     requires kept { Keeps store.now }
     requires rest { IsRest store.now rest }
     requires spelled { IsSpelled (term_at store.now rest.id) }
     requires within { rest.from + count ≤ length (elements_of (term_at store.now rest.id)) }
     ensures rest { IsRest store.now result }
-    ensures place { IsFurther store.now rest count result }
+    ensures further { IsFurther store.now rest count result }
     ensures passes { (vs : List Value) → Satisfies store.now vs →
         rest_value vs result ≡ drop count (rest_value vs rest) }
 {

@@ -1,6 +1,7 @@
+//! Pairs of terms by a table, undoing, instances, and long lists.
 ghost use Rattle.std.specs.Prelude.{◌↔◌, ◌<◌, All, IsTrue};
 
-use crate::{undo_gives_back, unify, unify_is_symmetric};
+use crate::{says_both_in_turn, undo_gives_back, unify, unify_is_symmetric};
 use rn_items::Items;
 use rn_term::{Ids, Store, Term};
 use rn_value::{InstRef, Names, NoMemory, Str, Value, are_named, write_value};
@@ -94,7 +95,7 @@ fn made(
     })
 }
 
-/// The term of a form in which makers stand behind what they take: a digit is that number, `"` a
+/// The term of a form in which makers stand after what they take: a digit is that number, `"` a
 /// text, and a letter a variable. `[2` makes a tuple of the last two terms, `{2` a list of them,
 /// and `|2` a list of two terms before a third, its tail. `!` makes a value of a term.
 fn build(rt: &impl Abort, alloc: Global, bench: &mut Bench, form: &str) -> Result<usize, NoMemory> {
@@ -211,8 +212,8 @@ fn check(
     let yes = unify(alloc, &mut bench.store, first, second)?;
     assert_eq!(rt; yes, expected.is_some(), "{left} and {right}");
     if let Some(text) = expected {
-        let told = answers(rt, alloc, &bench)?;
-        assert_eq!(rt; told.as_slice(), text.as_bytes(), "{left} and {right}");
+        let answered = answers(rt, alloc, &bench)?;
+        assert_eq!(rt; answered.as_slice(), text.as_bytes(), "{left} and {right}");
     }
     Ok(())
 }
@@ -331,4 +332,5 @@ fn long_lists_and_chains(rt: HostRuntime) -> Result<(), Fail> {
 fn laws() {
     unify_is_symmetric();
     undo_gives_back();
+    says_both_in_turn();
 }

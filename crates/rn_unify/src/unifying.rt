@@ -1,27 +1,30 @@
-ghost use Rattle.std.specs.Prelude.{◌≡◌, ◌↔◌, ◌<◌, List, IsTrue, length, IfOk, OnErr, MatchBool};
+//! Unification: what makes two ids one, and binding variables accordingly.
+ghost use Rattle.std.specs.Prelude.{◌≡◌, ◌↔◌, ◌<◌, List, IsTrue, length, IfOk, OnErr, MatchBool, []};
 ghost use Rattle.std.specs.Prelude.{MatchOption};
 ghost use Rattle.std.specs.List.{AllByRecursion};
 ghost use Rattle.rn_value.specs.declared.value.Value.{Value};
 ghost use Rattle.rn_term.specs.Assignments.{Keeps, MayBeOne, Satisfies};
 ghost use Rattle.rn_term.specs.Occurring.{IsFree};
 ghost use Rattle.rn_term.specs.Undoing.{LeavesEarlier};
-ghost use Rattle.rn_unify.specs.Binding.{IsAtEnd, IsBound};
+ghost use Rattle.rn_unify.specs.Binding.{IsBound};
 ghost use Rattle.rn_unify.specs.Equations.{AreEachOne, AreWithin, CanStand, Finds, IsFound};
-ghost use Rattle.rn_unify.specs.Equations.{IsPlaced, Solves};
+ghost use Rattle.rn_unify.specs.Equations.{IsAdded, Solves};
 ghost use Rattle.rn_unify.specs.Unifying.{SaysBoth};
 
+use crate::binding::solve;
+use crate::classes::Classes;
 use crate::comparing::compare;
 use crate::equation::{Equation, Other};
-use crate::joining::join;
+use crate::ordering::in_order;
 use rn_term::Store;
 use rn_value::NoMemory;
 use std::alloc::Global;
 
-/// Makes two ids one, by binding variables, or tells that no assignment of the store gives both one
-/// value.
+/// Makes two ids one, by binding variables, or reports that no assignment of the store gives both
+/// one value.
 ///
-/// After `true` the assignments of the store, on the ids that were there before, are just those
-/// from before that give both ids one value. After `false`, or where memory is wanting, bindings
+/// After `true` the assignments of the store, on the ids that were there before, are exactly those
+/// from before that give both ids one value. After `false`, or where memory runs out, bindings
 /// that were made may stand until they are undone.
 pub fn unify(alloc: Global, store: &mut Store, a: usize, b: usize) -> Result<bool, NoMemory>
     requires a_within { a < length store.old.terms }
@@ -31,8 +34,10 @@ pub fn unify(alloc: Global, store: &mut Store, a: usize, b: usize) -> Result<boo
     ensures earlier { LeavesEarlier store.old store.new }
 {
     let mut pairs = Vec::new(alloc);
-    pairs.push((a, b))?;
-    loop {
+    if !solve(alloc, store, a, b, &mut pairs)? {
+        return Ok(false);
+    }
+    while !pairs.is_empty() {
         let mut found = Vec::new(alloc);
         if !compare_all(alloc, store, pairs.as_slice(), &mut found)? {
             return Ok(false);
@@ -40,14 +45,15 @@ pub fn unify(alloc: Global, store: &mut Store, a: usize, b: usize) -> Result<boo
         if found.is_empty() {
             return Ok(true);
         }
-        match bind_all(alloc, store, found)? {
+        match bind_all(alloc, store, in_order(store, found))? {
             Some(later) => pairs = later,
             None => return Ok(false),
         }
     }
+    Ok(true)
 }
 
-/// Puts the equations that make each of some pairs one behind others, or tells that nothing does.
+/// Appends the equations that make each of some pairs one, or reports that nothing does.
 fn compare_all(
     alloc: Global,
     store: &Store,
@@ -55,20 +61,22 @@ fn compare_all(
     found: &mut Vec<Equation>,
 ) -> Result<bool, NoMemory>
     requires within { AreWithin store.now pairs.now }
+    requires none { found.old.items ≡ [] }
     ensures found { IfOk result
         (λ yes. Finds store.now (AreEachOne pairs.now) found.old.items found.new.items yes) }
     ensures kept { IfOk result (λ yes. 0 < length pairs.now → Keeps store.now) }
 {
+    let mut made = Classes::new(alloc, store.size());
     for (a, b) in pairs {
-        if !compare(alloc, store, *a, *b, found)? {
+        if !compare(alloc, store, *a, *b, &mut made, found)? {
             return Ok(false);
         }
     }
     Ok(true)
 }
 
-/// Binds the variables of equations, the last one first. What a variable has to be that was bound
-/// on the way comes back as a pair. None comes where no assignment satisfies all of them.
+/// Binds the variables of equations, the last one first. What has to be one besides comes back as
+/// pairs. None comes where no assignment satisfies all of them.
 fn bind_all(
     alloc: Global,
     store: &mut Store,
@@ -84,10 +92,8 @@ fn bind_all(
     let mut rest = equations;
     let mut later = Vec::new(alloc);
     while let Some(Equation { var, other }) = rest.pop() {
-        let to = place(store, other)?;
-        if store.link(var).is_some() {
-            later.push((var, to))?;
-        } else if !bind_to_end(store, var, to)? {
+        let to = add_other(store, other)?;
+        if !solve(alloc, store, var, to, &mut later)? {
             return Ok(None);
         }
     }
@@ -95,32 +101,14 @@ fn bind_all(
 }
 
 /// The id of what a variable has to be, which is added where it is new.
-fn place(store: &mut Store, other: Other) -> Result<usize, NoMemory>
+fn add_other(store: &mut Store, other: Other) -> Result<usize, NoMemory>
     requires kept { Keeps store.old }
     requires other { CanStand store.old other }
-    ensures placed { IfOk result (λ to. IsPlaced store.old store.new other to) }
+    ensures added { IfOk result (λ to. IsAdded store.old store.new other to) }
     ensures err { OnErr result (store.new ≡ store.old) }
 {
     match other {
         Other::Here(id) => Ok(id),
         Other::New(term) => store.add(term),
     }
-}
-
-/// Binds a free variable to that to which links from an id lead, where these aren't one already, or
-/// tells that no assignment gives them one value.
-fn bind_to_end(store: &mut Store, var: usize, to: usize) -> Result<bool, NoMemory>
-    requires free { IsFree store.old var }
-    requires within { to < length store.old.terms }
-    ensures bound { IfOk result (λ yes. MatchBool yes
-        (IsAtEnd store.old store.new var to)
-        ((store.new ≡ store.old) × ¬ MayBeOne store.old var to)) }
-    ensures kept { Keeps store.new }
-    ensures err { OnErr result (store.new ≡ store.old) }
-{
-    let end = store.follow(to);
-    if end == var {
-        return Ok(true);
-    }
-    join(store, var, end)
 }

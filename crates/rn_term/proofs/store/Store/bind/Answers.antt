@@ -9,8 +9,8 @@ use Rattle.rn_term.proofs.store.Store.bind.Goals as goal
 pub invariant_of-self-2 : goal.invariant_of-self-2
 invariant_of-self-2 c =
     rw c.in_ok-push.ensures.items
-    (kept_note c.self.inside.terms.items c.self.inside.links.items c.self.inside.notes.items
-    c.args.var c.args.to c.self.invariant
+    (kept_note c.self.inside.terms.items c.self.inside.links.items
+    c.self.inside.lists.items c.self.inside.notes.items c.args.var c.args.to c.self.invariant
     (subst (λ s. IsNote s.terms s.notes (c.args.var, c.args.to)) (sym c.self.view_is)
     (record {
       var = c.requires.var_within;

@@ -1,6 +1,8 @@
-use Rattle.std.proofs.Common.{◌<◌, ℕ}
-use Rattle.rn_term.proofs.ReadingLemmas.{EndsElsewhere}
+use Rattle.rn_term.proofs.LastLists.{IsLookedThrough, past}
 use Rattle.rn_term.proofs.store.Store.ends_a_list.Given as goal
 
-abbrev pub invariant-loop-id : goal.invariant-loop-id
-invariant-loop-id l = (k : ℕ) → k < l.id → EndsElsewhere l.self l.var k
+abbrev pub invariant-loop-next : goal.invariant-loop-next
+invariant-loop-next l = IsLookedThrough l.self l.var l.next
+
+abbrev pub decreases-loop-next : goal.decreases-loop-next
+decreases-loop-next l = past l.next

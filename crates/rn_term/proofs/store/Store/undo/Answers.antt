@@ -1,13 +1,14 @@
 use Rattle.std.proofs.Common.{◌≤◌, length, sym, subst, take, ◌∙◌}
 use Rattle.rn_term.specs.Assignments.{Keeps}
 use Rattle.rn_term.specs.Undoing.{Rolled}
-use Rattle.rn_term.proofs.KeepingLemmas.{kept_front}
+use Rattle.rn_term.proofs.KeepingLemmas.{kept_prefix}
 use Rattle.rn_term.proofs.store.Store.undo.Goals as goal
 
 pub invariant_of-self : goal.invariant_of-self
 invariant_of-self c =
-    rw (c.truncate.ensures.items, c.truncate-2.ensures.items)
-    (kept_front c.self.inside.terms.items c.take_back.new.links.items c.take_back.new.notes.items
+    rw (c.truncate.ensures.items, c.truncate-2.ensures.items, c.truncate-3.ensures.items)
+    (kept_prefix c.self.inside.terms.items c.take_back.new.links.items c.self.inside.lists.items
+    c.take_back.new.notes.items
     c.args.to.now.size
     (subst
     (λ ns. Keeps
@@ -16,4 +17,4 @@ invariant_of-self c =
     (subst (λ s. Keeps (Rolled s c.args.to.now)) (sym c.self.view_is) c.requires.keeps))
     (subst (λ s. c.args.to.now.size ≤ length s.terms) (sym c.self.view_is) c.requires.not_later.0)
     (c.take_back.ensures.each ∙ c.self.invariant.each)
-    c.take_back.ensures.links)
+    c.take_back.ensures.links c.self.invariant.counted c.self.invariant.last)

@@ -1,0 +1,66 @@
+//! In which order the variables of equations are bound.
+//!
+//! The occurs check is cheap where a variable is bound before those that occur in its term: then
+//! these are free still, and the check ends there. The order that is chosen changes no answer, and no
+//! clause speaks of it.
+ghost use Rattle.std.specs.Prelude.{◌≡◌, ◌↔◌, List, length};
+ghost use Rattle.std.specs.List.{AllByRecursion};
+ghost use Rattle.rn_value.specs.declared.value.Value.{Value};
+ghost use Rattle.rn_unify.specs.Equations.{IsFound, Solves};
+
+use crate::equation::{Equation, Other};
+use rn_term::{Store, Term};
+
+/// The same equations, the last one to be bound first.
+pub(crate) fn in_order(store: &Store, equations: Vec<Equation>) -> Vec<Equation>
+    requires found { AllByRecursion (IsFound store.now) equations.items }
+    ensures found { AllByRecursion (IsFound store.now) result.items }
+    ensures same { (vs : List Value) → Solves vs equations.items ↔ Solves vs result.items }
+    ensures each { length result.items ≡ length equations.items }
+{
+    let mut equations = equations;
+    if leads_onward(store, equations.as_slice()) {
+        equations.reverse();
+    }
+    equations
+}
+
+/// Whether more equations lead on to the variable of the next one than to that of the one before.
+fn leads_onward(store: &Store, equations: &[Equation]) -> bool {
+    let mut onward = 0usize;
+    let mut back = 0usize;
+    for k in 1..equations.len() {
+        if leads_to(store, &equations[k - 1].other, equations[k].var) {
+            onward = onward.saturating_add(1);
+        }
+        if leads_to(store, &equations[k].other, equations[k - 1].var) {
+            back = back.saturating_add(1);
+        }
+    }
+    onward > back
+}
+
+fn leads_to(store: &Store, other: &Other, var: usize) -> bool {
+    match other {
+        Other::Here(id) => *id < store.size() && ends_in(store, store.term(*id), var),
+        Other::New(term) => ends_in(store, term, var),
+    }
+}
+
+/// Whether a term's tail, its first or its last part leads to a variable.
+fn ends_in(store: &Store, term: &Term, var: usize) -> bool {
+    match term {
+        Term::Cons(_, tail) => is_at(store, *tail, var),
+        Term::Tuple(ids) => begins_or_ends(store, ids.as_slice(), var),
+        Term::List(ids) => begins_or_ends(store, ids.as_slice(), var),
+        _ => false,
+    }
+}
+
+fn begins_or_ends(store: &Store, ids: &[usize], var: usize) -> bool {
+    !ids.is_empty() && (is_at(store, ids[0], var) || is_at(store, ids[ids.len() - 1], var))
+}
+
+fn is_at(store: &Store, id: usize, var: usize) -> bool {
+    id < store.size() && store.follow(id) == var
+}
