@@ -1,12 +1,14 @@
 //! The truth of a condition.
-ghost use Rattle.std.specs.Prelude.{◌≡◌, ◌↔◌, ◌≤◌, IfOk, IsTrue, map};
+ghost use Rattle.std.specs.Prelude.{◌≡◌, ◌↔◌, ◌≤◌, IfOk, IfSome, IsTrue, map, option_and_then, option_map};
 ghost use Rattle.rn_model.specs.Evaluation.{IsTrueUnder, all_true, comparison_of};
 ghost use Rattle.rn_model.specs.Evaluation.{simple_truth, truth};
 ghost use Rattle.rn_model.specs.Limits.{greatest_step};
 ghost use Rattle.rn_calc.specs.Given.{env_given};
+ghost use Rattle.rn_calc.specs.Readings.{seen};
 
-use crate::evaluation::calc;
 use crate::given::Given;
+use crate::reading::{Reading, read};
+use crate::values::Values;
 use rn_model::{CompareKind, Cond, Simple};
 use rn_value::{NoMemory, Value, cmp};
 use std::alloc::Global;
@@ -36,15 +38,25 @@ fn compare(kind: CompareKind, v: &Value, w: &Value) -> Option<bool>
     }
 }
 
+fn compare_readings(kind: CompareKind, a: &Option<Reading>, b: &Option<Reading>) -> Option<bool>
+    ensures { result ≡ option_and_then
+        (λ v. option_and_then (comparison_of kind v) (option_map seen b.now)) (option_map seen a.now) }
+{
+    match (a, b) {
+        (Some(v), Some(w)) => compare(kind, v.get(), w.get()),
+        _ => None,
+    }
+}
+
 #[cycle(condition)]
 #[tactic(auto, using(rn_model::proofs::TruthLemmas::cond_rules))]
-fn truth_in(alloc: Global, cond: &Cond, given: &Given) -> Result<Option<bool>, NoMemory>
-    requires step { given.now.step ≤ greatest_step }
-    ensures { IfOk result (λ t. t ≡ truth cond.now (env_given given.now)) }
+fn truth_in<V: Values>(alloc: Global, cond: &Cond, values: &V) -> Result<Option<bool>, NoMemory>
+    requires step { IfSome (V.env values.now).step (λ n. n ≤ greatest_step) }
+    ensures { IfOk result (λ t. t ≡ truth cond.now (V.env values.now)) }
 {
     let mut some = false;
     for list in cond.any.as_slice() {
-        match all_of(alloc, list.as_slice(), given)? {
+        match all_of(alloc, list.as_slice(), values)? {
             Some(all) => some = some || all,
             None => return Ok(None),
         }
@@ -54,13 +66,17 @@ fn truth_in(alloc: Global, cond: &Cond, given: &Given) -> Result<Option<bool>, N
 
 #[cycle(condition)]
 #[tactic(auto, using(rn_model::proofs::TruthLemmas::join_rules))]
-fn all_of(alloc: Global, simples: &[Simple], given: &Given) -> Result<Option<bool>, NoMemory>
-    requires step { given.now.step ≤ greatest_step }
-    ensures { IfOk result (λ t. t ≡ all_true (map simple_truth simples.now) (env_given given.now)) }
+fn all_of<V: Values>(
+    alloc: Global,
+    simples: &[Simple],
+    values: &V,
+) -> Result<Option<bool>, NoMemory>
+    requires step { IfSome (V.env values.now).step (λ n. n ≤ greatest_step) }
+    ensures { IfOk result (λ t. t ≡ all_true (map simple_truth simples.now) (V.env values.now)) }
 {
     let mut all = true;
     for simple in simples {
-        match one(alloc, simple, given)? {
+        match one(alloc, simple, values)? {
             Some(is_true) => all = all && is_true,
             None => return Ok(None),
         }
@@ -69,23 +85,33 @@ fn all_of(alloc: Global, simples: &[Simple], given: &Given) -> Result<Option<boo
 }
 
 #[cycle(condition)]
-fn one(alloc: Global, simple: &Simple, given: &Given) -> Result<Option<bool>, NoMemory>
-    requires step { given.now.step ≤ greatest_step }
-    ensures { IfOk result (λ t. t ≡ simple_truth simple.now (env_given given.now)) }
+fn one<V: Values>(alloc: Global, simple: &Simple, values: &V) -> Result<Option<bool>, NoMemory>
+    requires step { IfSome (V.env values.now).step (λ n. n ≤ greatest_step) }
+    ensures { IfOk result (λ t. t ≡ simple_truth simple.now (V.env values.now)) }
 {
     match simple {
         Simple::Compare(kind, a, b) => {
-            let v = calc(alloc, a, given)?;
-            let w = calc(alloc, b, given)?;
-            match (&v, &w) {
-                (Some(v), Some(w)) => Ok(compare(*kind, v, w)),
-                _ => Ok(None),
-            }
+            let v = read(alloc, a, values)?;
+            let w = read(alloc, b, values)?;
+            Ok(compare_readings(*kind, &v, &w))
         }
-        Simple::Not(cond) => match truth_in(alloc, cond, given)? {
+        Simple::Not(cond) => match truth_in(alloc, cond, values)? {
             Some(is_true) => Ok(Some(!is_true)),
             None => Ok(None),
         },
+    }
+}
+
+/// Whether all of a condition is defined, and it is true.
+///
+/// Values of variables are compared where they stand.
+pub fn is_true<V: Values>(alloc: Global, cond: &Cond, values: &V) -> Result<bool, NoMemory>
+    requires step { IfSome (V.env values.now).step (λ n. n ≤ greatest_step) }
+    ensures exact { IfOk result (λ yes. IsTrue yes ↔ IsTrueUnder (V.env values.now) cond.now) }
+{
+    match truth_in(alloc, cond, values)? {
+        Some(is_true) => Ok(is_true),
+        None => Ok(false),
     }
 }
 
@@ -96,8 +122,5 @@ pub fn holds(alloc: Global, cond: &Cond, given: &Given) -> Result<bool, NoMemory
     requires step { given.now.step ≤ greatest_step }
     ensures exact { IfOk result (λ yes. IsTrue yes ↔ IsTrueUnder (env_given given.now) cond.now) }
 {
-    match truth_in(alloc, cond, given)? {
-        Some(is_true) => Ok(is_true),
-        None => Ok(false),
-    }
+    is_true(alloc, cond, given)
 }

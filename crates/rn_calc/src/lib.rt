@@ -8,9 +8,13 @@ mod conditions;
 mod evaluation;
 mod given;
 mod integers;
+mod reading;
 #[cfg(test)]
 mod tests;
+mod values;
 
-pub use conditions::holds;
-pub use evaluation::calc;
+pub use conditions::{holds, is_true};
+pub use evaluation::{calc, evaluate};
 pub use given::{Given, VarVals};
+pub use reading::{Reading, has_value, have_one_value, read};
+pub use values::Values;

@@ -2,7 +2,7 @@
 ghost use Rattle.std.specs.Prelude.{◌≤◌, IfOk};
 ghost use Rattle.rn_model.specs.Limits.{greatest_step};
 
-use crate::{Given, calc, holds};
+use crate::{Given, Reading, calc, has_value, have_one_value, holds, read};
 use rn_items::{Boxed, Items};
 use rn_model::limits::GREATEST_STEP;
 use rn_model::{Alts, CompareKind, Cond, Expr, Exprs, OpKind, Simple, Simples};
@@ -299,5 +299,32 @@ fn comparisons(rt: HostRuntime) -> Result<(), Fail> {
         );
         assert_eq!(rt; compared(alloc, &given, kind, Expr::This)?, other, "at {i}");
     }
+    Ok(())
+}
+
+// Whether the value of an expression is lent.
+fn is_lent(alloc: Global, given: &Given, expr: &Expr) -> Result<Option<bool>, NoMemory>
+    requires { given.now.step ≤ greatest_step }
+{
+    match read(alloc, expr, given)? {
+        Some(Reading::Lent(_)) => Ok(Some(true)),
+        Some(Reading::Made(_)) => Ok(Some(false)),
+        None => Ok(None),
+    }
+}
+
+#[test]
+fn values_where_they_stand(rt: HostRuntime) -> Result<(), Fail> {
+    let alloc = rt.alloc();
+    let given = given(alloc)?;
+    assert_eq!(rt; is_lent(alloc, &given, &Expr::Var(5))?, Some(true));
+    assert_eq!(rt; is_lent(alloc, &given, &Expr::Int(7))?, Some(false));
+    assert_eq!(rt; is_lent(alloc, &given, &Expr::Var(4))?, None);
+    let seven = Expr::Int(7);
+    assert!(rt; have_one_value(alloc, &Expr::Var(3), &given, &seven, &given)?);
+    assert!(rt; !have_one_value(alloc, &Expr::Var(5), &given, &seven, &given)?);
+    assert!(rt; !have_one_value(alloc, &Expr::Var(4), &given, &Expr::Var(4), &given)?);
+    assert!(rt; has_value(alloc, &Expr::Var(5), &given, &list(alloc, &[2, 3])?)?);
+    assert!(rt; !has_value(alloc, &Expr::Var(3), &given, &Value::Int(8))?);
     Ok(())
 }

@@ -1,7 +1,7 @@
 use Rattle.std.proofs.Common.{◌≡◌, drop}
 use Rattle.rn_model.specs.Lists.{value_beside}
-use Rattle.rn_calc.proofs.evaluation.variable.Given as goal
+use Rattle.rn_calc.proofs.values.GivenValues.value.Given as goal
 
 abbrev pub invariant-loop-pair : goal.invariant-loop-pair
 invariant-loop-pair l =
-    value_beside (drop l.pair-index l.pair-items) l.x ≡ value_beside l.pairs l.x
+    value_beside (drop l.pair-index l.pair-items) l.x ≡ value_beside l.self.pairs l.x
