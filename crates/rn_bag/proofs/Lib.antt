@@ -1,0 +1,9 @@
+pub mod AscendingLemmas
+pub mod BagLemmas
+pub mod CountLemmas
+pub mod CursorLemmas
+pub mod CutLemmas
+pub mod EditLemmas
+pub mod SlotIndexLemmas
+pub mod SlotLemmas
+pub mod WordLemmas

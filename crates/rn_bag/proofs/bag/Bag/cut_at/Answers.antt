@@ -1,0 +1,33 @@
+use Rattle.std.proofs.Common.{◌≡◌, ◌≤◌, ◌<◌, ◌*◌, ◌+◌, List, length, take, drop, ℕ, arith, subst, refl, ap, [], sym, ◌∙◌}
+use Rattle.rn_bag.specs.Chunks.{Slots, tokens_in}
+use Rattle.rn_bag.specs.Cuts.{AllBefore, NoneBefore}
+use Rattle.rn_bag.specs.SlotIndices.{tokens_before, values_before, values_after}
+use Rattle.rn_bag.proofs.BagLemmas.{cut_found, cut_count, bag_ascends}
+use Rattle.rn_bag.proofs.bag.Bag.cut_at.Goals as goal
+
+count : (c : goal.After-rank) → (c.before-2.result + c.rank.result ≡ length (tokens_before c.self.inside.chunks.items c.seek-at.result.chunk c.seek-at.result.slot)) × (c.before-2.result ≤ 64 * c.seek-at.result.chunk)
+count c =
+    let inside : c.seek-at.result.chunk < length c.self.inside.chunks.items = omega arith in
+    cut_count c.self.inside.chunks.items c.seek-at.result.chunk c.seek-at.result.slot c.before-2.result c.rank.result c.index-chunk.result.now c.self.invariant.counted inside c.index-chunk.ensures c.before-2.ensures c.rank.ensures.rank
+
+found : (c : goal.After-rank) → (c.before-2.result + c.rank.result ≤ length c.args.self.now) × AllBefore c.args.cut c.args.key.now (take (c.before-2.result + c.rank.result) c.args.self.now) × NoneBefore c.args.cut c.args.key.now (drop (c.before-2.result + c.rank.result) c.args.self.now)
+found c =
+    cut_found c.args.cut c.args.key.now c.self.inside.chunks.items c.args.self.now c.seek-at.result.chunk c.seek-at.result.slot (c.before-2.result + c.rank.result) c.self.view_is
+    (subst (λ (ss : List Slots). AllBefore c.args.cut c.args.key.now (values_before ss c.seek-at.result.chunk c.seek-at.result.slot)) c.as_slice.ensures.value c.seek-at.ensures.before)
+    (subst (λ (ss : List Slots). NoneBefore c.args.cut c.args.key.now (values_after ss c.seek-at.result.chunk c.seek-at.result.slot)) c.as_slice.ensures.value c.seek-at.ensures.rest)
+    (count c).0
+
+pub overflow_add-result : goal.overflow_add-result
+overflow_add-result c = omega (arith, (count c).1, c.rank.ensures.bound)
+
+pub returns-clause-bound : goal.returns-clause-bound
+returns-clause-bound c = (found c).0
+
+pub returns-clause-before : goal.returns-clause-before
+returns-clause-before c = (found c).1
+
+pub returns-clause-rest : goal.returns-clause-rest
+returns-clause-rest c = (found c).2
+
+pub returns-clause-ascend : goal.returns-clause-ascend
+returns-clause-ascend c = bag_ascends c.self.inside.chunks.items c.args.self.now c.self.view_is c.self.invariant.ascend

@@ -1,0 +1,13 @@
+use Rattle.std.proofs.Common.{◌≡◌, ◌≤◌, ◌*◌, length, take}
+use Rattle.rn_bag.specs.Chunks.{AreCounted, tokens_in, values_in}
+use Rattle.rn_bag.proofs.counting.recount.Given as goal
+
+abbrev pub invariant-loop-i : goal.invariant-loop-i
+invariant-loop-i l = record {
+  counted : AreCounted 0 0 (take l.i l.chunks.items);
+  count : l.total ≡ length (tokens_in (take l.i l.chunks.items));
+  bound : l.total ≤ 64 * l.i;
+  tokens : tokens_in l.chunks.items ≡ tokens_in l.initial.chunks.items;
+  values : values_in l.chunks.items ≡ values_in l.initial.chunks.items;
+  size : length l.chunks.items ≡ length l.initial.chunks.items;
+}

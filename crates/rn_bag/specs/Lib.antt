@@ -1,0 +1,5 @@
+pub mod Chunks
+pub mod Cuts
+pub mod SlotIndices
+pub mod Slots
+pub mod Words

@@ -1,0 +1,14 @@
+//! Multisets of values whose copies share what they hold, and a cursor by indices in ascending order.
+#![tactic(auto)]
+
+mod bag;
+mod chunk;
+mod counting;
+mod cursor;
+mod cut;
+mod edits;
+mod seek;
+mod sharing;
+pub mod words;
+
+pub use bag::Bag;
