@@ -119,7 +119,8 @@ impl Bag {
 
     /// How many tokens there are.
     pub fn len(&self) -> usize
-        ensures { result ≡ length self.now }
+        ensures count { result ≡ length self.now }
+        ensures sorted { IsSorted value_cmp self.now }
     {
         count_before(self.chunks.as_slice(), self.chunks.len())
     }

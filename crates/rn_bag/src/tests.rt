@@ -38,6 +38,15 @@ fn filled(alloc: Global, words: &str) -> Result<Bag, NoMemory> {
     Ok(bag)
 }
 
+/// Puts a value or takes one, and says whether that was done.
+fn edited(bag: &mut Bag, edit: &str, value: Value) -> Result<bool, NoMemory> {
+    if edit == "+" {
+        bag.insert(value)?;
+        return Ok(true);
+    }
+    Ok(bag.remove(&value))
+}
+
 #[test]
 fn edits(rt: HostRuntime) -> Result<(), Fail> {
     let alloc = rt.alloc();
@@ -59,13 +68,8 @@ fn edits(rt: HostRuntime) -> Result<(), Fail> {
     for (start, edit, word, found, end) in rows {
         let mut bag = filled(alloc, start)?;
         let before = bag.snapshot()?;
-        let edited = value(alloc, word)?;
-        if edit == "+" {
-            bag.insert(edited)?;
-        } else {
-            let taken = bag.remove(&edited);
-            assert!(rt; taken == found, "{edit}{word} from {start}");
-        }
+        let done = edited(&mut bag, edit, value(alloc, word)?)?;
+        assert!(rt; done == found, "{edit}{word} from {start}");
         assert!(rt;
             bag.sorted_list()? == values(alloc, end)?,
             "{edit}{word} from {start}"
