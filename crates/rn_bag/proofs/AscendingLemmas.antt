@@ -1,10 +1,9 @@
 -- Ascending lists of values, and where a value stands in one.
-use Rattle.std.proofs.Common.{◌≡◌, ℕ, zero, suc, ◌+◌, ◌<◌, ◌≤◌, ◌↔◌, Bool, true, false, cond, List, [], ◌∷◌, ◌++◌, length, take, drop, get_or, length-take, refl, sym, ap, ◌∙◌, subst, arith}
+use Rattle.std.proofs.Common.{◌≡◌, ℕ, zero, suc, ◌+◌, ◌<◌, ◌≤◌, Bool, true, false, cond, List, [], ◌∷◌, ◌++◌, length, take, drop, get_or, length-take, refl, sym, ap, ◌∙◌, subst, arith}
 use Rattle.std.specs.Prelude.{not}
 use Rattle.std.proofs.lemmas.Bool.{false≢true, true≢false}
-use Rattle.std.proofs.lemmas.List.{take-append-drop, take_all, drop_more, take_more, drop-append-le}
+use Rattle.std.proofs.lemmas.List.{take-append-drop, drop_more, drop-append-le}
 use Rattle.std.proofs.lemmas.List.Sorted.{ranks_by}
-use Rattle.std.proofs.lemmas.List.Sums.{sum_by-cons}
 use Rattle.std.specs.List.{AllByRecursion}
 use Rattle.std.specs.List.Sorted.{IsSorted}
 use Rattle.std.specs.Cmp.{Equal-is, tied_itself, IsStrictWeakOrder}
@@ -14,11 +13,10 @@ use Rattle.std.specs.declared.cmp.Ordering.TheVariants.{Less, Equal, Greater}
 use Rattle.rn_value.specs.Order.{value_cmp}
 use Rattle.rn_value.specs.OrderLaws.{value_cmp-total, value_cmp-apart}
 use Rattle.rn_value.specs.declared.value.Value.{Value}
-use Rattle.rn_model.specs.Lists.{same_value, count_of, with_value, without_one}
+use Rattle.rn_model.specs.Lists.{same_value, with_value, without_one}
 use Rattle.rn_bag.specs.declared.cut.Cut.TheVariants.{UpTo}
 use Rattle.rn_bag.specs.Cuts.{is_before, AllBefore, NoneBefore, AllBelow, NoneBelow, Ascends}
-use Rattle.rn_bag.specs.Slots.{there_from}
-use Rattle.rn_bag.proofs.SlotLemmas.{there_all, all_joined, all_prefix, all_suffix, all_weaker}
+use Rattle.rn_bag.proofs.SlotLemmas.{all_prefix, all_suffix, all_weaker}
 
 -- an order's answers, and what follows of them
 not_equal : (r s : Ordering) → r ≡ ordering_reverse s → is_lt s ≡ true → is_eq r ≡ false

@@ -1,5 +1,5 @@
 -- How many items a word chooses, and the one of a number.
-use Rattle.std.proofs.Common.{◌≡◌, ℕ, zero, suc, ◌+◌, ◌-◌, ◌*◌, ◌/◌, ◌%◌, ◌^◌, ◌<◌, ◌≤◌, nat_eq, bit_and, min, Bool, true, false, cond, Option, Some, None, slice_get, List, [], ◌∷◌, ◌++◌, length, take, drop, get_or, set, length-append, length-take, append-nil, refl, sym, ap, ◌∙◌, subst, arith}
+use Rattle.std.proofs.Common.{◌≡◌, ℕ, zero, suc, ◌+◌, ◌-◌, ◌*◌, ◌/◌, ◌^◌, ◌<◌, ◌≤◌, nat_eq, bit_and, min, Bool, true, false, cond, Some, slice_get, List, [], ◌∷◌, ◌++◌, length, take, drop, get_or, set, length-append, length-take, append-nil, refl, sym, ap, ◌∙◌, subst, arith}
 use Rattle.std.proofs.lemmas.Nat.{and_le_r}
 use Rattle.std.proofs.lemmas.Nat.Bits.{bit_at-suc, bit_at_lowest, bit_at_and, bit_at_ones, bit_at-lt}
 use Rattle.std.specs.Int.{bit_at}
@@ -9,7 +9,7 @@ use Rattle.rn_value.specs.declared.value.Value.{Value}
 use Rattle.rn_bag.specs.Slots.{there_from}
 use Rattle.rn_bag.specs.Words.{has_bit}
 use Rattle.rn_bag.specs.Chunks.{Slots, AreCounted, tokens_of, tokens_in, values_in}
-use Rattle.std.proofs.lemmas.List.{drop_more, take_more, take-take, get_or-take}
+use Rattle.std.proofs.lemmas.List.{take_more, take-take, get_or-take}
 use Rattle.std.proofs.lemmas.List.Concat.{flat_map-append}
 use Rattle.std.proofs.Math.Seq.{take-suc-set}
 use Rattle.rn_bag.proofs.SlotLemmas.{there_agrees, there_parts, there_next, there_joined}

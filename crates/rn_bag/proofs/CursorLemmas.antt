@@ -1,6 +1,6 @@
 -- Counting and looking up in an ascending list by where it is cut.
-use Rattle.std.proofs.Common.{◌≡◌, ◌≢◌, ℕ, zero, suc, ◌+◌, ◌-◌, ◌<◌, ◌≤◌, ◌↔◌, Bool, true, false, cond, Option, Some, None, slice_get, List, [], ◌∷◌, ◌++◌, length, take, drop, get_or, length-take, length-drop, append-nil, refl, sym, ap, ◌∙◌, subst, arith, inl, inr}
-use Rattle.std.specs.Prelude.{◌⊎◌, ◌||◌, not, filter, IsTrue}
+use Rattle.std.proofs.Common.{◌≡◌, ◌≢◌, ℕ, zero, suc, ◌+◌, ◌-◌, ◌<◌, ◌≤◌, ◌↔◌, Bool, true, false, cond, Some, slice_get, List, [], ◌∷◌, ◌++◌, length, take, drop, get_or, append-nil, refl, sym, ap, ◌∙◌, subst, arith, inl, inr}
+use Rattle.std.specs.Prelude.{◌⊎◌, ◌||◌, filter, IsTrue}
 use Rattle.std.proofs.lemmas.Bool.{false≢true, true≢false, cases_lt}
 use Rattle.std.proofs.lemmas.List.{take-append-drop, drop-take, drop-drop, take_more}
 use Rattle.std.proofs.lemmas.List.Elements.{filter-append}
@@ -14,11 +14,11 @@ use Rattle.rn_value.specs.declared.value.Value.{Value}
 use Rattle.rn_value.specs.declared.value.Value.TheVariants as Value
 use Rattle.rn_model.specs.Lists.{same_value, count_of, IsWithin}
 use Rattle.rn_model.proofs.ValueLists.{one_if, count_of-cons, same_is}
-use Rattle.rn_bag.specs.declared.cut.Cut.TheVariants.{Below, UpTo, BelowFirst, UpToFirst}
-use Rattle.rn_bag.specs.Cuts.{begins_with, is_before, AllBefore, NoneBefore, AllBelow, NoneBelow, Ascends}
+use Rattle.rn_bag.specs.declared.cut.Cut.TheVariants.{UpTo, BelowFirst, UpToFirst}
+use Rattle.rn_bag.specs.Cuts.{has_first, is_before, AllBefore, NoneBefore, AllBelow, NoneBelow, Ascends}
 use Rattle.rn_bag.proofs.SlotLemmas.{all_prefix, all_suffix, all_weaker}
 use Rattle.rn_bag.proofs.AscendingLemmas.{below, order, not_itself, below_differs, same_value_is, same_itself, not_true, not_false}
-use Rattle.rn_bag.proofs.CutLemmas.{begins_not_below, not_begins}
+use Rattle.rn_bag.proofs.CutLemmas.{first_not_below, not_first}
 use Rattle.rn_bag.proofs.EditLemmas.{element, at_get}
 
 lt_not_eq : (a : Ordering) → is_lt a ≡ true → is_eq a ≡ false
@@ -129,34 +129,34 @@ module _ (key : Value) (xs : List Value) (i j : ℕ) (i_in : i ≤ length xs) (j
     | inl less ↦ (let e = element xs j (omega arith) in
         let below_it : below e.0 T ≡ true = all_at (λ z. below z T ≡ true) xs i j e.0 low less e.1 in
         let out = all_past (λ z. is_before UpToFirst key z ≡ false) xs j j e.0 over (omega arith) e.1 in
-        absurd (true≢false (sym below_it ∙ (or_false (below e.0 T) (begins_with key e.0) out).0)))
+        absurd (true≢false (sym below_it ∙ (or_false (below e.0 T) (has_first key e.0) out).0)))
     | inr ok ↦ ok
   ]
 
-  pub first_exact : (k : ℕ) (v : Value) → slice_get xs k ≡ Some v → (IsTrue (begins_with key v) ↔ ((i ≤ k) × (k < j)))
+  pub first_exact : (k : ℕ) (v : Value) → slice_get xs k ≡ Some v → (IsTrue (has_first key v) ↔ ((i ≤ k) × (k < j)))
   first_exact k v at = (
     λ yes. (
       elim (cases_lt k i) [
-        | inl less ↦ absurd (true≢false (sym (all_at (λ z. below z T ≡ true) xs i k v low less at) ∙ begins_not_below key v yes))
+        | inl less ↦ absurd (true≢false (sym (all_at (λ z. below z T ≡ true) xs i k v low less at) ∙ first_not_below key v yes))
         | inr past ↦ past
       ],
       elim (cases_lt k j) [
         | inl less ↦ less
-        | inr past ↦ absurd (true≢false (sym yes ∙ (or_false (below v T) (begins_with key v) (all_past (λ z. is_before UpToFirst key z ≡ false) xs j k v over past at)).1))
+        | inr past ↦ absurd (true≢false (sym yes ∙ (or_false (below v T) (has_first key v) (all_past (λ z. is_before UpToFirst key z ≡ false) xs j k v over past at)).1))
       ],
     ),
-    λ both. or_true (below v T) (begins_with key v) (all_at (λ z. is_before UpToFirst key z ≡ true) xs j k v under both.1 at) (all_past (λ z. below z T ≡ false) xs i k v high both.0 at),
+    λ both. or_true (below v T) (has_first key v) (all_at (λ z. is_before UpToFirst key z ≡ true) xs j k v under both.1 at) (all_past (λ z. below z T ≡ false) xs i k v high both.0 at),
   )
 
-  pub first_tokens : take (j - i) (drop i xs) ≡ filter (begins_with key) xs
+  pub first_tokens : take (j - i) (drop i xs) ≡ filter (has_first key) xs
   first_tokens =
-      let t : Value → Bool = begins_with key in
+      let t : Value → Bool = has_first key in
       let mid : List Value = take (j - i) (drop i xs) in
       let whole : i + (j - i) ≡ j = omega (arith, first_order) in
       let mid_is : drop i (take j xs) ≡ mid = ap (λ n. drop i (take n xs)) (sym whole) ∙ drop-take i (j - i) xs in
       let rest : drop i xs ≡ mid ++ drop (j - i) (drop i xs) = sym (take-append-drop (j - i) (drop i xs)) in
       let past : drop (j - i) (drop i xs) ≡ drop j xs = drop-drop (j - i) i xs ∙ ap (λ n. drop n xs) whole in
-      let none_low : filter t (take i xs) ≡ [] = filter_none t (take i xs) (all_weaker (λ z. below z T ≡ true) (λ z. t z ≡ false) (take i xs) (λ z h. not_begins key z h) low) in
+      let none_low : filter t (take i xs) ≡ [] = filter_none t (take i xs) (all_weaker (λ z. below z T ≡ true) (λ z. t z ≡ false) (take i xs) (λ z h. not_first key z h) low) in
       let none_high : filter t (drop j xs) ≡ [] = filter_none t (drop j xs) (all_weaker (λ z. is_before UpToFirst key z ≡ false) (λ z. t z ≡ false) (drop j xs) (λ z h. (or_false (below z T) (t z) h).1) over) in
       let mid_high : AllByRecursion (λ z. below z T ≡ false) mid = all_prefix (λ z. below z T ≡ false) mid (drop (j - i) (drop i xs)) (subst (AllByRecursion (λ z. below z T ≡ false)) rest high) in
       let mid_under : AllByRecursion (λ z. is_before UpToFirst key z ≡ true) mid = subst (AllByRecursion (λ z. is_before UpToFirst key z ≡ true)) mid_is

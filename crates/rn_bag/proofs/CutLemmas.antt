@@ -1,11 +1,10 @@
 -- Where an ascending list is cut: what stands before a cut, and the steps of halving.
-use Rattle.std.proofs.Common.{◌≡◌, ℕ, zero, suc, ◌+◌, ◌<◌, ◌≤◌, ◌↔◌, Bool, true, false, cond, List, [], ◌∷◌, ◌++◌, length, take, drop, get_or, length-take, refl, sym, ap, ◌∙◌, subst, arith}
+use Rattle.std.proofs.Common.{◌≡◌, ℕ, ◌+◌, ◌<◌, ◌≤◌, ◌↔◌, Bool, true, false, List, [], ◌∷◌, ◌++◌, length, take, drop, get_or, refl, sym, ap, ◌∙◌, subst, arith}
 use Rattle.std.specs.Prelude.{not, ◌||◌, ℤ}
 use Rattle.std.proofs.lemmas.Bool.{false≢true, true≢false}
 use Rattle.std.proofs.lemmas.List.{take-append-drop, take_all, drop_more, take_more}
-use Rattle.std.specs.List.{AllByRecursion}
 use Rattle.std.specs.Cmp.{Equal-is}
-use Rattle.std.specs.Ordering.{is_lt, is_eq, ordering_then}
+use Rattle.std.specs.Ordering.{is_lt, ordering_then}
 use Rattle.std.specs.Cmp.Lexicographic.{slice_cmp}
 use Rattle.std.specs.declared.cmp.Ordering.{Ordering}
 use Rattle.std.specs.declared.cmp.Ordering.TheVariants.{Less, Equal, Greater}
@@ -18,8 +17,8 @@ use Rattle.rn_value.specs.declared.value.Value.TheOpen as V
 use Rattle.rn_model.specs.Lists.{same_value}
 use Rattle.rn_bag.specs.declared.cut.Cut.{Cut}
 use Rattle.rn_bag.specs.declared.cut.Cut.TheVariants.{Below, UpTo, BelowFirst, UpToFirst}
-use Rattle.rn_bag.specs.Cuts.{begins_step, begins_with, is_before, AllBefore, NoneBefore, NoneBelow, Ascends}
-use Rattle.rn_bag.proofs.SlotLemmas.{all_joined, all_prefix, all_suffix, all_weaker}
+use Rattle.rn_bag.specs.Cuts.{has_first_step, has_first, is_before, AllBefore, NoneBefore, NoneBelow, Ascends}
+use Rattle.rn_bag.proofs.SlotLemmas.{all_joined, all_suffix, all_weaker}
 use Rattle.rn_bag.proofs.AscendingLemmas.{below, order, below_through, not_itself, same_value_is, same_itself, not_true, ascends_suffix}
 
 -- tuples stand by their parts, after numbers and texts, and before lists and instances
@@ -84,7 +83,7 @@ not_below a is high = true≢false (sym (ap is_lt is) ∙ high)
 
 -- what isn't below the least tuple with a first part, and isn't above one of those tuples, is one
 between_layers : (key : Value) (x y : V.Value-F Value) → below (made y) (made x) ≡ false → below (made x) (Value.Tuple (key ∷ [])) ≡ false →
-    begins_step key y ≡ true → begins_step key x ≡ true
+    has_first_step key y ≡ true → has_first_step key x ≡ true
 between_layers key (V.Int n) y up high first = absurd (not_below _ (int_below n (key ∷ [])) high)
 between_layers key (V.Text s) y up high first = absurd (not_below _ (text_below s (key ∷ [])) high)
 between_layers key (V.Tuple []) y up high first = absurd (not_below _ (cmp_tuples [] (key ∷ [])) high)
@@ -100,29 +99,29 @@ between_layers key (V.List xs) _ up high first = absurd (false≢true first)
 between_layers key (V.Inst i) (V.Tuple (q ∷ qs)) up high first = absurd (not_below _ (inst_above i (q ∷ qs)) up)
 between_layers key (V.Inst i) _ up high first = absurd (false≢true first)
 
-pub between_first : (key x y : Value) → below y x ≡ false → below x (Value.Tuple (key ∷ [])) ≡ false → begins_with key y ≡ true → begins_with key x ≡ true
+pub between_first : (key x y : Value) → below y x ≡ false → below x (Value.Tuple (key ∷ [])) ≡ false → has_first key y ≡ true → has_first key x ≡ true
 between_first key x y up high first =
     between_layers key (out-Value x) (out-Value y)
     (subst (λ z. below (made (out-Value y)) z ≡ false) (sym (made_again x)) (subst (λ z. below z x ≡ false) (sym (made_again y)) up))
     (subst (λ z. below z (Value.Tuple (key ∷ [])) ≡ false) (sym (made_again x)) high) first
 
 -- a tuple that begins with a part isn't below the least of them
-begins_layer : (key : Value) (x : V.Value-F Value) → begins_step key x ≡ true → below (made x) (Value.Tuple (key ∷ [])) ≡ false
-begins_layer key (V.Tuple (p ∷ [])) first =
+first_layer : (key : Value) (x : V.Value-F Value) → has_first_step key x ≡ true → below (made x) (Value.Tuple (key ∷ [])) ≡ false
+first_layer key (V.Tuple (p ∷ [])) first =
     let is : key ≡ p = value_cmp-apart key p ((Equal-is (value_cmp key p)).0 first) in
     subst (λ z. below (Value.Tuple (z ∷ [])) (Value.Tuple (key ∷ [])) ≡ false) is (not_itself (Value.Tuple (key ∷ [])))
-begins_layer key (V.Tuple (p ∷ q ∷ ps)) first =
+first_layer key (V.Tuple (p ∷ q ∷ ps)) first =
     let is : key ≡ p = value_cmp-apart key p ((Equal-is (value_cmp key p)).0 first) in
     let tied : value_cmp p key ≡ Equal = ap (λ z. value_cmp z key) (sym is) ∙ (Equal-is (value_cmp key key)).0 (same_itself key) in
     ap is_lt (cmp_tuples (p ∷ q ∷ ps) (key ∷ []) ∙ ap (λ a. ordering_then a Greater) tied)
-begins_layer key _ first = absurd (false≢true first)
+first_layer key _ first = absurd (false≢true first)
 
-pub begins_not_below : (key v : Value) → begins_with key v ≡ true → below v (Value.Tuple (key ∷ [])) ≡ false
-begins_not_below key v first = subst (λ z. below z (Value.Tuple (key ∷ [])) ≡ false) (made_again v) (begins_layer key (out-Value v) first)
+pub first_not_below : (key v : Value) → has_first key v ≡ true → below v (Value.Tuple (key ∷ [])) ≡ false
+first_not_below key v first = subst (λ z. below z (Value.Tuple (key ∷ [])) ≡ false) (made_again v) (first_layer key (out-Value v) first)
 
-pub not_begins : (key v : Value) → below v (Value.Tuple (key ∷ [])) ≡ true → begins_with key v ≡ false
-not_begins key v low = elim (begins_with key v) as (λ t. begins_with key v ≡ t → t ≡ false) [
-  | true ↦ λ e. absurd (true≢false (sym low ∙ begins_not_below key v e))
+pub not_first : (key v : Value) → below v (Value.Tuple (key ∷ [])) ≡ true → has_first key v ≡ false
+not_first key v low = elim (has_first key v) as (λ t. has_first key v ≡ t → t ≡ false) [
+  | true ↦ λ e. absurd (true≢false (sym low ∙ first_not_below key v e))
   | false ↦ λ _. refl
 ] refl
 
@@ -137,7 +136,7 @@ before_down Below key x y up low = below_through x y key up low
 before_down UpTo key x y up low = ap not (order.chain key y x (not_true (below key y) low) up)
 before_down BelowFirst key x y up low = below_through x y (Value.Tuple (key ∷ [])) up low
 before_down UpToFirst key x y up low =
-    either_case (below x (Value.Tuple (key ∷ []))) (begins_with key x) (below y (Value.Tuple (key ∷ []))) (begins_with key y)
+    either_case (below x (Value.Tuple (key ∷ []))) (has_first key x) (below y (Value.Tuple (key ∷ []))) (has_first key y)
     (λ e. below_through x y (Value.Tuple (key ∷ [])) up e) (λ high first. between_first key x y up high first) low
 
 -- and what doesn't has all after it that aren't below it

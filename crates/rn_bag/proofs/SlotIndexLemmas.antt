@@ -1,10 +1,8 @@
 -- Slots by the index of a chunk, and the index in it.
-use Rattle.std.proofs.Common.{◌≡◌, ℕ, zero, suc, ◌+◌, ◌<◌, ◌≤◌, Bool, true, false, List, [], ◌∷◌, ◌++◌, length, take, drop, get_or, append_assoc, append-nil, length-drop, refl, sym, ap, ◌∙◌, subst, arith}
-use Rattle.std.proofs.lemmas.List.{take-append-drop, drop_more, take_more, take_all, drop_all, get_or_read}
+use Rattle.std.proofs.Common.{◌≡◌, ℕ, zero, suc, ◌+◌, ◌<◌, ◌≤◌, true, false, List, [], ◌∷◌, ◌++◌, length, take, drop, get_or, append_assoc, append-nil, length-drop, refl, sym, ap, ◌∙◌, subst, arith}
+use Rattle.std.proofs.lemmas.List.{take-append-drop, take_more, take_all, drop_all, get_or_read}
 use Rattle.std.proofs.lemmas.List.Concat.{flat_map-append}
 use Rattle.std.specs.List.{AllByRecursion}
-use Rattle.std.specs.Ordering.{is_lt}
-use Rattle.rn_value.specs.Order.{value_cmp}
 use Rattle.rn_value.specs.declared.value.Value.{Value}
 use Rattle.rn_bag.specs.declared.cut.Cut.{Cut}
 use Rattle.rn_bag.specs.Cuts.{is_before, AllBefore, NoneBefore, Ascends}

@@ -1,5 +1,5 @@
 -- The numbers in a word of 64 bits.
-use Rattle.std.proofs.Common.{◌≡◌, ℕ, zero, suc, ◌+◌, ◌-◌, ◌*◌, ◌/◌, ◌%◌, ◌^◌, ◌<◌, ◌≤◌, Bool, true, false, nat_eq, bit_and, min, refl, sym, ap, ◌∙◌, subst, arith, w64, inl, inr}
+use Rattle.std.proofs.Common.{◌≡◌, ℕ, zero, suc, ◌-◌, ◌*◌, ◌/◌, ◌%◌, ◌^◌, ◌<◌, ◌≤◌, true, false, nat_eq, bit_and, min, refl, sym, ap, ◌∙◌, arith, w64, inl, inr}
 use Rattle.std.proofs.lemmas.Nat.Bits.{ones_shr, ones_shl, bit_at_ones, bit_at_and, bit_at_mask_inside, bit_at_mask_below, bit_at-lt, bit_at-zero, bit_at-trailing_zeros, bit_at_not}
 use Rattle.std.proofs.lemmas.Bool.{cases_lt, eqb-true, true≢false}
 use Rattle.std.proofs.lemmas.Nat.{and_le_l}

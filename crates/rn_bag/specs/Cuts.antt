@@ -12,13 +12,13 @@ use Rattle.rn_bag.specs.declared.cut.Cut.{Cut}
 use Rattle.rn_bag.specs.declared.cut.Cut.TheVariants.{Below, UpTo, BelowFirst, UpToFirst}
 
 -- one layer of a value: whether it is a tuple with this first part
-abbrev pub begins_step : Value → V.Value-F Value → Bool
-begins_step first (V.Tuple (part ∷ parts)) = same_value first part
-begins_step first _ = false
+abbrev pub has_first_step : Value → V.Value-F Value → Bool
+has_first_step first (V.Tuple (part ∷ parts)) = same_value first part
+has_first_step first _ = false
 
 -- whether a value is a tuple with at least one part whose first part is this
-abbrev pub begins_with : Value → Value → Bool
-begins_with first v = begins_step first (out-Value v)
+abbrev pub has_first : Value → Value → Bool
+has_first first v = has_first_step first (out-Value v)
 
 -- Whether a value stands before the cut at a key: it is below the key, or at most the key; it is
 -- below each tuple that begins with the key, or is such a tuple or below them.
@@ -26,7 +26,7 @@ abbrev pub is_before : Cut → Value → Value → Bool
 is_before Below key v = is_lt (value_cmp v key)
 is_before UpTo key v = not (is_lt (value_cmp key v))
 is_before BelowFirst key v = is_lt (value_cmp v (Value.Tuple (key ∷ [])))
-is_before UpToFirst key v = is_lt (value_cmp v (Value.Tuple (key ∷ []))) || begins_with key v
+is_before UpToFirst key v = is_lt (value_cmp v (Value.Tuple (key ∷ []))) || has_first key v
 
 -- each of these stands before the cut
 abbrev pub AllBefore : Cut → Value → List Value → Type 0

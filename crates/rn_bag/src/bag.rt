@@ -12,8 +12,8 @@ use crate::counting::{count_before, token_at};
 use crate::cut::Cut;
 use crate::edits::{put_back, put_first, put_new, take_out};
 use crate::seek::{SlotIndex, first_token, seek};
-use rn_items::Items;
-use rn_value::{NoMemory, Vals, Value, same};
+use rn_items::{Items, NoMemory};
+use rn_value::{Vals, Value, same};
 use std::alloc::Global;
 use std::marker::Model;
 

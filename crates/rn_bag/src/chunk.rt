@@ -9,8 +9,8 @@ ghost use Rattle.rn_bag.specs.Words.{has_bit};
 
 use crate::cut::{Cut, stands_before};
 use crate::words;
-use rn_items::Items;
-use rn_value::{NoMemory, Value, copy, same};
+use rn_items::{Items, NoMemory};
+use rn_value::{Value, copy, same};
 use std::alloc::Global;
 use std::marker::Model;
 use std::sync::Arc;

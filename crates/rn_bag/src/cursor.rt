@@ -5,13 +5,13 @@ ghost use Rattle.std.specs.List.Sorted.{IsSorted};
 ghost use Rattle.rn_value.specs.Order.{value_cmp};
 ghost use Rattle.rn_value.specs.declared.value.Value.{Value};
 ghost use Rattle.rn_model.specs.Lists.{count_of, IsWithin};
-ghost use Rattle.rn_bag.specs.Cuts.{AllBelow, NoneBelow, Ascends, begins_with};
+ghost use Rattle.rn_bag.specs.Cuts.{AllBelow, NoneBelow, Ascends, has_first};
 
 use crate::bag::Bag;
 use crate::cut::Cut;
 use crate::seek::slot_of;
-use rn_items::Items;
-use rn_value::{NoMemory, Vals, Value, copy, same};
+use rn_items::{Items, NoMemory};
+use rn_value::{Vals, Value, copy, same};
 use std::ops::Range;
 
 impl Bag {
@@ -72,8 +72,8 @@ impl Bag {
     pub fn range_of_first(&self, first: &Value) -> Range<usize>
         ensures order { result.start ≤ result.end }
         ensures bound { result.end ≤ length self.now }
-        ensures exact { (k : ℕ) (v : Value) → slice_get self.now k ≡ Some v → (IsTrue (begins_with first.now v) ↔ ((result.start ≤ k) × (k < result.end))) }
-        ensures tokens { take (result.end - result.start) (drop result.start self.now) ≡ filter (begins_with first.now) self.now }
+        ensures exact { (k : ℕ) (v : Value) → slice_get self.now k ≡ Some v → (IsTrue (has_first first.now v) ↔ ((result.start ≤ k) × (k < result.end))) }
+        ensures tokens { take (result.end - result.start) (drop result.start self.now) ≡ filter (has_first first.now) self.now }
     {
         let start = self.cut_at(first, Cut::BelowFirst);
         let end = self.cut_at(first, Cut::UpToFirst);
@@ -82,7 +82,7 @@ impl Bag {
 
     /// The tokens that are tuples with this first part, ascending, with repeats.
     pub fn with_first(&self, first: &Value) -> Result<Vals, NoMemory>
-        ensures { IfOk result (λ tokens. tokens ≡ filter (begins_with first.now) self.now) }
+        ensures { IfOk result (λ tokens. tokens ≡ filter (has_first first.now) self.now) }
     {
         let range = self.range_of_first(first);
         self.copies(range.start, range.end)

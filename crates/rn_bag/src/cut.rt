@@ -3,7 +3,7 @@ ghost use Rattle.std.specs.Prelude.{◌≡◌, [], ◌∷◌};
 ghost use Rattle.std.specs.Ordering.{is_lt};
 ghost use Rattle.rn_value.specs.Order.{value_cmp};
 ghost use Rattle.rn_value.specs.declared.value.Value.TheVariants as Value;
-ghost use Rattle.rn_bag.specs.Cuts.{begins_with, is_before};
+ghost use Rattle.rn_bag.specs.Cuts.{has_first, is_before};
 
 use rn_value::{Value, cmp, same};
 
@@ -44,7 +44,7 @@ fn is_below_first(value: &Value, first: &Value) -> bool
 
 /// Whether a value is a tuple with this first part.
 fn has_first(value: &Value, first: &Value) -> bool
-    ensures { result ≡ begins_with first.now value.now }
+    ensures { result ≡ has_first first.now value.now }
 {
     match value {
         Value::Tuple(parts) => match parts.as_slice() {

@@ -12,7 +12,8 @@ use crate::chunk::Chunk;
 use crate::counting::recount;
 use crate::seek::SlotIndex;
 use crate::words::ROOM;
-use rn_value::{NoMemory, Value};
+use rn_items::NoMemory;
+use rn_value::Value;
 use std::alloc::Global;
 
 /// A value becomes the first token.

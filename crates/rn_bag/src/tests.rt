@@ -1,6 +1,6 @@
 use crate::Bag;
-use rn_items::Items;
-use rn_value::{NoMemory, Vals, Value, sort};
+use rn_items::{Items, NoMemory};
+use rn_value::{Vals, Value, sort};
 use std::alloc::Global;
 use std::process::Abort;
 use std::test::Fail;

@@ -1,4 +1,4 @@
-use Rattle.std.proofs.Common.{◌≡◌, ◌≤◌, ◌<◌, ◌*◌, ◌+◌, ◌-◌, length, take, sym, subst, arith}
+use Rattle.std.proofs.Common.{◌≡◌, ◌≤◌, ◌*◌, ◌+◌, ◌-◌, length, take, sym, subst, arith}
 use Rattle.rn_bag.specs.Chunks.{AreCounted, tokens_in, tokens_of}
 use Rattle.rn_bag.proofs.CountLemmas.{count_of_prefix}
 use Rattle.rn_bag.proofs.counting.count_before.Goals as goal

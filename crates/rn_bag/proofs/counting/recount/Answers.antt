@@ -1,5 +1,4 @@
-use Rattle.std.proofs.Common.{◌+◌, length, length-set, subst, sym, ◌∙◌, ap, arith, ◌≤◌}
-use Rattle.rn_bag.specs.Chunks.{Slots, tokens_of}
+use Rattle.std.proofs.Common.{◌+◌, length, length-set, ◌∙◌, ap, arith}
 use Rattle.rn_bag.proofs.CountLemmas.{recounted, same_tokens_of}
 use Rattle.rn_bag.proofs.counting.recount.Goals as goal
 

@@ -1,6 +1,5 @@
-use Rattle.std.proofs.Common.{◌≡◌, List, length, drop, get_or, ap, sym, ◌∙◌, subst, arith, ◌∷◌}
+use Rattle.std.proofs.Common.{ap, sym, ◌∙◌}
 use Rattle.std.specs.Ordering.{is_lt}
-use Rattle.rn_value.specs.Order.{value_cmp}
 use Rattle.rn_value.specs.declared.value.Value.TheVariants as Value
 use Rattle.rn_bag.proofs.CutLemmas.{first_part_below}
 use Rattle.rn_bag.proofs.cut.is_below_first.Goals as goal

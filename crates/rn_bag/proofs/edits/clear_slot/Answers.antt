@@ -1,4 +1,4 @@
-use Rattle.std.proofs.Common.{◌≡◌, [], length, sym, ap, ◌∙◌, subst, arith}
+use Rattle.std.proofs.Common.{sym, ap, ◌∙◌, subst, arith}
 use Rattle.rn_bag.specs.Cuts.{Ascends}
 use Rattle.rn_bag.specs.Chunks.{tokens_in, tokens_of, values_in}
 use Rattle.rn_bag.proofs.EditLemmas.{cleared, same_values, dropped, dropped_ascends, removed, nothing}

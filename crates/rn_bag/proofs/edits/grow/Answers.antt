@@ -1,4 +1,4 @@
-use Rattle.std.proofs.Common.{◌≡◌, get_or, ap, sym, ◌∙◌, subst, length, arith}
+use Rattle.std.proofs.Common.{◌≡◌, ap, sym, ◌∙◌, subst, length}
 use Rattle.std.proofs.lemmas.List.{get_or_read}
 use Rattle.rn_bag.specs.Chunks.{Slots, HasRoom, Replaces, tokens_of}
 use Rattle.rn_bag.proofs.EditLemmas.{on_ok_then, full_grown}

@@ -1,8 +1,8 @@
-use Rattle.std.proofs.Common.{◌≡◌, ◌≤◌, ◌++◌, ◌∷◌, take, drop, length, refl, sym, ap, ◌∙◌, subst, arith}
+use Rattle.std.proofs.Common.{◌++◌, ◌∷◌, take, drop, refl, sym, ◌∙◌, subst}
 use Rattle.rn_bag.specs.Cuts.{Ascends}
 use Rattle.rn_bag.specs.Slots.{there_from}
 use Rattle.rn_bag.specs.Words.{has_bit}
-use Rattle.rn_bag.specs.Chunks.{AreCounted, Replaces, values_in}
+use Rattle.rn_bag.specs.Chunks.{AreCounted}
 use Rattle.rn_bag.proofs.CountLemmas.{counted_prefix}
 use Rattle.rn_bag.proofs.EditLemmas.{read_at, prefix_long, replaced_gives, replaced_sound}
 use Rattle.rn_bag.proofs.edits.put_new.Goals as goal

@@ -1,4 +1,4 @@
-use Rattle.std.proofs.Common.{sym, ◌∙◌, arith}
+use Rattle.std.proofs.Common.{sym, ◌∙◌}
 use Rattle.rn_bag.proofs.SlotIndexLemmas.{next_before, next_after, same_before, tokens_after_past}
 use Rattle.rn_bag.proofs.seek.first_token.Goals as goal
 

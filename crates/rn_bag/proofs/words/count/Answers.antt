@@ -1,4 +1,3 @@
-use Rattle.std.proofs.Common.{sym, ◌∙◌, arith}
 use Rattle.std.proofs.lemmas.Nat.{pow_pos}
 use Rattle.rn_bag.proofs.CountLemmas.{masked_count}
 use Rattle.rn_bag.proofs.words.count.Goals as goal

@@ -1,4 +1,4 @@
-use Rattle.std.proofs.Common.{◌≡◌, ◌-◌, ◌++◌, ◌∷◌, [], take, drop, ap, sym, ◌∙◌, arith}
+use Rattle.std.proofs.Common.{◌-◌, ◌++◌, ◌∷◌, [], take, drop, ap, sym, ◌∙◌, arith}
 use Rattle.rn_bag.proofs.CursorLemmas.{copied_more}
 use Rattle.rn_bag.proofs.bag.Bag.copies.Goals as goal
 

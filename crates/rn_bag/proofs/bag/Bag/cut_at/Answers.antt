@@ -1,5 +1,5 @@
-use Rattle.std.proofs.Common.{◌≡◌, ◌≤◌, ◌<◌, ◌*◌, ◌+◌, List, length, take, drop, ℕ, arith, subst, refl, ap, [], sym, ◌∙◌}
-use Rattle.rn_bag.specs.Chunks.{Slots, tokens_in}
+use Rattle.std.proofs.Common.{◌≡◌, ◌≤◌, ◌<◌, ◌*◌, ◌+◌, List, length, take, drop, arith, subst}
+use Rattle.rn_bag.specs.Chunks.{Slots}
 use Rattle.rn_bag.specs.Cuts.{AllBefore, NoneBefore}
 use Rattle.rn_bag.specs.SlotIndices.{tokens_before, values_before, values_after}
 use Rattle.rn_bag.proofs.BagLemmas.{cut_found, cut_count, bag_ascends}

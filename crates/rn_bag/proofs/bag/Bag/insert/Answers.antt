@@ -1,6 +1,5 @@
-use Rattle.std.proofs.Common.{ℕ, ◌≡◌, ◌<◌, ◌++◌, ◌∷◌, Some, slice_get, suc, true, false, List, [], length, get_or, refl, sym, ap, ◌∙◌, subst, arith}
+use Rattle.std.proofs.Common.{ℕ, ◌≡◌, ◌++◌, ◌∷◌, Some, slice_get, List, get_or, ◌∙◌, subst, arith}
 use Rattle.std.proofs.lemmas.List.{get_or_read}
-use Rattle.rn_value.specs.declared.value.Value.{Value}
 use Rattle.rn_model.specs.Lists.{with_value}
 use Rattle.rn_bag.specs.SlotIndices.{tokens_before, tokens_after, values_before, values_after}
 use Rattle.rn_bag.specs.declared.cut.Cut.TheVariants.{Below, UpTo}
