@@ -4,6 +4,7 @@ ghost use Rattle.std.specs.Prelude.{◌≡◌, ◌≤◌};
 use crate::kept::Kept;
 use crate::rule::{Board, DeskSeat};
 
+mod sleeping;
 mod steps;
 mod turns;
 

@@ -6,11 +6,15 @@ ghost use Rattle.rn_desk.specs.Passes.{fixed_of, number, seen, mine, IsOf, HasNo
 
 use super::{Desk, Pass, Turn};
 use crate::kept::Kept;
+use std::hint::spin_loop;
 use std::sync::Wait;
-use std::thread;
+
+/// How often a worker that waits looks before it sleeps.
+const LOOKS: u32 = 200;
 
 impl<S: Kept> Desk<S> {
-    /// Draws a ticket, waits until it is served, and takes the state out. It may wait forever.
+    /// Draws a ticket, waits until it is served, and takes the state out. It looks some times and
+    /// then sleeps until a turn is passed on. It may wait forever.
     pub fn take<R: Wait>(&self, rt: &R, pass: &mut Pass<S>) -> Turn<S>
         requires here { IsOf S.fixed self.now pass.old }
         requires free { HasNoTurn pass.old }
@@ -27,13 +31,19 @@ impl<S: Kept> Desk<S> {
         ensures mine { mine pass.new ≡ mine pass.old }
     {
         let ticket = self.draw_ticket(&mut pass.seat);
+        let mut looks = 0;
         for _ in rt.forever() {
             if self.look_at_serving(&mut pass.seat, ticket) {
                 let state = self.take_state_out(&mut pass.seat);
                 let length = state.length();
                 return Turn { state, length };
             }
-            thread::yield_now();
+            if looks < LOOKS {
+                looks += 1;
+                spin_loop();
+            } else {
+                self.sleep(rt, ticket);
+            }
         }
         unreachable!()
     }
@@ -57,5 +67,6 @@ impl<S: Kept> Desk<S> {
         self.count_entry(&mut pass.seat, length, &full);
         self.put_state_back(&mut pass.seat, full);
         self.pass_turn_on(&mut pass.seat);
+        self.wake_those_who_wait();
     }
 }
