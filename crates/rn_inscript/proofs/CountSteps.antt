@@ -1,0 +1,85 @@
+-- What one token does to the levels and operators.
+use Rattle.std.proofs.Common.{◌≡◌, ℕ, ◌+◌, ◌*◌, ◌<◌, ◌≤◌, Bool, true, false, not, ◌&&◌, ◌||◌, ◌⊎◌, inl, inr, List, [], ◌∷◌, length, refl, sym, ◌∙◌, ap, subst, nat_eq, nat_le, arith}
+use Rattle.std.specs.Prelude.{Some, None}
+use Rattle.std.proofs.lemmas.Bool.Decides.{nat_tests}
+use Rattle.std.proofs.lemmas.Grind.{common_steps}
+use Rattle.rn_notation.specs.declared.token.TokenKind.{TokenKind}
+use Rattle.rn_notation.specs.declared.token.TokenKind.TheVariants.{Name, Word, Number, Text, Sign}
+use Rattle.rn_model.specs.declared.expr.OpKind.{OpKind}
+use Rattle.rn_inscript.specs.Signs.{plus_of, times_of}
+use Rattle.rn_inscript.specs.Levels.{Level, bracket, negative, Count, after_token, goes_too_far, without_minuses, opens, closes, is_operator, is_minus, is_paren, ends_operand}
+use Rattle.rn_inscript.specs.Stages.{ready, ended, strength, sign_strength}
+
+pub le-false : (m n : ℕ) → n < m → nat_le m n ≡ false
+le-false m n h = grind (arith, nat_tests)
+
+pub le-true : (m n : ℕ) → m ≤ n → nat_le m n ≡ true
+le-true m n h = grind (arith, nat_tests)
+
+-- an operator that follows an operand
+pub record IsBinary (kind : TokenKind) : Type 0 where
+  pub opens_none : opens kind ≡ false
+  pub closes_none : closes kind ≡ false
+  pub no_paren : is_paren kind ≡ false
+  pub operator : is_operator kind ≡ true
+  pub no_end : ends_operand kind ≡ false
+
+pub binary-sign : (k : ℕ) → 10 ≤ k → IsBinary (Sign k)
+binary-sign k h = record {
+  opens_none = grind (arith, nat_tests);
+  closes_none = grind (arith, nat_tests);
+  no_paren = grind (arith, nat_tests);
+  operator = grind (arith, nat_tests);
+  no_end = grind (arith, nat_tests);
+}
+
+pub times-binary : (kind : TokenKind) (op : OpKind) → times_of kind ≡ Some op → IsBinary kind
+times-binary (Sign k) op h = binary-sign k (grind (arith, nat_tests, common_steps))
+times-binary (Name s) op h = cc
+times-binary (Number n) op h = cc
+times-binary (Text s) op h = cc
+times-binary (Word k) op h = cc
+
+pub plus-binary : (kind : TokenKind) (op : OpKind) → plus_of kind ≡ Some op → IsBinary kind
+plus-binary (Sign k) op h = binary-sign k (grind (arith, nat_tests, common_steps))
+plus-binary (Name s) op h = cc
+plus-binary (Number n) op h = cc
+plus-binary (Text s) op h = cc
+plus-binary (Word k) op h = cc
+
+pub times-strength : (kind : TokenKind) (op : OpKind) → times_of kind ≡ Some op → strength kind ≡ 5
+times-strength (Sign k) op h = grind (arith, nat_tests, common_steps)
+times-strength (Name s) op h = cc
+times-strength (Number n) op h = cc
+times-strength (Text s) op h = cc
+times-strength (Word k) op h = cc
+
+pub plus-strength : (kind : TokenKind) (op : OpKind) → plus_of kind ≡ Some op → strength kind ≡ 4
+plus-strength (Sign k) op h = grind (arith, nat_tests, common_steps)
+plus-strength (Name s) op h = cc
+plus-strength (Number n) op h = cc
+plus-strength (Text s) op h = cc
+plus-strength (Word k) op h = cc
+
+and-false : (b : Bool) → (b && false) ≡ false
+and-false true = refl
+and-false false = refl
+
+pub binary-small : {kind : TokenKind} (levels : List Level) (operators : ℕ) → IsBinary kind → operators < 256 →
+    goes_too_far (ended levels operators) kind ≡ false
+binary-small levels operators b h = grind (arith, nat_tests, common_steps, b.opens_none, le-false 256 operators h)
+
+pub binary-far : {kind : TokenKind} (levels : List Level) (operators : ℕ) → IsBinary kind → 256 ≤ operators →
+    goes_too_far (ended levels operators) kind ≡ true
+binary-far levels operators b h = grind (arith, nat_tests, common_steps, b.operator, le-true 256 operators h)
+
+pub binary-after : {kind : TokenKind} (levels : List Level) {around : List Level} (operators : ℕ) → IsBinary kind → without_minuses levels ≡ around →
+    after_token (ended levels operators) kind ≡ ready around (operators + 1)
+binary-after {kind = kind} levels operators b h = rw (b.opens_none, b.closes_none, b.no_paren, b.operator, b.no_end, and-false (is_minus kind), h)
+
+-- brackets
+pub opening-small : (around : List Level) (operators levels : ℕ) → levels + length around ≡ 64 → 0 < levels → nat_le 64 (length around) ≡ false
+opening-small around operators levels fits some = le-false 64 (length around) (omega (arith, fits, some))
+
+pub opening-far : (around : List Level) (levels : ℕ) → levels + length around ≡ 64 → levels ≡ 0 → nat_le 64 (length around) ≡ true
+opening-far around levels fits none = le-true 64 (length around) (omega (arith, fits, none))

@@ -1,0 +1,9 @@
+pub mod Signs
+pub mod Expressions
+pub mod Conditions
+pub mod Inscriptions
+pub mod Levels
+pub mod Readings
+pub mod Laws
+pub mod Stages
+pub mod NextNames

@@ -1,0 +1,167 @@
+//! Reading conditions. A call goes deeper only where `!(` opens a level.
+ghost use Rattle.std.specs.Prelude.{◌≡◌, ◌+◌, ◌≤◌, List, length, MatchOption};
+ghost use Rattle.rn_inscript.specs.Conditions.{IsCond, IsAlternatives, IsBoth, IsSimple};
+ghost use Rattle.rn_inscript.specs.Levels.{Level, without_minuses};
+ghost use Rattle.rn_inscript.specs.Signs.{compare_of};
+ghost use Rattle.rn_inscript.specs.Stages.{Reads, Moves, IsNextOf, IsNoneOf, IsNextSign};
+ghost use Rattle.rn_inscript.specs.Stages.{IsNotNextSign};
+
+use crate::conds::{PAlts, PCond, PSimple, PSimples};
+use crate::cursor::{Seen, expect_opening, expect_sign, next, past_sign};
+use crate::expressions::expr;
+use crate::fault::InscriptFault;
+use rn_items::Items;
+use rn_model::CompareKind;
+use rn_notation::{Token, TokenKind, sign};
+use std::alloc::Global;
+
+fn compare_of(kind: &TokenKind) -> Option<CompareKind>
+    ensures { result ≡ compare_of kind.now }
+{
+    match kind {
+        TokenKind::Sign(sign::SAME) => Some(CompareKind::Same),
+        TokenKind::Sign(sign::DIFFERS) => Some(CompareKind::Differs),
+        TokenKind::Sign(sign::LESS) => Some(CompareKind::Less),
+        TokenKind::Sign(sign::AT_MOST) => Some(CompareKind::AtMost),
+        TokenKind::Sign(sign::GREATER) => Some(CompareKind::Greater),
+        TokenKind::Sign(sign::AT_LEAST) => Some(CompareKind::AtLeast),
+        _ => None,
+    }
+}
+
+/// A comparison's sign, where it is next.
+fn next_comparison(tokens: &[Token], at: usize) -> Option<CompareKind>
+    ensures { MatchOption result (IsNoneOf compare_of tokens.now at) (IsNextOf compare_of tokens.now at) }
+{
+    match next(tokens, at) {
+        Some(token) => compare_of(&token.kind),
+        None => None,
+    }
+}
+
+#[cycle(condition)]
+pub(crate) fn cond(
+    alloc: Global,
+    tokens: &[Token],
+    seen: Seen,
+    levels: u32,
+) -> Result<(PCond, Seen), InscriptFault>
+    requires { seen.at ≤ length tokens.now }
+    ensures moved { Moves tokens.now seen result }
+    ensures reads { (around : List Level) → without_minuses around ≡ around →
+        levels + length around ≡ 64 → Reads 1 IsCond tokens.now seen around result }
+{
+    let (any, after) = alternatives(alloc, tokens, seen, levels)?;
+    Ok((PCond { any }, after))
+}
+
+#[cycle(condition)]
+fn alternatives(
+    alloc: Global,
+    tokens: &[Token],
+    seen: Seen,
+    levels: u32,
+) -> Result<(PAlts, Seen), InscriptFault>
+    requires { seen.at ≤ length tokens.now }
+    ensures moved { Moves tokens.now seen result }
+    ensures reads { (around : List Level) → without_minuses around ≡ around →
+        levels + length around ≡ 64 → Reads 1 IsAlternatives tokens.now seen around result }
+{
+    let (first, after_first) = both(alloc, tokens, seen, levels)?;
+    let mut all = Vec::new(alloc);
+    all.push(first)?;
+    let mut seen = after_first;
+    while let Some(_) = past_sign(tokens, seen, sign::OR) {
+        let operand = seen.past_operator()?;
+        let (alternative, after) = both(alloc, tokens, operand, levels)?;
+        all.push(alternative)?;
+        seen = after;
+    }
+    Ok((Items::from_vec(all), seen))
+}
+
+#[cycle(condition)]
+fn both(
+    alloc: Global,
+    tokens: &[Token],
+    seen: Seen,
+    levels: u32,
+) -> Result<(PSimples, Seen), InscriptFault>
+    requires { seen.at ≤ length tokens.now }
+    ensures moved { Moves tokens.now seen result }
+    ensures reads { (around : List Level) → without_minuses around ≡ around →
+        levels + length around ≡ 64 → Reads 2 IsBoth tokens.now seen around result }
+{
+    let (first, after_first) = simple(alloc, tokens, seen, levels)?;
+    let mut all = Vec::new(alloc);
+    all.push(first)?;
+    let mut seen = after_first;
+    while let Some(_) = past_sign(tokens, seen, sign::AND) {
+        let operand = seen.past_operator()?;
+        let (condition, after) = simple(alloc, tokens, operand, levels)?;
+        all.push(condition)?;
+        seen = after;
+    }
+    Ok((Items::from_vec(all), seen))
+}
+
+#[cycle(condition)]
+fn simple(
+    alloc: Global,
+    tokens: &[Token],
+    seen: Seen,
+    levels: u32,
+) -> Result<(PSimple, Seen), InscriptFault>
+    requires { seen.at ≤ length tokens.now }
+    ensures moved { Moves tokens.now seen result }
+    ensures reads { (around : List Level) → without_minuses around ≡ around →
+        levels + length around ≡ 64 → Reads 3 IsSimple tokens.now seen around result }
+{
+    match past_sign(tokens, seen, sign::NOT) {
+        Some(_) => negation(alloc, tokens, seen, levels),
+        None => comparison(alloc, tokens, seen, levels),
+    }
+}
+
+#[cycle(condition)]
+fn negation(
+    alloc: Global,
+    tokens: &[Token],
+    seen: Seen,
+    levels: u32,
+) -> Result<(PSimple, Seen), InscriptFault>
+    requires { IsNextSign tokens.now seen.at 23 }
+    ensures moved { Moves tokens.now seen result }
+    ensures reads { (around : List Level) → without_minuses around ≡ around →
+        levels + length around ≡ 64 → Reads 3 IsSimple tokens.now seen around result }
+{
+    let after_not = seen.past_operator()?;
+    let inside = expect_opening(tokens, after_not, levels)?;
+    let (condition, after) = cond(alloc, tokens, inside, levels - 1)?;
+    let end = expect_sign(tokens, after, sign::RIGHT_PAREN)?;
+    Ok((PSimple::Not(condition), end))
+}
+
+/// A comparison, or an expression alone.
+fn comparison(
+    alloc: Global,
+    tokens: &[Token],
+    seen: Seen,
+    levels: u32,
+) -> Result<(PSimple, Seen), InscriptFault>
+    requires inside { seen.at ≤ length tokens.now }
+    requires other { IsNotNextSign tokens.now seen.at 23 }
+    ensures moved { Moves tokens.now seen result }
+    ensures reads { (around : List Level) → without_minuses around ≡ around →
+        levels + length around ≡ 64 → Reads 3 IsSimple tokens.now seen around result }
+{
+    let (left, after) = expr(alloc, tokens, seen, levels)?;
+    match next_comparison(tokens, after.at) {
+        Some(kind) => {
+            let operand = after.past_operator()?;
+            let (right, end) = expr(alloc, tokens, operand, levels)?;
+            Ok((PSimple::Compare(kind, left, right), end))
+        }
+        None => Ok((PSimple::Bare(left), after)),
+    }
+}

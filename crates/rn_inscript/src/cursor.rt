@@ -1,0 +1,131 @@
+//! Steps from token to token, with levels and operators counted.
+ghost use Rattle.std.specs.Prelude.{◌≡◌, ◌+◌, ◌<◌, ◌≤◌, ◌^◌, ◌⊎◌, MatchOption, MatchResult};
+ghost use Rattle.rn_inscript.specs.Stages.{IsNext, HasNoNext, IsNextSign, IsNotNextSign, past, past_operator};
+ghost use Rattle.rn_inscript.specs.Stages.{IsBadOpening};
+
+use crate::fault::InscriptFault;
+use rn_notation::{Token, TokenKind, sign};
+
+/// How many levels may be open.
+pub(crate) const MOST_LEVELS: u32 = 64;
+
+const MOST_OPERATORS: u32 = 256;
+
+/// How far a reader has come: the index of the next token, and how many operators were taken.
+#[derive(Clone, Copy, Debug)]
+pub(crate) struct Seen {
+    pub at: usize,
+    pub operators: u32,
+}
+
+impl Seen {
+    /// Past a token that is no operator.
+    pub(crate) fn past(self) -> Seen
+        requires { self.at + 1 < 2 ^ 64 }
+        ensures { result ≡ past self }
+    {
+        Seen {
+            at: self.at + 1,
+            operators: self.operators,
+        }
+    }
+
+    /// Past an operator.
+    pub(crate) fn past_operator(self) -> Result<Seen, InscriptFault>
+        requires { self.at + 1 < 2 ^ 64 }
+        ensures { MatchResult result
+            (λ seen. (self.operators < 256) × (seen ≡ past_operator self))
+            (λ fault. (256 ≤ self.operators) × (fault ≡ InscriptFault.P5 self.at)) }
+    {
+        if self.operators >= MOST_OPERATORS {
+            return Err(InscriptFault::P5(self.at));
+        }
+        Ok(Seen {
+            at: self.at + 1,
+            operators: self.operators + 1,
+        })
+    }
+
+    /// Past a bracket that opens a level, where so many more may be opened.
+    pub(crate) fn past_opening(self, levels: u32) -> Result<Seen, InscriptFault>
+        requires { self.at + 1 < 2 ^ 64 }
+        ensures { MatchResult result
+            (λ seen. (0 < levels) × (seen ≡ past self))
+            (λ fault. (levels ≡ 0) × (fault ≡ InscriptFault.P5 self.at)) }
+    {
+        if levels == 0 {
+            return Err(InscriptFault::P5(self.at));
+        }
+        Ok(self.past())
+    }
+
+    /// Past a unary minus, which is an operator and opens a level.
+    pub(crate) fn past_minus(self, levels: u32) -> Result<Seen, InscriptFault>
+        requires { self.at + 1 < 2 ^ 64 }
+        ensures { MatchResult result
+            (λ seen. (0 < levels) × (self.operators < 256) × (seen ≡ past_operator self))
+            (λ fault. ((levels ≡ 0) ⊎ (256 ≤ self.operators)) × (fault ≡ InscriptFault.P5 self.at)) }
+    {
+        if levels == 0 {
+            return Err(InscriptFault::P5(self.at));
+        }
+        self.past_operator()
+    }
+}
+
+/// The next token.
+pub(crate) fn next(tokens: &[Token], at: usize) -> Option<&Token>
+    ensures { MatchOption result (HasNoNext tokens.now at) (λ t. IsNext tokens.now at t.now) }
+{
+    tokens.get(at)
+}
+
+/// Past this sign, where it is next.
+pub(crate) fn past_sign(tokens: &[Token], seen: Seen, wanted: u32) -> Option<Seen>
+    ensures { MatchOption result
+        (IsNotNextSign tokens.now seen.at wanted)
+        (λ after. IsNextSign tokens.now seen.at wanted × (after ≡ past seen)) }
+{
+    match next(tokens, seen.at) {
+        Some(token) => match &token.kind {
+            TokenKind::Sign(other) => {
+                if *other == wanted {
+                    Some(seen.past())
+                } else {
+                    None
+                }
+            }
+            _ => None,
+        },
+        None => None,
+    }
+}
+
+/// Past this sign, which has to be next.
+pub(crate) fn expect_sign(tokens: &[Token], seen: Seen, wanted: u32) -> Result<Seen, InscriptFault>
+    ensures { MatchResult result
+        (λ after. IsNextSign tokens.now seen.at wanted × (after ≡ past seen))
+        (λ fault. IsNotNextSign tokens.now seen.at wanted × (fault ≡ InscriptFault.P2 seen.at)) }
+{
+    match past_sign(tokens, seen, wanted) {
+        Some(after) => Ok(after),
+        None => Err(InscriptFault::P2(seen.at)),
+    }
+}
+
+/// Past an opening parenthesis, which has to be next, where so many more levels may be opened.
+pub(crate) fn expect_opening(
+    tokens: &[Token],
+    seen: Seen,
+    levels: u32,
+) -> Result<Seen, InscriptFault>
+    ensures { MatchResult result
+        (λ after. IsNextSign tokens.now seen.at 4 × (0 < levels) × (after ≡ past seen))
+        (λ fault. IsBadOpening tokens.now seen levels fault) }
+{
+    let after = expect_sign(tokens, seen, sign::LEFT_PAREN)?;
+    if levels == 0 {
+        return Err(InscriptFault::P5(seen.at));
+    }
+    Ok(after)
+}

@@ -1,0 +1,456 @@
+//! Reading expressions. A call goes deeper only where a level opens; sums, products and lists go by
+//! loops.
+ghost use Rattle.std.specs.Prelude.{◌≡◌, ◌↔◌, ◌+◌, ◌≤◌, List, length, IfOk, IsTrue, MatchOption};
+ghost use Rattle.std.specs.Prelude.{codes, ◌∷◌};
+ghost use Rattle.rn_notation.specs.declared.token.TokenKind.TheVariants as Kind;
+ghost use Rattle.rn_inscript.specs.Expressions.{IsExpr, IsProduct, IsUnary, IsPrimary, IsListed};
+ghost use Rattle.rn_inscript.specs.Expressions.{IsExprs, joined, at_spot};
+ghost use Rattle.rn_inscript.specs.Signs.{open_brace, open_bracket, open_paren, minus, plus_of};
+ghost use Rattle.rn_inscript.specs.Signs.{times_of};
+ghost use Rattle.rn_inscript.specs.Levels.{Level, bracket, without_minuses};
+ghost use Rattle.rn_inscript.specs.Stages.{Reads, ReadsFrom, Moves, IsNext, IsNextOf, IsNoneOf};
+ghost use Rattle.rn_inscript.specs.Stages.{IsClose, IsNotNextSign, ready};
+
+use crate::cursor::{Seen, expect_sign, next, past_sign};
+use crate::exprs::{PExpr, PExprs, PForm};
+use crate::fault::InscriptFault;
+use rn_items::{Boxed, Items};
+use rn_model::OpKind;
+use rn_notation::{Spot, Token, TokenKind, sign, word};
+use rn_value::{NoMemory, Str, copy_text};
+use std::alloc::Global;
+
+fn plus_of(kind: &TokenKind) -> Option<OpKind>
+    ensures { result ≡ plus_of kind.now }
+{
+    match kind {
+        TokenKind::Sign(sign::PLUS) => Some(OpKind::Add),
+        TokenKind::Sign(sign::MINUS) => Some(OpKind::Sub),
+        _ => None,
+    }
+}
+
+fn times_of(kind: &TokenKind) -> Option<OpKind>
+    ensures { result ≡ times_of kind.now }
+{
+    match kind {
+        TokenKind::Sign(sign::STAR) => Some(OpKind::Mul),
+        TokenKind::Sign(sign::SLASH) => Some(OpKind::Div),
+        TokenKind::Sign(sign::PERCENT) => Some(OpKind::Rem),
+        _ => None,
+    }
+}
+
+/// `+` or `-`, where it is next.
+fn next_plus(tokens: &[Token], at: usize) -> Option<OpKind>
+    ensures { MatchOption result (IsNoneOf plus_of tokens.now at) (IsNextOf plus_of tokens.now at) }
+{
+    match next(tokens, at) {
+        Some(token) => plus_of(&token.kind),
+        None => None,
+    }
+}
+
+/// `*`, `/` or `%`, where it is next.
+fn next_times(tokens: &[Token], at: usize) -> Option<OpKind>
+    ensures { MatchOption result (IsNoneOf times_of tokens.now at) (IsNextOf times_of tokens.now at) }
+{
+    match next(tokens, at) {
+        Some(token) => times_of(&token.kind),
+        None => None,
+    }
+}
+
+/// Two expressions with an operator between them.
+fn join(alloc: Global, op: OpKind, a: PExpr, b: PExpr) -> Result<PExpr, NoMemory>
+    ensures { IfOk result (λ e. e ≡ joined op a b) }
+{
+    let spot = a.spot;
+    let left = Boxed::new(alloc, a)?;
+    let right = Boxed::new(alloc, b)?;
+    Ok(PExpr {
+        form: PForm::Op(op, left, right),
+        spot,
+    })
+}
+
+fn negate(alloc: Global, spot: Spot, e: PExpr) -> Result<PExpr, NoMemory>
+    ensures { IfOk result (λ negative. negative ≡ at_spot spot (PForm.Neg e)) }
+{
+    let operand = Boxed::new(alloc, e)?;
+    Ok(PExpr {
+        form: PForm::Neg(operand),
+        spot,
+    })
+}
+
+/// A minus, where it is next.
+fn next_minus(tokens: &[Token], at: usize) -> Option<&Token>
+    ensures { MatchOption result (IsNotNextSign tokens.now at 17)
+        (λ t. IsNext tokens.now at t.now × (t.now.kind ≡ minus)) }
+{
+    match next(tokens, at) {
+        Some(token) => match &token.kind {
+            TokenKind::Sign(sign::MINUS) => Some(token),
+            _ => None,
+        },
+        None => None,
+    }
+}
+
+fn list_at(spot: Spot, elements: PExprs) -> PExpr
+    ensures { result ≡ at_spot spot (PForm.List elements) }
+{
+    PExpr {
+        form: PForm::List(elements),
+        spot,
+    }
+}
+
+fn with_tail(alloc: Global, spot: Spot, elements: PExprs, tail: PExpr) -> Result<PExpr, NoMemory>
+    ensures { IfOk result (λ e. e ≡ at_spot spot (PForm.Cons elements tail)) }
+{
+    let tail = Boxed::new(alloc, tail)?;
+    Ok(PExpr {
+        form: PForm::Cons(elements, tail),
+        spot,
+    })
+}
+
+fn is_step(name: &Str) -> bool
+    ensures { IsTrue result ↔ (name.now ≡ codes "step") }
+{
+    name.as_str() == "step"
+}
+
+/// A variable, or `step()`, whose name is next.
+fn named(
+    alloc: Global,
+    tokens: &[Token],
+    seen: Seen,
+    levels: u32,
+    token: &Token,
+    name: &Str,
+) -> Result<(PExpr, Seen), InscriptFault>
+    requires next { IsNext tokens.now seen.at token.now }
+    requires name { token.now.kind ≡ Kind.Name name.now }
+    ensures moved { Moves tokens.now seen result }
+    ensures reads { (around : List Level) → levels + length around ≡ 64 →
+        Reads 6 IsPrimary tokens.now seen around result }
+{
+    let after = seen.past();
+    if is_step(name) {
+        if let Some(_) = past_sign(tokens, after, sign::LEFT_PAREN) {
+            let inside = after.past_opening(levels)?;
+            let end = expect_sign(tokens, inside, sign::RIGHT_PAREN)?;
+            return Ok((
+                PExpr {
+                    form: PForm::Step,
+                    spot: token.spot,
+                },
+                end,
+            ));
+        }
+    }
+    let text = copy_text(alloc, name)?;
+    Ok((
+        PExpr {
+            form: PForm::Name(text),
+            spot: token.spot,
+        },
+        after,
+    ))
+}
+
+/// `this`, which is the only word that is an expression.
+fn this(
+    tokens: &[Token],
+    seen: Seen,
+    token: &Token,
+    number: u32,
+) -> Result<(PExpr, Seen), InscriptFault>
+    requires next { IsNext tokens.now seen.at token.now }
+    requires kind { token.now.kind ≡ Kind.Word number }
+    ensures moved { Moves tokens.now seen result }
+    ensures reads { (around : List Level) → Reads 6 IsPrimary tokens.now seen around result }
+{
+    if number != word::THIS {
+        return Err(InscriptFault::P2(seen.at));
+    }
+    Ok((
+        PExpr {
+            form: PForm::This,
+            spot: token.spot,
+        },
+        seen.past(),
+    ))
+}
+
+#[cycle(expression)]
+fn primary(
+    alloc: Global,
+    tokens: &[Token],
+    seen: Seen,
+    levels: u32,
+) -> Result<(PExpr, Seen), InscriptFault>
+    requires { seen.at ≤ length tokens.now }
+    ensures moved { Moves tokens.now seen result }
+    ensures reads { (around : List Level) → levels + length around ≡ 64 →
+        Reads 6 IsPrimary tokens.now seen around result }
+{
+    match next(tokens, seen.at) {
+        Some(token) => match &token.kind {
+            TokenKind::Number(n) => Ok((
+                PExpr {
+                    form: PForm::Int(*n),
+                    spot: token.spot,
+                },
+                seen.past(),
+            )),
+            TokenKind::Text(text) => Ok((
+                PExpr {
+                    form: PForm::Text(copy_text(alloc, text)?),
+                    spot: token.spot,
+                },
+                seen.past(),
+            )),
+            TokenKind::Name(name) => named(alloc, tokens, seen, levels, token, name),
+            TokenKind::Word(number) => this(tokens, seen, token, *number),
+            TokenKind::Sign(opening) => bracketed(alloc, tokens, seen, levels, token, *opening),
+        },
+        None => Err(InscriptFault::P2(seen.at)),
+    }
+}
+
+/// What begins with a sign: an expression in parentheses, a tuple or a list.
+#[cycle(expression)]
+fn bracketed(
+    alloc: Global,
+    tokens: &[Token],
+    seen: Seen,
+    levels: u32,
+    token: &Token,
+    opening: u32,
+) -> Result<(PExpr, Seen), InscriptFault>
+    requires next { IsNext tokens.now seen.at token.now }
+    requires kind { token.now.kind ≡ Kind.Sign opening }
+    ensures moved { Moves tokens.now seen result }
+    ensures reads { (around : List Level) → levels + length around ≡ 64 →
+        Reads 6 IsPrimary tokens.now seen around result }
+{
+    if opening == sign::LEFT_PAREN {
+        parenthesised(alloc, tokens, seen, levels, token)
+    } else if opening == sign::LEFT_BRACKET {
+        tuple(alloc, tokens, seen, levels, token)
+    } else if opening == sign::LEFT_BRACE {
+        list(alloc, tokens, seen, levels, token)
+    } else {
+        Err(InscriptFault::P2(seen.at))
+    }
+}
+
+#[cycle(expression)]
+fn parenthesised(
+    alloc: Global,
+    tokens: &[Token],
+    seen: Seen,
+    levels: u32,
+    token: &Token,
+) -> Result<(PExpr, Seen), InscriptFault>
+    requires next { IsNext tokens.now seen.at token.now }
+    requires kind { token.now.kind ≡ open_paren }
+    ensures moved { Moves tokens.now seen result }
+    ensures reads { (around : List Level) → levels + length around ≡ 64 →
+        Reads 6 IsPrimary tokens.now seen around result }
+{
+    let inside = seen.past_opening(levels)?;
+    let (inner, after) = expr(alloc, tokens, inside, levels - 1)?;
+    let end = expect_sign(tokens, after, sign::RIGHT_PAREN)?;
+    Ok((inner, end))
+}
+
+#[cycle(expression)]
+fn tuple(
+    alloc: Global,
+    tokens: &[Token],
+    seen: Seen,
+    levels: u32,
+    token: &Token,
+) -> Result<(PExpr, Seen), InscriptFault>
+    requires next { IsNext tokens.now seen.at token.now }
+    requires kind { token.now.kind ≡ open_bracket }
+    ensures moved { Moves tokens.now seen result }
+    ensures reads { (around : List Level) → levels + length around ≡ 64 →
+        Reads 6 IsPrimary tokens.now seen around result }
+{
+    let inside = seen.past_opening(levels)?;
+    let (parts, end) = listed(alloc, tokens, inside, levels - 1, sign::RIGHT_BRACKET)?;
+    Ok((
+        PExpr {
+            form: PForm::Tuple(parts),
+            spot: token.spot,
+        },
+        end,
+    ))
+}
+
+#[cycle(expression)]
+fn list(
+    alloc: Global,
+    tokens: &[Token],
+    seen: Seen,
+    levels: u32,
+    token: &Token,
+) -> Result<(PExpr, Seen), InscriptFault>
+    requires next { IsNext tokens.now seen.at token.now }
+    requires kind { token.now.kind ≡ open_brace }
+    ensures moved { Moves tokens.now seen result }
+    ensures reads { (around : List Level) → levels + length around ≡ 64 →
+        Reads 6 IsPrimary tokens.now seen around result }
+{
+    let inside = seen.past_opening(levels)?;
+    if let Some(end) = past_sign(tokens, inside, sign::RIGHT_BRACE) {
+        return Ok((list_at(token.spot, Items::new(alloc)), end));
+    }
+    let (elements, after) = exprs(alloc, tokens, inside, levels - 1)?;
+    if let Some(tail_seen) = past_sign(tokens, after, sign::COLON) {
+        let (tail, after_tail) = expr(alloc, tokens, tail_seen, levels - 1)?;
+        let end = expect_sign(tokens, after_tail, sign::RIGHT_BRACE)?;
+        return Ok((with_tail(alloc, token.spot, elements, tail)?, end));
+    }
+    let end = expect_sign(tokens, after, sign::RIGHT_BRACE)?;
+    Ok((list_at(token.spot, elements), end))
+}
+
+/// What stands after an opening bracket, up to and with the closing one.
+#[cycle(expression)]
+pub(crate) fn listed(
+    alloc: Global,
+    tokens: &[Token],
+    seen: Seen,
+    levels: u32,
+    close: u32,
+) -> Result<(PExprs, Seen), InscriptFault>
+    requires inside { seen.at ≤ length tokens.now }
+    requires close { IsClose close }
+    ensures moved { Moves tokens.now seen result }
+    ensures reads { (around : List Level) → levels + length (bracket ∷ around) ≡ 64 →
+        ReadsFrom 6 (IsListed (Kind.Sign close)) tokens.now seen
+        (ready (bracket ∷ around) seen.operators) around result }
+{
+    if let Some(end) = past_sign(tokens, seen, close) {
+        return Ok((Items::new(alloc), end));
+    }
+    let (all, after) = exprs(alloc, tokens, seen, levels)?;
+    let end = expect_sign(tokens, after, close)?;
+    Ok((all, end))
+}
+
+#[cycle(expression)]
+fn exprs(
+    alloc: Global,
+    tokens: &[Token],
+    seen: Seen,
+    levels: u32,
+) -> Result<(PExprs, Seen), InscriptFault>
+    requires { seen.at ≤ length tokens.now }
+    ensures moved { Moves tokens.now seen result }
+    ensures reads { (around : List Level) → without_minuses around ≡ around → levels + length around ≡ 64 →
+        Reads 3 IsExprs tokens.now seen around result }
+{
+    let (first, after_first) = expr(alloc, tokens, seen, levels)?;
+    let mut all = Vec::new(alloc);
+    all.push(first)?;
+    let mut seen = after_first;
+    while let Some(after_comma) = past_sign(tokens, seen, sign::COMMA) {
+        let (e, after) = expr(alloc, tokens, after_comma, levels)?;
+        all.push(e)?;
+        seen = after;
+    }
+    Ok((Items::from_vec(all), seen))
+}
+
+#[cycle(expression)]
+fn negative(
+    alloc: Global,
+    tokens: &[Token],
+    seen: Seen,
+    levels: u32,
+    token: &Token,
+) -> Result<(PExpr, Seen), InscriptFault>
+    requires next { IsNext tokens.now seen.at token.now }
+    requires kind { token.now.kind ≡ minus }
+    ensures moved { Moves tokens.now seen result }
+    ensures reads { (around : List Level) → levels + length around ≡ 64 →
+        Reads 6 IsUnary tokens.now seen around result }
+{
+    let operand = seen.past_minus(levels)?;
+    let (e, after) = unary(alloc, tokens, operand, levels - 1)?;
+    Ok((negate(alloc, token.spot, e)?, after))
+}
+
+#[cycle(expression)]
+fn unary(
+    alloc: Global,
+    tokens: &[Token],
+    seen: Seen,
+    levels: u32,
+) -> Result<(PExpr, Seen), InscriptFault>
+    requires { seen.at ≤ length tokens.now }
+    ensures moved { Moves tokens.now seen result }
+    ensures reads { (around : List Level) → levels + length around ≡ 64 →
+        Reads 6 IsUnary tokens.now seen around result }
+{
+    match next_minus(tokens, seen.at) {
+        Some(token) => negative(alloc, tokens, seen, levels, token),
+        None => primary(alloc, tokens, seen, levels),
+    }
+}
+
+#[cycle(expression)]
+fn product(
+    alloc: Global,
+    tokens: &[Token],
+    seen: Seen,
+    levels: u32,
+) -> Result<(PExpr, Seen), InscriptFault>
+    requires { seen.at ≤ length tokens.now }
+    ensures moved { Moves tokens.now seen result }
+    ensures reads { (around : List Level) → without_minuses around ≡ around → levels + length around ≡ 64 →
+        Reads 5 IsProduct tokens.now seen around result }
+{
+    let (first, after_first) = unary(alloc, tokens, seen, levels)?;
+    let mut left = first;
+    let mut seen = after_first;
+    while let Some(op) = next_times(tokens, seen.at) {
+        let operand = seen.past_operator()?;
+        let (right, after) = unary(alloc, tokens, operand, levels)?;
+        left = join(alloc, op, left, right)?;
+        seen = after;
+    }
+    Ok((left, seen))
+}
+
+#[cycle(expression)]
+pub(crate) fn expr(
+    alloc: Global,
+    tokens: &[Token],
+    seen: Seen,
+    levels: u32,
+) -> Result<(PExpr, Seen), InscriptFault>
+    requires { seen.at ≤ length tokens.now }
+    ensures moved { Moves tokens.now seen result }
+    ensures reads { (around : List Level) → without_minuses around ≡ around → levels + length around ≡ 64 →
+        Reads 4 IsExpr tokens.now seen around result }
+{
+    let (first, after_first) = product(alloc, tokens, seen, levels)?;
+    let mut left = first;
+    let mut seen = after_first;
+    while let Some(op) = next_plus(tokens, seen.at) {
+        let operand = seen.past_operator()?;
+        let (right, after) = product(alloc, tokens, operand, levels)?;
+        left = join(alloc, op, left, right)?;
+        seen = after;
+    }
+    Ok((left, seen))
+}

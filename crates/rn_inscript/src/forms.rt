@@ -1,0 +1,406 @@
+//! Reading the forms of inscriptions.
+ghost use Rattle.std.specs.Prelude.{◌≡◌, ◌↔◌, ◌+◌, ◌≤◌, ◌⊎◌, [], Some, length, IfOk, MatchOption, MatchResult};
+ghost use Rattle.rn_notation.specs.declared.token.TokenKind.TheVariants as Kind;
+ghost use Rattle.rn_inscript.specs.Inscriptions.{IsInscribed, IsCall, absent};
+ghost use Rattle.rn_inscript.specs.Signs.{arc_of, target_of, guard_word, action_word, colon, new_word};
+ghost use Rattle.rn_inscript.specs.Signs.{this_word};
+ghost use Rattle.rn_inscript.specs.NextNames.{IsNotNextKind, IsNextName, IsNoName, IsEquality};
+ghost use Rattle.rn_inscript.specs.NextNames.{IsNoCreation};
+ghost use Rattle.rn_inscript.specs.Stages.{Reads, Moves, IsNext, IsNextKind, past};
+
+use crate::conditions::cond;
+use crate::cursor::{MOST_LEVELS, Seen, expect_sign, next, past_sign};
+use crate::expressions::{expr, listed};
+use crate::exprs::{PExpr, PExprs, PForm};
+use crate::fault::InscriptFault;
+use crate::inscriptions::{PInscribed, PName};
+use rn_items::Items;
+use rn_model::ArcKind;
+use rn_notation::{Spot, Token, TokenKind, sign, word};
+use rn_value::{Str, copy_text};
+use std::alloc::Global;
+
+/// Past this reserved word, where it is next.
+fn past_word(tokens: &[Token], seen: Seen, wanted: u32) -> Option<Seen>
+    ensures { MatchOption result
+        (IsNotNextKind tokens.now seen.at (Kind.Word wanted))
+        (λ after. IsNextKind tokens.now seen.at (Kind.Word wanted) × (after ≡ past seen)) }
+{
+    match next(tokens, seen.at) {
+        Some(token) => match &token.kind {
+            TokenKind::Word(other) => {
+                if *other == wanted {
+                    Some(seen.past())
+                } else {
+                    None
+                }
+            }
+            _ => None,
+        },
+        None => None,
+    }
+}
+
+/// A name, which has to be next.
+fn expect_name(alloc: Global, tokens: &[Token], seen: Seen) -> Result<(PName, Seen), InscriptFault>
+    ensures { MatchResult result
+        (λ found. IsNextName tokens.now seen.at found.0 × (found.1 ≡ past seen))
+        (λ fault. IsNoName tokens.now seen.at fault) }
+{
+    match next(tokens, seen.at) {
+        Some(token) => match &token.kind {
+            TokenKind::Name(name) => {
+                let text = copy_text(alloc, name)?;
+                Ok((
+                    PName {
+                        text,
+                        spot: token.spot,
+                    },
+                    seen.past(),
+                ))
+            }
+            _ => Err(InscriptFault::P2(seen.at)),
+        },
+        None => Err(InscriptFault::P2(seen.at)),
+    }
+}
+
+fn arc_of(kind: &TokenKind) -> Option<ArcKind>
+    ensures { result ≡ arc_of kind.now }
+{
+    match kind {
+        TokenKind::Word(word::IN) => Some(ArcKind::Input),
+        TokenKind::Word(word::OUT) => Some(ArcKind::Output),
+        TokenKind::Word(word::TEST) => Some(ArcKind::Test),
+        TokenKind::Word(word::RESERVE) => Some(ArcKind::Reserve),
+        TokenKind::Word(word::FLEXIN) => Some(ArcKind::FlexInput),
+        TokenKind::Word(word::FLEXOUT) => Some(ArcKind::FlexOutput),
+        TokenKind::Word(word::INHIBIT) => Some(ArcKind::Inhibit),
+        TokenKind::Word(word::CLEAR) => Some(ArcKind::Clear),
+        _ => None,
+    }
+}
+
+/// What stands for an absent inscription.
+fn absent(alloc: Global, kind: ArcKind, spot: Spot) -> Option<PExpr>
+    ensures { result ≡ absent kind spot }
+{
+    match kind {
+        ArcKind::FlexInput | ArcKind::FlexOutput | ArcKind::Clear => None,
+        _ => Some(PExpr {
+            form: PForm::Tuple(Items::new(alloc)),
+            spot,
+        }),
+    }
+}
+
+/// `in p` and the like, with an inscription or without one.
+fn arc(
+    alloc: Global,
+    tokens: &[Token],
+    seen: Seen,
+    token: &Token,
+    kind: ArcKind,
+) -> Result<(PInscribed, Seen), InscriptFault>
+    requires next { IsNext tokens.now seen.at token.now }
+    requires kind { arc_of token.now.kind ≡ Some kind }
+    ensures moved { Moves tokens.now seen result }
+    ensures reads { Reads 0 IsInscribed tokens.now seen [] result }
+{
+    let (place, after) = expect_name(alloc, tokens, seen.past())?;
+    match past_sign(tokens, after, sign::COLON) {
+        Some(start) => {
+            let (e, end) = expr(alloc, tokens, start, MOST_LEVELS)?;
+            Ok((
+                PInscribed::Arc {
+                    kind,
+                    place,
+                    inscription: Some(e),
+                },
+                end,
+            ))
+        }
+        None => {
+            let inscription = absent(alloc, kind, place.spot);
+            Ok((
+                PInscribed::Arc {
+                    kind,
+                    place,
+                    inscription,
+                },
+                after,
+            ))
+        }
+    }
+}
+
+/// `guard c`
+fn guard(
+    alloc: Global,
+    tokens: &[Token],
+    seen: Seen,
+    token: &Token,
+) -> Result<(PInscribed, Seen), InscriptFault>
+    requires next { IsNext tokens.now seen.at token.now }
+    requires kind { token.now.kind ≡ guard_word }
+    ensures moved { Moves tokens.now seen result }
+    ensures reads { Reads 0 IsInscribed tokens.now seen [] result }
+{
+    let (condition, end) = cond(alloc, tokens, seen.past(), MOST_LEVELS)?;
+    Ok((PInscribed::Guard(condition), end))
+}
+
+/// `action print e` or `action v = e`
+fn action(
+    alloc: Global,
+    tokens: &[Token],
+    seen: Seen,
+    token: &Token,
+) -> Result<(PInscribed, Seen), InscriptFault>
+    requires next { IsNext tokens.now seen.at token.now }
+    requires kind { token.now.kind ≡ action_word }
+    ensures moved { Moves tokens.now seen result }
+    ensures reads { Reads 0 IsInscribed tokens.now seen [] result }
+{
+    let after = seen.past();
+    if let Some(start) = past_word(tokens, after, word::PRINT) {
+        let (e, end) = expr(alloc, tokens, start, MOST_LEVELS)?;
+        return Ok((PInscribed::Print(e), end));
+    }
+    let (var, after_var) = expect_name(alloc, tokens, after)?;
+    let start = expect_sign(tokens, after_var, sign::EQUALS)?;
+    let (value, end) = expr(alloc, tokens, start, MOST_LEVELS)?;
+    Ok((PInscribed::Set { var, value }, end))
+}
+
+/// `ch(e1,e2)`
+fn call(
+    alloc: Global,
+    tokens: &[Token],
+    seen: Seen,
+) -> Result<((PName, PExprs), Seen), InscriptFault>
+    requires { seen.at ≤ length tokens.now }
+    ensures moved { Moves tokens.now seen result }
+    ensures reads { Reads 1 IsCall tokens.now seen [] result }
+{
+    let (channel, after) = expect_name(alloc, tokens, seen)?;
+    let inside = expect_sign(tokens, after, sign::LEFT_PAREN)?;
+    let (args, end) = listed(alloc, tokens, inside, MOST_LEVELS - 1, sign::RIGHT_PAREN)?;
+    Ok(((channel, args), end))
+}
+
+/// `:ch(e1,e2)`
+fn uplink(
+    alloc: Global,
+    tokens: &[Token],
+    seen: Seen,
+    token: &Token,
+) -> Result<(PInscribed, Seen), InscriptFault>
+    requires next { IsNext tokens.now seen.at token.now }
+    requires kind { token.now.kind ≡ colon }
+    ensures moved { Moves tokens.now seen result }
+    ensures reads { Reads 0 IsInscribed tokens.now seen [] result }
+{
+    let ((channel, args), end) = call(alloc, tokens, seen.past())?;
+    Ok((PInscribed::Uplink { channel, args }, end))
+}
+
+/// `x: new n`, of which `new` is next.
+fn creation(
+    alloc: Global,
+    tokens: &[Token],
+    seen: Seen,
+    token: &Token,
+    name: &Str,
+) -> Result<(PInscribed, Seen), InscriptFault>
+    requires next { IsNext tokens.now seen.at token.now }
+    requires kind { token.now.kind ≡ Kind.Name name.now }
+    requires follows { IsNextKind tokens.now (seen.at + 1) colon }
+    requires new { IsNextKind tokens.now (seen.at + 1 + 1) new_word }
+    ensures moved { Moves tokens.now seen result }
+    ensures reads { Reads 0 IsInscribed tokens.now seen [] result }
+{
+    let (net, end) = expect_name(alloc, tokens, seen.past().past().past())?;
+    let text = copy_text(alloc, name)?;
+    let var = PName {
+        text,
+        spot: token.spot,
+    };
+    Ok((PInscribed::New { var, net }, end))
+}
+
+/// `x:ch(e1,e2)` or `this:ch(e1,e2)`
+fn downlink(
+    alloc: Global,
+    tokens: &[Token],
+    seen: Seen,
+    token: &Token,
+    form: PForm,
+) -> Result<(PInscribed, Seen), InscriptFault>
+    requires next { IsNext tokens.now seen.at token.now }
+    requires kind { target_of token.now.kind ≡ Some form }
+    requires follows { IsNextKind tokens.now (seen.at + 1) colon }
+    requires other { IsNoCreation tokens.now (seen.at + 1 + 1) token.now }
+    ensures moved { Moves tokens.now seen result }
+    ensures reads { Reads 0 IsInscribed tokens.now seen [] result }
+{
+    let ((channel, args), end) = call(alloc, tokens, seen.past().past())?;
+    let target = PExpr {
+        form,
+        spot: token.spot,
+    };
+    Ok((
+        PInscribed::Downlink {
+            target,
+            channel,
+            args,
+        },
+        end,
+    ))
+}
+
+/// `e1 = e2`
+fn equality(
+    alloc: Global,
+    tokens: &[Token],
+    seen: Seen,
+) -> Result<(PInscribed, Seen), InscriptFault>
+    requires { seen.at ≤ length tokens.now }
+    ensures moved { Moves tokens.now seen result }
+    ensures reads { Reads 0 IsEquality tokens.now seen [] result }
+{
+    let (left, after) = expr(alloc, tokens, seen, MOST_LEVELS)?;
+    let start = expect_sign(tokens, after, sign::EQUALS)?;
+    let (right, end) = expr(alloc, tokens, start, MOST_LEVELS)?;
+    Ok((PInscribed::Equality(left, right), end))
+}
+
+/// An inscription that begins with a name.
+fn by_name(
+    alloc: Global,
+    tokens: &[Token],
+    seen: Seen,
+    token: &Token,
+    name: &Str,
+) -> Result<(PInscribed, Seen), InscriptFault>
+    requires next { IsNext tokens.now seen.at token.now }
+    requires kind { token.now.kind ≡ Kind.Name name.now }
+    ensures moved { Moves tokens.now seen result }
+    ensures reads { Reads 0 IsInscribed tokens.now seen [] result }
+{
+    match past_sign(tokens, seen.past(), sign::COLON) {
+        Some(after) => by_link(alloc, tokens, seen, after, token, name),
+        None => equality(alloc, tokens, seen),
+    }
+}
+
+/// A creation or a downlink, of which the name and the colon were seen.
+fn by_link(
+    alloc: Global,
+    tokens: &[Token],
+    seen: Seen,
+    after: Seen,
+    token: &Token,
+    name: &Str,
+) -> Result<(PInscribed, Seen), InscriptFault>
+    requires next { IsNext tokens.now seen.at token.now }
+    requires kind { token.now.kind ≡ Kind.Name name.now }
+    requires follows { IsNextKind tokens.now (seen.at + 1) colon }
+    requires after { after ≡ past (past seen) }
+    ensures moved { Moves tokens.now seen result }
+    ensures reads { Reads 0 IsInscribed tokens.now seen [] result }
+{
+    match past_word(tokens, after, word::NEW) {
+        Some(_) => creation(alloc, tokens, seen, token, name),
+        None => {
+            let form = PForm::Name(copy_text(alloc, name)?);
+            downlink(alloc, tokens, seen, token, form)
+        }
+    }
+}
+
+/// An inscription that begins with `this`.
+fn by_this(
+    alloc: Global,
+    tokens: &[Token],
+    seen: Seen,
+    token: &Token,
+) -> Result<(PInscribed, Seen), InscriptFault>
+    requires next { IsNext tokens.now seen.at token.now }
+    requires kind { token.now.kind ≡ this_word }
+    ensures moved { Moves tokens.now seen result }
+    ensures reads { Reads 0 IsInscribed tokens.now seen [] result }
+{
+    match past_sign(tokens, seen.past(), sign::COLON) {
+        Some(_) => downlink(alloc, tokens, seen, token, PForm::This),
+        None => equality(alloc, tokens, seen),
+    }
+}
+
+/// An inscription that begins with a reserved word.
+fn by_word(
+    alloc: Global,
+    tokens: &[Token],
+    seen: Seen,
+    token: &Token,
+    number: u32,
+) -> Result<(PInscribed, Seen), InscriptFault>
+    requires next { IsNext tokens.now seen.at token.now }
+    requires kind { token.now.kind ≡ Kind.Word number }
+    ensures moved { Moves tokens.now seen result }
+    ensures reads { Reads 0 IsInscribed tokens.now seen [] result }
+{
+    if let Some(kind) = arc_of(&token.kind) {
+        arc(alloc, tokens, seen, token, kind)
+    } else if number == word::GUARD {
+        guard(alloc, tokens, seen, token)
+    } else if number == word::ACTION {
+        action(alloc, tokens, seen, token)
+    } else if number == word::THIS {
+        by_this(alloc, tokens, seen, token)
+    } else {
+        Err(InscriptFault::P2(seen.at))
+    }
+}
+
+/// An inscription that begins with a sign.
+fn by_sign(
+    alloc: Global,
+    tokens: &[Token],
+    seen: Seen,
+    token: &Token,
+    number: u32,
+) -> Result<(PInscribed, Seen), InscriptFault>
+    requires next { IsNext tokens.now seen.at token.now }
+    requires kind { token.now.kind ≡ Kind.Sign number }
+    ensures moved { Moves tokens.now seen result }
+    ensures reads { Reads 0 IsInscribed tokens.now seen [] result }
+{
+    if number == sign::COLON {
+        uplink(alloc, tokens, seen, token)
+    } else {
+        equality(alloc, tokens, seen)
+    }
+}
+
+/// The form of an inscription.
+pub(crate) fn inscribed(
+    alloc: Global,
+    tokens: &[Token],
+    seen: Seen,
+) -> Result<(PInscribed, Seen), InscriptFault>
+    requires { seen.at ≤ length tokens.now }
+    ensures moved { Moves tokens.now seen result }
+    ensures reads { Reads 0 IsInscribed tokens.now seen [] result }
+{
+    match next(tokens, seen.at) {
+        Some(token) => match &token.kind {
+            TokenKind::Name(name) => by_name(alloc, tokens, seen, token, name),
+            TokenKind::Word(number) => by_word(alloc, tokens, seen, token, *number),
+            TokenKind::Sign(number) => by_sign(alloc, tokens, seen, token, *number),
+            TokenKind::Number(_) => equality(alloc, tokens, seen),
+            TokenKind::Text(_) => equality(alloc, tokens, seen),
+        },
+        None => Err(InscriptFault::P2(seen.at)),
+    }
+}
