@@ -1,0 +1,4 @@
+pub mod Words
+pub mod Kinds
+pub mod Constants
+pub mod Nets

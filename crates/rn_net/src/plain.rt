@@ -1,0 +1,61 @@
+//! The plain form of a net text. Each list keeps the order of the text.
+use crate::constants::PConsts;
+use crate::kinds::{PKind, PKinds};
+use rn_inscript::{PInscription, PName};
+use rn_items::Items;
+
+pub type PChannels = Items<PChannel>;
+
+pub type PNets = Items<PNet>;
+
+/// What a net text says: its channels and its nets.
+#[derive(Debug, Drop)]
+pub struct Plain {
+    pub channels: PChannels,
+    pub nets: PNets,
+}
+
+/// The declaration of a channel, with the kinds of its arguments.
+#[derive(Debug, Drop)]
+pub struct PChannel {
+    pub name: PName,
+    pub kinds: PKinds,
+}
+
+pub type PVars = Items<PVar>;
+
+pub type PPlaces = Items<PPlace>;
+
+pub type PTransitions = Items<PTransition>;
+
+#[derive(Debug, Drop)]
+pub struct PNet {
+    pub name: PName,
+    pub vars: PVars,
+    pub places: PPlaces,
+    pub transitions: PTransitions,
+}
+
+/// One variable. A declaration of several names makes one for each of them.
+#[derive(Debug, Drop)]
+pub struct PVar {
+    pub name: PName,
+    pub kind: PKind,
+}
+
+/// A place with its initial tokens. Where the text has no kind, the kind is `[]` with the spot of
+/// the place's name.
+#[derive(Debug, Drop)]
+pub struct PPlace {
+    pub name: PName,
+    pub kind: PKind,
+    pub initial: PConsts,
+}
+
+pub type PInscriptions = Items<PInscription>;
+
+#[derive(Debug, Drop)]
+pub struct PTransition {
+    pub name: PName,
+    pub inscriptions: PInscriptions,
+}

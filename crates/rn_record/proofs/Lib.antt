@@ -1,0 +1,4 @@
+pub mod CreationKeys
+pub mod EndedRuns
+pub mod NamesInOrder
+pub mod NumberedInstances

@@ -1,0 +1,4 @@
+pub mod NodeText
+pub mod Numbers
+pub mod RecordText
+pub mod Writable

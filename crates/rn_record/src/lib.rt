@@ -1,0 +1,15 @@
+//! The text of a run: its firings, its end and its marks, each on lines of their own.
+#![tactic(auto)]
+
+mod entries;
+mod marks;
+mod naming;
+mod node_text;
+mod numbers;
+mod record;
+#[cfg(test)]
+mod tests;
+
+pub use node_text::write_nodes;
+pub use numbers::named;
+pub use record::write_told;

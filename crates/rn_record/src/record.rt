@@ -1,0 +1,39 @@
+//! The text of a whole run.
+ghost use Rattle.std.specs.Prelude.{◌≡◌, IfOk};
+ghost use Rattle.rn_record.specs.RecordText.{record_text};
+ghost use Rattle.rn_record.specs.Writable.{HasText};
+
+use crate::entries::put_entries;
+use crate::marks::put_marks;
+use crate::naming::first_names;
+use rn_model::{System, Told};
+use rn_value::NoMemory;
+use std::alloc::Global;
+
+/// The text of a run: the lines of its firings, of its end and of its marks.
+///
+/// ```text
+/// 1 w1 main[1].t x=5
+/// 1 w1 > [10,"a"]
+/// end dead
+/// main[1].q []
+/// ```
+///
+/// An instance that a firing makes is written with its number, which is the next one after those of
+/// all instances made before.
+pub fn write_told(alloc: Global, system: &System, told: &Told) -> Result<Vec<u8>, NoMemory>
+    requires { HasText system.now told.now }
+    ensures { IfOk result (λ text. text.items ≡ record_text system.now told.now) }
+{
+    let mut names = first_names(alloc)?;
+    let mut text = Vec::new(alloc);
+    put_entries(
+        alloc,
+        system,
+        told.entries.as_slice(),
+        &mut names,
+        &mut text,
+    )?;
+    put_marks(alloc, system, told.marks.as_slice(), &names, &mut text)?;
+    Ok(text)
+}

@@ -1,0 +1,42 @@
+//! Texts of runs without firings.
+ghost use Rattle.rn_record.specs.RecordText.{first_names};
+ghost use Rattle.rn_record.specs.Writable.{HasEnd};
+
+use crate::write_told;
+use rn_items::Items;
+use rn_model::{Entry, Reason, System, Told};
+use rn_value::NoMemory;
+use std::alloc::Global;
+use std::test::Fail;
+
+fn no_nets(alloc: Global) -> System {
+    System {
+        nets: Items::new(alloc),
+        channels: Items::new(alloc),
+    }
+}
+
+fn text_of_end(alloc: Global, system: &System, reason: Reason) -> Result<Vec<u8>, NoMemory>
+    requires { HasEnd system.now first_names reason }
+{
+    let mut entries = Items::new(alloc);
+    entries.push(Entry::End(reason))?;
+    let told = Told {
+        entries,
+        marks: Items::new(alloc),
+    };
+    write_told(alloc, system, &told)
+}
+
+#[test]
+fn ends(rt: HostRuntime) -> Result<(), Fail> {
+    let alloc = rt.alloc();
+    let system = no_nets(alloc);
+    let text = text_of_end(alloc, &system, Reason::Dead)?;
+    assert_eq!(rt; text.as_slice(), b"end dead\n".as_slice());
+    let text = text_of_end(alloc, &system, Reason::Steps)?;
+    assert_eq!(rt; text.as_slice(), b"end steps\n".as_slice());
+    let text = text_of_end(alloc, &system, Reason::Memory)?;
+    assert_eq!(rt; text.as_slice(), b"end memory\n".as_slice());
+    Ok(())
+}

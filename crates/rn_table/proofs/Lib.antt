@@ -1,0 +1,5 @@
+pub mod InstanceLemmas
+pub mod LeafLemmas
+pub mod ListLemmas
+pub mod StartingLemmas
+pub mod TableLemmas

@@ -1,0 +1,7 @@
+use Rattle.std.proofs.Common.{◌≡◌, take, map}
+use Rattle.std.specs.Prelude.{filter}
+use Rattle.rn_table.specs.Leaves.{has_number}
+use Rattle.rn_table.proofs.page.Page.copy_kept.Given as goal
+
+abbrev pub invariant-loop-inst : goal.invariant-loop-inst
+invariant-loop-inst l = map (λ i. i.value) l.instances.items ≡ filter (has_number l.kept) (map (λ i. i.value) (take l.inst-index l.inst-items))

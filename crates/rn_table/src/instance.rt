@@ -1,0 +1,75 @@
+//! An instance: its number, its net, and the tokens of its places.
+ghost use Rattle.std.specs.Prelude.{◌≡◌, map, IfOk, slice_get};
+ghost use Rattle.std.specs.Option.{option_copied};
+ghost use Rattle.rn_model.specs.Lists.{ordered_values};
+
+use crate::bags::bag_of;
+use rn_bag::Bag;
+use rn_items::NoMemory;
+use rn_model::Place;
+use std::alloc::Global;
+use std::marker::Model;
+use std::sync::Arc;
+
+/// An instance, whose bags copies share.
+#[derive(Drop)]
+pub(crate) struct Inst {
+    number: u32,
+    net: u32,
+    bags: Vec<Arc<Bag>>,
+}
+
+impl Model for Inst {
+    ghost use Rattle.std.specs.Prelude.{map};
+    ghost use Rattle.rn_model.specs.Markings.{Instance};
+    ghost use Rattle.rn_model.specs.MarkingCodes.{instance_code};
+
+    ghost Value = { Instance };
+
+    ghost coded = { instance_code };
+
+    ghost view = { λ inst. record { number = inst.number; net = inst.net; places = map (λ bag. bag.value) inst.bags.items } };
+}
+
+impl Inst {
+    /// An instance as it comes, with the initial tokens of its places.
+    pub(crate) fn fresh(
+        alloc: Global,
+        number: u32,
+        net: u32,
+        places: &[Place],
+    ) -> Result<Inst, NoMemory>
+        ensures number { IfOk result (λ inst. inst.number ≡ number) }
+        ensures net { IfOk result (λ inst. inst.net ≡ net) }
+        ensures places { IfOk result (λ inst. inst.places ≡ map (λ p. ordered_values p.initial) places.now) }
+    {
+        let mut bags = Vec::with_capacity(alloc, places.len())?;
+        for place in places {
+            let bag = bag_of(alloc, &place.initial)?;
+            bags.push(Arc::new(alloc, bag)?)?;
+        }
+        Ok(Inst { number, net, bags })
+    }
+
+    pub(crate) fn number(&self) -> u32
+        ensures { result ≡ self.now.number }
+    {
+        self.number
+    }
+
+    pub(crate) fn net(&self) -> u32
+        ensures { result ≡ self.now.net }
+    {
+        self.net
+    }
+
+    /// The bag of a place.
+    pub(crate) fn bag(&self, place: u32) -> Option<&Bag>
+        ensures { option_copied result ≡ slice_get self.now.places place }
+    {
+        match self.bags.get(place as usize) {
+            None => None,
+            Some(bag) => Some(bag),
+        }
+    }
+}

@@ -1,0 +1,137 @@
+//! A page: up to 64 instances, each behind a pointer that copies share.
+ghost use Rattle.std.specs.Prelude.{◌≡◌, ◌<◌, ◌≤◌, [], ◌∷◌, ◌++◌, length, take, drop, map, filter, slice_index_or, nat_eq, false, Some, IfOk, IfSome, IfNone, OnOk, OnErr};
+ghost use Rattle.std.specs.List.{AllByRecursion};
+ghost use Rattle.std.specs.Option.{option_copied};
+ghost use Rattle.rn_model.specs.Markings.{Instance};
+ghost use Rattle.rn_bag.specs.Words.{has_bit};
+ghost use Rattle.rn_table.specs.Leaves.{Ascending, bit_of, has_number, numbered};
+
+use crate::instance::Inst;
+use rn_bag::words;
+use rn_items::NoMemory;
+use std::alloc::Global;
+use std::marker::Model;
+use std::sync::Arc;
+
+/// A page, which contracts see as the list of the instances that it holds.
+#[derive(Drop)]
+pub struct Page {
+    instances: Vec<Arc<Inst>>,
+}
+
+impl Model for Page {
+    ghost use Rattle.std.specs.Prelude.{List, map};
+    ghost use Rattle.std.specs.Coded.{coded_list};
+    ghost use Rattle.rn_model.specs.Markings.{Instance};
+    ghost use Rattle.rn_model.specs.MarkingCodes.{instance_code};
+
+    ghost Value = { List Instance };
+
+    ghost coded = { coded_list instance_code };
+
+    ghost view = { λ page. map (λ inst. inst.value) page.instances.items };
+}
+
+impl Page {
+    /// How many instances the page holds.
+    pub fn len(&self) -> usize
+        ensures { result ≡ length self.now }
+    {
+        self.instances.len()
+    }
+
+    /// A page of one instance.
+    pub(crate) fn of_one(alloc: Global, inst: Inst) -> Result<Page, NoMemory>
+        ensures { IfOk result (λ page. page ≡ inst ∷ []) }
+    {
+        let mut instances = Vec::with_capacity(alloc, 1)?;
+        instances.push(Arc::new(alloc, inst)?)?;
+        Ok(Page { instances })
+    }
+
+    /// The index of the instance of a number, by halving.
+    fn index_of(&self, number: u32) -> Option<usize>
+        requires { Ascending self.now }
+        ensures inside { IfSome result (λ i. i < length self.now) }
+        ensures here { IfSome result (λ i. (d : Instance) → (slice_index_or self.now i d).number ≡ number) }
+        ensures none { IfNone result (AllByRecursion (λ i. nat_eq i.number number ≡ false) self.now) }
+    {
+        let low = self.first_from(number);
+        if low < self.instances.len() && self.instances[low].number() == number {
+            return Some(low);
+        }
+        None
+    }
+
+    /// How many instances have a lower number.
+    fn first_from(&self, number: u32) -> usize
+        requires { Ascending self.now }
+        ensures bound { result ≤ length self.now }
+        ensures below { AllByRecursion (λ i. i.number < number) (take result self.now) }
+        ensures rest { AllByRecursion (λ i. number ≤ i.number) (drop result self.now) }
+    {
+        let mut low = 0;
+        let mut high = self.instances.len();
+        while low < high {
+            let middle = low + (high - low) / 2;
+            if self.instances[middle].number() < number {
+                low = middle + 1;
+            } else {
+                high = middle;
+            }
+        }
+        low
+    }
+
+    /// The instance of a number.
+    pub(crate) fn get(&self, number: u32) -> Option<&Inst>
+        requires { Ascending self.now }
+        ensures { option_copied result ≡ numbered number self.now }
+    {
+        match self.index_of(number) {
+            None => None,
+            Some(index) => Some(&self.instances[index]),
+        }
+    }
+
+    /// The same page with its kept instances alone, which it shares with the first.
+    pub(crate) fn copy_kept(&self, alloc: Global, kept: u64) -> Result<Page, NoMemory>
+        ensures { IfOk result (λ page. page ≡ filter (has_number kept) self.now) }
+    {
+        let mut instances = Vec::with_capacity(alloc, self.instances.len())?;
+        for inst in self.instances.as_slice() {
+            if is_kept(kept, inst.number()) {
+                instances.push(Arc::try_clone(inst)?)?;
+            }
+        }
+        Ok(Page { instances })
+    }
+
+    /// The numbers of its kept instances after others.
+    pub(crate) fn append_to(&self, kept: u64, numbers: &mut Vec<u32>) -> Result<(), NoMemory>
+        ensures { IfOk result (λ _. numbers.new.items ≡ numbers.old.items ++ map (λ i. i.number) (filter (has_number kept) self.now)) }
+    {
+        for inst in self.instances.as_slice() {
+            if is_kept(kept, inst.number()) {
+                numbers.push(inst.number())?;
+            }
+        }
+        Ok(())
+    }
+
+    /// One more instance.
+    pub(crate) fn add(&mut self, alloc: Global, inst: Inst) -> Result<(), NoMemory>
+        ensures ok { OnOk result (self.new ≡ self.old ++ inst ∷ []) }
+        ensures err { OnErr result (self.new ≡ self.old) }
+    {
+        self.instances.push(Arc::new(alloc, inst)?)?;
+        Ok(())
+    }
+}
+
+/// Whether a number is in the set of its page.
+pub(crate) fn is_kept(kept: u64, number: u32) -> bool
+    ensures { result ≡ has_bit kept (bit_of number) }
+{
+    words::is_in(kept, (number.saturating_sub(1) % 64) as usize)
+}

@@ -1,0 +1,189 @@
+//! The table of instances.
+ghost use Rattle.std.specs.Prelude.{◌≡◌, ◌≤◌, ◌+◌, ℕ, [], ◌∷◌, ◌++◌, length, map, filter, not, nat_eq, slice_get, option_and_then, IfOk, OnOk};
+ghost use Rattle.std.specs.Option.{option_copied};
+ghost use Rattle.rn_model.specs.Markings.{initial_marking, instance_at, net_of};
+ghost use Rattle.rn_table.specs.Changes.{with_made};
+ghost use Rattle.rn_table.specs.Leaves.{IsTable, instances_in, page_of, starting_from, stays};
+ghost use Rattle.rn_table.specs.Tables.{IsTableOf, started};
+
+use crate::instance::Inst;
+use crate::leaf::Leaf;
+use crate::nets::{main_net_of, places_of, starts};
+use crate::page::Page;
+use rn_bag::Bag;
+use rn_items::NoMemory;
+use rn_model::System;
+use std::alloc::Global;
+use std::marker::Model;
+use std::sync::Arc;
+
+/// The kept instances with their nets and tokens, and the number that the next instance gets.
+///
+/// Instances stand in pages of 64. A copy shares the pages, a changed page the instances that didn't
+/// change, and a changed instance its other places.
+#[derive(Drop)]
+pub struct Table {
+    next: u32,
+    leaves: Vec<Leaf>,
+}
+
+impl Model for Table {
+    ghost use Rattle.rn_table.specs.Leaves.{IsTable, instances_in, starting_from};
+    ghost use Rattle.rn_table.specs.Tables.{Kept, kept_code};
+
+    ghost Value = { Kept };
+
+    ghost coded = { kept_code };
+
+    ghost view = { λ t. record { marking = record { next = t.next; instances = instances_in t.leaves.items }; starting = starting_from 0 t.leaves.items } };
+
+    ghost invariant = { λ t. IsTable t.next t.leaves.items };
+}
+
+impl Table {
+    /// The table with which a run starts: instance 1, of `main`, with its initial tokens. There is
+    /// no room for it either where `main` comes after the first 2^32 nets.
+    pub fn new(alloc: Global, system: &System) -> Result<Table, NoMemory>
+        ensures marking { IfOk result (λ table. table.marking ≡ initial_marking system.now) }
+        ensures of_system { IfOk result (λ table. IsTableOf system.now table) }
+    {
+        let main = main_net_of(system);
+        if main > u32::MAX as usize {
+            return Err(NoMemory);
+        }
+        let mut table = Table {
+            next: 1,
+            leaves: Vec::new(alloc),
+        };
+        table.add(system, main as u32)?;
+        Ok(table)
+    }
+
+    /// An equal table, which shares its pages with the first.
+    pub fn snapshot(&self) -> Result<Table, NoMemory>
+        ensures { IfOk result (λ table. table ≡ self.now) }
+    {
+        let mut leaves = Vec::with_capacity(*self.leaves.allocator(), self.leaves.len())?;
+        for leaf in self.leaves.as_slice() {
+            leaves.push(leaf.copy()?)?;
+        }
+        Ok(Table {
+            next: self.next,
+            leaves,
+        })
+    }
+
+    /// The number that the next instance gets.
+    pub fn next(&self) -> u32
+        ensures { result ≡ self.now.marking.next }
+    {
+        self.next
+    }
+
+    /// The kept instance of a number.
+    fn find(&self, number: u32) -> Option<&Inst>
+        ensures { option_copied result ≡ instance_at self.now.marking number }
+    {
+        let at = leaf_of(number);
+        if at >= self.leaves.len() {
+            return None;
+        }
+        self.leaves[at].get(number)
+    }
+
+    /// The net of an instance, where it is kept.
+    pub fn net_of(&self, n: u32) -> Option<u32>
+        ensures { result ≡ net_of self.now.marking n }
+    {
+        match self.find(n) {
+            None => None,
+            Some(inst) => Some(inst.net()),
+        }
+    }
+
+    /// The tokens of a place of an instance, where the instance is kept and has that place.
+    pub fn bag(&self, n: u32, place: u32) -> Option<&Bag>
+        ensures { option_copied result ≡ option_and_then (λ i. slice_get i.places place) (instance_at self.now.marking n) }
+    {
+        match self.find(n) {
+            None => None,
+            Some(inst) => inst.bag(place),
+        }
+    }
+
+    /// The numbers of the kept instances, ascending.
+    pub fn instances(&self) -> Result<Vec<u32>, NoMemory>
+        ensures { IfOk result (λ numbers. numbers.items ≡ map (λ i. i.number) self.now.marking.instances) }
+    {
+        let mut numbers = Vec::new(*self.leaves.allocator());
+        for leaf in self.leaves.as_slice() {
+            leaf.append_to(&mut numbers)?;
+        }
+        Ok(numbers)
+    }
+
+    /// These instances are kept no more, and the others stay. It takes no memory.
+    pub fn remove_all(&mut self, numbers: &[u32])
+        ensures next { self.new.marking.next ≡ self.old.marking.next }
+        ensures instances { self.new.marking.instances ≡ filter (λ i. stays numbers.now i.number) self.old.marking.instances }
+        ensures starting { self.new.starting ≡ filter (stays numbers.now) self.old.starting }
+    {
+        for number in numbers {
+            self.remove(*number);
+        }
+    }
+
+    fn remove(&mut self, number: u32)
+        ensures next { self.new.marking.next ≡ self.old.marking.next }
+        ensures instances { self.new.marking.instances ≡ filter (λ i. not (nat_eq i.number number)) self.old.marking.instances }
+        ensures starting { self.new.starting ≡ filter (λ n. not (nat_eq n number)) self.old.starting }
+    {
+        let at = leaf_of(number);
+        if at >= self.leaves.len() {
+            return;
+        }
+        if number == 0 {
+            return;
+        }
+        let leaf = &mut self.leaves[at];
+        leaf.drop_one(number);
+    }
+
+    /// One more instance, with the initial tokens of its net.
+    fn add(&mut self, system: &System, net: u32) -> Result<(), NoMemory>
+        requires { self.old.marking.next ≤ 1000000 }
+        ensures marking { OnOk result (self.new.marking ≡ with_made system.now (net ∷ []) self.old.marking) }
+        ensures starting { OnOk result (self.new.starting ≡ self.old.starting ++ started system.now self.old.marking.next (net ∷ [])) }
+    {
+        let alloc = *self.leaves.allocator();
+        let inst = Inst::fresh(alloc, self.next, net, places_of(system, net))?;
+        make_room(&mut self.leaves, self.next)?;
+        let last = self.leaves.len() - 1;
+        let leaf = &mut self.leaves[last];
+        leaf.add(alloc, inst, starts(system, net))?;
+        self.next += 1;
+        Ok(())
+    }
+}
+
+/// The index of the page of a number.
+fn leaf_of(number: u32) -> usize
+    ensures { result ≡ page_of number }
+{
+    (number.saturating_sub(1) / 64) as usize
+}
+
+/// The last page has room for the next number from now on.
+fn make_room(leaves: &mut Vec<Leaf>, next: u32) -> Result<(), NoMemory>
+    requires { IsTable next leaves.old.items }
+    ensures table { IsTable next leaves.new.items }
+    ensures size { OnOk result (length leaves.new.items ≡ page_of next + 1) }
+    ensures instances { instances_in leaves.new.items ≡ instances_in leaves.old.items }
+    ensures starting { starting_from 0 leaves.new.items ≡ starting_from 0 leaves.old.items }
+{
+    if leaves.len() != leaf_of(next) {
+        return Ok(());
+    }
+    leaves.push(Leaf::new())?;
+    Ok(())
+}
