@@ -11,8 +11,6 @@ mod forms;
 mod inscriptions;
 mod laws;
 mod reading;
-#[cfg(test)]
-mod tests;
 
 pub use conds::{PAlts, PCond, PSimple, PSimples};
 pub use exprs::{PExpr, PExprs, PForm};
