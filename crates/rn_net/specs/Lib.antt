@@ -2,3 +2,4 @@ pub mod Words
 pub mod Kinds
 pub mod Constants
 pub mod Nets
+pub mod Texts

@@ -1,0 +1,15 @@
+-- Texts and the systems that they spell.
+use Rattle.std.specs.Prelude.{ℕ, ◌≤◌, List, length}
+use Rattle.rn_notation.specs.Limits.{longest_net_text}
+use Rattle.rn_notation.specs.Reading.{Tokens}
+use Rattle.rn_notation.specs.declared.token.Token.{Token}
+use Rattle.rn_net.specs.declared.plain.Plain.{Plain}
+use Rattle.rn_net.specs.Nets.{IsSystem}
+
+-- The bytes spell this system: they are no longer than a net text may be, and they are tokens,
+-- without a fault, that are the system.
+pub record Spells (bytes : List ℕ) (plain : Plain) : Type 0 where
+  pub tokens : List Token
+  pub fits : length bytes ≤ longest_net_text
+  pub read : Tokens bytes tokens
+  pub system : IsSystem tokens plain
