@@ -1,5 +1,9 @@
+pub mod ChangeLemmas
+pub mod EditedLemmas
 pub mod InstanceLemmas
 pub mod LeafLemmas
 pub mod ListLemmas
 pub mod StartingLemmas
+pub mod StepLemmas
 pub mod TableLemmas
+pub mod UndoLemmas

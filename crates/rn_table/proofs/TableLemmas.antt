@@ -17,7 +17,7 @@ use Rattle.rn_table.specs.Tables.{started}
 use Rattle.rn_model.specs.Markings.{Instance}
 use Rattle.rn_bag.specs.Words.{has_bit}
 use Rattle.rn_table.specs.Leaves.{Leaf, Ascending, HasSortedPlaces, IsTable, IsLeaf, AreLeaves, page_of, bit_of, has_number, kept_in, instances_in, numbered, starting_of, starting_from, stays, upward}
-use Rattle.rn_table.proofs.InstanceLemmas.{filter_both, filter_all, all_true, NoneHas, same_number, other_number, all_get, all_map, all_joined, all_filtered, numbered_none, numbered_later, numbered_earlier}
+use Rattle.rn_table.proofs.InstanceLemmas.{filter_both, filter_all, all_true, NoneHas, same_number, other_number, all_get, all_map, all_joined, all_filtered, ascending_filtered, numbered_none, numbered_later, numbered_earlier}
 use Rattle.rn_bag.proofs.SlotLemmas.{there_all}
 use Rattle.rn_table.proofs.LeafLemmas.{page_is, no_bit}
 use Rattle.rn_table.proofs.StartingLemmas.{numbers_all, no_starts}
@@ -33,7 +33,7 @@ leaf_pages k l is =
     (all_two (λ i. 64 * k < i.number) (λ i. i.number ≤ 64 * k + 64) (λ i. (page_of i.number ≡ k) × (0 < i.number)) l.held (λ i low high. (page_is k i.number low high, omega (arith, low))) is.above is.below)
 
 -- no instance of another page has the number
-none_of_page : (k n : ℕ) (is : List Instance) → page_of n ≢ k → AllByRecursion (λ i. (page_of i.number ≡ k) × (0 < i.number)) is → NoneHas n is
+pub none_of_page : (k n : ℕ) (is : List Instance) → page_of n ≢ k → AllByRecursion (λ i. (page_of i.number ≡ k) × (0 < i.number)) is → NoneHas n is
 none_of_page k n is differ all = all_map (λ i. (page_of i.number ≡ k) × (0 < i.number)) (λ i. nat_eq i.number n ≡ false) is (λ i h. other_number i.number n (λ e. differ (ap page_of (sym e) ∙ h.0))) all
 
 pub none_beyond : (k n : ℕ) (ls : List Leaf) → AreLeaves k ls → (page_of n < k → ⊥) → k + length ls ≤ page_of n → NoneHas n (instances_in ls)
@@ -42,7 +42,7 @@ none_beyond k n (l ∷ ls) are low high =
     all_joined (λ i. nat_eq i.number n ≡ false) (kept_in l) (instances_in ls) (none_of_page k n (kept_in l) (λ e. omega (arith, e, high)) (leaf_pages k l are.0))
     (none_beyond (suc k) n ls are.1 (λ less. omega (arith, less, high)) (omega (arith, high)))
 
-none_later : (k n : ℕ) (ls : List Leaf) → AreLeaves k ls → page_of n < k → NoneHas n (instances_in ls)
+pub none_later : (k n : ℕ) (ls : List Leaf) → AreLeaves k ls → page_of n < k → NoneHas n (instances_in ls)
 none_later k n [] are low = tt
 none_later k n (l ∷ ls) are low =
     all_joined (λ i. nat_eq i.number n ≡ false) (kept_in l) (instances_in ls) (none_of_page k n (kept_in l) (λ e. omega (arith, e, low)) (leaf_pages k l are.0)) (none_later (suc k) n ls are.1 (omega (arith, low)))
@@ -134,7 +134,7 @@ pub starts_none : (n : ℕ) (ls : List Leaf) → length ls ≤ page_of n → fil
 starts_none n ls past = starts_all n (starting_from 0 ls) (starts_beyond 0 n ls (λ less. omega (arith, less)) (omega (arith, past)))
 
 -- number 0 is none of them
-all_positive : (k : ℕ) (ls : List Leaf) → AreLeaves k ls → NoneHas 0 (instances_in ls)
+pub all_positive : (k : ℕ) (ls : List Leaf) → AreLeaves k ls → NoneHas 0 (instances_in ls)
 all_positive k [] are = tt
 all_positive k (l ∷ ls) are =
     all_joined (λ i. nat_eq i.number 0 ≡ false) (kept_in l) (instances_in ls)
@@ -234,7 +234,7 @@ grown_table next n ls i y is size last is_n most new below =
       tight = omega (arith, same, size, is_n, is.first);
     }
 
-set_again : (ls : List Leaf) (i : ℕ) (y : Leaf) → i < length ls → y ≡ get_or ls i y → set ls i y ≡ ls
+pub set_again : (ls : List Leaf) (i : ℕ) (y : Leaf) → i < length ls → y ≡ get_or ls i y → set ls i y ≡ ls
 set_again [] i y inside is = refl
 set_again (l ∷ ls) zero y inside is = ap (λ z. z ∷ ls) is
 set_again (l ∷ ls) (suc i) y inside is = ap (λ r. l ∷ r) (set_again ls i y (omega arith) is)
@@ -309,3 +309,25 @@ start_table = record {
   roomy = omega arith;
   tight = omega arith;
 }
+
+-- the instances of a table ascend, and so do their tokens
+ascending_append : (m : ℕ) (xs ys : List Instance) → Ascending xs → Ascending ys → AllByRecursion (λ i. i.number ≤ m) xs → AllByRecursion (λ i. m < i.number) ys → Ascending (xs ++ ys)
+ascending_append m [] ys up more low high = more
+ascending_append m (x ∷ xs) ys up more low high =
+    (all_joined (λ j. x.number < j.number) xs ys up.0 (all_map (λ j. m < j.number) (λ j. x.number < j.number) ys (λ j h. omega (arith, h, low.0)) high), ascending_append m xs ys up.1 more low.1 high)
+
+all_above : (k : ℕ) (ls : List Leaf) → AreLeaves k ls → AllByRecursion (λ i. 64 * k < i.number) (instances_in ls)
+all_above k [] are = tt
+all_above k (l ∷ ls) are =
+    all_joined (λ i. 64 * k < i.number) (kept_in l) (instances_in ls) (all_filtered (λ i. 64 * k < i.number) (has_number l.kept) l.held are.0.above)
+    (all_map (λ i. 64 * suc k < i.number) (λ i. 64 * k < i.number) (instances_in ls) (λ i h. omega (arith, h)) (all_above (suc k) ls are.1))
+
+pub all_ascend : (k : ℕ) (ls : List Leaf) → AreLeaves k ls → Ascending (instances_in ls)
+all_ascend k [] are = tt
+all_ascend k (l ∷ ls) are =
+    ascending_append (64 * k + 64) (kept_in l) (instances_in ls) (ascending_filtered (has_number l.kept) l.held are.0.ascending) (all_ascend (suc k) ls are.1)
+    (all_filtered (λ i. i.number ≤ 64 * k + 64) (has_number l.kept) l.held are.0.below) (all_map (λ i. 64 * suc k < i.number) (λ i. 64 * k + 64 < i.number) (instances_in ls) (λ i h. omega (arith, h)) (all_above (suc k) ls are.1))
+
+pub all_sorted : (k : ℕ) (ls : List Leaf) → AreLeaves k ls → AllByRecursion HasSortedPlaces (instances_in ls)
+all_sorted k [] are = tt
+all_sorted k (l ∷ ls) are = all_joined HasSortedPlaces (kept_in l) (instances_in ls) (all_filtered HasSortedPlaces (has_number l.kept) l.held are.0.sorted) (all_sorted (suc k) ls are.1)

@@ -1,3 +1,5 @@
 pub mod Changes
 pub mod Leaves
+pub mod Steps
 pub mod Tables
+pub mod Undo

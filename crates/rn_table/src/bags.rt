@@ -1,11 +1,14 @@
-//! The bag of a place's initial tokens.
-ghost use Rattle.std.specs.Prelude.{◌≡◌, IfOk};
+//! The bag of a place.
+ghost use Rattle.std.specs.Prelude.{◌≡◌, IfOk, OnOk};
 ghost use Rattle.rn_model.specs.Lists.{ordered_values};
+ghost use Rattle.rn_table.specs.Steps.{stepped};
 
+use crate::edits::Edit;
 use rn_bag::Bag;
 use rn_items::NoMemory;
 use rn_value::{Vals, copy};
 use std::alloc::Global;
+use std::sync::Arc;
 
 /// A bag of values.
 pub(crate) fn bag_of(alloc: Global, values: &Vals) -> Result<Bag, NoMemory>
@@ -17,4 +20,32 @@ pub(crate) fn bag_of(alloc: Global, values: &Vals) -> Result<Bag, NoMemory>
         bag.insert(copy(alloc, &values[i])?)?;
     }
     Ok(bag)
+}
+
+/// One token is taken or put, where it is there: in place where nothing shares the bag, and else in
+/// a copy.
+pub(crate) fn edit_shared(
+    alloc: Global,
+    bag: &mut Arc<Bag>,
+    edit: &Edit<'_>,
+) -> Result<(), NoMemory>
+    ensures { OnOk result (bag.new.value ≡ stepped edit.now bag.old.value) }
+{
+    if let Some(own) = Arc::get_mut(bag) {
+        return edit_bag(alloc, own, edit);
+    }
+    let mut copied = bag.snapshot()?;
+    edit_bag(alloc, &mut copied, edit)?;
+    *bag = Arc::new(alloc, copied)?;
+    Ok(())
+}
+
+fn edit_bag(alloc: Global, bag: &mut Bag, edit: &Edit<'_>) -> Result<(), NoMemory>
+    ensures { OnOk result (bag.new ≡ stepped edit.now bag.old) }
+{
+    if edit.puts {
+        return bag.insert(copy(alloc, edit.value)?);
+    }
+    bag.remove(edit.value);
+    Ok(())
 }

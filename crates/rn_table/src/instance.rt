@@ -1,9 +1,11 @@
 //! An instance: its number, its net, and the tokens of its places.
-ghost use Rattle.std.specs.Prelude.{◌≡◌, map, IfOk, slice_get};
+ghost use Rattle.std.specs.Prelude.{◌≡◌, map, IfOk, OnOk, slice_get};
 ghost use Rattle.std.specs.Option.{option_copied};
 ghost use Rattle.rn_model.specs.Lists.{ordered_values};
+ghost use Rattle.rn_table.specs.Steps.{after_step};
 
-use crate::bags::bag_of;
+use crate::bags::{bag_of, edit_shared};
+use crate::edits::Edit;
 use rn_bag::Bag;
 use rn_items::NoMemory;
 use rn_model::Place;
@@ -71,5 +73,33 @@ impl Inst {
             None => None,
             Some(bag) => Some(bag),
         }
+    }
+
+    /// The same instance, which shares its bags with the first.
+    pub(crate) fn copy(&self) -> Result<Inst, NoMemory>
+        ensures { IfOk result (λ inst. inst ≡ self.now) }
+    {
+        let mut bags = Vec::with_capacity(*self.bags.allocator(), self.bags.len())?;
+        for bag in self.bags.as_slice() {
+            bags.push(Arc::try_clone(bag)?)?;
+        }
+        Ok(Inst {
+            number: self.number,
+            net: self.net,
+            bags,
+        })
+    }
+
+    /// One token is taken from a place or put there.
+    pub(crate) fn edit(&mut self, alloc: Global, edit: &Edit<'_>) -> Result<(), NoMemory>
+        requires { self.old.number ≡ edit.now.inst }
+        ensures { OnOk result (self.new ≡ after_step edit.now self.old) }
+    {
+        let place = edit.place as usize;
+        if place >= self.bags.len() {
+            return Ok(());
+        }
+        edit_shared(alloc, &mut self.bags[place], edit)?;
+        Ok(())
     }
 }

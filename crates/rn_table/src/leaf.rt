@@ -5,7 +5,9 @@ ghost use Rattle.std.specs.Option.{option_copied, option_map_or};
 ghost use Rattle.rn_model.specs.Markings.{Instance};
 ghost use Rattle.rn_table.specs.Leaves.{Ascending, HasSortedPlaces, IsLeaf, bit_of, has_number, kept_in, numbered, page_of, starting_of};
 ghost use Rattle.rn_bag.specs.Words.{has_bit};
+ghost use Rattle.rn_table.specs.Steps.{after_step};
 
+use crate::edits::Edit;
 use crate::instance::Inst;
 use crate::page::{Page, is_kept};
 use rn_bag::words;
@@ -123,6 +125,18 @@ impl Leaf {
         Ok(())
     }
 
+    /// One token is taken from a place of an instance or put there.
+    pub(crate) fn edit(&mut self, alloc: Global, edit: &Edit<'_>) -> Result<(), NoMemory>
+        requires { IsLeaf (page_of edit.now.inst) self.old }
+        ensures instances { OnOk result (kept_in self.new ≡ map (after_step edit.now) (kept_in self.old)) }
+        ensures starting { OnOk result (self.new.starting ≡ self.old.starting) }
+        ensures leaf { OnOk result (IsLeaf (page_of edit.now.inst) self.new) }
+        ensures below { OnOk result ((n : ℕ) → AllByRecursion (λ i. i.number < n) self.old.held → AllByRecursion (λ i. i.number < n) self.new.held) }
+    {
+        edit_held(alloc, &mut self.page, self.kept, edit)?;
+        Ok(())
+    }
+
     /// An instance is kept no more. Where none is left, the page is given up. It takes no memory.
     pub(crate) fn drop_one(&mut self, number: u32)
         requires leaf { IsLeaf (page_of number) self.old }
@@ -176,6 +190,41 @@ fn add_to(alloc: Global, page: &mut Arc<Page>, kept: u64, inst: Inst) -> Result<
     }
     let mut copied = page.copy_kept(alloc, kept)?;
     copied.add(alloc, inst)?;
+    *page = Arc::new(alloc, copied)?;
+    Ok(())
+}
+
+/// One token is taken from a place of an instance of a page or put there.
+fn edit_held(
+    alloc: Global,
+    page: &mut Option<Arc<Page>>,
+    kept: u64,
+    edit: &Edit<'_>,
+) -> Result<(), NoMemory>
+    requires { Ascending (option_map_or (λ p. p.value) page.old []) }
+    ensures { OnOk result ((option_map_or (λ p. p.value) page.new [] ≡ map (after_step edit.now) (option_map_or (λ p. p.value) page.old [])) ⊎ (option_map_or (λ p. p.value) page.new [] ≡ map (after_step edit.now) (filter (has_number kept) (option_map_or (λ p. p.value) page.old [])))) }
+{
+    match page {
+        None => Ok(()),
+        Some(shared) => edit_page(alloc, shared, kept, edit),
+    }
+}
+
+/// The same of a page: in place where nothing shares it, and else in a copy of what is kept.
+fn edit_page(
+    alloc: Global,
+    page: &mut Arc<Page>,
+    kept: u64,
+    edit: &Edit<'_>,
+) -> Result<(), NoMemory>
+    requires { Ascending page.old.value }
+    ensures { OnOk result ((page.new.value ≡ map (after_step edit.now) page.old.value) ⊎ (page.new.value ≡ map (after_step edit.now) (filter (has_number kept) page.old.value))) }
+{
+    if let Some(own) = Arc::get_mut(page) {
+        return own.edit(alloc, edit);
+    }
+    let mut copied = page.copy_kept(alloc, kept)?;
+    copied.edit(alloc, edit)?;
     *page = Arc::new(alloc, copied)?;
     Ok(())
 }

@@ -2,14 +2,19 @@
 #![tactic(auto)]
 
 mod bags;
+mod change;
+mod edits;
 mod instance;
 mod leaf;
 mod nets;
 mod page;
+mod pages;
 mod sharing;
 mod table;
 #[cfg(test)]
 mod tests;
+mod undo;
 
+pub use change::{Change, Nums, Row, Rows};
 pub use page::Page;
 pub use table::Table;

@@ -5,7 +5,9 @@ ghost use Rattle.std.specs.Option.{option_copied};
 ghost use Rattle.rn_model.specs.Markings.{Instance};
 ghost use Rattle.rn_bag.specs.Words.{has_bit};
 ghost use Rattle.rn_table.specs.Leaves.{Ascending, bit_of, has_number, numbered};
+ghost use Rattle.rn_table.specs.Steps.{after_step};
 
+use crate::edits::Edit;
 use crate::instance::Inst;
 use rn_bag::words;
 use rn_items::NoMemory;
@@ -127,6 +129,32 @@ impl Page {
         self.instances.push(Arc::new(alloc, inst)?)?;
         Ok(())
     }
+
+    /// One token is taken from a place of an instance or put there.
+    pub(crate) fn edit(&mut self, alloc: Global, edit: &Edit<'_>) -> Result<(), NoMemory>
+        requires { Ascending self.old }
+        ensures { OnOk result (self.new ≡ map (after_step edit.now) self.old) }
+    {
+        let Some(index) = self.index_of(edit.inst) else {
+            return Ok(());
+        };
+        edit_instance(alloc, &mut self.instances[index], edit)?;
+        Ok(())
+    }
+}
+
+/// The same of one instance: in place where nothing shares it, and else in a copy.
+fn edit_instance(alloc: Global, inst: &mut Arc<Inst>, edit: &Edit<'_>) -> Result<(), NoMemory>
+    requires { inst.old.value.number ≡ edit.now.inst }
+    ensures { OnOk result (inst.new.value ≡ after_step edit.now inst.old.value) }
+{
+    if let Some(own) = Arc::get_mut(inst) {
+        return own.edit(alloc, edit);
+    }
+    let mut copied = inst.copy()?;
+    copied.edit(alloc, edit)?;
+    *inst = Arc::new(alloc, copied)?;
+    Ok(())
 }
 
 /// Whether a number is in the set of its page.

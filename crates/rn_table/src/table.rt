@@ -1,15 +1,18 @@
 //! The table of instances.
-ghost use Rattle.std.specs.Prelude.{◌≡◌, ◌≤◌, ◌+◌, ℕ, [], ◌∷◌, ◌++◌, length, map, filter, not, nat_eq, slice_get, option_and_then, IfOk, OnOk};
+ghost use Rattle.std.specs.Prelude.{◌≡◌, ◌++◌, map, filter, not, nat_eq, slice_get, option_and_then, IfOk, OnOk, OnErr};
 ghost use Rattle.std.specs.Option.{option_copied};
 ghost use Rattle.rn_model.specs.Markings.{initial_marking, instance_at, net_of};
-ghost use Rattle.rn_table.specs.Changes.{with_made};
-ghost use Rattle.rn_table.specs.Leaves.{IsTable, instances_in, page_of, starting_from, stays};
+ghost use Rattle.rn_table.specs.Changes.{MayCome, changed};
+ghost use Rattle.rn_table.specs.Leaves.{stays};
 ghost use Rattle.rn_table.specs.Tables.{IsTableOf, started};
 
+use crate::change::Change;
+use crate::edits::edits_of;
 use crate::instance::Inst;
 use crate::leaf::Leaf;
-use crate::nets::{main_net_of, places_of, starts};
-use crate::page::Page;
+use crate::nets::main_net_of;
+use crate::pages::{add_all, change_all, leaf_of};
+use crate::undo::restore;
 use rn_bag::Bag;
 use rn_items::NoMemory;
 use rn_model::System;
@@ -51,12 +54,9 @@ impl Table {
         if main > u32::MAX as usize {
             return Err(NoMemory);
         }
-        let mut table = Table {
-            next: 1,
-            leaves: Vec::new(alloc),
-        };
-        table.add(system, main as u32)?;
-        Ok(table)
+        let mut leaves = Vec::new(alloc);
+        add_all(&mut leaves, &mut Vec::new(alloc), system, 1, &[main as u32])?;
+        Ok(Table { next: 2, leaves })
     }
 
     /// An equal table, which shares its pages with the first.
@@ -122,6 +122,39 @@ impl Table {
         Ok(numbers)
     }
 
+    /// New instances come with their initial tokens, what is taken and cleared goes, and what is put
+    /// comes.
+    ///
+    /// A page that it touches, an instance and a bag are copied first. What is put where it is taken
+    /// touches nothing.
+    pub fn apply(&mut self, system: &System, change: &Change) -> Result<(), NoMemory>
+        requires { MayCome system.now change.now self.old.marking }
+        ensures marking { OnOk result (self.new.marking ≡ changed system.now change.now self.old.marking) }
+        ensures starting { OnOk result (self.new.starting ≡ self.old.starting ++ started system.now self.old.marking.next change.now.made) }
+        ensures of_system { OnOk result (IsTableOf system.now self.old → IsTableOf system.now self.new) }
+        ensures err { OnErr result (self.new ≡ self.old) }
+    {
+        let alloc = *self.leaves.allocator();
+        let made = change.made.as_slice();
+        let edits = edits_of(alloc, change)?;
+        let pages = self.leaves.len();
+        let mut saved = Vec::new(alloc);
+        let done = change_all(
+            &mut self.leaves,
+            &mut saved,
+            system,
+            self.next,
+            made,
+            edits.as_slice(),
+        );
+        if done.is_err() {
+            restore(&mut self.leaves, saved, pages);
+            return Err(NoMemory);
+        }
+        self.next += made.len() as u32;
+        Ok(())
+    }
+
     /// These instances are kept no more, and the others stay. It takes no memory.
     pub fn remove_all(&mut self, numbers: &[u32])
         ensures next { self.new.marking.next ≡ self.old.marking.next }
@@ -148,42 +181,4 @@ impl Table {
         let leaf = &mut self.leaves[at];
         leaf.drop_one(number);
     }
-
-    /// One more instance, with the initial tokens of its net.
-    fn add(&mut self, system: &System, net: u32) -> Result<(), NoMemory>
-        requires { self.old.marking.next ≤ 1000000 }
-        ensures marking { OnOk result (self.new.marking ≡ with_made system.now (net ∷ []) self.old.marking) }
-        ensures starting { OnOk result (self.new.starting ≡ self.old.starting ++ started system.now self.old.marking.next (net ∷ [])) }
-    {
-        let alloc = *self.leaves.allocator();
-        let inst = Inst::fresh(alloc, self.next, net, places_of(system, net))?;
-        make_room(&mut self.leaves, self.next)?;
-        let last = self.leaves.len() - 1;
-        let leaf = &mut self.leaves[last];
-        leaf.add(alloc, inst, starts(system, net))?;
-        self.next += 1;
-        Ok(())
-    }
-}
-
-/// The index of the page of a number.
-fn leaf_of(number: u32) -> usize
-    ensures { result ≡ page_of number }
-{
-    (number.saturating_sub(1) / 64) as usize
-}
-
-/// The last page has room for the next number from now on.
-fn make_room(leaves: &mut Vec<Leaf>, next: u32) -> Result<(), NoMemory>
-    requires { IsTable next leaves.old.items }
-    ensures table { IsTable next leaves.new.items }
-    ensures size { OnOk result (length leaves.new.items ≡ page_of next + 1) }
-    ensures instances { instances_in leaves.new.items ≡ instances_in leaves.old.items }
-    ensures starting { starting_from 0 leaves.new.items ≡ starting_from 0 leaves.old.items }
-{
-    if leaves.len() != leaf_of(next) {
-        return Ok(());
-    }
-    leaves.push(Leaf::new())?;
-    Ok(())
 }

@@ -1,7 +1,7 @@
 use Rattle.std.proofs.Common.{◌≡◌, refl, sym, ap, ◌∙◌, subst, length-append, arith}
 use Rattle.rn_table.specs.Leaves.{IsTable, instances_in, starting_from}
 use Rattle.rn_table.proofs.TableLemmas.{page_more, one_page_more, one_start_more, empty_kept, empty_starts}
-use Rattle.rn_table.proofs.table.make_room.Goals as goal
+use Rattle.rn_table.proofs.pages.make_room.Goals as goal
 
 pub returns-in_err-push-clause-table : goal.returns-in_err-push-clause-table
 returns-in_err-push-clause-table c = subst (IsTable c.args.next) (sym c.in_err-push.ensures.items) c.requires

@@ -1,0 +1,6 @@
+use Rattle.std.proofs.Common.{take}
+use Rattle.rn_table.specs.Steps.{AreNet}
+use Rattle.rn_table.proofs.edits.cancelled.Given as goal
+
+abbrev pub invariant-loop-edit : goal.invariant-loop-edit
+invariant-loop-edit l = AreNet (take l.edit-index l.edits) l.net.items

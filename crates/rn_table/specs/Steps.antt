@@ -1,0 +1,91 @@
+-- A change as single tokens that are taken or put, one after another. It only connects the code to
+-- the change.
+use Rattle.std.specs.Prelude.{ℕ, ◌≡◌, ◌≤◌, ◌+◌, ◌&&◌, Bool, true, false, not, nat_eq}
+use Rattle.std.specs.Prelude.{if◌then◌else◌, List, [], ◌∷◌, ◌++◌, length, map, flat_map, refl}
+use Rattle.std.specs.Prelude.{slice_set, take}
+use Rattle.std.specs.Coded.{Coded, code_by, coded×, coded_ℕ, coded_bool}
+use Rattle.std.specs.List.{sum_by}
+use Rattle.rn_value.specs.declared.value.Value.{Value}
+use Rattle.rn_value.specs.contracts.value.Value as token
+use Rattle.rn_model.specs.Lists.{same_value, with_value, without_one}
+use Rattle.rn_model.specs.Markings.{Instance}
+use Rattle.rn_model.specs.Firing.{changed_instance}
+use Rattle.rn_table.specs.Leaves.{Leaf}
+use Rattle.rn_table.specs.declared.change.Row.{Row}
+use Rattle.rn_table.specs.declared.change.Change.{Change}
+
+-- one token that is taken from a place of an instance, or put there
+pub record Step : Type 0 where
+  pub inst : ℕ
+  pub place : ℕ
+  pub value : Value
+  pub puts : Bool
+
+abbrev pub step_code : Coded Step
+step_code =
+    code_by (ℕ × (ℕ × (Value × Bool)))
+    (coded× coded_ℕ (coded× coded_ℕ (coded× token.the_row.coded coded_bool)))
+    (λ s. (s.inst, (s.place, (s.value, s.puts))))
+    (λ p. record { inst = p.0; place = p.1.0; value = p.1.1.0; puts = p.1.1.1 })
+    (λ _. refl)
+
+-- the tokens of its place after a step
+abbrev pub stepped : Step → List Value → List Value
+stepped s vs = if s.puts then with_value s.value vs else without_one vs s.value
+
+-- the tokens of any place after it
+abbrev pub step_at : Step → ℕ → ℕ → List Value → List Value
+step_at s n place vs =
+    if nat_eq n s.inst && nat_eq place s.place then stepped s vs else vs
+
+-- an instance after it
+abbrev pub after_step : Step → Instance → Instance
+after_step s i = changed_instance (step_at s i.number) i
+
+-- the tokens of a place after steps
+abbrev pub steps_at : List Step → ℕ → ℕ → List Value → List Value
+steps_at [] n place vs = vs
+steps_at (s ∷ ss) n place vs = steps_at ss n place (step_at s n place vs)
+
+-- instances after steps
+abbrev pub after_steps : List Step → List Instance → List Instance
+after_steps [] is = is
+after_steps (s ∷ ss) is = after_steps ss (map (after_step s) is)
+
+-- the steps of a row, and of rows
+abbrev pub steps_of : Bool → Row → List Step
+steps_of puts row =
+    map (λ v. record { inst = row.inst; place = row.place; value = v; puts = puts }) row.values
+
+abbrev pub steps_in : Bool → List Row → List Step
+steps_in puts = flat_map (steps_of puts)
+
+-- the steps of a change
+abbrev pub all_steps : Change → List Step
+all_steps change =
+    (steps_in false change.taken ++ steps_in false change.cleared) ++ steps_in true change.put
+
+-- whether a step takes, or puts, this value at this place
+abbrev pub is_at : Bool → ℕ → ℕ → Value → Step → Bool
+is_at puts n place v s =
+    (nat_eq n s.inst && nat_eq place s.place)
+    && (same_value v s.value && (if puts then s.puts else not s.puts))
+
+-- how often steps take it, or put it
+abbrev pub times : Bool → ℕ → ℕ → Value → List Step → ℕ
+times puts n place v = sum_by (λ s. if is_at puts n place v s then 1 else 0)
+
+-- one step undoes another
+pub record Cancels (s t : Step) : Type 0 where
+  pub inst : s.inst ≡ t.inst
+  pub place : s.place ≡ t.place
+  pub value : s.value ≡ t.value
+  pub other : s.puts ≡ not t.puts
+
+-- steps that come to the same as others, and take no more
+pub record AreNet (before after : List Step) : Type 0 where
+  pub balance : (n place : ℕ) (v : Value) →
+      times false n place v after + times true n place v before
+      ≡ times false n place v before + times true n place v after
+  pub fewer : (n place : ℕ) (v : Value) →
+      times false n place v after ≤ times false n place v before
