@@ -1,0 +1,12 @@
+pub mod AsksOfBindings
+pub mod AsksOfPlaces
+pub mod CountLemmas
+pub mod FittingLemmas
+pub mod Gathering
+pub mod MeetingLemmas
+pub mod NodeLookups
+pub mod PlaceOrder
+pub mod PlacesInOrder
+pub mod RisingPlaces
+pub mod SortedLists
+pub mod TokenLemmas

@@ -1,0 +1,5 @@
+pub mod Asks
+pub mod Demanded
+pub mod Groups
+pub mod Meeting
+pub mod Places
