@@ -113,7 +113,7 @@ count_steps (s ∷ ss) n place z vs up enough =
     omega (arith, taken, put, here, rest)
 
 -- the steps of rows
-count_append : (z : Value) (xs ys : List Value) → count_of z (xs ++ ys) ≡ count_of z xs + count_of z ys
+pub count_append : (z : Value) (xs ys : List Value) → count_of z (xs ++ ys) ≡ count_of z xs + count_of z ys
 count_append z xs ys = sum_by-append (λ v. one_if (same_value z v)) xs ys
 
 step_hit : (b h : Bool) (z v : Value) → cond (b && (same_value z v && h)) 1 0 ≡ cond (b && h) (one_if (same_value z v)) 0

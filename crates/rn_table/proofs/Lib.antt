@@ -1,6 +1,8 @@
 pub mod ChangeLemmas
+pub mod CursorLemmas
 pub mod EditedLemmas
 pub mod InstanceLemmas
+pub mod LawLemmas
 pub mod LeafLemmas
 pub mod ListLemmas
 pub mod StartingLemmas

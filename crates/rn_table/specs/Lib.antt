@@ -1,4 +1,5 @@
 pub mod Changes
+pub mod Laws
 pub mod Leaves
 pub mod Steps
 pub mod Tables

@@ -38,7 +38,7 @@ impl Model for Leaf {
 }
 
 /// The index of a number in its page.
-fn bit(number: u32) -> usize
+pub(crate) fn bit(number: u32) -> usize
     ensures index { result ≡ bit_of number }
     ensures bound { result < 64 }
 {
@@ -92,6 +92,33 @@ impl Leaf {
             None => None,
             Some(page) => page.get(number),
         }
+    }
+
+    /// The page, where some of its numbers are kept.
+    pub(crate) fn page(&self) -> Option<&Arc<Page>>
+        requires { (k : ℕ) × IsLeaf k self.now }
+        ensures held { IfSome result (λ page. page.now.value ≡ self.now.held) }
+        ensures kept { IfSome result (λ page. (bit : ℕ) × (bit < 64) × (has_bit self.now.kept bit ≡ true)) }
+        ensures none { IfNone result ((bit : ℕ) → bit < 64 → has_bit self.now.kept bit ≡ false) }
+    {
+        if words::first_from(self.kept, 0) == words::ROOM {
+            return None;
+        }
+        match &self.page {
+            None => None,
+            Some(page) => Some(page),
+        }
+    }
+
+    /// The least index at or after this one of a number that may start, or 64 where there is none.
+    pub(crate) fn first_start(&self, from: usize) -> usize
+        requires { from < 64 }
+        ensures bound { result ≤ 64 }
+        ensures later { from ≤ result }
+        ensures none { (i : ℕ) → from ≤ i → i < result → has_bit self.now.starting i ≡ false }
+        ensures there { result < 64 → has_bit self.now.starting result ≡ true }
+    {
+        words::first_from(self.starting, from)
     }
 
     /// The kept instances' numbers after others.

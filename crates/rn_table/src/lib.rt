@@ -5,6 +5,7 @@ mod bags;
 mod change;
 mod edits;
 mod instance;
+mod laws;
 mod leaf;
 mod nets;
 mod page;
@@ -16,5 +17,6 @@ mod tests;
 mod undo;
 
 pub use change::{Change, Nums, Row, Rows};
+pub use laws::{kept_after_removal, same_is_left, tokens_after_change};
 pub use page::Page;
 pub use table::Table;

@@ -1,5 +1,5 @@
 //! The pages of a table, and what changes them.
-ghost use Rattle.std.specs.Prelude.{◌≡◌, ◌≤◌, ◌+◌, ℕ, [], ◌∷◌, ◌++◌, length, map, take, OnOk};
+ghost use Rattle.std.specs.Prelude.{◌≡◌, ◌<◌, ◌≤◌, ◌+◌, ◌*◌, ◌^◌, ℕ, [], ◌∷◌, ◌++◌, length, map, take, find, nat_le, OnOk};
 ghost use Rattle.std.specs.List.{AllByRecursion};
 ghost use Rattle.rn_model.specs.Markings.{fresh_instance};
 ghost use Rattle.rn_table.specs.Changes.{new_from};
@@ -10,9 +10,10 @@ ghost use Rattle.rn_table.specs.Undo.{Undoes};
 
 use crate::edits::Edit;
 use crate::instance::Inst;
-use crate::leaf::Leaf;
+use crate::leaf::{Leaf, bit};
 use crate::nets::{places_of, starts};
 use crate::undo::{Saved, save};
+use rn_bag::words;
 use rn_items::NoMemory;
 use rn_model::System;
 
@@ -21,6 +22,22 @@ pub(crate) fn leaf_of(number: u32) -> usize
     ensures { result ≡ page_of number }
 {
     (number.saturating_sub(1) / 64) as usize
+}
+
+/// The first number from this one on that may start.
+pub(crate) fn first_start(leaves: &[Leaf], from: u32) -> Option<u32>
+    requires { 64 * length leaves.now < 2 ^ 32 }
+    ensures { result ≡ find (λ n. nat_le from n) (starting_from 0 leaves.now) }
+{
+    let mut index = bit(from);
+    for at in leaf_of(from)..leaves.len() {
+        let found = leaves[at].first_start(index);
+        if found < words::ROOM {
+            return Some((64 * at + found + 1) as u32);
+        }
+        index = 0;
+    }
+    None
 }
 
 /// The last page has room for the next number from now on.

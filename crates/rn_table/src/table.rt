@@ -1,7 +1,7 @@
 //! The table of instances.
-ghost use Rattle.std.specs.Prelude.{◌≡◌, ◌++◌, map, filter, not, nat_eq, slice_get, option_and_then, IfOk, OnOk, OnErr};
+ghost use Rattle.std.specs.Prelude.{◌≡◌, ◌<◌, ◌≤◌, ◌+◌, ◌*◌, ◌↔◌, ◌++◌, ℕ, map, filter, find, not, nat_eq, nat_le, slice_get, Some, IsSome, IfSome, option_and_then, IfOk, OnOk, OnErr};
 ghost use Rattle.std.specs.Option.{option_copied};
-ghost use Rattle.rn_model.specs.Markings.{initial_marking, instance_at, net_of};
+ghost use Rattle.rn_model.specs.Markings.{Instance, IsThere, initial_marking, instance_at, net_of};
 ghost use Rattle.rn_table.specs.Changes.{MayCome, changed};
 ghost use Rattle.rn_table.specs.Leaves.{stays};
 ghost use Rattle.rn_table.specs.Tables.{IsTableOf, started};
@@ -11,7 +11,8 @@ use crate::edits::edits_of;
 use crate::instance::Inst;
 use crate::leaf::Leaf;
 use crate::nets::main_net_of;
-use crate::pages::{add_all, change_all, leaf_of};
+use crate::page::Page;
+use crate::pages::{add_all, change_all, first_start, leaf_of};
 use crate::undo::restore;
 use rn_bag::Bag;
 use rn_items::NoMemory;
@@ -109,6 +110,26 @@ impl Table {
             None => None,
             Some(inst) => inst.bag(place),
         }
+    }
+
+    /// The page in which the instances 64k + 1 to 64k + 64 stand, where one of them is kept.
+    pub fn page(&self, k: u32) -> Option<&Arc<Page>>
+        ensures some { IsSome result ↔ ((n : ℕ) × (64 * k < n) × (n ≤ 64 * k + 64) × IsThere self.now.marking n) }
+        ensures held { IfSome result (λ page. (n : ℕ) (i : Instance) → 64 * k < n → n ≤ 64 * k + 64 → instance_at self.now.marking n ≡ Some i → find (λ j. nat_eq j.number n) page.now.value ≡ Some i) }
+    {
+        let at = k as usize;
+        if at >= self.leaves.len() {
+            return None;
+        }
+        self.leaves[at].page()
+    }
+
+    /// The first of the kept instances from this number on whose net has a transition without uplink.
+    /// It looks at a word for each page, and at no instance.
+    pub fn first_starting(&self, from: u32) -> Option<u32>
+        ensures { result ≡ find (λ n. nat_le from n) self.now.starting }
+    {
+        first_start(self.leaves.as_slice(), from)
     }
 
     /// The numbers of the kept instances, ascending.

@@ -1,0 +1,17 @@
+//! Laws over changed tables, each the contract of a function that does nothing.
+ghost use Rattle.rn_table.specs.Laws.{KeptAfterRemoval, SameIsLeft, TokensAfterChange};
+
+/// What a place holds after a change.
+pub fn tokens_after_change()
+    ensures { TokensAfterChange }
+{}
+
+/// Where a change puts back what it takes, the place stays.
+pub fn same_is_left()
+    ensures { SameIsLeft }
+{}
+
+/// What is kept after a removal.
+pub fn kept_after_removal()
+    ensures { KeptAfterRemoval }
+{}
