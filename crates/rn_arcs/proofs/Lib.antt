@@ -8,5 +8,6 @@ pub mod NodeLookups
 pub mod PlaceOrder
 pub mod PlacesInOrder
 pub mod RisingPlaces
+pub mod RowLemmas
 pub mod SortedLists
 pub mod TokenLemmas

@@ -3,3 +3,4 @@ pub mod Demanded
 pub mod Groups
 pub mod Meeting
 pub mod Places
+pub mod Rows

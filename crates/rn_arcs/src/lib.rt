@@ -10,7 +10,9 @@ mod fitting;
 mod grouping;
 mod holding;
 mod node_values;
+mod rows;
 
 pub use demands::{Demands, Place2, Places2};
 pub use fitting::fits;
 pub use holding::{held, is_held, left};
+pub use rows::demands_of;

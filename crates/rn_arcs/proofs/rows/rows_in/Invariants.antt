@@ -1,0 +1,5 @@
+use Rattle.rn_arcs.proofs.RowLemmas.{AreRowsOf}
+use Rattle.rn_arcs.proofs.rows.rows_in.Given as goal
+
+abbrev pub invariant-loop-asked : goal.invariant-loop-asked
+invariant-loop-asked l = AreRowsOf l.yielded l.demands
