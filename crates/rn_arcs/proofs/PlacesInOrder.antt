@@ -1,6 +1,6 @@
 -- The sorted places have a binding's demands.
 use Rattle.std.proofs.Common.{◌≡◌, ℕ, Bool, true, false, cond, List, [], ◌∷◌, ◌++◌, map}
-use Rattle.std.proofs.Common.{refl, sym, ap, ◌∙◌, inl, inr}
+use Rattle.std.proofs.Common.{refl, sym, ap, ◌∙◌, subst, inl, inr}
 use Rattle.std.specs.Prelude.{◌⊎◌, All, filter}
 use Rattle.std.specs.List.{flat_map, AllByRecursion}
 use Rattle.std.specs.List.Sorted.{IsSorted, IsSortedByKey}
@@ -71,62 +71,32 @@ module _ {A : Type 0} (select : Asked → List A) (change : List A → List A)
   ordered_asks gs r k =
       ap (flat_map select) (those_mapped k gs) ∙ by_places k gs (one_at k gs r)
 
--- only outputs put
-no_wish : (P : Type 0) → true ≡ false → P
-no_wish P e = cc
+-- only outputs are left out, and these take, test, inhibit and clear nothing
+unwanted : (kind : ArcKind) → is_wanted false kind ≡ false →
+    (kind ≡ Output) ⊎ (kind ≡ FlexOutput)
+unwanted Output e = inl refl
+unwanted FlexOutput e = inr refl
+unwanted Input e = cc
+unwanted Test e = cc
+unwanted Reserve e = cc
+unwanted FlexInput e = cc
+unwanted Inhibit e = cc
+unwanted Clear e = cc
 
-takes_wanted : (outputs : Bool) (kind : ArcKind) (v : Value) →
-    is_wanted outputs kind ≡ false → takes kind v ≡ []
-takes_wanted true kind v e = no_wish _ e
-takes_wanted false Input v e = no_wish _ e
-takes_wanted false Reserve v e = no_wish _ e
-takes_wanted false FlexInput v e = no_wish _ e
-takes_wanted false Output v e = refl
-takes_wanted false FlexOutput v e = refl
-takes_wanted false Test v e = refl
-takes_wanted false Inhibit v e = refl
-takes_wanted false Clear v e = refl
-
-tests_wanted : (outputs : Bool) (kind : ArcKind) (v : Value) →
-    is_wanted outputs kind ≡ false → tests kind v ≡ []
-tests_wanted true kind v e = no_wish _ e
-tests_wanted false Test v e = no_wish _ e
-tests_wanted false Input v e = refl
-tests_wanted false Reserve v e = refl
-tests_wanted false FlexInput v e = refl
-tests_wanted false Output v e = refl
-tests_wanted false FlexOutput v e = refl
-tests_wanted false Inhibit v e = refl
-tests_wanted false Clear v e = refl
-
-inhibits_wanted : (outputs : Bool) (kind : ArcKind) (v : Value) →
-    is_wanted outputs kind ≡ false → inhibits kind v ≡ []
-inhibits_wanted true kind v e = no_wish _ e
-inhibits_wanted false Inhibit v e = no_wish _ e
-inhibits_wanted false Input v e = refl
-inhibits_wanted false Reserve v e = refl
-inhibits_wanted false FlexInput v e = refl
-inhibits_wanted false Output v e = refl
-inhibits_wanted false FlexOutput v e = refl
-inhibits_wanted false Test v e = refl
-inhibits_wanted false Clear v e = refl
-
-clears_wanted : (outputs : Bool) (kind : ArcKind) (v : Value) →
-    is_wanted outputs kind ≡ false → clears kind v ≡ []
-clears_wanted true kind v e = no_wish _ e
-clears_wanted false Clear v e = no_wish _ e
-clears_wanted false Input v e = refl
-clears_wanted false Reserve v e = refl
-clears_wanted false FlexInput v e = refl
-clears_wanted false Output v e = refl
-clears_wanted false FlexOutput v e = refl
-clears_wanted false Test v e = refl
-clears_wanted false Inhibit v e = refl
+pick_wanted : {A : Type 0} (pick : ArcKind → Value → List A) → ((v : Value) → pick Output v ≡ []) →
+    ((v : Value) → pick FlexOutput v ≡ []) → (outputs : Bool) (kind : ArcKind) (v : Value) →
+    is_wanted outputs kind ≡ false → pick kind v ≡ []
+pick_wanted pick out flexout true kind v e = cc
+pick_wanted pick out flexout false kind v e =
+    elim (unwanted kind e) as (λ _. pick kind v ≡ []) [
+      | inl is ↦ subst (λ k. pick k v ≡ []) (sym is) (out v)
+      | inr is ↦ subst (λ k. pick k v ≡ []) (sym is) (flexout v)
+    ]
 
 puts_wanted : (outputs : Bool) → outputs ≡ true → (kind : ArcKind) (v : Value) →
     is_wanted outputs kind ≡ false → puts kind v ≡ []
-puts_wanted true are kind v e = no_wish _ e
-puts_wanted false are kind v e = no_wish _ (sym are)
+puts_wanted true are kind v e = cc
+puts_wanted false are kind v e = cc
 
 module _ (outputs : Bool) (system : System) (b : Binding) (sorted : List Ask)
     (up : IsSortedByKey spot_of place_cmp sorted)
@@ -157,13 +127,13 @@ module _ (outputs : Bool) (system : System) (b : Binding) (sorted : List Ask)
   are_asked = record {
     rises = rises_mapped (groups_of sorted) (groups-rise sorted up);
     taken = in_order_are (λ g. g.taken) takes (λ k. refl) (λ kind v g. refl)
-        (takes_wanted outputs) ordered_values refl (λ g. refl);
+        (pick_wanted takes (λ v. refl) (λ v. refl) outputs) ordered_values refl (λ g. refl);
     tested = in_order_are (λ g. g.tested) tests (λ k. refl) (λ kind v g. refl)
-        (tests_wanted outputs) ordered_values refl (λ g. refl);
+        (pick_wanted tests (λ v. refl) (λ v. refl) outputs) ordered_values refl (λ g. refl);
     inhibited = in_order_are (λ g. g.inhibited) inhibits (λ k. refl) (λ kind v g. refl)
-        (inhibits_wanted outputs) ordered_values refl (λ g. refl);
+        (pick_wanted inhibits (λ v. refl) (λ v. refl) outputs) ordered_values refl (λ g. refl);
     cleared = in_order_are (λ g. g.cleared) clears (λ k. refl) (λ kind v g. refl)
-        (clears_wanted outputs) (λ xs. xs) refl (λ g. refl);
+        (pick_wanted clears (λ v. refl) (λ v. refl) outputs) (λ xs. xs) refl (λ g. refl);
     put = λ are. in_order_are (λ g. g.put) puts (λ k. refl) (λ kind v g. refl)
         (puts_wanted outputs are) ordered_values refl (λ g. refl);
   }

@@ -33,7 +33,8 @@ pub(crate) fn compare_places(inst: &InstRef, place: u32, other: &InstRef, number
 /// Sorts by place. What asks of one place stays in order.
 pub(crate) fn sort_asks(asks: &mut Vec<Ask>) -> Result<(), NoMemory>
     ensures sorted { OnOk result (IsSortedByKey spot_of place_cmp asks.new.items) }
-    ensures stable { (k : Spot) → filter (λ a. is_at k (spot_of a)) asks.new.items ≡ filter (λ a. is_at k (spot_of a)) asks.old.items }
+    ensures stable { (k : Spot) → filter (λ a. is_at k (spot_of a)) asks.new.items
+        ≡ filter (λ a. is_at k (spot_of a)) asks.old.items }
 {
     asks.sort_by(|a, b| compare_places(&a.inst, a.place, &b.inst, b.place))?;
     Ok(())

@@ -21,7 +21,8 @@ fn is_output(kind: ArcKind) -> bool
 
 /// The transition that occurs in a node, where the system has it.
 fn find_transition<'a>(system: &'a System, node: &Node) -> Option<&'a Transition>
-    ensures { MatchOption result (transition_of system.now node.now ≡ empty_transition) (λ t. t.now ≡ transition_of system.now node.now) }
+    ensures { MatchOption result (transition_of system.now node.now ≡ empty_transition)
+        (λ t. t.now ≡ transition_of system.now node.now) }
 {
     let net = system.nets.get(node.net as usize)?;
     net.transitions.get(node.transition as usize)
@@ -37,7 +38,8 @@ fn add_ask<V: Values>(
     outputs: bool,
 ) -> Result<(), NoMemory>
     requires step { (V.env values.now).step ≡ None }
-    ensures ok { OnOk result (asks.new.items ≡ asks.old.items ++ arc_asks outputs (V.env values.now) inst.now arc.now) }
+    ensures ok { OnOk result (asks.new.items
+        ≡ asks.old.items ++ arc_asks outputs (V.env values.now) inst.now arc.now) }
 {
     if !outputs && is_output(arc.kind) {
         return Ok(());
@@ -61,7 +63,8 @@ fn add_node(
     node: &Node,
     outputs: bool,
 ) -> Result<(), NoMemory>
-    ensures ok { OnOk result (asks.new.items ≡ asks.old.items ++ node_asks outputs system.now node.now) }
+    ensures ok { OnOk result
+        (asks.new.items ≡ asks.old.items ++ node_asks outputs system.now node.now) }
 {
     let Some(transition) = find_transition(system, node) else {
         return Ok(());

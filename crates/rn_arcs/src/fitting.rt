@@ -21,7 +21,8 @@ use std::alloc::Global;
 
 /// Whether the existing instance on which a node stands is there with the node's net.
 fn is_there(table: &Table, node: &Node) -> bool
-    ensures { IsTrue result ↔ ((n : ℕ) → node.now.inst ≡ Old n → net_of table.now.marking n ≡ Some node.now.net) }
+    ensures { IsTrue result
+        ↔ ((n : ℕ) → node.now.inst ≡ Old n → net_of table.now.marking n ≡ Some node.now.net) }
 {
     match &node.inst {
         InstRef::Old(number) => match table.net_of(*number) {
@@ -33,7 +34,9 @@ fn is_there(table: &Table, node: &Node) -> bool
 }
 
 fn are_there(table: &Table, nodes: &[Node]) -> bool
-    ensures { IsTrue result ↔ All (λ node. (n : ℕ) → node.inst ≡ Old n → net_of table.now.marking n ≡ Some node.net) nodes.now }
+    ensures { IsTrue result
+        ↔ All (λ node. (n : ℕ) → node.inst ≡ Old n → net_of table.now.marking n ≡ Some node.net)
+        nodes.now }
 {
     for node in nodes {
         if !is_there(table, node) {
@@ -58,7 +61,8 @@ fn are_absent(bag: Option<&Bag>, inhibited: &[Value]) -> bool
 /// Whether each of these is there more often than it is taken.
 fn are_left(bag: Option<&Bag>, taken: &[Value], tested: &[Value]) -> bool
     requires { IsSorted value_cmp taken.now }
-    ensures { IsTrue result ↔ AreLeft (unwrap_or (option_copied bag.entry) []) taken.now tested.now }
+    ensures { IsTrue result
+        ↔ AreLeft (unwrap_or (option_copied bag.entry) []) taken.now tested.now }
 {
     for value in tested {
         if count_in(bag, value) <= count_among(taken, value) {
@@ -70,7 +74,8 @@ fn are_left(bag: Option<&Bag>, taken: &[Value], tested: &[Value]) -> bool
 
 /// Whether nothing is cleared, or one arc clears just what is there and nothing is taken.
 fn is_whole(bag: Option<&Bag>, cleared: &[Vals], taken: &[Value]) -> bool
-    ensures { IsTrue result ↔ IsWhole (unwrap_or (option_copied bag.entry) []) cleared.now taken.now }
+    ensures { IsTrue result
+        ↔ IsWhole (unwrap_or (option_copied bag.entry) []) cleared.now taken.now }
 {
     match cleared {
         [] => true,
@@ -89,7 +94,8 @@ fn is_apart(asked: &Asked) -> bool
 /// Whether a place of the table meets what is asked of it.
 fn place_fits(table: &Table, asked: &Asked) -> bool
     requires { IsSorted value_cmp asked.now.taken }
-    ensures { IsTrue result ↔ Meets (tokens table.now.marking asked.now.inst asked.now.place) asked.now }
+    ensures { IsTrue result
+        ↔ Meets (tokens table.now.marking asked.now.inst asked.now.place) asked.now }
 {
     let bag = bag_at(table, &asked.inst, asked.place);
     let taken = asked.taken.as_slice();
@@ -110,7 +116,8 @@ fn place_fits(table: &Table, asked: &Asked) -> bool
 
 fn all_fit(table: &Table, places: &[Asked]) -> bool
     requires { All (λ g. IsSorted value_cmp g.taken) places.now }
-    ensures { IsTrue result ↔ All (λ g. Meets (tokens table.now.marking g.inst g.place) g) places.now }
+    ensures { IsTrue result
+        ↔ All (λ g. Meets (tokens table.now.marking g.inst g.place) g) places.now }
 {
     for asked in places {
         if !place_fits(table, asked) {
@@ -120,8 +127,8 @@ fn all_fit(table: &Table, places: &[Asked]) -> bool
     true
 }
 
-/// Whether the table meets what the arcs of a binding ask together: its existing instances are there
-/// with their nets; what is taken is there, with repeats; each tested token remains after all that
+/// Whether the table meets what the arcs of a binding ask together: its existing instances are
+/// there with their nets; what is taken is there, with repeats; each tested token remains after all that
 /// is taken and cleared; no inhibited token is there; and a cleared place has one clear arc, whose
 /// list is that of all its tokens, with nothing else taken. An instance that the binding makes holds
 /// nothing yet.
@@ -133,7 +140,8 @@ pub fn fits(
     table: &Table,
     binding: &Binding,
 ) -> Result<bool, NoMemory>
-    ensures exact { IfOk result (λ yes. IsTrue yes ↔ Fits system.now table.now.marking binding.now) }
+    ensures exact { IfOk result
+        (λ yes. IsTrue yes ↔ Fits system.now table.now.marking binding.now) }
 {
     if !are_there(table, binding.nodes.as_slice()) {
         return Ok(false);

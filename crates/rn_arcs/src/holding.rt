@@ -1,5 +1,6 @@
 //! What a table holds at a place of an instance, without a copy of any bag.
-ghost use Rattle.std.specs.Prelude.{◌≡◌, ◌<◌, ◌≤◌, ◌-◌, ◌↔◌, [], length, take, IsTrue, Contains, unwrap_or};
+ghost use Rattle.std.specs.Prelude.{◌≡◌, ◌<◌, ◌≤◌, ◌-◌, ◌↔◌};
+ghost use Rattle.std.specs.Prelude.{[], length, take, IsTrue, Contains, unwrap_or};
 ghost use Rattle.std.specs.List.Sorted.{IsSorted};
 ghost use Rattle.std.specs.Option.{option_copied};
 ghost use Rattle.rn_value.specs.Order.{value_cmp};
@@ -28,7 +29,8 @@ pub fn is_held(table: &Table, inst: &InstRef, place: u32, value: &Value) -> bool
 /// How often a value is at a place of an instance, less how often it is among these, and 0 where it
 /// is among these more often. It looks at each of these once, and takes no memory.
 pub fn left(table: &Table, inst: &InstRef, place: u32, value: &Value, taken: &[Value]) -> u64
-    ensures { result ≡ count_of value.now (tokens table.now.marking inst.now place) - count_of value.now taken.now }
+    ensures { result ≡ count_of value.now (tokens table.now.marking inst.now place)
+        - count_of value.now taken.now }
 {
     let mut left = held(table, inst, place, value);
     for other in taken {

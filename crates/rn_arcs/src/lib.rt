@@ -11,6 +11,8 @@ mod grouping;
 mod holding;
 mod node_values;
 mod rows;
+#[cfg(test)]
+mod tests;
 
 pub use demands::{Demands, Place2, Places2};
 pub use fitting::fits;

@@ -15,7 +15,11 @@ pub(crate) struct NodeValues<'a> {
 impl Values for NodeValues<'_> {
     ghost use Rattle.std.specs.Prelude.{None, zip};
 
-    ghost env = { λ s. record { this = s.node.now.inst; step = None; pairs = zip s.vars.now s.node.now.values } };
+    ghost env = { λ s. record {
+      this = s.node.now.inst;
+      step = None;
+      pairs = zip s.vars.now s.node.now.values;
+    } };
 
     fn this(&self) -> &InstRef {
         &self.node.inst

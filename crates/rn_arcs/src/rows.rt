@@ -1,7 +1,8 @@
 //! The demands of a binding, as rows.
 ghost use Rattle.std.specs.Prelude.{◌≡◌, ◌++◌, IfOk, OnOk, flat_map};
 ghost use Rattle.rn_arcs.specs.Demanded.{AreDemandsOf, one_row};
-ghost use Rattle.rn_arcs.specs.Rows.{rows_of, taken_rows, tested_rows, inhibited_rows, cleared_rows, put_rows};
+ghost use Rattle.rn_arcs.specs.Rows.{rows_of, taken_rows, tested_rows, inhibited_rows};
+ghost use Rattle.rn_arcs.specs.Rows.{cleared_rows, put_rows};
 
 use crate::asked::Asked;
 use crate::demands::{Demands, Place2, Places2};
@@ -46,8 +47,10 @@ fn rows_in(alloc: Global, places: Vec<Asked>) -> Result<Demands, NoMemory>
 fn add_place(alloc: Global, demands: &mut Demands, asked: Asked) -> Result<(), NoMemory>
     ensures taken { OnOk result (demands.new.taken ≡ demands.old.taken ++ taken_rows asked) }
     ensures tested { OnOk result (demands.new.tested ≡ demands.old.tested ++ tested_rows asked) }
-    ensures inhibited { OnOk result (demands.new.inhibited ≡ demands.old.inhibited ++ inhibited_rows asked) }
-    ensures cleared { OnOk result (demands.new.cleared ≡ demands.old.cleared ++ cleared_rows asked) }
+    ensures inhibited { OnOk result
+        (demands.new.inhibited ≡ demands.old.inhibited ++ inhibited_rows asked) }
+    ensures cleared { OnOk result
+        (demands.new.cleared ≡ demands.old.cleared ++ cleared_rows asked) }
     ensures put { OnOk result (demands.new.put ≡ demands.old.put ++ put_rows asked) }
 {
     let Asked {

@@ -1,4 +1,5 @@
-use Rattle.std.proofs.Common.{◌≡◌, ◌-◌, ◌+◌, ◌∷◌, [], ◌++◌, ◌∙◌, ap, sym, arith, length, true, false, rules}
+use Rattle.std.proofs.Common.{◌≡◌, ◌-◌, ◌+◌, ◌∷◌, [], ◌++◌, ◌∙◌, ap, arith, length}
+use Rattle.std.proofs.Common.{true, false, rules}
 use Rattle.rn_arcs.specs.Asks.{spot_of}
 use Rattle.rn_arcs.specs.Groups.{place_of, first_of, with_arc, with_ask}
 use Rattle.rn_arcs.specs.Places.{is_at}
