@@ -1,0 +1,9 @@
+pub mod Beginnings
+pub mod Digits
+pub mod Inside
+pub mod InstanceReading
+pub mod NumeralReading
+pub mod Prefixes
+pub mod Rows
+pub mod ValueReading
+pub mod WrittenValues

@@ -1,0 +1,128 @@
+//! Values at the start of bytes, by rows worked out from the grammar.
+use crate::{Unread, read_value, value_laws};
+use rn_value::{Names, NoMemory, Str, write_value};
+use std::alloc::Global;
+use std::test::Fail;
+
+// How many bytes are left after the value at the start, if there is one.
+fn left(alloc: Global, row: &str) -> Result<Option<usize>, NoMemory> {
+    match read_value(alloc, row.as_bytes()) {
+        Ok(read) => Ok(Some(read.rest.len())),
+        Err(Unread::NotThere) => Ok(None),
+        Err(Unread::NoMemory) => Err(NoMemory),
+    }
+}
+
+#[test]
+fn there(rt: HostRuntime) -> Result<(), Fail> {
+    let rows = [
+        ("0", 0),
+        ("-1 x", 2),
+        ("9223372036854775807,", 1),
+        ("-9223372036854775808\n", 1),
+        ("\"\"", 0),
+        ("\"a\\\"\\\\\\n\\t é\" ", 1),
+        ("[]", 0),
+        ("{}]", 1),
+        ("[-5,\"a\",{},worker[2]]}", 1),
+        ("{1,\"a\"}", 0),
+        ("main[4294967295]", 0),
+    ];
+    for (row, rest) in rows {
+        assert_eq!(rt; left(rt.alloc(), row)?, Some(rest), "{row}");
+    }
+    Ok(())
+}
+
+#[test]
+fn not_there(rt: HostRuntime) -> Result<(), Fail> {
+    let rows = [
+        "",
+        " 1",
+        "01",
+        "-0",
+        "+1",
+        "9223372036854775808",
+        "-9223372036854775809",
+        "1x",
+        "\"a",
+        "\"\t\"",
+        "\"\n\"",
+        "\"\\r\"",
+        "[1, 2]",
+        "[1,]",
+        "[1",
+        "[1}",
+        "worker",
+        "worker[0]",
+        "worker[02]",
+        "worker[4294967296]",
+        "net[1]",
+        "_a[1]",
+    ];
+    for row in rows {
+        assert_eq!(rt; left(rt.alloc(), row)?, None, "{row}");
+    }
+    Ok(())
+}
+
+// As many opening brackets as this, and as many closing ones.
+fn nested(alloc: Global, depth: usize) -> Result<String, NoMemory> {
+    let mut row = String::new(alloc);
+    for _ in 0..depth {
+        row.push('[')?;
+    }
+    for _ in 0..depth {
+        row.push(']')?;
+    }
+    Ok(row)
+}
+
+#[test]
+fn brackets(rt: HostRuntime) -> Result<(), Fail> {
+    let most = nested(rt.alloc(), 128)?;
+    let more = nested(rt.alloc(), 129)?;
+    assert_eq!(rt; left(rt.alloc(), most.as_str())?, Some(0));
+    assert_eq!(rt; left(rt.alloc(), more.as_str())?, None);
+    Ok(())
+}
+
+// The text of the value at the start, by names of two instances.
+fn again(alloc: Global, row: &str) -> Result<Vec<u8>, Unread> {
+    let mut names = Names::new(alloc);
+    for name in ["main", "worker"] {
+        let name = Str::from_string(String::from_str(alloc, name)?);
+        if names.push(alloc, &name).is_err() {
+            return Err(Unread::NoMemory);
+        }
+    }
+    let read = read_value(alloc, row.as_bytes())?;
+    let mut text = Vec::new(alloc);
+    if rn_value::are_named(&read.value, &names)
+        && write_value(alloc, &read.value, &names, &mut text).is_err()
+    {
+        return Err(Unread::NoMemory);
+    }
+    Ok(text)
+}
+
+#[test]
+fn written_again(rt: HostRuntime) -> Result<(), Fail> {
+    for row in ["-5", "\"a\\n\"", "{[],main[1],[0,{7}],worker[2]}"] {
+        let text = again(rt.alloc(), row)?;
+        assert_eq!(rt; text.as_slice(), row.as_bytes(), "{row}");
+    }
+    value_laws();
+    Ok(())
+}
+
+#[test]
+fn mentions(rt: HostRuntime) -> Result<(), Fail> {
+    let read = read_value(rt.alloc(), b"{worker[2],[main[1]]} ")?;
+    let mut numbers = Vec::new(rt.alloc());
+    for mention in &read.mentions {
+        numbers.push((mention.name.len(), mention.number))?;
+    }
+    assert_eq!(rt; numbers.as_slice(), [(6, 2), (4, 1)].as_slice());
+    Ok(())
+}
