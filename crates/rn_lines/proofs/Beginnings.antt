@@ -1,47 +1,74 @@
 -- What stands at the start of bytes, by what is read there.
-use Rattle.std.proofs.Common.{◌≡◌, ℕ, List, [], refl, sym, ap, ◌∙◌, subst}
-use Rattle.std.specs.Prelude.{Option, Some, None}
-use Rattle.std.proofs.lemmas.Option.{same_Some, none-some}
+use Rattle.std.proofs.Common.{◌≡◌, ℕ, List, [], ◌∷◌, true, false, cond, refl, sym, ap, ◌∙◌, subst}
+use Rattle.std.specs.Prelude.{Option, Some, None, IfOk, Result, Ok, Err}
+use Rattle.std.proofs.lemmas.Option.{cond_some}
 use Rattle.rn_value.specs.TextLaws.{IsDelimited}
 use Rattle.rn_value.specs.declared.value.Value.{Value}
-use Rattle.rn_lines.specs.ValueText.{Said, Seen, Begins}
+use Rattle.rn_lines.specs.ValueText.{Said, Seen, Begins, most_brackets}
 use Rattle.rn_lines.specs.declared.unread.Unread.{Unread}
 use Rattle.rn_lines.specs.declared.unread.Unread.TheVariants as unread
-use Rattle.rn_lines.specs.Reading.{Misses, after, value_at}
+use Rattle.rn_lines.specs.Reading.{◌>>=◌, Misses, Gives, after, value_at, is_delimited, seen_at}
+use Rattle.rn_lines.proofs.NumeralReading.{bind_some}
 use Rattle.rn_lines.proofs.ValueReading.{Read, value_reads, value_read}
+
+delimited_test : (bytes : List ℕ) → IsDelimited bytes → is_delimited bytes ≡ true
+delimited_test [] d = refl
+delimited_test (c ∷ bytes) d = d
+
+delimited_by : (bytes : List ℕ) → is_delimited bytes ≡ true → IsDelimited bytes
+delimited_by [] e = tt
+delimited_by (c ∷ bytes) e = e
 
 seen_as : Read → Seen
 seen_as x = record { value = x.0; named = x.1; rest = x.2 }
 
-after_nothing : (o : Option Read) → after [] o ≡ o
+abbrev ended : Read → Option Seen
+ended x = cond (is_delimited x.2) (Some (record { value = x.0; named = x.1; rest = x.2 })) None
+
+-- what stands there is read
+pub seen_reads : (bytes : List ℕ) (s : Seen) → Begins most_brackets bytes s → seen_at bytes ≡ Some s
+seen_reads bytes s b =
+    ap (λ o. o >>= ended) (ap (value_at most_brackets) b.whole ∙ value_reads b.stands s.rest b.delimited)
+    ∙ ap (λ t. cond t (Some s) None) (delimited_test s.rest b.delimited)
+
+-- what is read stands there
+pub seen_read : (bytes : List ℕ) (s : Seen) → seen_at bytes ≡ Some s → Begins most_brackets bytes s
+seen_read bytes s e =
+    let x = bind_some (value_at most_brackets bytes) ended s e in
+    let here = value_read most_brackets bytes x.0 x.1 in
+    let tests = cond_some (is_delimited x.0.2) (record { value = x.0.0; named = x.0.1; rest = x.0.2 }) s x.2 in
+    subst (Begins most_brackets bytes) tests.1 (record { text = here.text; whole = here.whole; stands = here.stands; delimited = delimited_by x.0.2 tests.0 })
+
+-- with nothing said before it, a value is as it was read
+pub after_nothing : (o : Option Read) → after [] o ≡ o
 after_nothing None = refl
 after_nothing (Some x) = refl
 
--- what stands there is read
-begins_reads : (depth : ℕ) (bytes : List ℕ) (s : Seen) → Begins depth bytes s → after [] (value_at depth bytes) ≡ Some (s.value, s.named, s.rest)
-begins_reads depth bytes s b =
-    after_nothing (value_at depth bytes) ∙ ap (value_at depth) b.whole ∙ value_reads b.stands s.rest b.delimited
+pub value_missed : (error : Unread) (said : List Said) (bytes : List ℕ) → said ≡ [] → Misses error (after said (value_at most_brackets bytes)) → Misses error (seen_at bytes)
+value_missed unread.NoMemory said bytes none e = tt
+value_missed unread.NotThere said bytes none e =
+    ap (λ o. o >>= ended) (sym (after_nothing (value_at most_brackets bytes)) ∙ ap (λ said. after said (value_at most_brackets bytes)) (sym none) ∙ e)
 
-pub found_begins : (depth : ℕ) (bytes : List ℕ) (v : Value) (named : List Said) (rest : List ℕ) → after [] (value_at depth bytes) ≡ Some (v, named, rest) → IsDelimited rest →
-    Begins depth bytes (record { value = v; named = named; rest = rest })
-found_begins depth bytes v named rest e d =
-    let here = value_read depth bytes (v, named, rest) (sym (after_nothing (value_at depth bytes)) ∙ e) in
-    record { text = here.text; whole = here.whole; stands = here.stands; delimited = d }
+value_found : (said : List Said) (bytes : List ℕ) (x : Read) → said ≡ [] → after said (value_at most_brackets bytes) ≡ Some x → seen_at bytes ≡ ended x
+value_found said bytes x none e =
+    ap (λ o. o >>= ended) (sym (after_nothing (value_at most_brackets bytes)) ∙ ap (λ said. after said (value_at most_brackets bytes)) (sym none) ∙ e)
 
--- and is the only thing there
-pub only_found : (depth : ℕ) (bytes : List ℕ) (v : Value) (named : List Said) (rest : List ℕ) → after [] (value_at depth bytes) ≡ Some (v, named, rest) → (s : Seen) → Begins depth bytes s →
-    Some s ≡ Some (record { value = v; named = named; rest = rest })
+pub value_ended : (said : List Said) (bytes : List ℕ) (v : Value) (named : List Said) (rest : List ℕ) → said ≡ [] → after said (value_at most_brackets bytes) ≡ Some (v, named, rest) → is_delimited rest ≡ true →
+    seen_at bytes ≡ Some (record { value = v; named = named; rest = rest })
+value_ended said bytes v named rest none e ends =
+    value_found said bytes (v, named, rest) none e ∙ ap (λ t. cond t (Some (record { value = v; named = named; rest = rest })) None) ends
+
+pub value_runs_on : (said : List Said) (bytes : List ℕ) (v : Value) (named : List Said) (rest : List ℕ) → said ≡ [] → after said (value_at most_brackets bytes) ≡ Some (v, named, rest) → is_delimited rest ≡ false →
+    seen_at bytes ≡ None
 unfolding seen_as
-only_found depth bytes v named rest e s b =
-    ap (λ x. Some (seen_as x)) (same_Some (s.value, s.named, s.rest) (v, named, rest) (sym (begins_reads depth bytes s b) ∙ e))
+value_runs_on said bytes v named rest none e goes_on =
+    let x : Read = (v, named, rest) in
+    value_found said bytes x none e ∙ ap (λ t. cond t (Some (seen_as x)) None) goes_on
 
-pub only_missed : (error : Unread) (depth : ℕ) (bytes : List ℕ) → Misses error (after [] (value_at depth bytes)) → (s : Seen) → Begins depth bytes s → Misses error (Some s)
-only_missed unread.NoMemory depth bytes none s b = tt
-only_missed unread.NotThere depth bytes none s b =
-    absurd (none-some {A = Read} (s.value, s.named, s.rest) (sym none ∙ begins_reads depth bytes s b))
+-- The two clauses of a reader, by its exact answer.
+pub what_is_found : {X Y : Type 0} (view : X → Y) (r : Result X Unread) (read : Option Y) (P : Y → Type 0) → Gives view r read → ((y : Y) → read ≡ Some y → P y) → IfOk r (λ x. P (view x))
+what_is_found view (Ok x) read P gives sound = sound (view x) gives
+what_is_found view (Err e) read P gives sound = tt
 
-pub only_delimited : (depth : ℕ) (bytes : List ℕ) (v : Value) (named : List Said) (rest : List ℕ) → after [] (value_at depth bytes) ≡ Some (v, named, rest) → ¬ (IsDelimited rest) → (s : Seen) → Begins depth bytes s →
-    Some s ≡ None
-only_delimited depth bytes v named rest e loose s b =
-    let same = same_Some (s.value, s.named, s.rest) (v, named, rest) (sym (begins_reads depth bytes s b) ∙ e) in
-    absurd (loose (subst IsDelimited (ap (λ x. x.2) same) b.delimited))
+pub what_is_there : {X Y : Type 0} (view : X → Y) (r : Result X Unread) (read : Option Y) (y : Y) → Gives view r read → read ≡ Some y → Gives view r (Some y)
+what_is_there view r read y gives e = subst (Gives view r) e gives

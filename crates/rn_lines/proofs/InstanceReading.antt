@@ -3,14 +3,15 @@ use Rattle.std.proofs.Common.{◌≡◌, ◌<◌, ◌≤◌, ◌^◌, ℕ, List,
 use Rattle.std.specs.Prelude.{Option, Some, None}
 use Rattle.std.specs.List.{list_all, prefix_len}
 use Rattle.std.proofs.lemmas.List.{take-append-drop}
-use Rattle.std.proofs.lemmas.Option.{same_Some}
+use Rattle.std.proofs.lemmas.Option.{same_Some, cond_some}
 use borrow.Author.Tests.{ne_eqb, eq-eqb, eqb-true, eqb-false}
 use Rattle.rn_items.proofs.Bools.{and_left, and_right}
 use Rattle.rn_value.specs.Characters.{is_letter, is_name_byte}
 use Rattle.rn_value.specs.Words.{begins_with, is_identifier, is_reserved, is_name, IsName}
 use Rattle.rn_value.specs.Grammar.{IsNumeral}
+use Rattle.rn_value.proofs.Spans.{Stops}
 use Rattle.rn_lines.specs.ValueText.{Said}
-use Rattle.rn_lines.specs.Reading.{◌>>=◌, numeral_at, byte_at, bracketed_at, inst_at}
+use Rattle.rn_lines.specs.Reading.{◌>>=◌, numeral_at, byte_at, bracketed_at, name_at, inst_at}
 use Rattle.rn_lines.proofs.Prefixes.{prefix_is}
 use Rattle.rn_lines.proofs.NumeralReading.{bind_some, numeral_reads, NumeralAt, numeral_read}
 
@@ -40,19 +41,39 @@ unfolding closed
 bracketed_reads {n} {digits} p low high rest =
     ap (λ o. o >>= closed) (numeral_reads p 4294967295 (93 ∷ rest) (omega arith) refl) ∙ closed_reads n rest low
 
+pub name_reads : (name rest : List ℕ) → IsName name → Stops is_name_byte rest → name_at (name ++ rest) ≡ Some (name, rest)
+name_reads name rest is stops =
+    let identifier : is_identifier name ≡ true = and_left (is_identifier name) (not (is_reserved name)) is in
+    let bytes_are : list_all is_name_byte name ≡ true = and_right (begins_with is_letter name) (list_all is_name_byte name) identifier in
+    let parts = prefix_is is_name_byte name rest bytes_are stops in
+    let named : List ℕ → List ℕ → Option (List ℕ × List ℕ) = λ a b. cond (is_name a) (Some (a, b)) None in
+    let read : List ℕ × List ℕ = (name, rest) in
+    (λ i. named (parts.0 i) (parts.1 i)) ∙ ap (λ t. cond t (Some read) None) is
+
+pub name_read : (bytes : List ℕ) (x : List ℕ × List ℕ) → name_at bytes ≡ Some x → (bytes ≡ x.0 ++ x.1) × IsName x.0
+name_read bytes x e =
+    let name : List ℕ = take (prefix_len is_name_byte bytes) bytes in
+    let rest : List ℕ = drop (prefix_len is_name_byte bytes) bytes in
+    let read : List ℕ × List ℕ = (name, rest) in
+    let tests = cond_some (is_name name) read x e in
+    let P : List ℕ × List ℕ → Type 0 = λ x. (bytes ≡ x.0 ++ x.1) × IsName x.0 in
+    subst P tests.1 (sym (take-append-drop (prefix_len is_name_byte bytes) bytes), tests.0)
+
+-- what is made of a name and a number
+abbrev as_said : List ℕ → ℕ × List ℕ → Option (Said × List ℕ)
+as_said name n = Some (record { name = name; number = n.0 }, n.1)
+
+abbrev after_name : List ℕ × List ℕ → Option (Said × List ℕ)
+after_name name = bracketed_at name.1 >>= as_said name.0
+
 pub inst_reads : {number : ℕ} {name digits : List ℕ} → IsName name → 1 ≤ number → number < 2 ^ 32 → IsNumeral number digits → (rest : List ℕ) →
     inst_at ((name ++ (91 ∷ digits ++ 93 ∷ [])) ++ rest) ≡ Some (record { name = name; number = number }, rest)
 inst_reads {number} {name} {digits} is low high p rest =
     let regrouped : (name ++ (91 ∷ digits ++ 93 ∷ [])) ++ rest ≡ name ++ (91 ∷ (digits ++ 93 ∷ rest)) =
     append_assoc name (91 ∷ digits ++ 93 ∷ []) rest ∙ ap (λ d. name ++ (91 ∷ d)) (append_assoc digits (93 ∷ []) rest) in
-    let identifier : is_identifier name ≡ true = and_left (is_identifier name) (not (is_reserved name)) is in
-    let bytes_are : list_all is_name_byte name ≡ true = and_right (begins_with is_letter name) (list_all is_name_byte name) identifier in
-    let parts = prefix_is is_name_byte name (91 ∷ (digits ++ 93 ∷ rest)) bytes_are refl in
-    let said : List ℕ → ℕ × List ℕ → Option (Said × List ℕ) = λ name n. Some (record { name = name; number = n.0 }, n.1) in
     ap inst_at regrouped
-    ∙ (λ i. cond (is_name (parts.0 i)) (bracketed_at (parts.1 i) >>= said (parts.0 i)) None)
-    ∙ ap (λ t. cond t (bracketed_at (91 ∷ (digits ++ 93 ∷ rest)) >>= said name) None) is
-    ∙ ap (λ o. o >>= said name) (bracketed_reads p low high rest)
+    ∙ ap (λ o. o >>= after_name) (name_reads name (91 ∷ (digits ++ 93 ∷ rest)) is refl)
+    ∙ ap (λ o. o >>= as_said name) (bracketed_reads p low high rest)
 
 -- the instance at the start
 pub record InstAt (bytes : List ℕ) (x : Said × List ℕ) : Type 0 where
@@ -91,25 +112,14 @@ bracketed_read bytes x e =
     subst (λ b. BracketedAt b x) (sym (byte_read 91 bytes first.0 first.1)) (closed_read first.0 n.0 x (numeral_read 4294967295 first.0 n.0 n.1) n.2)
 
 pub inst_read : (bytes : List ℕ) (x : Said × List ℕ) → inst_at bytes ≡ Some x → InstAt bytes x
-inst_read bytes x e = by (is_name name) refl e
-  where
-    name : List ℕ
-    name = take (prefix_len is_name_byte bytes) bytes
-
-    after : List ℕ
-    after = drop (prefix_len is_name_byte bytes) bytes
-
-    said : ℕ × List ℕ → Option (Said × List ℕ)
-    said n = Some (record { name = name; number = n.0 }, n.1)
-
-    by : (t : Bool) → is_name name ≡ t → cond t (bracketed_at after >>= said) None ≡ Some x → InstAt bytes x
-    by true is e =
-        let n = bind_some (bracketed_at after) said x e in
-        let here = bracketed_read after n.0 n.1 in
-        let whole : bytes ≡ (name ++ (91 ∷ here.digits ++ 93 ∷ [])) ++ n.0.1 =
-        sym (take-append-drop (prefix_len is_name_byte bytes) bytes)
-        ∙ ap (λ rest. name ++ rest) (here.whole ∙ ap (λ d. 91 ∷ d) (sym (append_assoc here.digits (93 ∷ []) n.0.1)))
-        ∙ sym (append_assoc name (91 ∷ here.digits ++ 93 ∷ []) n.0.1) in
-        subst (InstAt bytes) (same_Some (record { name = name; number = n.0.0 }, n.0.1) x n.2)
-        (record { digits = here.digits; whole = whole; named = is; low = here.low; high = here.high; stands = here.stands })
-    by false is e = cc
+inst_read bytes x e =
+    let name = bind_some (name_at bytes) after_name x e in
+    let n = bind_some (bracketed_at name.0.1) (as_said name.0.0) x name.2 in
+    let named = name_read bytes name.0 name.1 in
+    let here = bracketed_read name.0.1 n.0 n.1 in
+    let whole : bytes ≡ (name.0.0 ++ (91 ∷ here.digits ++ 93 ∷ [])) ++ n.0.1 =
+    named.0
+    ∙ ap (λ rest. name.0.0 ++ rest) (here.whole ∙ ap (λ d. 91 ∷ d) (sym (append_assoc here.digits (93 ∷ []) n.0.1)))
+    ∙ sym (append_assoc name.0.0 (91 ∷ here.digits ++ 93 ∷ []) n.0.1) in
+    subst (InstAt bytes) (same_Some (record { name = name.0.0; number = n.0.0 }, n.0.1) x n.2)
+    (record { digits = here.digits; whole = whole; named = named.1; low = here.low; high = here.high; stands = here.stands })

@@ -2,6 +2,7 @@ pub mod Beginnings
 pub mod Digits
 pub mod Inside
 pub mod InstanceReading
+pub mod NodeReadings
 pub mod NumeralReading
 pub mod Prefixes
 pub mod Rows

@@ -5,11 +5,12 @@ use Rattle.std.specs.Prelude.{◌≡◌, ℕ, zero, suc, ◌+◌, ◌-◌, ◌*�
 use Rattle.std.specs.List.{prefix_len}
 use Rattle.std.specs.Str.{is_utf8}
 use Rattle.rn_value.specs.Characters.{is_letter, is_digit, is_name_byte}
+use Rattle.rn_value.specs.TextLaws.{is_delimiter}
 use Rattle.rn_value.specs.Words.{is_name}
 use Rattle.rn_value.specs.declared.value.InstRef.TheVariants.{Old}
 use Rattle.rn_value.specs.declared.value.Value.{Value}
 use Rattle.rn_value.specs.declared.value.Value.TheVariants as Value
-use Rattle.rn_lines.specs.ValueText.{Said}
+use Rattle.rn_lines.specs.ValueText.{Said, Seen, most_brackets}
 use Rattle.rn_lines.specs.declared.unread.Unread.{Unread}
 use Rattle.rn_lines.specs.declared.unread.Unread.TheVariants as unread
 
@@ -105,13 +106,19 @@ bracketed_at bytes =
     numeral_at 4294967295 digits >>= λ n.
     if nat_eq n.0 0 then None else byte_at 93 n.1 >>= λ rest. Some (n.0, rest)
 
+-- a name: the longest run of letters, digits and `_`, where it is one
+abbrev pub name_at : List ℕ → Option (List ℕ × List ℕ)
+name_at bytes =
+    if is_name (take (prefix_len is_name_byte bytes) bytes)
+    then Some (take (prefix_len is_name_byte bytes) bytes, drop (prefix_len is_name_byte bytes) bytes)
+    else None
+
 -- the name of a net, and such a number
 abbrev pub inst_at : List ℕ → Option (Said × List ℕ)
 inst_at bytes =
-    if is_name (take (prefix_len is_name_byte bytes) bytes)
-    then (bracketed_at (drop (prefix_len is_name_byte bytes) bytes) >>= λ n.
-    Some (record { name = take (prefix_len is_name_byte bytes) bytes; number = n.0 }, n.1))
-    else None
+    name_at bytes >>= λ name.
+    bracketed_at name.1 >>= λ n.
+    Some (record { name = name.0; number = n.0 }, n.1)
 
 -- What follows depends on the brackets that may still open. A row is what stands between two
 -- brackets; `item` reads one value in it.
@@ -166,3 +173,14 @@ rows_at (suc depth) close bytes = row_at (value_by (rows_at depth)) close bytes
 -- a value, where this many brackets may open
 abbrev pub value_at : ℕ → List ℕ → Option (Value × List Said × List ℕ)
 value_at depth = value_by (rows_at depth)
+
+-- whether there are no bytes, or a delimiter stands first
+abbrev pub is_delimited : List ℕ → Bool
+is_delimited [] = true
+is_delimited (c ∷ bytes) = is_delimiter c
+
+-- a value before a delimiter or the end
+abbrev pub seen_at : List ℕ → Option Seen
+seen_at bytes =
+    value_at most_brackets bytes >>= λ x.
+    if is_delimited x.2 then Some (record { value = x.0; named = x.1; rest = x.2 }) else None

@@ -3,7 +3,7 @@ ghost use Rattle.std.specs.Prelude.{◌≡◌, ◌≤◌, ◌<◌, ◌^◌, opti
 ghost use Rattle.std.specs.List.{prefix_len};
 ghost use Rattle.rn_value.specs.Characters.{is_name_byte};
 ghost use Rattle.rn_value.specs.Words.{is_identifier, is_name};
-ghost use Rattle.rn_lines.specs.Reading.{Gives, byte_at, bracketed_at, inst_at};
+ghost use Rattle.rn_lines.specs.Reading.{Gives, byte_at, bracketed_at, name_at, inst_at};
 ghost use Rattle.rn_lines.specs.Said.{said};
 
 use crate::numerals::numeral_at;
@@ -51,7 +51,7 @@ fn is_identifier(word: &[u8]) -> bool
 }
 
 /// Whether bytes are a name: an identifier that is no reserved word.
-pub(crate) fn is_name(word: &[u8]) -> bool
+fn is_name(word: &[u8]) -> bool
     ensures { result ≡ is_name word.now }
 {
     is_identifier(word) && reserved_word(word).is_none()
@@ -90,14 +90,23 @@ fn bracketed_at(bytes: &[u8]) -> Result<(u32, &[u8]), Unread>
     Ok((number as u32, rest))
 }
 
+/// The name that bytes begin with, and the bytes after it.
+pub(crate) fn name_at(bytes: &[u8]) -> Result<(&[u8], &[u8]), Unread>
+    ensures { Gives (λ x. (x.0.now, x.1.now)) result (name_at bytes.now) }
+{
+    let (name, rest) = bytes.split_at(name_length(bytes));
+    if is_name(name) {
+        Ok((name, rest))
+    } else {
+        Err(Unread::NotThere)
+    }
+}
+
 /// The instance that bytes begin with, and the bytes after it.
 pub(crate) fn inst_at(bytes: &[u8]) -> Result<(Mention<'_>, &[u8]), Unread>
     ensures { Gives (λ x. (said x.0, x.1.now)) result (inst_at bytes.now) }
 {
-    let (name, rest) = bytes.split_at(name_length(bytes));
-    if !is_name(name) {
-        return Err(Unread::NotThere);
-    }
+    let (name, rest) = name_at(bytes)?;
     let (number, rest) = bracketed_at(rest)?;
     Ok((Mention { name, number }, rest))
 }

@@ -1,5 +1,5 @@
 //! Values at the start of bytes, by rows worked out from the grammar.
-use crate::{Unread, read_value, value_laws};
+use crate::{Unread, read_node, read_value, value_laws};
 use rn_value::{Names, NoMemory, Str, write_value};
 use std::alloc::Global;
 use std::test::Fail;
@@ -124,5 +124,39 @@ fn mentions(rt: HostRuntime) -> Result<(), Fail> {
         numbers.push((mention.name.len(), mention.number))?;
     }
     assert_eq!(rt; numbers.as_slice(), [(6, 2), (4, 1)].as_slice());
+    Ok(())
+}
+
+// How many variables a node has, if there is one.
+fn variables(alloc: Global, row: &str) -> Result<Option<usize>, NoMemory> {
+    match read_node(alloc, row.as_bytes()) {
+        Ok(node) => Ok(Some(node.given.len())),
+        Err(Unread::NotThere) => Ok(None),
+        Err(Unread::NoMemory) => Err(NoMemory),
+    }
+}
+
+#[test]
+fn nodes(rt: HostRuntime) -> Result<(), Fail> {
+    let rows = [
+        ("main[1].t", Some(0)),
+        ("main[1].t x=5", Some(1)),
+        ("worker[12].step k=\"a b\" w={worker[2],[]}", Some(2)),
+        ("", None),
+        ("main[1]", None),
+        ("main[1].", None),
+        ("main[1].t ", None),
+        ("main[1].t  x=5", None),
+        ("main[1].t x = 5", None),
+        ("main[1].t x=5,", None),
+        ("main[1].t x=5]", None),
+        ("main[1].place x=5", None),
+        ("main[01].t", None),
+        ("main[1].t x", None),
+        ("main[1].t 5", None),
+    ];
+    for (row, number) in rows {
+        assert_eq!(rt; variables(rt.alloc(), row)?, number, "{row}");
+    }
     Ok(())
 }

@@ -1,9 +1,9 @@
 //! Values, as records have them.
-ghost use Rattle.std.specs.Prelude.{◌≡◌, ◌↔◌, ◌-◌, ◌<◌, [], map, IsTrue, IfOk, Some};
+ghost use Rattle.std.specs.Prelude.{◌≡◌, ◌-◌, ◌<◌, [], map, IfOk, Some};
 ghost use Rattle.rn_lines.specs.Reading.{Gives, with_front, after, tail_at, rows_at, value_at};
+ghost use Rattle.rn_lines.specs.Reading.{is_delimited, seen_at};
 ghost use Rattle.rn_lines.specs.Said.{said, seen};
 ghost use Rattle.rn_lines.specs.ValueText.{Seen, Begins, most_brackets};
-ghost use Rattle.rn_value.specs.TextLaws.{IsDelimited};
 
 use crate::instances::{Mention, byte_at, bytes_after, inst_at};
 use crate::numerals::whole_at;
@@ -36,6 +36,13 @@ pub fn read_value(alloc: Global, bytes: &[u8]) -> Result<ReadValue<'_>, Unread>
     ensures found { IfOk result (λ r. Begins most_brackets bytes.now (seen r)) }
     ensures only { (x : Seen) → Begins most_brackets bytes.now x → Gives seen result (Some x) }
 {
+    seen_at(alloc, bytes)
+}
+
+/// The value that bytes begin with, before a delimiter or the end.
+pub(crate) fn seen_at(alloc: Global, bytes: &[u8]) -> Result<ReadValue<'_>, Unread>
+    ensures { Gives seen result (seen_at bytes.now) }
+{
     let mut mentions = Vec::new(alloc);
     let (value, rest) = value_at(alloc, MOST_BRACKETS, bytes, &mut mentions)?;
     if !is_delimited(rest) {
@@ -50,7 +57,7 @@ pub fn read_value(alloc: Global, bytes: &[u8]) -> Result<ReadValue<'_>, Unread>
 
 /// Whether there are no bytes, or a space, a newline, a comma, `]` or `}` stands first.
 fn is_delimited(bytes: &[u8]) -> bool
-    ensures { IsTrue result ↔ IsDelimited bytes.now }
+    ensures { result ≡ is_delimited bytes.now }
 {
     match bytes.split_first() {
         None => true,
