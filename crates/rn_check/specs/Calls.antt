@@ -1,0 +1,39 @@
+-- Uplinks, downlinks and creations: what is broken in them.
+use Rattle.std.specs.Prelude.{Bool, false, not, List, [], ◌∷◌, ◌++◌, Option, Some, None}
+use Rattle.std.specs.Prelude.{flat_map}
+use Rattle.rn_inscript.specs.declared.inscriptions.PName.{PName}
+use Rattle.rn_check.specs.declared.fault.Rule.TheVariants as Rule
+use Rattle.rn_check.specs.declared.fault.Fault.{Fault}
+use Rattle.rn_check.specs.declared.pattern.Pattern.{Pattern}
+use Rattle.rn_check.specs.Faults.{broken, broken_if}
+use Rattle.rn_check.specs.Patterns.{share}
+use Rattle.rn_check.specs.Expressions.{Where, Seen, misfit, variable_faults}
+
+-- each argument has the kind of the channel's at its index
+abbrev pub fitting_faults : List Seen → List Pattern → List Fault
+fitting_faults (e ∷ es) (pattern ∷ patterns) =
+    e.faults ++ misfit e pattern ++ fitting_faults es patterns
+fitting_faults (e ∷ es) [] = e.faults ++ fitting_faults es []
+fitting_faults [] patterns = []
+
+-- what is broken in a call of a channel, where these are the patterns of its arguments if there is
+-- such a channel
+abbrev pub call_faults : Option (List Pattern) → PName → List Seen → List Fault
+call_faults None name args = broken Rule.Channel name.spot ∷ flat_map (λ e. e.faults) args
+call_faults (Some patterns) name args = fitting_faults args patterns
+
+-- the target of a downlink is a net
+abbrev pub target_faults : Seen → List Fault
+target_faults target = target.faults ++ misfit target Pattern.Net
+
+-- whether a pattern is there and isn't that of nets
+abbrev pub is_no_net : Option Pattern → Bool
+is_no_net None = false
+is_no_net (Some pattern) = not (share pattern Pattern.Net)
+
+-- what is broken in a creation, where its net is declared or not: its variable stands for a net
+abbrev pub creation_faults : Where → PName → PName → Bool → List Fault
+creation_faults at var net declared =
+    variable_faults at var.text var.spot
+    ++ broken_if (is_no_net (at.pattern_of_var var.text)) Rule.Creation var.spot
+    ++ broken_if (not declared) Rule.Known net.spot

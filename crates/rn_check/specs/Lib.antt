@@ -1,0 +1,13 @@
+pub mod Faults
+pub mod Patterns
+pub mod Names
+pub mod Expressions
+pub mod Conditions
+pub mod Declarations
+pub mod Arcs
+pub mod Calls
+pub mod Actions
+pub mod Transitions
+pub mod Systems
+pub mod Numbering
+pub mod Checked
