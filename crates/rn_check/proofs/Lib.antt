@@ -1,0 +1,4 @@
+pub mod PatternLemmas
+pub mod TableLemmas
+pub mod SeenForms
+pub mod SightLemmas

@@ -7,7 +7,7 @@ use Rattle.rn_model.specs.declared.expr.CompareKind.TheVariants.{Same, Differs}
 use Rattle.rn_check.specs.declared.fault.Rule.TheVariants as Rule
 use Rattle.rn_check.specs.declared.fault.Fault.{Fault}
 use Rattle.rn_check.specs.Faults.{broken}
-use Rattle.rn_check.specs.Expressions.{Where, Seen, seen_of, apart, operand_faults}
+use Rattle.rn_check.specs.Expressions.{Where, Seen, seen_of, apart, operands_faults}
 
 -- two sides that must share a kind, told at the left one
 abbrev pub sides_faults : Seen → Seen → List Fault
@@ -17,7 +17,7 @@ sides_faults a b = a.faults ++ b.faults ++ apart a b a.spot
 abbrev pub compared_faults : CompareKind → Seen → Seen → List Fault
 compared_faults Same a b = sides_faults a b
 compared_faults Differs a b = sides_faults a b
-compared_faults _ a b = operand_faults a ++ operand_faults b
+compared_faults _ a b = operands_faults a b
 
 -- A comparison, an expression without one, which is broken, or a negated condition, with what is
 -- broken in that.

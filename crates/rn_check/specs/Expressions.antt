@@ -43,7 +43,7 @@ whole spot pattern = record { spot = spot; faults = []; pattern = pattern }
 
 -- an expression that must have the kind of this pattern, at its spot
 abbrev pub misfit : Seen → Pattern → List Fault
-misfit a pattern = apart a (whole a.spot pattern) a.spot
+misfit a pattern = apart (whole a.spot pattern) a a.spot
 
 -- a variable is declared, and an action variable stands only where it may
 abbrev pub variable_faults : Where → List ℕ → Spot → List Fault
@@ -52,7 +52,7 @@ variable_faults place name spot =
     ++ broken_if (not (place.may_stand name)) Rule.Actions spot
 
 -- the elements of a list so far, whose kinds have this pattern in common, and one more
-abbrev pub with_element : Seen → Seen → Seen
+unfoldable pub with_element : Seen → Seen → Seen
 with_element before e = record {
   spot = before.spot;
   faults = before.faults ++ (e.faults ++ apart before e e.spot);
@@ -60,21 +60,33 @@ with_element before e = record {
 }
 
 -- the elements of a list so far, and these
-abbrev pub with_elements : Seen → List Seen → Seen
+unfoldable pub with_elements : Seen → List Seen → Seen
 with_elements before [] = before
 with_elements before (e ∷ es) = with_elements (with_element before e) es
 
 -- the list of some elements
-abbrev pub listed : Seen → Seen
+unfoldable pub listed : Seen → Seen
 listed elements = record {
   spot = elements.spot;
   faults = elements.faults;
   pattern = Pattern.List elements.pattern;
 }
 
+-- the tuple of these parts, of which there aren't too many
+unfoldable pub tuple_of : Spot → List Seen → Seen
+tuple_of spot parts = record {
+  spot = spot;
+  faults = flat_map (λ e. e.faults) parts ++ past_limit most_parts (map (λ e. e.spot) parts);
+  pattern = Pattern.Tuple (map (λ e. e.pattern) parts);
+}
+
 -- an operand is a whole number
-abbrev pub operand_faults : Seen → List Fault
+unfoldable pub operand_faults : Seen → List Fault
 operand_faults a = a.faults ++ misfit a Pattern.Int
+
+-- both operands of an operator are
+unfoldable pub operands_faults : Seen → Seen → List Fault
+operands_faults a b = operand_faults a ++ operand_faults b
 
 -- One expression at its spot, with what its parts are. Operators take whole numbers and give one. A
 -- list has the kinds that its elements share, and its tail is a list of them too.
@@ -92,13 +104,7 @@ seen_form F.Step spot place = record {
   faults = broken_if (not place.step_may) Rule.Actions spot;
   pattern = Pattern.Int;
 }
-seen_form (F.Tuple parts) spot place =
-    let seen : List Seen = map (λ part. part place) parts in
-    record {
-      spot = spot;
-      faults = flat_map (λ e. e.faults) seen ++ past_limit most_parts (map (λ e. e.spot) seen);
-      pattern = Pattern.Tuple (map (λ e. e.pattern) seen);
-    }
+seen_form (F.Tuple parts) spot place = tuple_of spot (map (λ part. part place) parts)
 seen_form (F.List elements) spot place =
     listed (with_elements (whole spot Pattern.Any) (map (λ e. e place) elements))
 seen_form (F.Cons elements tail) spot place =
@@ -111,7 +117,7 @@ seen_form (F.Neg a) spot place = record {
 }
 seen_form (F.Op op a b) spot place = record {
   spot = spot;
-  faults = operand_faults (a place) ++ operand_faults (b place);
+  faults = operands_faults (a place) (b place);
   pattern = Pattern.Int;
 }
 

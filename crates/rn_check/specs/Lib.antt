@@ -11,3 +11,5 @@ pub mod Transitions
 pub mod Systems
 pub mod Numbering
 pub mod Checked
+pub mod Tables
+pub mod Sights

@@ -1,9 +1,13 @@
 //! Which net texts are nets: the rules of names, kinds, actions, calls and limits.
 #![tactic(auto)]
 
+mod declared;
 mod fault;
 mod first;
 mod pattern;
+mod seeing;
+mod sight;
+mod table;
 
 pub use fault::{CheckFault, Fault, Rule};
 pub use pattern::{Pattern, Patterns};

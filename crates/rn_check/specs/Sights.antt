@@ -1,0 +1,74 @@
+-- What the code keeps of an expression that it has seen. It connects the code with the definitions,
+-- and states no rule.
+use Rattle.std.specs.Prelude.{ℕ, Bool, ◌&&◌, not, nat_le, List, length, map, Option}
+use Rattle.std.specs.Prelude.{slice_get, is_some, unwrap_or}
+use Rattle.std.specs.List.{list_all}
+use Rattle.std.specs.Option.{option_and_then}
+use Rattle.rn_model.specs.Limits.{most_parts}
+use Rattle.rn_notation.specs.declared.token.Spot.{Spot}
+use Rattle.rn_check.specs.declared.pattern.Pattern.{Pattern}
+use Rattle.rn_check.specs.declared.pattern.Pattern.TheVariants as Pattern
+use Rattle.rn_check.specs.declared.table.Declared.{Declared}
+use Rattle.rn_check.specs.declared.sight.Sight.{Sight}
+use Rattle.rn_check.specs.declared.sight.Here.{Here}
+use Rattle.rn_check.specs.Actions.{is_set_by}
+use Rattle.rn_check.specs.Patterns.{share, both_of}
+use Rattle.rn_check.specs.Expressions.{Where, Seen, is_whole}
+use Rattle.rn_check.specs.Tables.{found_in}
+
+-- the pattern that is found for a name
+abbrev pub pattern_in : Declared → List ℕ → Option Pattern
+pattern_in declared name = option_and_then (slice_get declared.patterns) (found_in declared.table name)
+
+-- where an expression stands
+abbrev pub where_of : Here → Where
+where_of here = record {
+  pattern_of_var = pattern_in here.vars.now;
+  may_stand = λ name. is_set_by (found_in here.setters.now name) here.past;
+  step_may = here.step_may;
+}
+
+-- what the code keeps of an expression
+abbrev pub sight_of : Seen → Sight
+sight_of seen =
+    record { spot = seen.spot; whole = is_whole seen.faults; pattern = seen.pattern }
+
+-- whether two expressions are whole and share no kind
+abbrev pub are_apart : Sight → Sight → Bool
+are_apart a b = a.whole && b.whole && not (share a.pattern b.pattern)
+
+-- whether an expression is whole and has the kind of a pattern
+abbrev pub fits_pattern : Sight → Pattern → Bool
+fits_pattern a asked = a.whole && share asked a.pattern
+
+-- a variable
+abbrev pub variable_sight : Where → List ℕ → Spot → Sight
+variable_sight place name spot = record {
+  spot = spot;
+  whole = is_some (place.pattern_of_var name) && place.may_stand name;
+  pattern = unwrap_or (place.pattern_of_var name) Pattern.Any;
+}
+
+-- the elements of a list so far with one more
+abbrev pub joined : Sight → Sight → Sight
+joined before e = record {
+  spot = before.spot;
+  whole = before.whole && e.whole && share before.pattern e.pattern;
+  pattern = both_of before.pattern e.pattern;
+}
+
+-- the list of these elements
+abbrev pub listed_sight : Sight → Sight
+listed_sight elements = record {
+  spot = elements.spot;
+  whole = elements.whole;
+  pattern = Pattern.List elements.pattern;
+}
+
+-- the tuple of these parts
+abbrev pub tuple_sight : Spot → List Sight → Sight
+tuple_sight spot parts = record {
+  spot = spot;
+  whole = nat_le (length parts) most_parts && list_all (λ part. part.whole) parts;
+  pattern = Pattern.Tuple (map (λ part. part.pattern) parts);
+}

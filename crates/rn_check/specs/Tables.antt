@@ -1,0 +1,20 @@
+-- What a table of the code finds. It connects the code with the definitions, and states no rule.
+use Rattle.std.specs.Prelude.{ℕ, Bool, List, Option, Some, None, if◌then◌else◌}
+use Rattle.std.specs.Ordering.{nat_cmp}
+use Rattle.std.specs.Cmp.Lexicographic.{slice_cmp}
+use Rattle.std.specs.BTreeMap.{get}
+use Rattle.rn_check.specs.declared.table.Table.{Table}
+use Rattle.rn_check.specs.Names.{same_name}
+
+-- the number that a table finds for a name
+abbrev pub found_in : Table → List ℕ → Option ℕ
+found_in table name = get (slice_cmp nat_cmp) table.numbers name
+
+-- a number that was found, or else another where it is the same name
+abbrev pub or_number : Option ℕ → Bool → ℕ → Option ℕ
+or_number (Some n) same number = Some n
+or_number None same number = if same then Some number else None
+
+-- what is found once a name is declared under a number
+abbrev pub with_name : (List ℕ → Option ℕ) → List ℕ → ℕ → List ℕ → Option ℕ
+with_name found name number other = or_number (found other) (same_name name other) number
