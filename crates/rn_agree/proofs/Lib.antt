@@ -1,0 +1,7 @@
+mod AgreeLemmas
+mod BesideLemmas
+mod EachLemmas
+mod LinkLemmas
+mod MentionLemmas
+mod PathLemmas
+mod PartsAgree

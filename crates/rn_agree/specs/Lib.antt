@@ -1,0 +1,4 @@
+pub mod Agreeing
+pub mod NodeValues
+pub mod Parts
+pub mod Paths

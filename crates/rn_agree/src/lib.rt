@@ -1,0 +1,18 @@
+//! Whether a binding that is given has the shape, and whether it agrees.
+#![tactic(auto)]
+
+mod agreement;
+mod calls;
+mod inscriptions;
+mod links;
+mod lookup;
+mod mentions;
+mod node_values;
+mod nodes;
+mod shape;
+
+pub use agreement::does_agree;
+pub use lookup::{child_index, child_on, node_index, node_on};
+pub use node_values::NodeValues;
+pub use nodes::transition_of;
+pub use shape::has_shape;
