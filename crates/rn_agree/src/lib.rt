@@ -10,6 +10,8 @@ mod mentions;
 mod node_values;
 mod nodes;
 mod shape;
+#[cfg(test)]
+mod shape_tests;
 
 pub use agreement::does_agree;
 pub use lookup::{child_index, child_on, node_index, node_on};
