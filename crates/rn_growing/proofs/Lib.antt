@@ -1,0 +1,13 @@
+pub mod BringingSteps
+pub mod BuildingLists
+pub mod BuildingSteps
+pub mod Followers
+pub mod ForcedInstances
+pub mod GoodSystems
+pub mod Growth
+pub mod LaidSteps
+pub mod MoreDecisions
+pub mod PuttingBefore
+pub mod SameUnknowns
+pub mod SoundItems
+pub mod Telling

@@ -1,0 +1,7 @@
+use Rattle.rn_growing.specs.Entering.{AllBelow, ArgHolds}
+use Rattle.rn_growing.specs.Laid.{Adds, Grows}
+use Rattle.rn_growing.proofs.bringing.bring_args.Given as goal
+
+abbrev pub invariant-loop-k : goal.invariant-loop-k
+invariant-loop-k l = Adds l.initial.laid (AllBelow (ArgHolds l.from l.args l.head l.others) l.k)
+    l.laid × Grows l.initial.laid l.laid

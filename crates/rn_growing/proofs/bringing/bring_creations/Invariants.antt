@@ -1,0 +1,7 @@
+use Rattle.rn_growing.specs.Entering.{AllBelow, CreationHolds}
+use Rattle.rn_growing.specs.Laid.{Adds, Grows}
+use Rattle.rn_growing.proofs.bringing.bring_creations.Given as goal
+
+abbrev pub invariant-loop-j : goal.invariant-loop-j
+invariant-loop-j l = Adds l.initial.laid (AllBelow (CreationHolds l.head l.creations) l.j) l.laid ×
+    Grows l.initial.laid l.laid

@@ -1,0 +1,9 @@
+pub mod Building
+pub mod Decisions
+pub mod Entering
+pub mod Equations
+pub mod Following
+pub mod Grown
+pub mod Laid
+pub mod Layouts
+pub mod Turns

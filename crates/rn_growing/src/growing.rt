@@ -1,0 +1,251 @@
+//! Bindings that grow: what is decided of them, and what that forces.
+ghost use Rattle.std.specs.Prelude.{◌≡◌, ◌↔◌, ◌≤◌, [], ◌∷◌, ◌++◌, length};
+ghost use Rattle.std.specs.Prelude.{IfOk, IsTrue, OnErr, Some};
+ghost use Rattle.rn_value.specs.declared.value.InstRef.{InstRef};
+ghost use Rattle.rn_value.specs.declared.value.Value.{Value};
+ghost use Rattle.rn_value.specs.declared.value.Value.TheVariants as Worth;
+ghost use Rattle.rn_growing.specs.Decisions.{site_of};
+ghost use Rattle.rn_growing.specs.Equations.{IsForced, IsForcedTo, IsSolvable, read_at};
+ghost use Rattle.rn_growing.specs.Grown.{HasFewCreations, IsNew, Tries, first_decisions};
+ghost use Rattle.rn_growing.specs.Layouts.{asked};
+ghost use Rattle.rn_growing.specs.Turns.{MayCome};
+ghost use Rattle.rn_growing.specs.declared.decision.Decision.TheVariants as D;
+
+use crate::bringing::try_bring;
+use crate::decision::{Caller, Decision, Head, Site, Way};
+use crate::laid::Laid;
+use crate::slot::{Frame, Unknown};
+use rn_model::{Expr, System};
+use rn_value::{InstRef, NoMemory, Value, copy_inst};
+use std::alloc::Global;
+use std::marker::Model;
+
+/// A binding that grows by decisions, each of which may come in by those before it.
+#[derive(Drop)]
+pub struct Growing<'a> {
+    system: &'a System,
+    laid: Laid,
+    decisions: Vec<Decision>,
+    frames: Vec<Frame>,
+}
+
+impl<'a> Model for Growing<'a> {
+    ghost use Rattle.rn_growing.specs.Grown.{Grown, KeepsGrowing};
+    ghost use Rattle.rn_value.specs.contracts.value.Value as value;
+    ghost use Rattle.rn_value.specs.contracts.value.Kind as kind;
+    ghost use Rattle.rn_model.specs.contracts.expr.Expr as expr;
+    ghost use Rattle.rn_model.specs.contracts.expr.Cond as cond;
+    ghost use Rattle.std.specs.Coded.{codes};
+
+    ghost Value = { Grown };
+
+    ghost coded = { Prim.hlevel (
+      codes,
+      value.the_row.coded,
+      kind.the_row.coded,
+      expr.the_row.coded,
+      cond.the_row.coded,
+    ) };
+
+    ghost view = { λ g. record { system = g.system.now; decisions = g.decisions.items } };
+
+    ghost invariant = { λ g. KeepsGrowing g.system.now g.laid g.decisions.items g.frames.items };
+}
+
+impl<'a> Growing<'a> {
+    /// Nothing is decided, and no memory is taken.
+    pub fn open(alloc: Global, system: &'a System) -> Growing<'a>
+        requires { HasFewCreations system.now }
+        ensures { result ≡ record { system = system.now; decisions = [] } }
+    {
+        let laid = Laid::new(alloc);
+        let _kept = laid.frame();
+        Growing {
+            system,
+            laid,
+            decisions: Vec::new(alloc),
+            frames: Vec::new(alloc),
+        }
+    }
+
+    /// The decisions, the oldest first.
+    pub fn decisions(&self) -> &[Decision]
+        ensures { result.now ≡ self.now.decisions }
+    {
+        self.decisions.as_slice()
+    }
+
+    /// How many decisions there are.
+    pub fn mark(&self) -> usize
+        ensures { result ≡ length self.now.decisions }
+    {
+        self.decisions.len()
+    }
+
+    /// Takes back the decisions that came after a mark.
+    pub fn undo(&mut self, to: usize)
+        requires { to ≤ length self.old.decisions }
+        ensures { self.new ≡ first_decisions to self.old }
+    {
+        if to < self.decisions.len() {
+            let frame = self.frames[to];
+            self.laid.undo(&frame);
+            self.decisions.truncate(to);
+            self.frames.truncate(to);
+        }
+    }
+
+    /// A node is entered: the start without a caller, and each other node by the one that calls it.
+    pub fn enter(
+        &mut self,
+        alloc: Global,
+        head: Head,
+        caller: Option<Caller>,
+    ) -> Result<bool, NoMemory>
+        requires may_come { MayCome self.old.system self.old.decisions
+            (D.Entered head caller) }
+        requires fresh { IsNew self.old.decisions (D.Entered head caller) }
+        ensures tries { IfOk result (λ yes. Tries self.old (D.Entered head caller) self.new yes) }
+        ensures exact { IfOk result (λ yes. IsTrue yes
+            ↔ IsSolvable self.old.system (self.old.decisions ++ D.Entered head caller ∷ [])) }
+        ensures err { OnErr result (self.new ≡ self.old) }
+    {
+        self.decide(alloc, Decision::Entered(head, caller))
+    }
+
+    /// An arc of a node finds a token, or the list of a clear arc.
+    pub fn find(
+        &mut self,
+        alloc: Global,
+        head: Head,
+        arc: usize,
+        value: Value,
+    ) -> Result<bool, NoMemory>
+        requires may_come { MayCome self.old.system self.old.decisions (D.Found head arc value) }
+        requires fresh { IsNew self.old.decisions (D.Found head arc value) }
+        ensures tries { IfOk result (λ yes. Tries self.old (D.Found head arc value) self.new yes) }
+        ensures exact { IfOk result (λ yes. IsTrue yes
+            ↔ IsSolvable self.old.system (self.old.decisions ++ D.Found head arc value ∷ [])) }
+        ensures err { OnErr result (self.new ≡ self.old) }
+    {
+        self.decide(alloc, Decision::Found(head, arc, value))
+    }
+
+    /// An outermost operator application of a node has a value. It is told by its site and the way
+    /// to it.
+    pub fn compute(
+        &mut self,
+        alloc: Global,
+        head: Head,
+        site: Site,
+        way: Way,
+        value: Value,
+    ) -> Result<bool, NoMemory>
+        requires may_come { MayCome self.old.system self.old.decisions
+            (D.Computed head site way value) }
+        requires fresh { IsNew self.old.decisions (D.Computed head site way value) }
+        ensures tries { IfOk result
+            (λ yes. Tries self.old (D.Computed head site way value) self.new yes) }
+        ensures exact { IfOk result (λ yes. IsTrue yes ↔ IsSolvable self.old.system
+            (self.old.decisions ++ D.Computed head site way value ∷ [])) }
+        ensures err { OnErr result (self.new ≡ self.old) }
+    {
+        self.decide(alloc, Decision::Computed(head, site, way, value))
+    }
+
+    /// One more decision, where some assignment satisfies it with those before.
+    fn decide(&mut self, alloc: Global, decision: Decision) -> Result<bool, NoMemory>
+        requires may_come { MayCome self.old.system self.old.decisions decision }
+        requires fresh { IsNew self.old.decisions decision }
+        ensures tries { IfOk result (λ yes. Tries self.old decision self.new yes) }
+        ensures exact { IfOk result (λ yes. IsTrue yes
+            ↔ IsSolvable self.old.system (self.old.decisions ++ decision ∷ [])) }
+        ensures err { OnErr result (self.new ≡ self.old) }
+    {
+        self.decisions.reserve(1)?;
+        self.frames.reserve(1)?;
+        let frame = self.laid.frame();
+        if !try_bring(alloc, self.system, &mut self.laid, &decision)? {
+            return Ok(false);
+        }
+        let _kept = self.laid.frame();
+        self.decisions.push(decision)?;
+        self.frames.push(frame)?;
+        Ok(true)
+    }
+
+    /// The value of a variable of a node, where it is forced.
+    pub fn value(&self, alloc: Global, path: &[u32], x: u32) -> Result<Option<Value>, NoMemory>
+        ensures { IfOk result (λ told. (v : Value) → (told ≡ Some v)
+            ↔ IsForcedTo self.now.system self.now.decisions (λ a. Some (a.var path.now x)) v) }
+    {
+        self.laid.value(alloc, path, &Unknown::Var(x))
+    }
+
+    /// Whether a variable of a node is forced. Where its value isn't built of terms, nothing is
+    /// copied.
+    pub fn is_forced(&self, alloc: Global, path: &[u32], x: u32) -> Result<bool, NoMemory>
+        ensures { IfOk result (λ told. IsTrue told
+            ↔ IsForced self.now.system self.now.decisions (λ a. Some (a.var path.now x))) }
+    {
+        self.laid.is_given(alloc, path, &Unknown::Var(x))
+    }
+
+    /// The instance that an expression at a site of a node is forced to be. This is for targets of
+    /// downlinks: variables, and `this`.
+    pub fn target(
+        &self,
+        alloc: Global,
+        head: &Head,
+        site: Site,
+        target: &Expr,
+    ) -> Result<Option<InstRef>, NoMemory>
+        ensures { IfOk result (λ told. (i : InstRef) → (told ≡ Some i)
+            ↔ IsForcedTo self.now.system self.now.decisions
+            (λ a. read_at a head.now (site_of site) target.now) (Worth.Inst i)) }
+    {
+        let _ = &self.laid;
+        match target {
+            Expr::This => {
+                let inst = copy_inst(alloc, &head.inst)?;
+                Ok(Some(inst))
+            }
+            Expr::Var(x) => self.instance(alloc, head, &Unknown::Var(*x)),
+            Expr::Neg(_) => self.instance(alloc, head, &Unknown::Hole(site, Way::new(alloc))),
+            Expr::Op(_, _, _) => self.instance(alloc, head, &Unknown::Hole(site, Way::new(alloc))),
+            Expr::Int(_) => Ok(None),
+            Expr::Text(_) => Ok(None),
+            Expr::Step => Ok(None),
+            Expr::Tuple(_) => Ok(None),
+            Expr::List(_) => Ok(None),
+            Expr::Cons(_, _) => Ok(None),
+        }
+    }
+
+    /// The instance that an unknown of a node is forced to be.
+    fn instance(
+        &self,
+        alloc: Global,
+        head: &Head,
+        unknown: &Unknown,
+    ) -> Result<Option<InstRef>, NoMemory>
+        ensures { IfOk result (λ told. (i : InstRef) → (told ≡ Some i)
+            ↔ IsForcedTo self.now.system self.now.decisions
+            (λ a. Some (asked a head.now.path unknown.now)) (Worth.Inst i)) }
+    {
+        match self.laid.value(alloc, head.path.as_slice(), unknown)? {
+            Some(value) => Ok(instance_in(value)),
+            None => Ok(None),
+        }
+    }
+}
+
+/// The instance that a value names.
+fn instance_in(value: Value) -> Option<InstRef>
+    ensures { (i : InstRef) → (result ≡ Some i) ↔ (value ≡ Worth.Inst i) }
+{
+    match value {
+        Value::Inst(inst) => Some(inst),
+        _ => None,
+    }
+}

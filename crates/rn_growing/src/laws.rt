@@ -1,0 +1,29 @@
+//! Laws on decisions and on bindings that follow them, each the contract of a function that does
+//! nothing.
+ghost use Rattle.rn_growing.specs.Following.{FollowersAreDecided, ClosedDecisionsDecide};
+ghost use Rattle.rn_growing.specs.Following.{FollowsOn, EachIsDecided, GoodHaveFewCreations};
+ghost use Rattle.rn_growing.specs.Following.{NewAfterOne, EnteredByMore, ForcedByMore};
+ghost use Rattle.rn_growing.specs.Following.{MayComeByMore};
+
+/// What decisions in turn say of each binding that follows them; and where no further one may come
+/// in, it is derived exactly where they decide all of its items and force its variables.
+pub fn followers_are_decided()
+    ensures followers { FollowersAreDecided }
+    ensures closed { ClosedDecisionsDecide }
+    ensures further { FollowsOn }
+    ensures each { EachIsDecided }
+{}
+
+/// What is new to decisions after one more of them, and what stays so after more: which nodes were
+/// entered, what is forced, and what may come in.
+pub fn more_decisions()
+    ensures fresh { NewAfterOne }
+    ensures entered { EnteredByMore }
+    ensures forced { ForcedByMore }
+    ensures may_come { MayComeByMore }
+{}
+
+/// A binding may be opened for each good system.
+pub fn good_systems_open()
+    ensures { GoodHaveFewCreations }
+{}

@@ -1,0 +1,14 @@
+//! Bindings that grow by decisions, each of which may come in by those before it.
+#![tactic(auto)]
+
+mod bringing;
+mod building;
+mod decision;
+mod growing;
+mod laid;
+mod laws;
+mod slot;
+
+pub use decision::{Caller, Decision, Decisions, Head, Site, Way};
+pub use growing::Growing;
+pub use laws::{followers_are_decided, good_systems_open, more_decisions};
