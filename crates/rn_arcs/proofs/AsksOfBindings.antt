@@ -1,7 +1,7 @@
 -- What the asks of a binding ask of a place is what the binding asks there.
-use Rattle.std.proofs.Common.{◌≡◌, ℕ, Bool, true, false, cond, ◌&&◌, ◌||◌, List, [], ◌∷◌, map}
+use Rattle.std.proofs.Common.{◌≡◌, Bool, true, false, cond, ◌&&◌, List, [], ◌∷◌}
 use Rattle.std.proofs.Common.{refl, sym, ap, ◌∙◌}
-use Rattle.std.specs.Prelude.{Option, Some, None, nat_eq, if◌then◌else◌}
+use Rattle.std.specs.Prelude.{Option, Some, None, nat_eq}
 use Rattle.std.specs.List.{flat_map}
 use Rattle.std.specs.Option.{option_map_or}
 use Rattle.std.specs.Ordering.{is_eq}
@@ -19,7 +19,7 @@ use Rattle.rn_model.specs.Demands.{Reading, readings, asked_by_arc, asked_by_nod
 use Rattle.rn_model.specs.Evaluation.{Env, worth}
 use Rattle.rn_model.specs.Systems.{transition_of}
 use Rattle.rn_arcs.specs.Asks.{spot_of, is_wanted, arc_asks, node_asks, binding_asks}
-use Rattle.rn_arcs.specs.Places.{Spot, is_at}
+use Rattle.rn_arcs.specs.Places.{Spot}
 use Rattle.rn_arcs.specs.declared.ask.Ask.{Ask}
 use Rattle.rn_arcs.proofs.Gathering.{at_place, at_place-one, at_place-flat, flat_nothing, nil}
 use Rattle.rn_arcs.proofs.PlaceOrder.{at_both}

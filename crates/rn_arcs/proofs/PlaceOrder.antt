@@ -1,6 +1,6 @@
 -- The order of places is total, and only equal places are equal in it.
-use Rattle.std.proofs.Common.{◌≡◌, ℕ, Bool, true, false, ◌&&◌, refl, sym, ap, ◌∙◌, List}
-use Rattle.std.specs.Prelude.{not, filter, nat_eq}
+use Rattle.std.proofs.Common.{◌≡◌, ℕ, true, false, ◌&&◌, refl, sym, ap, ◌∙◌}
+use Rattle.std.specs.Prelude.{not, nat_eq}
 use Rattle.std.specs.Ordering.{nat_cmp, ordering_then, ordering_reverse, is_eq, is_lt}
 use Rattle.std.specs.Cmp.{IsTotalOrder, Equal-is, both_ways, tied_itself}
 use Rattle.std.specs.Cmp as laws_of

@@ -1,6 +1,6 @@
 -- Whether tokens meet what is asked of a place. This only connects the code to what it means that a
 -- place fits.
-use Rattle.std.specs.Prelude.{ℕ, ◌≡◌, ◌<◌, ◌⊎◌, List, [], ◌∷◌, All}
+use Rattle.std.specs.Prelude.{◌≡◌, ◌<◌, ◌⊎◌, List, [], ◌∷◌, All}
 use Rattle.rn_value.specs.declared.value.Value.{Value}
 use Rattle.rn_model.specs.Lists.{count_of, IsWithin}
 use Rattle.rn_arcs.specs.declared.asked.Asked.{Asked}

@@ -1,4 +1,4 @@
-use Rattle.std.proofs.Common.{◌≡◌, ◌∙◌, sym}
+use Rattle.std.proofs.Common.{◌≡◌, ◌∙◌}
 use Rattle.std.specs.Prelude.{Some}
 use Rattle.rn_value.specs.Order.{inst_cmp}
 use Rattle.rn_value.specs.OrderLaws.{inst_alike}

@@ -1,11 +1,11 @@
-use Rattle.std.proofs.Common.{◌≡◌, ap, ◌∙◌, sym, pos, rules}
+use Rattle.std.proofs.Common.{◌∙◌, sym, pos, rules}
 use Rattle.std.specs.Prelude.{filter}
 use Rattle.std.specs.Ordering.{is_lt}
 use Rattle.std.proofs.lemmas.List.Sorted.{ranks_by, answers_always}
 use Rattle.rn_value.specs.declared.value.Value.TheVariants as Value
 use Rattle.rn_model.specs.declared.system.ArcKind.TheVariants.{Input}
 use Rattle.rn_arcs.specs.Asks.{spot_of}
-use Rattle.rn_arcs.specs.Places.{Spot, place_cmp, is_at}
+use Rattle.rn_arcs.specs.Places.{Spot, place_cmp}
 use Rattle.rn_arcs.specs.declared.ask.Ask.{Ask}
 use Rattle.rn_arcs.proofs.PlaceOrder.{place_total, ties_are_one}
 use Rattle.rn_arcs.proofs.ask.sort_asks.Goals as goal

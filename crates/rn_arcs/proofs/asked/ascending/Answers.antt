@@ -1,5 +1,4 @@
-use Rattle.std.proofs.Common.{◌≡◌, sym, subst}
-use Rattle.std.specs.List.Sorted.{IsPermutation}
+use Rattle.std.proofs.Common.{◌≡◌}
 use Rattle.rn_model.specs.Lists.{ordered_values}
 use Rattle.rn_arcs.proofs.SortedLists.{sorted_is_ordered}
 use Rattle.rn_arcs.proofs.asked.ascending.Goals as goal

@@ -1,4 +1,4 @@
-use Rattle.std.proofs.Common.{◌≡◌, ℕ, ◌<◌, [], get_or}
+use Rattle.std.proofs.Common.{ℕ, ◌<◌, [], get_or}
 use Rattle.std.specs.Prelude.{unwrap_or}
 use Rattle.std.specs.Option.{option_copied}
 use Rattle.rn_value.specs.declared.value.Value.{Value}

@@ -1,4 +1,4 @@
-use Rattle.std.proofs.Common.{◌≡◌, ℕ, subst, true, false}
+use Rattle.std.proofs.Common.{◌≡◌, ℕ, subst, false}
 use Rattle.std.specs.Prelude.{IsTrue, ◌↔◌, All, Some}
 use Rattle.rn_value.specs.declared.value.InstRef.TheVariants.{Old}
 use Rattle.rn_model.specs.Markings.{net_of, tokens}

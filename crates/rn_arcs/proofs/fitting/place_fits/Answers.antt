@@ -1,7 +1,6 @@
-use Rattle.std.proofs.Common.{◌≡◌, [], subst, sym, List}
+use Rattle.std.proofs.Common.{[], subst, sym}
 use Rattle.std.specs.Prelude.{unwrap_or}
 use Rattle.std.specs.Option.{option_copied}
-use Rattle.rn_value.specs.declared.value.Value.{Value}
 use Rattle.rn_model.specs.Lists.{IsWithin}
 use Rattle.rn_model.specs.Markings.{tokens}
 use Rattle.rn_arcs.specs.Meeting.{Meets, AreAbsent}

@@ -1,4 +1,4 @@
-use Rattle.std.proofs.Common.{◌≡◌, [], ap, sym, subst}
+use Rattle.std.proofs.Common.{[], sym, subst}
 use Rattle.std.specs.Prelude.{◌↔◌, IsTrue, unwrap_or}
 use Rattle.std.specs.Option.{option_copied}
 use Rattle.rn_model.specs.Lists.{IsWithin}

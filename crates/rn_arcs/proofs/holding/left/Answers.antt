@@ -1,4 +1,4 @@
-use Rattle.std.proofs.Common.{◌≡◌, ◌∙◌, arith, true}
+use Rattle.std.proofs.Common.{◌≡◌, ◌∙◌, true}
 use Rattle.rn_model.specs.Lists.{count_of}
 use Rattle.rn_model.specs.Markings.{tokens}
 use Rattle.rn_arcs.proofs.TokenLemmas.{left_less, left_same}

@@ -1,4 +1,4 @@
-use Rattle.std.proofs.Common.{◌≡◌, ◌∙◌, sym, ap, arith}
+use Rattle.std.proofs.Common.{◌∙◌, sym}
 use Rattle.rn_arcs.proofs.NodeLookups.{found_at, later_at}
 use Rattle.rn_arcs.proofs.node_values.NodeValuesValues.value.Goals as goal
 
