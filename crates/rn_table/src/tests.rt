@@ -1,4 +1,8 @@
-use crate::Table;
+//! Tables that change, are copied and lose instances.
+ghost use Rattle.std.specs.Prelude.{◌≡◌, [], ◌∷◌, IfOk};
+ghost use Rattle.rn_value.specs.declared.value.Value.TheVariants as Value;
+
+use crate::{Change, Row, Rows, Table};
 use rn_items::{Items, NoMemory};
 use rn_model::{Net, Nets, Place, System, Transition, Uplink};
 use rn_value::{Kind, Str, Vals, Value};
@@ -88,5 +92,158 @@ fn starts_and_removes(rt: HostRuntime) -> Result<(), Fail> {
     assert_eq!(rt; table.next(), 2);
     assert_eq!(rt; seen.net_of(1), Some(1));
     assert_eq!(rt; seen.instances()?.len(), 1);
+    Ok(())
+}
+
+fn one(alloc: Global, number: i64) -> Result<Vals, NoMemory>
+    ensures { IfOk result (λ values. values ≡ Value.Int number ∷ []) }
+{
+    let mut values = Items::new(alloc);
+    values.push(Value::Int(number))?;
+    Ok(values)
+}
+
+fn row(alloc: Global, inst: u32, values: Vals) -> Result<Rows, NoMemory>
+    ensures { IfOk result (λ rows. rows ≡ record { inst = inst; place = 0; values = values } ∷ []) }
+{
+    let mut rows = Items::new(alloc);
+    rows.push(Row {
+        inst,
+        place: 0,
+        values,
+    })?;
+    Ok(rows)
+}
+
+/// Takes one token from the first place of an instance and puts another, where that may come.
+fn exchange(
+    alloc: Global,
+    table: &mut Table,
+    system: &System,
+    inst: u32,
+    taken: i64,
+    put: i64,
+) -> Result<bool, NoMemory> {
+    let taken = one(alloc, taken)?;
+    let Some(bag) = table.bag(inst, 0) else {
+        return Ok(false);
+    };
+    if !bag.has_all(&taken) {
+        return Ok(false);
+    }
+    if table.next() > 1000 {
+        return Ok(false);
+    }
+    let change = Change {
+        taken: row(alloc, inst, taken)?,
+        cleared: Items::new(alloc),
+        made: Items::new(alloc),
+        put: row(alloc, inst, one(alloc, put)?)?,
+    };
+    table.apply(system, &change)?;
+    Ok(true)
+}
+
+/// Makes an instance of a net, where that may come.
+fn make(alloc: Global, table: &mut Table, system: &System, net: u32) -> Result<bool, NoMemory> {
+    if net as usize >= system.nets.len() || table.next() > 1000 {
+        return Ok(false);
+    }
+    let mut made = Items::new(alloc);
+    made.push(net)?;
+    let change = Change {
+        taken: Items::new(alloc),
+        cleared: Items::new(alloc),
+        made,
+        put: Items::new(alloc),
+    };
+    table.apply(system, &change)?;
+    Ok(true)
+}
+
+/// Whether the first place of an instance holds these tokens.
+fn holds(alloc: Global, table: &Table, inst: u32, tokens: &[i64]) -> Result<bool, NoMemory> {
+    match table.bag(inst, 0) {
+        None => Ok(false),
+        Some(bag) => Ok(bag.sorted_list()? == ints(alloc, tokens)?),
+    }
+}
+
+#[test]
+fn snapshots_stay(rt: HostRuntime) -> Result<(), Fail> {
+    let alloc = rt.alloc();
+    let system = system(alloc)?;
+    let table = Table::new(alloc, &system)?;
+    let mut first = table.snapshot()?;
+    let second = table.snapshot()?;
+    assert!(rt; exchange(alloc, &mut first, &system, 1, 2, 5)?);
+    assert!(rt; !exchange(alloc, &mut first, &system, 1, 7, 5)?);
+    assert!(rt; holds(alloc, &first, 1, &[1, 2, 5])?);
+    assert!(rt; holds(alloc, &second, 1, &[1, 2, 2])?);
+    assert!(rt; holds(alloc, &table, 1, &[1, 2, 2])?);
+    assert!(rt; exchange(alloc, &mut first, &system, 1, 2, 2)?);
+    assert!(rt; holds(alloc, &first, 1, &[1, 2, 5])?);
+    Ok(())
+}
+
+/// A table of 65 instances: 1 and 65 are of `main`, the others of the net without a start.
+fn two_pages(alloc: Global, system: &System) -> Result<Table, NoMemory> {
+    let mut table = Table::new(alloc, system)?;
+    for _ in 0..63 {
+        make(alloc, &mut table, system, 0)?;
+    }
+    make(alloc, &mut table, system, 1)?;
+    Ok(table)
+}
+
+/// How many instances a page holds, and 0 where there is none.
+fn held(table: &Table, k: u32) -> usize {
+    match table.page(k) {
+        None => 0,
+        Some(page) => page.len(),
+    }
+}
+
+#[test]
+fn pages_are_filled(rt: HostRuntime) -> Result<(), Fail> {
+    let alloc = rt.alloc();
+    let system = system(alloc)?;
+    let table = two_pages(alloc, &system)?;
+    assert_eq!(rt; table.next(), 66);
+    assert_eq!(rt; table.net_of(64), Some(0));
+    assert_eq!(rt; table.net_of(65), Some(1));
+    assert!(rt; holds(alloc, &table, 64, &[7])?);
+    assert_eq!(rt; held(&table, 0), 64);
+    assert_eq!(rt; held(&table, 1), 1);
+    assert!(rt; table.page(2).is_none());
+    for (from, found) in [
+        (0, Some(1)),
+        (1, Some(1)),
+        (2, Some(65)),
+        (65, Some(65)),
+        (66, None),
+    ] {
+        assert_eq!(rt; table.first_starting(from), found);
+    }
+    Ok(())
+}
+
+#[test]
+fn pages_are_given_up(rt: HostRuntime) -> Result<(), Fail> {
+    let alloc = rt.alloc();
+    let system = system(alloc)?;
+    let mut table = two_pages(alloc, &system)?;
+    let seen = table.snapshot()?;
+    table.remove_all(&[65, 3]);
+    assert!(rt; table.page(1).is_none());
+    assert_eq!(rt; table.first_starting(2), None);
+    assert_eq!(rt; held(&table, 0), 64);
+    assert!(rt; exchange(alloc, &mut table, &system, 2, 7, 8)?);
+    assert_eq!(rt; held(&table, 0), 63);
+    assert_eq!(rt; table.net_of(3), None);
+    assert!(rt; holds(alloc, &table, 2, &[8])?);
+    assert_eq!(rt; held(&seen, 0), 64);
+    assert_eq!(rt; held(&seen, 1), 1);
+    assert!(rt; holds(alloc, &seen, 2, &[7])?);
     Ok(())
 }

@@ -1,0 +1,97 @@
+-- When a change of one place, and one that makes one instance, may come.
+use Rattle.std.proofs.Common.{◌≡◌, ℕ, zero, suc, ◌+◌, ◌-◌, ◌<◌, ◌≤◌, nat_eq, Bool, true, false, cond, Option, Some, None, List, [], ◌∷◌, ◌++◌, length, get_or, append-nil, map, refl, sym, ap, ◌∙◌, subst, arith}
+use Rattle.std.specs.Prelude.{◌&&◌, All, slice_get, unwrap_or, option_and_then}
+use Rattle.std.proofs.lemmas.Bool.{false≢true, eqb-true}
+use Rattle.std.proofs.lemmas.List.Elements.{All-nil, All-cons}
+use Rattle.std.specs.List.Sorted.{IsSorted}
+use Rattle.rn_value.specs.Order.{value_cmp}
+use Rattle.rn_value.specs.declared.value.Value.{Value}
+use Rattle.rn_model.specs.declared.system.System.{System}
+use Rattle.rn_model.specs.Lists.{count_of, IsWithin}
+use Rattle.rn_model.specs.Markings.{Instance, Marking, instance_at, tokens_at}
+use Rattle.rn_table.specs.declared.change.Row.{Row}
+use Rattle.rn_table.specs.declared.change.Change.{Change}
+use Rattle.rn_table.specs.Changes.{MayCome, ArePlaced, values_at, with_made}
+use Rattle.rn_table.proofs.InstanceLemmas.{numbered_kept}
+
+abbrev row_of : ℕ → List Value → Row
+row_of n vs = record { inst = n; place = 0; values = vs }
+
+abbrev first_place : Instance → Option (List Value)
+first_place i = slice_get i.places 0
+
+held_by : (o : Option Instance) (vs : List Value) → option_and_then first_place o ≡ Some vs → (i : Instance) × (o ≡ Some i) × (first_place i ≡ Some vs)
+held_by None vs e = absurd (let no : ⊥ = cc in no)
+held_by (Some i) vs e = (i, refl, e)
+
+some_place : (ps : List (List Value)) (vs : List Value) → slice_get ps 0 ≡ Some vs → 0 < length ps
+some_place [] vs e = absurd (let no : ⊥ = cc in no)
+some_place (p ∷ ps) vs e = omega arith
+
+both : (a b : Bool) → (a && b) ≡ true → (a ≡ true) × (b ≡ true)
+both true b e = (refl, e)
+both false b e = absurd (false≢true e)
+
+module _ (system : System) (m : Marking) (n : ℕ) (taken put vs : List Value) (there : option_and_then first_place (instance_at m n) ≡ Some vs) (within : IsWithin taken vs) where
+  abbrev made : Marking
+  made = with_made system [] m
+
+  found : (i : Instance) × (instance_at made n ≡ Some i) × (first_place i ≡ Some vs)
+  found = let old = held_by (instance_at m n) vs there in (old.0, numbered_kept n m.instances [] old.0 old.1, old.2)
+
+  held : tokens_at made n 0 ≡ vs
+  held = ap (λ o. unwrap_or (option_and_then first_place o) []) found.1 ∙ ap (λ o. unwrap_or o []) found.2
+
+  within_case : (k p : ℕ) (b : Bool) → (nat_eq k n && nat_eq p 0) ≡ b → IsWithin (cond b taken []) (tokens_at made k p)
+  within_case k p true e =
+      let same = both (nat_eq k n) (nat_eq p 0) e in
+      subst (λ j. IsWithin taken (tokens_at made j p)) (sym (eqb-true k n same.0)) (subst (λ q. IsWithin taken (tokens_at made n q)) (sym (eqb-true p 0 same.1)) (subst (IsWithin taken) (sym held) within))
+  within_case k p false e = λ z. omega arith
+
+  placed : (values : List Value) → ArePlaced made (row_of n values ∷ [])
+  placed values =
+      let P : Row → Type 0 = λ row. (i : Instance) × (instance_at made row.inst ≡ Some i) × (row.place < length i.places) in
+      All-cons P (row_of n values) [] (found.0, found.1, some_place found.0.places vs found.2) (All-nil P)
+
+  abbrev Placed : Row → Type 0
+  Placed row = (i : Instance) × (instance_at made row.inst ≡ Some i) × (row.place < length i.places)
+
+  may_exchange : m.next ≤ 1000 → (let change : Change = record { taken = row_of n taken ∷ []; cleared = []; made = []; put = row_of n put ∷ [] } in MayCome system change m)
+  may_exchange low = record {
+    there = λ k p. subst (λ values. IsWithin values (tokens_at made k p)) (sym (append-nil (cond (nat_eq k n && nat_eq p 0) taken [] ++ []) ∙ append-nil (cond (nat_eq k n && nat_eq p 0) taken []))) (within_case k p (nat_eq k n && nat_eq p 0) refl);
+    nets = All-nil (λ net. net < length system.nets);
+    taken = placed taken;
+    cleared = All-nil Placed;
+    put = placed put;
+    room = omega (arith, low);
+  }
+
+  pub may_exchange_of : (t cl p : List Row) (mk : List ℕ) → t ≡ row_of n taken ∷ [] → cl ≡ [] → mk ≡ [] → p ≡ row_of n put ∷ [] → m.next ≤ 1000 → (let change : Change = record { taken = t; cleared = cl; made = mk; put = p } in MayCome system change m)
+  may_exchange_of t cl p mk t_is cl_is mk_is p_is low =
+      subst (λ r. let change : Change = record { taken = r; cleared = cl; made = mk; put = p } in MayCome system change m) (sym t_is)
+      (subst (λ r. let change : Change = record { taken = row_of n taken ∷ []; cleared = r; made = mk; put = p } in MayCome system change m) (sym cl_is)
+      (subst (λ r. let change : Change = record { taken = row_of n taken ∷ []; cleared = []; made = r; put = p } in MayCome system change m) (sym mk_is)
+      (subst (λ r. let change : Change = record { taken = row_of n taken ∷ []; cleared = []; made = []; put = r } in MayCome system change m) (sym p_is) (may_exchange low))))
+
+may_make : (system : System) (m : Marking) (net : ℕ) → net < length system.nets → m.next ≤ 1000 → (let change : Change = record { taken = []; cleared = []; made = net ∷ []; put = [] } in MayCome system change m)
+may_make system m net inside low =
+    let P : Row → Type 0 = λ row. (i : Instance) × (instance_at (with_made system (net ∷ []) m) row.inst ≡ Some i) × (row.place < length i.places) in
+    let N : ℕ → Type 0 = λ k. k < length system.nets in
+    record {
+      there = λ k p z. omega arith;
+      nets = All-cons N net [] inside (All-nil N);
+      taken = All-nil P;
+      cleared = All-nil P;
+      put = All-nil P;
+      room = omega (arith, low);
+    }
+
+pub may_make_of : (system : System) (m : Marking) (net : ℕ) (t cl p : List Row) (mk : List ℕ) → t ≡ [] → cl ≡ [] → mk ≡ net ∷ [] → p ≡ [] → net < length system.nets → m.next ≤ 1000 → (let change : Change = record { taken = t; cleared = cl; made = mk; put = p } in MayCome system change m)
+may_make_of system m net t cl p mk t_is cl_is mk_is p_is inside low =
+    subst (λ r. let change : Change = record { taken = r; cleared = cl; made = mk; put = p } in MayCome system change m) (sym t_is)
+    (subst (λ r. let change : Change = record { taken = []; cleared = r; made = mk; put = p } in MayCome system change m) (sym cl_is)
+    (subst (λ r. let change : Change = record { taken = []; cleared = []; made = r; put = p } in MayCome system change m) (sym mk_is)
+    (subst (λ r. let change : Change = record { taken = []; cleared = []; made = net ∷ []; put = r } in MayCome system change m) (sym p_is) (may_make system m net inside low))))
+
+pub one_sorted : (v : Value) → IsSorted value_cmp (v ∷ [])
+one_sorted v k d low high = absurd (let no : ⊥ = omega (arith, high) in no)
