@@ -192,7 +192,7 @@ place_same change ss n place vs net up within =
     omega (arith, steps, taken, put, balance, left, first, joined, order, inside, both, fewer))
 
 -- and of instances
-places_same : (f g : ℕ → List Value → List Value) (a : ℕ) (ps : List (List Value)) → ((k : ℕ) (vs : List Value) → k < length ps → vs ≡ get_or ps k vs → f (a + k) vs ≡ g (a + k) vs) → map (λ p. f p.0 p.1) (enumerate_from a ps) ≡ map (λ p. g p.0 p.1) (enumerate_from a ps)
+pub places_same : (f g : ℕ → List Value → List Value) (a : ℕ) (ps : List (List Value)) → ((k : ℕ) (vs : List Value) → k < length ps → vs ≡ get_or ps k vs → f (a + k) vs ≡ g (a + k) vs) → map (λ p. f p.0 p.1) (enumerate_from a ps) ≡ map (λ p. g p.0 p.1) (enumerate_from a ps)
 places_same f g a [] same = refl
 places_same f g a (vs ∷ ps) same =
     let here : f a vs ≡ g a vs = subst (λ k. f k vs ≡ g k vs) (let e : a + 0 ≡ a = omega arith in e) (same 0 vs (omega arith) refl) in

@@ -1,6 +1,7 @@
 pub mod ChangeLemmas
 pub mod CursorLemmas
 pub mod EditedLemmas
+pub mod FiringLemmas
 pub mod InstanceLemmas
 pub mod LawLemmas
 pub mod LeafLemmas

@@ -4,9 +4,10 @@ use Rattle.std.specs.Prelude.{filter, not, find, ◌||◌, ◌&&◌}
 use Rattle.std.specs.List.{list_any}
 use Rattle.std.proofs.lemmas.Bool.{false≢true, true≢false, eqb-true, cases_lt}
 use Rattle.std.proofs.lemmas.List.{get_or_default}
-use Rattle.std.proofs.lemmas.List.Elements.{filter-append}
+use Rattle.std.proofs.lemmas.List.Elements.{filter-append, All-from_recursion}
 use Rattle.std.specs.List.{AllByRecursion}
-use Rattle.std.specs.List.Sorted.{IsSorted}
+use Rattle.std.specs.List.Sorted.{IsSorted, IsStrictlyIncreasing}
+use Rattle.std.specs.Prelude.{All}
 use Rattle.rn_value.specs.Order.{value_cmp}
 use Rattle.rn_model.specs.declared.system.Place.{Place}
 use Rattle.rn_model.specs.declared.system.System.{System}
@@ -331,3 +332,26 @@ all_ascend k (l ∷ ls) are =
 pub all_sorted : (k : ℕ) (ls : List Leaf) → AreLeaves k ls → AllByRecursion HasSortedPlaces (instances_in ls)
 all_sorted k [] are = tt
 all_sorted k (l ∷ ls) are = all_joined HasSortedPlaces (kept_in l) (instances_in ls) (all_filtered HasSortedPlaces (has_number l.kept) l.held are.0.sorted) (all_sorted (suc k) ls are.1)
+
+-- what a table keeps of all its instances
+all_below : (next : ℕ) (ls : List Leaf) → AllByRecursion (λ l. AllByRecursion (λ i. i.number < next) l.held) ls → AllByRecursion (λ i. i.number < next) (instances_in ls)
+all_below next [] below = tt
+all_below next (l ∷ ls) below = all_joined (λ i. i.number < next) (kept_in l) (instances_in ls) (all_filtered (λ i. i.number < next) (has_number l.kept) l.held below.0) (all_below next ls below.1)
+
+pub all_between : (next : ℕ) (ls : List Leaf) → IsTable next ls → All (λ i. (0 < i.number) × (i.number < next)) (instances_in ls)
+all_between next ls is =
+    All-from_recursion (λ i. (0 < i.number) × (i.number < next)) (instances_in ls)
+    (all_two (λ i. 64 * 0 < i.number) (λ i. i.number < next) (λ i. (0 < i.number) × (i.number < next)) (instances_in ls) (λ i low high. (omega (arith, low), high)) (all_above 0 ls is.leaves) (all_below next ls is.below))
+
+pub rising : (is : List Instance) → Ascending is → IsStrictlyIncreasing (map (λ i. i.number) is)
+rising [] up k high = absurd (let no : ⊥ = omega (arith, high) in no)
+rising (i ∷ []) up k high = absurd (let no : ⊥ = omega (arith, high) in no)
+rising (i ∷ j ∷ is) up zero high = up.0.0
+rising (i ∷ j ∷ is) up (suc k) high =
+    let place : suc k + 1 ≡ suc (k + 1) = omega arith in
+    subst (λ n. get_or (map (λ (x : Instance). x.number) (j ∷ is)) k 0 < get_or (map (λ (x : Instance). x.number) (i ∷ j ∷ is)) n 0) (sym place) (rising (j ∷ is) up.1 k (omega (arith, high)))
+
+pub all_places_sorted : (ls : List Leaf) → AreLeaves 0 ls → All (λ i. All (λ tokens. IsSorted value_cmp tokens) i.places) (instances_in ls)
+all_places_sorted ls are =
+    All-from_recursion (λ i. All (λ tokens. IsSorted value_cmp tokens) i.places) (instances_in ls)
+    (all_map HasSortedPlaces (λ i. All (λ tokens. IsSorted value_cmp tokens) i.places) (instances_in ls) (λ i all. All-from_recursion (λ tokens. IsSorted value_cmp tokens) i.places all) (all_sorted 0 ls are))

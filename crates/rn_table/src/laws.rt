@@ -1,5 +1,5 @@
 //! Laws over changed tables, each the contract of a function that does nothing.
-ghost use Rattle.rn_table.specs.Laws.{KeptAfterRemoval, SameIsLeft, TokensAfterChange};
+ghost use Rattle.rn_table.specs.Laws.{FiringsAreChanges, KeptAfterRemoval, SameIsLeft, TokensAfterChange};
 
 /// What a place holds after a change.
 pub fn tokens_after_change()
@@ -14,4 +14,9 @@ pub fn same_is_left()
 /// What is kept after a removal.
 pub fn kept_after_removal()
     ensures { KeptAfterRemoval }
+{}
+
+/// A change with the rows of a firing leads to the marking after the firing.
+pub fn firings_are_changes()
+    ensures { FiringsAreChanges }
 {}

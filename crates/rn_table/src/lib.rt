@@ -17,6 +17,6 @@ mod tests;
 mod undo;
 
 pub use change::{Change, Nums, Row, Rows};
-pub use laws::{kept_after_removal, same_is_left, tokens_after_change};
+pub use laws::{firings_are_changes, kept_after_removal, same_is_left, tokens_after_change};
 pub use page::Page;
 pub use table::Table;

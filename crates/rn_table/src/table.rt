@@ -1,6 +1,8 @@
 //! The table of instances.
-ghost use Rattle.std.specs.Prelude.{◌≡◌, ◌<◌, ◌≤◌, ◌+◌, ◌*◌, ◌↔◌, ◌++◌, ℕ, map, filter, find, not, nat_eq, nat_le, slice_get, Some, IsSome, IfSome, option_and_then, IfOk, OnOk, OnErr};
+ghost use Rattle.std.specs.Prelude.{◌≡◌, ◌<◌, ◌≤◌, ◌+◌, ◌*◌, ◌↔◌, ◌++◌, ℕ, map, filter, find, not, nat_eq, nat_le, slice_get, All, Some, IsSome, IfSome, option_and_then, IfOk, OnOk, OnErr};
 ghost use Rattle.std.specs.Option.{option_copied};
+ghost use Rattle.std.specs.List.Sorted.{IsSorted, IsStrictlyIncreasing};
+ghost use Rattle.rn_value.specs.Order.{value_cmp};
 ghost use Rattle.rn_model.specs.Markings.{Instance, IsThere, initial_marking, instance_at, net_of};
 ghost use Rattle.rn_table.specs.Changes.{MayCome, changed};
 ghost use Rattle.rn_table.specs.Leaves.{stays};
@@ -74,9 +76,13 @@ impl Table {
         })
     }
 
-    /// The number that the next instance gets.
+    /// The number that the next instance gets. All kept ones are below it.
     pub fn next(&self) -> u32
-        ensures { result ≡ self.now.marking.next }
+        ensures number { result ≡ self.now.marking.next }
+        ensures most { result ≤ 1000001 }
+        ensures below { All (λ i. (0 < i.number) × (i.number < result)) self.now.marking.instances }
+        ensures ascending { IsStrictlyIncreasing (map (λ i. i.number) self.now.marking.instances) }
+        ensures sorted { All (λ i. All (λ tokens. IsSorted value_cmp tokens) i.places) self.now.marking.instances }
     {
         self.next
     }
