@@ -2,6 +2,8 @@ pub mod Beginnings
 pub mod Digits
 pub mod Inside
 pub mod InstanceReading
+pub mod LineForms
+pub mod LineReadings
 pub mod NodeReadings
 pub mod NumeralReading
 pub mod Prefixes

@@ -46,7 +46,7 @@ plain_long c [] d e = rw e refl
 plain_long c (x ∷ rest) d e = rw e refl
 
 -- and begin with 0 only where it is the one digit
-plain_numeral : {n : ℕ} {a : List ℕ} → IsNumeral n a → are_plain a ≡ true
+pub plain_numeral : {n : ℕ} {a : List ℕ} → IsNumeral n a → are_plain a ≡ true
 plain_numeral (digit small) = refl
 plain_numeral (more {d = d} low p small) =
     let f = first_byte p in
@@ -86,7 +86,7 @@ plain_first : (d : ℕ) → is_digit d ≡ true → not (nat_eq d 48) ≡ true �
 plain_first d h plain = grind (arith, nat_tests)
 
 -- plain digits are a numeral of the number that they spell
-numeral_of : (digits : List ℕ) → are_plain digits ≡ true → list_all is_digit digits ≡ true → IsNumeral (number_after 0 digits) digits
+pub numeral_of : (digits : List ℕ) → are_plain digits ≡ true → list_all is_digit digits ≡ true → IsNumeral (number_after 0 digits) digits
 numeral_of [] plain all = absurd (false≢true plain)
 numeral_of (d ∷ []) plain all =
     let n : d - 48 ≡ 0 * 10 + (d - 48) = omega arith in

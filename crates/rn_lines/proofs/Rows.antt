@@ -22,7 +22,7 @@ one_first vs ms m v (Some y) =
 nothing_before : (vs : List Value) (ms : List Said) (rest : List ℕ) → with_front vs ms (Some ([], [], rest)) ≡ Some (vs, ms, rest)
 nothing_before vs ms rest = λ i. Some (append-nil vs i, append-nil ms i, rest)
 
-no_bytes : (bytes : List ℕ) → length bytes ≡ 0 → bytes ≡ []
+pub no_bytes : (bytes : List ℕ) → length bytes ≡ 0 → bytes ≡ []
 no_bytes [] e = refl
 no_bytes (c ∷ bytes) e = absurd (omega arith)
 

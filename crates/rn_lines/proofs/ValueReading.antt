@@ -56,7 +56,7 @@ record First (a : List ℕ) : Type 0 where
   no_bracket : nat_eq byte 93 ≡ false
   no_brace : nat_eq byte 125 ≡ false
 
-name_first : (name : List ℕ) → IsName name → (c : ℕ) × (rest : List ℕ) × (name ≡ c ∷ rest) × (is_letter c ≡ true)
+pub name_first : (name : List ℕ) → IsName name → (c : ℕ) × (rest : List ℕ) × (name ≡ c ∷ rest) × (is_letter c ≡ true)
 name_first [] is = absurd (false≢true is)
 name_first (c ∷ rest) is = (c, rest, refl, and_left (is_letter c) (list_all is_name_byte (c ∷ rest)) (and_left (is_identifier (c ∷ rest)) (not (is_reserved (c ∷ rest))) is))
 

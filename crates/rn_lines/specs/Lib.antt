@@ -1,4 +1,7 @@
 pub mod Laws
+pub mod LineReading
+pub mod LineText
+pub mod LinesSeen
 pub mod NodeReading
 pub mod NodeSeen
 pub mod NodeText

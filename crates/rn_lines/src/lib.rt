@@ -1,9 +1,10 @@
-//! What stands on the lines of records: values as they are written, with the instances that they
-//! name, and nodes by the names of their transitions and variables.
+//! The lines of records, each read by itself: values with the instances that they name, nodes by the
+//! names of their transitions and variables, and whole lines by their form.
 #![tactic(auto)]
 
 mod instances;
 mod laws;
+mod lines;
 mod nodes;
 mod numerals;
 mod quoted;
@@ -14,6 +15,7 @@ mod values;
 
 pub use instances::Mention;
 pub use laws::value_laws;
+pub use lines::{Ending, Lead, Line, ReadMark, ReadToken, read_line};
 pub use nodes::{ReadGiven, ReadNode, read_node};
 pub use unread::Unread;
 pub use values::{MOST_BRACKETS, ReadValue, read_value};

@@ -38,7 +38,8 @@ pub fn read_node(alloc: Global, bytes: &[u8]) -> Result<ReadNode<'_>, Unread>
     node_at(alloc, bytes)
 }
 
-fn node_at(alloc: Global, bytes: &[u8]) -> Result<ReadNode<'_>, Unread>
+/// The node that the bytes are, all of them.
+pub(crate) fn node_at(alloc: Global, bytes: &[u8]) -> Result<ReadNode<'_>, Unread>
     ensures { Gives node result (node_at bytes.now) }
 {
     let (inst, rest) = inst_at(bytes)?;

@@ -3,6 +3,7 @@ ghost use Rattle.std.specs.Prelude.{◌≡◌, ◌≤◌, ◌-◌, negsuc, nat_l
 ghost use Rattle.std.specs.Prelude.{IsTrue, IfOk, IfSome, Some, None};
 ghost use Rattle.std.specs.List.{prefix_len, list_all};
 ghost use Rattle.rn_value.specs.Characters.{is_digit};
+ghost use Rattle.rn_lines.specs.LineReading.{step_at};
 ghost use Rattle.rn_lines.specs.Reading.{Gives, are_plain, number_after, numeral_at, whole_at};
 
 use crate::unread::Unread;
@@ -66,6 +67,18 @@ pub(crate) fn numeral_at(most: u64, bytes: &[u8]) -> Result<(u64, &[u8]), Unread
     match number_up_to(most, digits) {
         Some(number) => Ok((number, rest)),
         None => Err(Unread::NotThere),
+    }
+}
+
+/// The numeral at the start of bytes, of any length, and the bytes after it.
+pub(crate) fn step_at(bytes: &[u8]) -> Result<(&[u8], &[u8]), Unread>
+    ensures { Gives (λ x. (x.0.now, x.1.now)) result (step_at bytes.now) }
+{
+    let (digits, rest) = bytes.split_at(digits_length(bytes));
+    if are_plain(digits) {
+        Ok((digits, rest))
+    } else {
+        Err(Unread::NotThere)
     }
 }
 

@@ -1,5 +1,5 @@
 //! Values at the start of bytes, by rows worked out from the grammar.
-use crate::{Unread, read_node, read_value, value_laws};
+use crate::{Line, Unread, read_line, read_node, read_value, value_laws};
 use rn_value::{Names, NoMemory, Str, write_value};
 use std::alloc::Global;
 use std::test::Fail;
@@ -157,6 +157,60 @@ fn nodes(rt: HostRuntime) -> Result<(), Fail> {
     ];
     for (row, number) in rows {
         assert_eq!(rt; variables(rt.alloc(), row)?, number, "{row}");
+    }
+    Ok(())
+}
+
+// A letter for the form of a line; a point where there is none.
+fn form(alloc: Global, row: &str) -> Result<char, NoMemory> {
+    match read_line(alloc, row.as_bytes()) {
+        Ok(Line::Fires(_, _)) => Ok('f'),
+        Ok(Line::Calls(_, _)) => Ok('c'),
+        Ok(Line::Prints(_, _)) => Ok('p'),
+        Ok(Line::Ends(_)) => Ok('e'),
+        Ok(Line::WouldFire(_)) => Ok('F'),
+        Ok(Line::WouldCall(_)) => Ok('C'),
+        Ok(Line::Holds(_)) => Ok('h'),
+        Err(Unread::NotThere) => Ok('.'),
+        Err(Unread::NoMemory) => Err(NoMemory),
+    }
+}
+
+#[test]
+fn lines(rt: HostRuntime) -> Result<(), Fail> {
+    let rows = [
+        ("1 w1 main[1].make n=1 w=worker[2]", 'f'),
+        ("99999999999999999999 w64 main[1].t", 'f'),
+        ("0 w1 main[1].t", 'f'),
+        ("2 w1 + worker[2].go k=0", 'c'),
+        ("3 w1 > [10,\"a\"]", 'p'),
+        ("end dead", 'e'),
+        ("end fault instances", 'e'),
+        ("! main[1].t x=0", 'F'),
+        ("! + worker[2].go k=0", 'C'),
+        ("main[1].c 0", 'h'),
+        ("end[1].steps [] {} 5", 'h'),
+        ("", '.'),
+        ("01 w1 main[1].t", '.'),
+        ("1 w0 main[1].t", '.'),
+        ("1 w65 main[1].t", '.'),
+        ("1 w01 main[1].t", '.'),
+        ("1 v1 main[1].t", '.'),
+        ("1 w1  main[1].t", '.'),
+        ("1 w1 +main[1].t", '.'),
+        ("1 w1 > ", '.'),
+        ("1 w1 > 5 6", '.'),
+        ("end", '.'),
+        ("end dead ", '.'),
+        ("end fault", '.'),
+        ("!main[1].t", '.'),
+        ("main[1].c", '.'),
+        ("main[1].c ", '.'),
+        ("main[1].t x=5", '.'),
+        ("main[1].c 0\n", '.'),
+    ];
+    for (row, wanted) in rows {
+        assert_eq!(rt; form(rt.alloc(), row)?, wanted, "{row}");
     }
     Ok(())
 }

@@ -1,0 +1,265 @@
+-- Reading of lines, in both directions.
+use Rattle.std.proofs.Common.{◌≡◌, ◌<◌, ◌≤◌, ◌+◌, ◌-◌, ℕ, zero, suc, List, [], ◌∷◌, ◌++◌, length, take, drop, Bool, true, false, cond, nat_eq, refl, sym, ap, ◌∙◌, subst, arith, append_assoc, length-append}
+use Rattle.std.specs.Prelude.{Option, Some, None, bytes_eq}
+use Rattle.std.specs.List.{list_all, prefix_len}
+use Rattle.std.proofs.lemmas.Bool.Decides.{nat_tests}
+use Rattle.std.proofs.lemmas.List.{append-nil, take-append-drop}
+use Rattle.std.proofs.lemmas.Option.{same_Some, cond_some, none-some}
+use borrow.Author.Tests.{ne_eqb, eq-eqb, eqb-true, eqb-false}
+use Rattle.rn_value.specs.Characters.{is_letter, is_digit, is_name_byte}
+use Rattle.rn_value.specs.Grammar.{IsNumeral}
+use Rattle.rn_value.specs.TextLaws.{IsDelimited}
+use Rattle.rn_value.specs.Words.{IsName}
+use Rattle.rn_value.specs.declared.value.Value.{Value}
+use Rattle.rn_value.proofs.Numerals.{IsNumeral-digits, IsNumeral-first}
+use Rattle.rn_value.proofs.Spans.{Stops}
+use Rattle.rn_lines.specs.ValueText.{Said, Seen, IsValue, Begins, most_brackets}
+use Rattle.rn_lines.specs.NodeText.{NodeSaid, IsInstance, IsNode}
+use Rattle.rn_lines.specs.LineText.{LeadSaid, Token, LineSaid, IsLead, AreTokens, IsLine, ending_text}
+use Rattle.rn_lines.specs.Reading.{◌>>=◌, Misses, are_plain, number_after, numeral_at, byte_at, name_at, inst_at, seen_at}
+use Rattle.rn_lines.specs.NodeReading.{node_at}
+use Rattle.rn_lines.specs.LineReading.{step_at, worker_at, lead_at, last_at, token_at, tokens_at, mark_at, firing_at, fault_at, ending_at, end_or, line_at}
+use Rattle.rn_lines.specs.declared.lines.Ending.{Ending}
+use Rattle.rn_lines.specs.declared.lines.Ending.TheVariants.{Dead, Steps, Memory, ActionFault, InstancesFault}
+use Rattle.rn_lines.specs.declared.unread.Unread.{Unread}
+use Rattle.rn_lines.specs.declared.unread.Unread.TheVariants as unread
+use Rattle.rn_lines.proofs.Prefixes.{longest_prefix, prefix_is}
+use Rattle.rn_lines.proofs.NumeralReading.{bind_some, plain_numeral, numeral_of, numeral_reads, NumeralAt, numeral_read}
+use Rattle.rn_lines.proofs.InstanceReading.{byte_reads, byte_read, name_reads, name_read, inst_reads, inst_read}
+use Rattle.rn_lines.proofs.Beginnings.{seen_reads, seen_read}
+use Rattle.rn_lines.proofs.NodeReadings.{node_reads, node_read}
+use Rattle.rn_lines.proofs.Rows.{no_bytes}
+use Rattle.rn_lines.proofs.ValueReading.{name_first}
+
+-- The lead of a firing's line: its step,
+step_reads : {n : ℕ} {step : List ℕ} → IsNumeral n step → (rest : List ℕ) → Stops is_digit rest → step_at (step ++ rest) ≡ Some (step, rest)
+step_reads {n} {step} p rest stops =
+    let parts = prefix_is is_digit step rest (IsNumeral-digits p) stops in
+    let plain : List ℕ → List ℕ → Option (List ℕ × List ℕ) = λ a b. cond (are_plain a) (Some (a, b)) None in
+    let read : List ℕ × List ℕ = (step, rest) in
+    (λ i. plain (parts.0 i) (parts.1 i)) ∙ ap (λ t. cond t (Some read) None) (plain_numeral p)
+
+step_read : (bytes : List ℕ) (x : List ℕ × List ℕ) → step_at bytes ≡ Some x → (bytes ≡ x.0 ++ x.1) × IsNumeral (number_after 0 x.0) x.0
+step_read bytes x e =
+    let step : List ℕ = take (prefix_len is_digit bytes) bytes in
+    let rest : List ℕ = drop (prefix_len is_digit bytes) bytes in
+    let read : List ℕ × List ℕ = (step, rest) in
+    let tests = cond_some (are_plain step) read x e in
+    let P : List ℕ × List ℕ → Type 0 = λ x. (bytes ≡ x.0 ++ x.1) × IsNumeral (number_after 0 x.0) x.0 in
+    subst P tests.1 (sym (take-append-drop (prefix_len is_digit bytes) bytes), numeral_of step tests.0 (longest_prefix is_digit bytes).0)
+
+-- its worker,
+abbrev as_worker : ℕ → List ℕ → Option (ℕ × List ℕ)
+as_worker n rest = Some (n, rest)
+
+abbrev after_worker : ℕ × List ℕ → Option (ℕ × List ℕ)
+after_worker n = cond (nat_eq n.0 0) None (byte_at 32 n.1 >>= as_worker n.0)
+
+worker_reads : {worker : ℕ} {digits : List ℕ} → 1 ≤ worker → worker ≤ 64 → IsNumeral worker digits → (rest : List ℕ) → worker_at (digits ++ (32 ∷ rest)) ≡ Some (worker, rest)
+worker_reads {worker} {digits} low high p rest =
+    ap (λ o. o >>= after_worker) (numeral_reads p 64 (32 ∷ rest) high refl)
+    ∙ ap (λ t. cond t None (byte_at 32 (32 ∷ rest) >>= as_worker worker)) (ne_eqb worker 0 (λ e. omega arith))
+    ∙ ap (λ o. o >>= as_worker worker) (byte_reads 32 rest)
+
+record WorkerAt (bytes : List ℕ) (x : ℕ × List ℕ) : Type 0 where
+  digits : List ℕ
+  whole : bytes ≡ digits ++ (32 ∷ x.1)
+  low : 1 ≤ x.0
+  high : x.0 ≤ 64
+  stands : IsNumeral x.0 digits
+
+worker_read : (bytes : List ℕ) (x : ℕ × List ℕ) → worker_at bytes ≡ Some x → WorkerAt bytes x
+worker_read bytes x e =
+    let n = bind_some (numeral_at 64 bytes) after_worker x e in
+    by n.0 (numeral_read 64 bytes n.0 n.1) (nat_eq n.0.0 0) refl n.2
+  where
+    by : (n : ℕ × List ℕ) → NumeralAt 64 bytes n → (t : Bool) → nat_eq n.0 0 ≡ t → cond t None (byte_at 32 n.1 >>= as_worker n.0) ≡ Some x → WorkerAt bytes x
+    by n here true is e = cc
+    by n here false is e =
+        let space = bind_some (byte_at 32 n.1) (as_worker n.0) x e in
+        let above : ¬ (n.0 ≡ 0) = eqb-false n.0 0 is in
+        subst (WorkerAt bytes) (same_Some (n.0, space.0) x space.2)
+        (record { digits = here.digits; whole = here.whole ∙ ap (λ rest. here.digits ++ rest) (byte_read 32 n.1 space.0 space.1); low = omega (arith, above); high = here.low; stands = here.stands })
+
+-- and both
+abbrev as_lead : List ℕ → ℕ × List ℕ → Option (LeadSaid × List ℕ)
+as_lead step worker = Some (record { step = step; worker = worker.0 }, worker.1)
+
+abbrev after_sign : List ℕ → List ℕ → Option (LeadSaid × List ℕ)
+after_sign step sign = byte_at 119 sign >>= λ digits. worker_at digits >>= as_lead step
+
+abbrev after_step : List ℕ × List ℕ → Option (LeadSaid × List ℕ)
+after_step step = byte_at 32 step.1 >>= after_sign step.0
+
+pub lead_reads : {l : LeadSaid} {a : List ℕ} → IsLead l a → (rest : List ℕ) → lead_at (a ++ rest) ≡ Some (l, rest)
+lead_reads (IsLead.lead {worker = worker} {step = step} {digits = digits} p low high q) rest =
+    let regrouped : (step ++ (32 ∷ 119 ∷ (digits ++ 32 ∷ []))) ++ rest ≡ step ++ (32 ∷ 119 ∷ (digits ++ (32 ∷ rest))) =
+    append_assoc step (32 ∷ 119 ∷ (digits ++ 32 ∷ [])) rest ∙ ap (λ d. step ++ (32 ∷ 119 ∷ d)) (append_assoc digits (32 ∷ []) rest) in
+    ap lead_at regrouped
+    ∙ ap (λ o. o >>= after_step) (step_reads p (32 ∷ 119 ∷ (digits ++ (32 ∷ rest))) refl)
+    ∙ ap (λ o. o >>= after_sign step) (byte_reads 32 (119 ∷ (digits ++ (32 ∷ rest))))
+    ∙ ap (λ o. o >>= λ digits. worker_at digits >>= as_lead step) (byte_reads 119 (digits ++ (32 ∷ rest)))
+    ∙ ap (λ o. o >>= as_lead step) (worker_reads low high q rest)
+
+pub record LeadAt (bytes : List ℕ) (x : LeadSaid × List ℕ) : Type 0 where
+  pub text : List ℕ
+  pub whole : bytes ≡ text ++ x.1
+  pub stands : IsLead x.0 text
+
+pub lead_read : (bytes : List ℕ) (x : LeadSaid × List ℕ) → lead_at bytes ≡ Some x → LeadAt bytes x
+lead_read bytes x e =
+    let step = bind_some (step_at bytes) after_step x e in
+    let space = bind_some (byte_at 32 step.0.1) (after_sign step.0.0) x step.2 in
+    let sign = bind_some (byte_at 119 space.0) (λ digits. worker_at digits >>= as_lead step.0.0) x space.2 in
+    let worker = bind_some (worker_at sign.0) (as_lead step.0.0) x sign.2 in
+    let here = step_read bytes step.0 step.1 in
+    let by = worker_read sign.0 worker.0 worker.1 in
+    let text : List ℕ = step.0.0 ++ (32 ∷ 119 ∷ (by.digits ++ 32 ∷ [])) in
+    let whole : bytes ≡ text ++ worker.0.1 =
+    here.0
+    ∙ ap (λ b. step.0.0 ++ b) (byte_read 32 step.0.1 space.0 space.1 ∙ ap (λ b. 32 ∷ b) (byte_read 119 space.0 sign.0 sign.1 ∙ ap (λ b. 119 ∷ b) by.whole))
+    ∙ ap (λ d. step.0.0 ++ (32 ∷ 119 ∷ d)) (sym (append_assoc by.digits (32 ∷ []) worker.0.1))
+    ∙ sym (append_assoc step.0.0 (32 ∷ 119 ∷ (by.digits ++ 32 ∷ [])) worker.0.1) in
+    subst (LeadAt bytes) (same_Some (record { step = step.0.0; worker = worker.0.0 }, worker.0.1) x worker.2)
+    (record { text = text; whole = whole; stands = IsLead.lead here.1 by.low by.high by.stands })
+
+-- A value up to the end
+abbrev as_last : Seen → Option Token
+as_last v = cond (nat_eq (length v.rest) 0) (Some (record { value = v.value; named = v.named })) None
+
+pub last_reads : (t : Token) (a : List ℕ) → IsValue most_brackets t.value t.named a → last_at a ≡ Some t
+last_reads t a stands =
+    ap (λ o. o >>= as_last) (seen_reads a (record { value = t.value; named = t.named; rest = [] }) (record { text = a; whole = sym (append-nil a); stands = stands; delimited = tt }))
+
+pub last_read : (bytes : List ℕ) (t : Token) → last_at bytes ≡ Some t → IsValue most_brackets t.value t.named bytes
+last_read bytes t e =
+    let v = bind_some (seen_at bytes) as_last t e in
+    let tests = cond_some (nat_eq (length v.0.rest) 0) (record { value = v.0.value; named = v.0.named }) t v.2 in
+    let here = seen_read bytes v.0 v.1 in
+    let whole : bytes ≡ here.text = here.whole ∙ ap (λ rest. here.text ++ rest) (no_bytes v.0.rest (eqb-true (length v.0.rest) 0 tests.0)) ∙ append-nil here.text in
+    subst (λ t. IsValue most_brackets t.value t.named bytes) tests.1 (subst (IsValue most_brackets v.0.value v.0.named) (sym whole) here.stands)
+
+-- Tokens up to the end
+abbrev as_token : Seen → Option (Token × List ℕ)
+as_token v = Some (record { value = v.value; named = v.named }, v.rest)
+
+abbrev one_more : Token → List Token → Option (List Token)
+one_more t ts = Some (t ∷ ts)
+
+token_delimits : {ts : List Token} {a : List ℕ} → AreTokens ts a → IsDelimited a × Stops is_name_byte a
+token_delimits AreTokens.none = (tt, tt)
+token_delimits (AreTokens.some t others) = (refl, refl)
+
+tokens_length : {ts : List Token} {a : List ℕ} → AreTokens ts a → length ts ≤ length a
+tokens_length AreTokens.none = omega arith
+tokens_length (AreTokens.some {text = text} {rest = rest} t others) = let h = tokens_length others in let size = length-append text rest in omega (arith, h, size)
+
+token_reads : (t : Token) (text rest : List ℕ) → IsValue most_brackets t.value t.named text → IsDelimited rest → token_at (32 ∷ (text ++ rest)) ≡ Some (t, rest)
+token_reads t text rest stands d =
+    ap (λ o. o >>= λ text. seen_at text >>= as_token) (byte_reads 32 (text ++ rest))
+    ∙ ap (λ o. o >>= as_token) (seen_reads (text ++ rest) (record { value = t.value; named = t.named; rest = rest }) (record { text = text; whole = refl; stands = stands; delimited = d }))
+
+record TokenAt (bytes : List ℕ) (x : Token × List ℕ) : Type 0 where
+  text : List ℕ
+  whole : bytes ≡ 32 ∷ (text ++ x.1)
+  stands : IsValue most_brackets x.0.value x.0.named text
+
+token_read : (bytes : List ℕ) (x : Token × List ℕ) → token_at bytes ≡ Some x → TokenAt bytes x
+token_read bytes x e =
+    let space = bind_some (byte_at 32 bytes) (λ text. seen_at text >>= as_token) x e in
+    let v = bind_some (seen_at space.0) as_token x space.2 in
+    let here = seen_read space.0 v.0 v.1 in
+    subst (TokenAt bytes) (same_Some (record { value = v.0.value; named = v.0.named }, v.0.rest) x v.2)
+    (record { text = here.text; whole = byte_read 32 bytes space.0 space.1 ∙ ap (λ b. 32 ∷ b) here.whole; stands = here.stands })
+
+tokens_read_all : {ts : List Token} {a : List ℕ} → AreTokens ts a → (most : ℕ) → length ts ≤ most → tokens_at most a ≡ Some ts
+tokens_read_all AreTokens.none zero few = refl
+tokens_read_all AreTokens.none (suc most) few = refl
+tokens_read_all (AreTokens.some t others) zero few = absurd (omega arith)
+tokens_read_all (AreTokens.some {text = text} {rest = rest} {v = v} {named = named} t others) (suc most) few =
+    let first : Token = record { value = v; named = named } in
+    ap (λ o. o >>= λ t. tokens_at most t.1 >>= one_more t.0) (token_reads first text rest t (token_delimits others).0)
+    ∙ ap (λ o. o >>= one_more first) (tokens_read_all others most (omega arith))
+
+tokens_read : (most : ℕ) (bytes : List ℕ) (ts : List Token) → tokens_at most bytes ≡ Some ts → AreTokens ts bytes
+tokens_read zero [] ts e = subst (λ ts. AreTokens ts []) (same_Some [] ts e) AreTokens.none
+tokens_read zero (c ∷ bytes) ts e = cc
+tokens_read (suc most) [] ts e = subst (λ ts. AreTokens ts []) (same_Some [] ts e) AreTokens.none
+tokens_read (suc most) (c ∷ bytes) ts e =
+    let t = bind_some (token_at (c ∷ bytes)) (λ t. tokens_at most t.1 >>= one_more t.0) ts e in
+    let more = bind_some (tokens_at most t.0.1) (one_more t.0.0) ts t.2 in
+    let here = token_read (c ∷ bytes) t.0 t.1 in
+    let others = tokens_read most t.0.1 more.0 more.1 in
+    subst (λ ts. AreTokens ts (c ∷ bytes)) (same_Some (t.0.0 ∷ more.0) ts more.2)
+    (subst (AreTokens (t.0.0 ∷ more.0)) (sym here.whole) (AreTokens.some here.stands others))
+
+-- Tokens are read one after the other, as by a loop.
+abbrev pub with_tokens : List Token → Option (List Token) → Option (List Token)
+with_tokens front read = read >>= λ ts. Some (front ++ ts)
+
+regroup : (front : List Token) (t : Token) (read : Option (List Token)) → with_tokens front (read >>= one_more t) ≡ with_tokens (front ++ t ∷ []) read
+regroup front t None = refl
+regroup front t (Some ts) = ap (λ (ts : List Token). Some ts) (sym (append_assoc front (t ∷ []) ts))
+
+step : (most i : ℕ) (rest : List ℕ) → i < most → 0 < length rest → tokens_at (most - i) rest ≡ (token_at rest >>= λ t. tokens_at (most - (i + 1)) t.1 >>= one_more t.0)
+step most i [] low some = absurd (omega arith)
+step most i (c ∷ rest) low some =
+    let k : most - i ≡ suc (most - (i + 1)) = omega arith in
+    ap (λ k. tokens_at k (c ∷ rest)) k
+
+pub token_on : (most i : ℕ) (rest next : List ℕ) (t : Token) (front new : List Token) (whole : Option (List Token)) → i < most → 0 < length rest → token_at rest ≡ Some (t, next) → new ≡ front ++ t ∷ [] →
+    with_tokens front (tokens_at (most - i) rest) ≡ whole → with_tokens new (tokens_at (most - (i + 1)) next) ≡ whole
+token_on most i rest next t front new whole low some read put so_far =
+    ap (λ front. with_tokens front (tokens_at (most - (i + 1)) next)) put
+    ∙ sym (regroup front t (tokens_at (most - (i + 1)) next))
+    ∙ ap (λ o. with_tokens front (o >>= λ t. tokens_at (most - (i + 1)) t.1 >>= one_more t.0)) (sym read)
+    ∙ ap (with_tokens front) (sym (step most i rest low some))
+    ∙ so_far
+
+pub token_ends : (e : Unread) (most i : ℕ) (rest : List ℕ) (front : List Token) (whole : Option (List Token)) → i < most → 0 < length rest → Misses e (token_at rest) →
+    with_tokens front (tokens_at (most - i) rest) ≡ whole → Misses e whole
+token_ends unread.NoMemory most i rest front whole low some none so_far = tt
+token_ends unread.NotThere most i rest front whole low some none so_far =
+    sym so_far
+    ∙ ap (with_tokens front) (step most i rest low some)
+    ∙ ap (λ o. with_tokens front (o >>= λ t. tokens_at (most - (i + 1)) t.1 >>= one_more t.0)) none
+
+-- Marks
+abbrev as_mark : Said → List ℕ → List Token → Option LineSaid
+as_mark inst place tokens = cond (nat_eq (length tokens) 0) None (Some (LineSaid.holds inst place tokens))
+
+abbrev after_place : Said → List ℕ × List ℕ → Option LineSaid
+after_place inst place = tokens_at (length place.1) place.1 >>= as_mark inst place.0
+
+abbrev after_inst : Said × List ℕ → Option LineSaid
+after_inst inst = byte_at 46 inst.1 >>= λ word. name_at word >>= after_place inst.0
+
+instance_reads : {inst : Said} {a : List ℕ} → IsInstance inst a → (rest : List ℕ) → inst_at (a ++ rest) ≡ Some (inst, rest)
+instance_reads (IsInstance.instance is low high p) rest = inst_reads is low high p rest
+
+pub mark_reads : {inst : Said} {place a b : List ℕ} {t : Token} {tokens : List Token} → IsInstance inst a → IsName place → AreTokens (t ∷ tokens) b → mark_at (a ++ (46 ∷ (place ++ b))) ≡ Some (LineSaid.holds inst place (t ∷ tokens))
+mark_reads {inst} {place} {a} {b} {t} {tokens} is named all =
+    ap (λ o. o >>= after_inst) (instance_reads is (46 ∷ (place ++ b)))
+    ∙ ap (λ o. o >>= λ word. name_at word >>= after_place inst) (byte_reads 46 (place ++ b))
+    ∙ ap (λ o. o >>= after_place inst) (name_reads place b named (token_delimits all).1)
+    ∙ ap (λ o. o >>= as_mark inst place) (tokens_read_all all (length b) (tokens_length all))
+    ∙ ap (λ u. cond u None (Some (LineSaid.holds inst place (t ∷ tokens)))) (ne_eqb (length (t ∷ tokens)) 0 (λ e. omega arith))
+
+pub mark_read : (bytes : List ℕ) (x : LineSaid) → mark_at bytes ≡ Some x → IsLine x bytes
+mark_read bytes x e =
+    let inst = bind_some (inst_at bytes) after_inst x e in
+    let point = bind_some (byte_at 46 inst.0.1) (λ word. name_at word >>= after_place inst.0.0) x inst.2 in
+    let place = bind_some (name_at point.0) (after_place inst.0.0) x point.2 in
+    let tokens = bind_some (tokens_at (length place.0.1) place.0.1) (as_mark inst.0.0 place.0.0) x place.2 in
+    let here = inst_read bytes inst.0 inst.1 in
+    let named = name_read point.0 place.0 place.1 in
+    let whole : bytes ≡ (inst.0.0.name ++ (91 ∷ here.digits ++ 93 ∷ [])) ++ (46 ∷ (place.0.0 ++ place.0.1)) =
+    here.whole ∙ ap (λ b. (inst.0.0.name ++ (91 ∷ here.digits ++ 93 ∷ [])) ++ b) (byte_read 46 inst.0.1 point.0 point.1 ∙ ap (λ b. 46 ∷ b) named.0) in
+    by inst.0.0 (inst.0.0.name ++ (91 ∷ here.digits ++ 93 ∷ [])) place.0.0 place.0.1 tokens.0 (tokens_read (length place.0.1) place.0.1 tokens.0 tokens.1) tokens.2 whole (IsInstance.instance here.named here.low here.high here.stands) named.1
+  where
+    by : (inst : Said) (a place b : List ℕ) (ts : List Token) → AreTokens ts b → as_mark inst place ts ≡ Some x → bytes ≡ a ++ (46 ∷ (place ++ b)) → IsInstance inst a → IsName place → IsLine x bytes
+    by inst a place b [] all e whole is named = cc
+    by inst a place b (t ∷ ts) all e whole is named =
+        let some : nat_eq (length (t ∷ ts)) 0 ≡ false = ne_eqb (length (t ∷ ts)) 0 (λ e. omega arith) in
+        let said : Some (LineSaid.holds inst place (t ∷ ts)) ≡ Some x = sym (ap (λ u. cond u None (Some (LineSaid.holds inst place (t ∷ ts)))) some) ∙ e in
+        subst (λ x. IsLine x bytes) (same_Some (LineSaid.holds inst place (t ∷ ts)) x said) (subst (IsLine (LineSaid.holds inst place (t ∷ ts))) (sym whole) (IsLine.holds is named all))
