@@ -6,6 +6,7 @@ pub mod LineForms
 pub mod LineReadings
 pub mod NodeReadings
 pub mod NumeralReading
+pub mod OneLine
 pub mod Prefixes
 pub mod Rows
 pub mod ValueReading

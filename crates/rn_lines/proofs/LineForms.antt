@@ -1,5 +1,5 @@
 -- The forms of lines, told apart by their first bytes.
-use Rattle.std.proofs.Common.{◌≡◌, ◌<◌, ◌≤◌, ◌+◌, ℕ, zero, suc, List, [], ◌∷◌, ◌++◌, length, Bool, true, false, cond, nat_eq, refl, sym, ap, ◌∙◌, subst, arith, append_assoc}
+use Rattle.std.proofs.Common.{◌≡◌, ℕ, List, [], ◌∷◌, ◌++◌, Bool, true, false, cond, nat_eq, refl, sym, ap, ◌∙◌, subst, arith}
 use Rattle.std.specs.Prelude.{Option, Some, None, bytes_eq}
 use Rattle.std.proofs.lemmas.Bool.Decides.{nat_tests}
 use Rattle.std.proofs.lemmas.Option.{same_Some, none-some}
@@ -8,7 +8,7 @@ use borrow.Author.Tests.{eqb-true}
 use Rattle.rn_value.specs.Characters.{is_letter, is_digit}
 use Rattle.rn_value.specs.Words.{reserved_words}
 use Rattle.rn_value.proofs.Numerals.{IsNumeral-first}
-use Rattle.rn_lines.specs.ValueText.{Said, IsValue, most_brackets}
+use Rattle.rn_lines.specs.ValueText.{Said}
 use Rattle.rn_lines.specs.NodeText.{NodeSaid, IsInstance, IsNode}
 use Rattle.rn_lines.specs.LineText.{LeadSaid, Token, LineSaid, IsLead, IsLine, ending_text}
 use Rattle.rn_lines.specs.Reading.{◌>>=◌, byte_at}
@@ -17,10 +17,10 @@ use Rattle.rn_lines.specs.LineReading.{lead_at, last_at, mark_at, firing_at, fau
 use Rattle.rn_lines.specs.declared.lines.Ending.{Ending}
 use Rattle.rn_lines.specs.declared.lines.Ending.TheVariants.{Dead, Steps, Memory, ActionFault, InstancesFault}
 use Rattle.rn_lines.proofs.NumeralReading.{bind_some}
-use Rattle.rn_lines.proofs.InstanceReading.{byte_reads, byte_read}
+use Rattle.rn_lines.proofs.InstanceReading.{byte_read}
 use Rattle.rn_lines.proofs.NodeReadings.{node_reads, node_read}
 use Rattle.rn_lines.proofs.ValueReading.{name_first}
-use Rattle.rn_lines.proofs.LineReadings.{lead_reads, LeadAt, lead_read, last_reads, last_read, mark_reads, mark_read}
+use Rattle.rn_lines.proofs.LineReadings.{lead_reads, lead_read, last_reads, last_read, mark_reads, mark_read}
 
 -- bytes that begin with one that passes a test
 record Starts (test : ℕ → Bool) (a : List ℕ) : Type 0 where

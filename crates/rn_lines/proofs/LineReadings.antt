@@ -1,35 +1,28 @@
 -- Reading of lines, in both directions.
 use Rattle.std.proofs.Common.{◌≡◌, ◌<◌, ◌≤◌, ◌+◌, ◌-◌, ℕ, zero, suc, List, [], ◌∷◌, ◌++◌, length, take, drop, Bool, true, false, cond, nat_eq, refl, sym, ap, ◌∙◌, subst, arith, append_assoc, length-append}
-use Rattle.std.specs.Prelude.{Option, Some, None, bytes_eq}
-use Rattle.std.specs.List.{list_all, prefix_len}
-use Rattle.std.proofs.lemmas.Bool.Decides.{nat_tests}
+use Rattle.std.specs.Prelude.{Option, Some, None}
+use Rattle.std.specs.List.{prefix_len}
 use Rattle.std.proofs.lemmas.List.{append-nil, take-append-drop}
-use Rattle.std.proofs.lemmas.Option.{same_Some, cond_some, none-some}
-use borrow.Author.Tests.{ne_eqb, eq-eqb, eqb-true, eqb-false}
-use Rattle.rn_value.specs.Characters.{is_letter, is_digit, is_name_byte}
+use Rattle.std.proofs.lemmas.Option.{same_Some, cond_some}
+use borrow.Author.Tests.{ne_eqb, eqb-true, eqb-false}
+use Rattle.rn_value.specs.Characters.{is_digit, is_name_byte}
 use Rattle.rn_value.specs.Grammar.{IsNumeral}
 use Rattle.rn_value.specs.TextLaws.{IsDelimited}
 use Rattle.rn_value.specs.Words.{IsName}
-use Rattle.rn_value.specs.declared.value.Value.{Value}
-use Rattle.rn_value.proofs.Numerals.{IsNumeral-digits, IsNumeral-first}
+use Rattle.rn_value.proofs.Numerals.{IsNumeral-digits}
 use Rattle.rn_value.proofs.Spans.{Stops}
-use Rattle.rn_lines.specs.ValueText.{Said, Seen, IsValue, Begins, most_brackets}
-use Rattle.rn_lines.specs.NodeText.{NodeSaid, IsInstance, IsNode}
-use Rattle.rn_lines.specs.LineText.{LeadSaid, Token, LineSaid, IsLead, AreTokens, IsLine, ending_text}
+use Rattle.rn_lines.specs.ValueText.{Said, Seen, IsValue, most_brackets}
+use Rattle.rn_lines.specs.NodeText.{IsInstance}
+use Rattle.rn_lines.specs.LineText.{LeadSaid, Token, LineSaid, IsLead, AreTokens, IsLine}
 use Rattle.rn_lines.specs.Reading.{◌>>=◌, Misses, are_plain, number_after, numeral_at, byte_at, name_at, inst_at, seen_at}
-use Rattle.rn_lines.specs.NodeReading.{node_at}
-use Rattle.rn_lines.specs.LineReading.{step_at, worker_at, lead_at, last_at, token_at, tokens_at, mark_at, firing_at, fault_at, ending_at, end_or, line_at}
-use Rattle.rn_lines.specs.declared.lines.Ending.{Ending}
-use Rattle.rn_lines.specs.declared.lines.Ending.TheVariants.{Dead, Steps, Memory, ActionFault, InstancesFault}
+use Rattle.rn_lines.specs.LineReading.{step_at, worker_at, lead_at, last_at, token_at, tokens_at, mark_at}
 use Rattle.rn_lines.specs.declared.unread.Unread.{Unread}
 use Rattle.rn_lines.specs.declared.unread.Unread.TheVariants as unread
 use Rattle.rn_lines.proofs.Prefixes.{longest_prefix, prefix_is}
 use Rattle.rn_lines.proofs.NumeralReading.{bind_some, plain_numeral, numeral_of, numeral_reads, NumeralAt, numeral_read}
 use Rattle.rn_lines.proofs.InstanceReading.{byte_reads, byte_read, name_reads, name_read, inst_reads, inst_read}
 use Rattle.rn_lines.proofs.Beginnings.{seen_reads, seen_read}
-use Rattle.rn_lines.proofs.NodeReadings.{node_reads, node_read}
 use Rattle.rn_lines.proofs.Rows.{no_bytes}
-use Rattle.rn_lines.proofs.ValueReading.{name_first}
 
 -- The lead of a firing's line: its step,
 step_reads : {n : ℕ} {step : List ℕ} → IsNumeral n step → (rest : List ℕ) → Stops is_digit rest → step_at (step ++ rest) ≡ Some (step, rest)

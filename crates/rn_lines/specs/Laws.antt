@@ -1,5 +1,5 @@
--- What the texts of values in records have to do with those that are written.
-use Rattle.std.specs.Prelude.{◌≡◌, ℕ, zero, suc, ℤ, pos, negsuc, List, Bool, false, nat_lt, Some, IsTrue}
+-- What the texts of values in records have to do with those that are written, and how lines stand.
+use Rattle.std.specs.Prelude.{◌≡◌, ◌≢◌, ℕ, zero, suc, ℤ, pos, negsuc, List, Bool, false, nat_lt, Some, All, IsTrue}
 use Rattle.std.specs.List.{list_all, AllByRecursion}
 use Rattle.std.specs.Str.{is_utf8}
 use Rattle.rn_value.specs.Names.{name_of, AreNamed}
@@ -8,6 +8,7 @@ use Rattle.rn_value.specs.Words.{IsName}
 use Rattle.rn_value.specs.declared.value.InstRef.TheVariants.{Old, New}
 use Rattle.rn_value.specs.declared.value.Value.{Value, fold-Value}
 use Rattle.rn_value.specs.declared.value.Value.TheOpen as V
+use Rattle.rn_lines.specs.LineText.{LineSaid, IsLine}
 use Rattle.rn_lines.specs.ValueText.{Said, IsValue}
 
 -- An instance is called by the name of its net: among these names, its own is this one.
@@ -50,3 +51,7 @@ abbrev pub WrittenTextsAreRead : Type 0
 WrittenTextsAreRead = (names : List (List ℕ)) (depth : ℕ) (v : Value) →
     AllByRecursion IsName names → AreNamed names v → IsTrue (fits_within v depth) →
     (named : List Said) × AreCalled names named × IsValue depth v named (value_text v names)
+
+-- No line holds a line feed, so the lines of bytes are those between their line feeds.
+abbrev pub LinesHoldNoLineFeed : Type 0
+LinesHoldNoLineFeed = (x : LineSaid) (bytes : List ℕ) → IsLine x bytes → All (λ c. c ≢ 10) bytes

@@ -1,9 +1,8 @@
 -- What the readers of lines give, as functions on lists of bytes. (They connect the code to the
 -- grammar of `LineText`; the promise of `read_line` is stated by the grammar alone.)
-use Rattle.std.specs.Prelude.{ℕ, zero, suc, List, [], ◌∷◌, ◌++◌, length, take, drop, nat_eq, bytes_eq, if◌then◌else◌, codes, Option, Some, None}
+use Rattle.std.specs.Prelude.{ℕ, zero, suc, List, [], ◌∷◌, length, take, drop, nat_eq, bytes_eq, if◌then◌else◌, Option, Some, None}
 use Rattle.std.specs.List.{prefix_len}
 use Rattle.rn_value.specs.Characters.{is_digit}
-use Rattle.rn_lines.specs.ValueText.{Said}
 use Rattle.rn_lines.specs.LineText.{LeadSaid, Token, LineSaid, ending_text}
 use Rattle.rn_lines.specs.NodeReading.{node_at}
 use Rattle.rn_lines.specs.Reading.{◌>>=◌, are_plain, numeral_at, byte_at, name_at, inst_at, seen_at}

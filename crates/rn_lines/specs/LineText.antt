@@ -2,7 +2,7 @@
 -- line says by the names that stand in it. What stands before and after it is another question.
 --
 -- Of the bytes below 32 is a space, 33 `!`, 43 `+`, 46 `.`, 62 `>` and 119 `w`.
-use Rattle.std.specs.Prelude.{◌<◌, ◌≤◌, ℕ, List, [], ◌∷◌, ◌++◌, codes}
+use Rattle.std.specs.Prelude.{◌≤◌, ℕ, List, [], ◌∷◌, ◌++◌, codes}
 use Rattle.rn_value.specs.Grammar.{IsNumeral}
 use Rattle.rn_value.specs.Words.{IsName}
 use Rattle.rn_value.specs.declared.value.Value.{Value}

@@ -5,7 +5,6 @@ use Rattle.rn_lines.specs.NodeSeen.{node}
 use Rattle.rn_lines.specs.Said.{said}
 use Rattle.rn_lines.specs.declared.lines.Lead.{Lead}
 use Rattle.rn_lines.specs.declared.lines.ReadToken.{ReadToken}
-use Rattle.rn_lines.specs.declared.lines.ReadMark.{ReadMark}
 use Rattle.rn_lines.specs.declared.lines.Line.{Line}
 use Rattle.rn_lines.specs.declared.lines.Line.TheVariants.{Fires, Calls, Prints, Ends, WouldFire, WouldCall, Holds}
 

@@ -1,9 +1,15 @@
 //! What the texts of values in records have to do with those that are written.
 ghost use Rattle.rn_lines.specs.Laws.{ReadTextsAreWritten, WrittenTextsAreRead};
+ghost use Rattle.rn_lines.specs.Laws.{LinesHoldNoLineFeed};
 
 /// What was read, by names that fit its mentions, is what `write_value` writes, and what it writes
 /// can be read.
 pub fn value_laws()
     ensures read { ReadTextsAreWritten }
     ensures written { WrittenTextsAreRead }
+{}
+
+/// No line holds a line feed, so `first_line` cuts a record into its lines.
+pub fn line_laws()
+    ensures { LinesHoldNoLineFeed }
 {}

@@ -2,6 +2,7 @@
 //! names of their transitions and variables, and whole lines by their form.
 #![tactic(auto)]
 
+mod cutting;
 mod instances;
 mod laws;
 mod lines;
@@ -13,8 +14,9 @@ mod tests;
 mod unread;
 mod values;
 
+pub use cutting::first_line;
 pub use instances::Mention;
-pub use laws::value_laws;
+pub use laws::{line_laws, value_laws};
 pub use lines::{Ending, Lead, Line, ReadMark, ReadToken, read_line};
 pub use nodes::{ReadGiven, ReadNode, read_node};
 pub use unread::Unread;

@@ -1,5 +1,5 @@
 //! Values at the start of bytes, by rows worked out from the grammar.
-use crate::{Line, Unread, read_line, read_node, read_value, value_laws};
+use crate::{Line, Unread, first_line, line_laws, read_line, read_node, read_value, value_laws};
 use rn_value::{Names, NoMemory, Str, write_value};
 use std::alloc::Global;
 use std::test::Fail;
@@ -213,4 +213,17 @@ fn lines(rt: HostRuntime) -> Result<(), Fail> {
         assert_eq!(rt; form(rt.alloc(), row)?, wanted, "{row}");
     }
     Ok(())
+}
+
+#[test]
+fn cuts(rt: HostRuntime) {
+    let rows = [("a\nb\n", 1), ("\n", 0), ("", 9), ("ab", 9)];
+    for (row, length) in rows {
+        let found = match first_line(row.as_bytes()) {
+            Some((line, _)) => line.len(),
+            None => 9,
+        };
+        assert_eq!(rt; found, length, "{row}");
+    }
+    line_laws();
 }
