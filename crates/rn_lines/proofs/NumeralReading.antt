@@ -1,12 +1,13 @@
 -- Reading of numerals, and of whole numbers, in both directions.
-use Rattle.std.proofs.Common.{◌≡◌, ◌<◌, ◌≤◌, ◌+◌, ◌-◌, ◌*◌, ◌^◌, ℕ, zero, suc, ℤ, pos, negsuc, List, [], ◌∷◌, ◌++◌, take, drop, Bool, true, false, cond, nat_le, nat_eq, ◌&&◌, not, append_assoc, refl, sym, ap, ◌∙◌, subst, arith}
-use Rattle.std.specs.Prelude.{Option, Some, None}
+use Rattle.std.proofs.Common.{◌≡◌, ◌<◌, ◌≤◌, ◌+◌, ◌-◌, ◌*◌, ◌^◌, ℕ, zero, suc, ℤ, pos, negsuc, List, [], ◌∷◌, ◌++◌, take, drop, Bool, true, false, cond, nat_le, nat_eq, ◌&&◌, not, append_assoc, refl, sym, ap, ◌∙◌, subst, arith, length}
+use Rattle.std.specs.Prelude.{Option, Some, None, ◌↔◌}
 use Rattle.std.specs.List.{list_all, prefix_len}
 use Rattle.std.proofs.lemmas.Bool.{false≢true}
 use Rattle.std.proofs.lemmas.Bool.Decides.{nat_tests}
 use Rattle.std.proofs.lemmas.List.{append-nil, take-append-drop}
-use Rattle.std.proofs.lemmas.Option.{cond_some, same_Some}
-use borrow.Author.Tests.{ne_eqb, eqb-true, leb-true}
+use Rattle.std.proofs.lemmas.List.Folds.{length-prefix_len}
+use Rattle.std.proofs.lemmas.Option.{cond_some, same_Some, none-some}
+use borrow.Author.Tests.{ne_eqb, eq-eqb, eqb-true, leb-true}
 use Rattle.rn_items.proofs.Bools.{and_left, and_right}
 use Rattle.rn_value.specs.Characters.{is_letter, is_digit}
 use Rattle.rn_value.specs.Grammar.{IsNumeral, IsWholeNumber}
@@ -179,3 +180,39 @@ whole_read (c ∷ bytes) x e = by (nat_eq c 45) refl e
     by : (t : Bool) → nat_eq c 45 ≡ t → cond t (numeral_at 9223372036854775808 bytes >>= reading.negative) (numeral_at 9223372036854775807 (c ∷ bytes) >>= λ n. Some (pos n.0, n.1)) ≡ Some x → WholeAt (c ∷ bytes) x
     by true is e = let minus : c ≡ 45 = eqb-true c 45 is in subst (λ c. WholeAt (c ∷ bytes) x) (sym minus) (negative_read bytes x e)
     by false is e = positive_read (c ∷ bytes) x e
+
+-- Bytes that are all digits, and plain, are the numeral of the number that they spell, and of no other.
+all_prefix : (test : ℕ → Bool) (bytes : List ℕ) → length bytes ≤ prefix_len test bytes → list_all test bytes ≡ true
+all_prefix test [] long = refl
+all_prefix test (c ∷ bytes) long = by (λ l. all_prefix test bytes l) (test c) refl
+  where
+    by : (length bytes ≤ prefix_len test bytes → list_all test bytes ≡ true) → (t : Bool) → test c ≡ t → list_all test (c ∷ bytes) ≡ true
+    by others true is =
+        let size : prefix_len test (c ∷ bytes) ≡ 1 + prefix_len test bytes = rw is refl in
+        rw is (others (omega (arith, size, long)))
+    by others false is = let none : prefix_len test (c ∷ bytes) ≡ 0 = rw is refl in absurd (omega (arith, none, long))
+
+pub all_digits : (bytes : List ℕ) → length bytes ≤ prefix_len is_digit bytes → list_all is_digit bytes ≡ true
+all_digits bytes long = all_prefix is_digit bytes long
+
+pub numeral_digits : {n : ℕ} {bytes : List ℕ} → IsNumeral n bytes → (length bytes ≤ prefix_len is_digit bytes) × (are_plain bytes ≡ true)
+numeral_digits {n} {bytes} p =
+    let parts = prefix_is is_digit bytes [] (IsNumeral-digits p) tt in
+    let all : take (prefix_len is_digit bytes) bytes ≡ bytes = ap (λ b. take (prefix_len is_digit b) b) (sym (append-nil bytes)) ∙ parts.0 in
+    let size : length (take (prefix_len is_digit bytes) bytes) ≡ prefix_len is_digit bytes = length-prefix_len is_digit bytes in
+    (omega (arith, size, ap length all), plain_numeral p)
+
+abbrev spelled : ℕ → List ℕ → Option ℕ
+spelled most bytes = cond (nat_le (number_after 0 bytes) most) (Some (number_after 0 bytes)) None
+
+spells : (most n : ℕ) (bytes : List ℕ) → n ≤ most → IsNumeral n bytes → spelled most bytes ≡ Some n
+spells most n bytes low p = ap (λ m. cond (nat_le m most) (Some m) None) (numeral_value p) ∙ some_within most n low
+
+pub spelled_same : (most m n : ℕ) (bytes : List ℕ) → n ≤ most → are_plain bytes ≡ true → list_all is_digit bytes ≡ true → Some m ≡ spelled most bytes → (nat_eq m n ≡ true) ↔ IsNumeral n bytes
+spelled_same most m n bytes low plain all e = (
+  (λ t. subst (λ n. IsNumeral n bytes) ((cond_some (nat_le (number_after 0 bytes) most) (number_after 0 bytes) m (sym e)).1 ∙ eqb-true m n t) (numeral_of bytes plain all)),
+  (λ p. eq-eqb m n (same_Some m n (e ∙ spells most n bytes low p))),
+)
+
+pub spelled_none : (most n : ℕ) (bytes : List ℕ) → n ≤ most → None ≡ spelled most bytes → IsNumeral n bytes → ⊥
+spelled_none most n bytes low e p = none-some n (e ∙ spells most n bytes low p)

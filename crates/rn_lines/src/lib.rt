@@ -19,5 +19,6 @@ pub use instances::Mention;
 pub use laws::{line_laws, value_laws};
 pub use lines::{Ending, Lead, Line, ReadMark, ReadToken, read_line};
 pub use nodes::{ReadGiven, ReadNode, read_node};
+pub use numerals::is_numeral;
 pub use unread::Unread;
 pub use values::{MOST_BRACKETS, ReadValue, read_value};

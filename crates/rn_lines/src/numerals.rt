@@ -1,8 +1,9 @@
 //! Numbers, in digits.
-ghost use Rattle.std.specs.Prelude.{◌≡◌, ◌≤◌, ◌-◌, negsuc, nat_le, if◌then◌else◌};
+ghost use Rattle.std.specs.Prelude.{◌≡◌, ◌↔◌, ◌≤◌, ◌-◌, negsuc, nat_le, if◌then◌else◌};
 ghost use Rattle.std.specs.Prelude.{IsTrue, IfOk, IfSome, Some, None};
 ghost use Rattle.std.specs.List.{prefix_len, list_all};
 ghost use Rattle.rn_value.specs.Characters.{is_digit};
+ghost use Rattle.rn_value.specs.Grammar.{IsNumeral};
 ghost use Rattle.rn_lines.specs.LineReading.{step_at};
 ghost use Rattle.rn_lines.specs.Reading.{Gives, are_plain, number_after, numeral_at, whole_at};
 
@@ -52,6 +53,22 @@ fn number_up_to(most: u64, digits: &[u8]) -> Option<u64>
         number = number * 10 + units;
     }
     Some(number)
+}
+
+/// Whether bytes are the numeral of this number, as the step of a line may be.
+pub fn is_numeral(number: u64, bytes: &[u8]) -> bool
+    ensures { IsTrue result ↔ IsNumeral number bytes.now }
+{
+    if digits_length(bytes) < bytes.len() {
+        return false;
+    }
+    if !are_plain(bytes) {
+        return false;
+    }
+    match number_up_to(u64::MAX, bytes) {
+        Some(spelled) => spelled == number,
+        None => false,
+    }
 }
 
 /// The numeral at the start of bytes, of a number up to this, and the bytes after it.

@@ -1,5 +1,7 @@
-//! Values at the start of bytes, by rows worked out from the grammar.
-use crate::{Line, Unread, first_line, line_laws, read_line, read_node, read_value, value_laws};
+//! Values, nodes and lines, by rows worked out from the grammar.
+use crate::{
+    Line, Unread, first_line, is_numeral, line_laws, read_line, read_node, read_value, value_laws,
+};
 use rn_value::{Names, NoMemory, Str, write_value};
 use std::alloc::Global;
 use std::test::Fail;
@@ -226,4 +228,20 @@ fn cuts(rt: HostRuntime) {
         assert_eq!(rt; found, length, "{row}");
     }
     line_laws();
+}
+
+#[test]
+fn numerals(rt: HostRuntime) {
+    let rows = [
+        ("0", 0, true),
+        ("12", 12, true),
+        ("18446744073709551615", u64::MAX, true),
+        ("18446744073709551616", 0, false),
+        ("", 0, false),
+        ("012", 12, false),
+        ("12 ", 12, false),
+    ];
+    for (row, number, wanted) in rows {
+        assert_eq!(rt; is_numeral(number, row.as_bytes()), wanted, "{row}");
+    }
 }
