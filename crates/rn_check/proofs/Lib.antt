@@ -2,3 +2,6 @@ pub mod PatternLemmas
 pub mod TableLemmas
 pub mod SeenForms
 pub mod SightLemmas
+pub mod KindLemmas
+pub mod ToldLemmas
+pub mod CallLemmas

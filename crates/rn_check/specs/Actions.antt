@@ -34,6 +34,6 @@ set_faults pattern number past var =
     ++ broken_if (option_map_or (λ n. nat_lt n past) number false) Rule.Actions var.spot
 
 -- the value has the variable's kind
-abbrev pub value_faults : Option Pattern → Seen → List Fault
+unfoldable pub value_faults : Option Pattern → Seen → List Fault
 value_faults pattern value =
     value.faults ++ option_map_or (λ p. misfit value p) pattern []

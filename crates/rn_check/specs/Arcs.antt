@@ -39,7 +39,7 @@ is_variable e = is_name (out-PForm (out-PExpr e).form)
 
 -- what is broken in the inscription of an arc at a place with this pattern, if it is declared: it
 -- has the kind that is asked for, and that of a clear arc is a variable
-abbrev pub inscribed_faults : ArcKind → Option Pattern → PExpr → Where → List Fault
+unfoldable pub inscribed_faults : ArcKind → Option Pattern → PExpr → Where → List Fault
 inscribed_faults kind place e at =
     (seen_of e at).faults
     ++ option_map_or (λ pattern. misfit (seen_of e at) (asked_of kind pattern)) place []

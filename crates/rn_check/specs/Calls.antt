@@ -10,20 +10,23 @@ use Rattle.rn_check.specs.Patterns.{share}
 use Rattle.rn_check.specs.Expressions.{Where, Seen, misfit, variable_faults}
 
 -- each argument has the kind of the channel's at its index
-abbrev pub fitting_faults : List Seen → List Pattern → List Fault
-fitting_faults (e ∷ es) (pattern ∷ patterns) =
-    e.faults ++ misfit e pattern ++ fitting_faults es patterns
-fitting_faults (e ∷ es) [] = e.faults ++ fitting_faults es []
-fitting_faults [] patterns = []
+abbrev pub misfits : List Seen → List Pattern → List Fault
+misfits (e ∷ es) (pattern ∷ patterns) = misfit e pattern ++ misfits es patterns
+misfits _ _ = []
+
+-- there is the channel, where these are the patterns of its arguments if so, and they fit
+abbrev pub channel_call_faults : Option (List Pattern) → PName → List Seen → List Fault
+channel_call_faults None name args = broken Rule.Channel name.spot ∷ []
+channel_call_faults (Some patterns) name args = misfits args patterns
 
 -- what is broken in a call of a channel, where these are the patterns of its arguments if there is
 -- such a channel
-abbrev pub call_faults : Option (List Pattern) → PName → List Seen → List Fault
-call_faults None name args = broken Rule.Channel name.spot ∷ flat_map (λ e. e.faults) args
-call_faults (Some patterns) name args = fitting_faults args patterns
+unfoldable pub call_faults : Option (List Pattern) → PName → List Seen → List Fault
+call_faults patterns name args =
+    flat_map (λ e. e.faults) args ++ channel_call_faults patterns name args
 
 -- the target of a downlink is a net
-abbrev pub target_faults : Seen → List Fault
+unfoldable pub target_faults : Seen → List Fault
 target_faults target = target.faults ++ misfit target Pattern.Net
 
 -- whether a pattern is there and isn't that of nets

@@ -1,7 +1,7 @@
 -- What the code keeps of an expression that it has seen. It connects the code with the definitions,
 -- and states no rule.
-use Rattle.std.specs.Prelude.{ℕ, Bool, ◌&&◌, not, nat_le, List, length, map, Option}
-use Rattle.std.specs.Prelude.{slice_get, is_some, unwrap_or}
+use Rattle.std.specs.Prelude.{ℕ, [], ◌∷◌, ◌++◌, Bool, ◌&&◌, not, nat_le, List, length, map, Option}
+use Rattle.std.specs.Prelude.{slice_get, is_some, unwrap_or, Some, None}
 use Rattle.std.specs.List.{list_all}
 use Rattle.std.specs.Option.{option_and_then}
 use Rattle.rn_model.specs.Limits.{most_parts}
@@ -11,6 +11,9 @@ use Rattle.rn_check.specs.declared.pattern.Pattern.TheVariants as Pattern
 use Rattle.rn_check.specs.declared.table.Declared.{Declared}
 use Rattle.rn_check.specs.declared.sight.Sight.{Sight}
 use Rattle.rn_check.specs.declared.sight.Here.{Here}
+use Rattle.rn_check.specs.declared.fault.Rule.TheVariants as Rule
+use Rattle.rn_check.specs.declared.fault.Fault.{Fault}
+use Rattle.rn_check.specs.Faults.{broken, broken_if}
 use Rattle.rn_check.specs.Actions.{is_set_by}
 use Rattle.rn_check.specs.Patterns.{share, both_of}
 use Rattle.rn_check.specs.Expressions.{Where, Seen, is_whole}
@@ -36,6 +39,25 @@ sight_of seen =
 -- whether two expressions are whole and share no kind
 abbrev pub are_apart : Sight → Sight → Bool
 are_apart a b = a.whole && b.whole && not (share a.pattern b.pattern)
+
+-- an expression that must have the kind of a pattern
+abbrev pub misfit_of : Sight → Pattern → List Fault
+misfit_of a asked = broken_if (a.whole && not (share asked a.pattern)) Rule.Kinds a.spot
+
+-- the same of a pattern that may be there
+abbrev pub misfit_if : Sight → Option Pattern → List Fault
+misfit_if a None = []
+misfit_if a (Some asked) = misfit_of a asked
+
+-- each of these expressions must have the kind of the pattern at its index
+abbrev pub misfits_of : List Sight → List Pattern → List Fault
+misfits_of (a ∷ sights) (asked ∷ patterns) = misfit_of a asked ++ misfits_of sights patterns
+misfits_of _ _ = []
+
+-- what is told of a call with these arguments beside their own faults
+abbrev pub call_of : Option (List Pattern) → Spot → List Sight → List Fault
+call_of None spot sights = broken Rule.Channel spot ∷ []
+call_of (Some patterns) spot sights = misfits_of sights patterns
 
 -- whether an expression is whole and has the kind of a pattern
 abbrev pub fits_pattern : Sight → Pattern → Bool

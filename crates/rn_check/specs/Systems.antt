@@ -8,14 +8,14 @@ use Rattle.rn_notation.specs.declared.token.Spot.{Spot}
 use Rattle.rn_net.specs.declared.plain.Plain.{Plain}
 use Rattle.rn_net.specs.declared.plain.PNet.{PNet}
 use Rattle.rn_net.specs.declared.plain.PChannel.{PChannel}
-use Rattle.rn_model.specs.Limits.{most_parts, most_nets, most_channels, most_vars, most_places}
+use Rattle.rn_model.specs.Limits.{most_nets, most_channels, most_vars, most_places}
 use Rattle.rn_model.specs.Limits.{most_transitions, longest_name}
 use Rattle.rn_check.specs.declared.fault.Rule.{Rule}
 use Rattle.rn_check.specs.declared.fault.Fault.{Fault}
 use Rattle.rn_check.specs.Faults.{broken_if, past_limit}
 use Rattle.rn_check.specs.Patterns.{pattern_of}
 use Rattle.rn_check.specs.Names.{same_name, number_among, declared_faults}
-use Rattle.rn_check.specs.Declarations.{kind_part, kind_faults, place_faults}
+use Rattle.rn_check.specs.Declarations.{kind_part, kind_faults, parts_faults, place_faults}
 use Rattle.rn_check.specs.Transitions.{Scope, transition_faults}
 
 -- whether two channels are the same: by name and by number of arguments
@@ -36,8 +36,7 @@ channel_faults before channel =
     broken_if (not (nat_le (length channel.name.text) longest_name)) Rule.Limit channel.name.spot
     ++ broken_if (list_any (λ c. same_channel c channel.name.text (length channel.kinds)) before)
     Rule.Once channel.name.spot
-    ++ flat_map kind_faults channel.kinds
-    ++ past_limit most_parts (map (λ kind. (kind_part kind).spot) channel.kinds)
+    ++ parts_faults (map kind_part channel.kinds)
 
 -- the same of each of these channels, which are declared after those
 abbrev pub channels_faults : List PChannel → List PChannel → List Fault

@@ -1,5 +1,10 @@
 -- What a table of the code finds. It connects the code with the definitions, and states no rule.
-use Rattle.std.specs.Prelude.{ℕ, Bool, List, Option, Some, None, if◌then◌else◌}
+use Rattle.rn_model.specs.Limits.{longest_name}
+use Rattle.rn_inscript.specs.declared.inscriptions.PName.{PName}
+use Rattle.rn_check.specs.declared.fault.Rule.TheVariants as Rule
+use Rattle.rn_check.specs.declared.fault.Fault.{Fault}
+use Rattle.rn_check.specs.Faults.{broken_if}
+use Rattle.std.specs.Prelude.{ℕ, Bool, not, nat_le, length, ◌++◌, List, Option, Some, None, if◌then◌else◌}
 use Rattle.std.specs.Ordering.{nat_cmp}
 use Rattle.std.specs.Cmp.Lexicographic.{slice_cmp}
 use Rattle.std.specs.BTreeMap.{get}
@@ -18,3 +23,9 @@ or_number None same number = if same then Some number else None
 -- what is found once a name is declared under a number
 abbrev pub with_name : (List ℕ → Option ℕ) → List ℕ → ℕ → List ℕ → Option ℕ
 with_name found name number other = or_number (found other) (same_name name other) number
+
+-- what is told where a name is declared that was declared before or not
+abbrev pub name_told : Bool → PName → List Fault
+name_told again name =
+    broken_if (not (nat_le (length name.text) longest_name)) Rule.Limit name.spot
+    ++ broken_if again Rule.Once name.spot

@@ -1,9 +1,15 @@
 //! Which net texts are nets: the rules of names, kinds, actions, calls and limits.
 #![tactic(auto)]
 
+mod arcs;
+mod calls;
+mod conditions;
 mod declared;
 mod fault;
 mod first;
+mod kinds;
+mod located;
+mod names;
 mod pattern;
 mod seeing;
 mod sight;

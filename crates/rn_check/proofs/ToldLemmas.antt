@@ -1,0 +1,92 @@
+-- What is told of the elements of a list, one after another.
+use Rattle.std.proofs.Common.{◌≡◌, ℕ, ◌+◌, ◌<◌, List, [], ◌∷◌, ◌++◌, length, map, take, get_or, sym, ap, ◌∙◌, Option}
+use Rattle.std.proofs.Common.{append-nil, refl}
+use Rattle.std.proofs.lemmas.List.{take_more}
+use Rattle.std.proofs.lemmas.Grind.{flat_map-append}
+use Rattle.std.specs.Prelude.{flat_map}
+use Rattle.rn_check.specs.declared.fault.Fault.{Fault}
+use Rattle.std.proofs.lemmas.List.Folds.{flat_map-map}
+use Rattle.rn_notation.specs.declared.token.Spot.{Spot}
+use Rattle.rn_model.specs.Limits.{most_parts}
+use Rattle.rn_net.specs.declared.kinds.PKind.{PKind, fold_out-PKind}
+use Rattle.rn_net.specs.declared.constants.PConst.{PConst, fold_out-PConst}
+use Rattle.rn_check.specs.declared.fault.Rule.TheVariants as Rule
+use Rattle.rn_check.specs.Faults.{first_from, first_with, past_limit, broken, broken_if}
+use Rattle.rn_check.specs.Expressions.{Where, Seen, apart}
+use Rattle.rn_check.specs.Sights.{sight_of, are_apart}
+use Rattle.rn_inscript.specs.declared.conds.PCond.{PCond, fold_out-PCond}
+use Rattle.rn_check.specs.Conditions.{sides_faults, bare_faults, simple_faults, simple_seen, condition_faults}
+use Rattle.rn_check.specs.Declarations.{Part, parts_faults, kind_part, kind_form_faults, const_part, const_form_faults}
+use Rattle.rn_check.proofs.SightLemmas.{first_from-append}
+
+-- what is told of one more
+pub told_more : {X : Type 0} (faults : X → List Fault) (xs : List X) (i : ℕ) (x : X)
+    (known : Option Fault) → i < length xs → x ≡ get_or xs i x →
+    first_from (first_from known (flat_map faults (take i xs))) (faults x)
+    ≡ first_from known (flat_map faults (take (i + 1) xs))
+told_more faults xs i x known h is =
+    sym
+    (ap (λ ys. first_from known (flat_map faults ys))
+    (take_more xs i x h ∙ ap (λ y. take i xs ++ y ∷ []) (sym is))
+    ∙ ap (first_from known) (flat_map-append faults (take i xs) (x ∷ []))
+    ∙ ap (λ more. first_from known (flat_map faults (take i xs) ++ more)) (append-nil (faults x))
+    ∙ first_from-append (flat_map faults (take i xs)) (faults x) known)
+
+-- what is told of the parts of a tuple, which stand at these spots
+pub parts_told : {X : Type 0} (part : X → Part) (spot : X → Spot) → ((x : X) → (part x).spot ≡ spot x) →
+    (xs : List X) (known : Option Fault) →
+    first_from (first_from known (flat_map (λ x. (part x).faults) xs)) (past_limit most_parts (map spot xs))
+    ≡ first_from known (parts_faults (map part xs))
+parts_told {X} part spot at xs known =
+    ap (λ spots. first_from (first_from known (flat_map (λ x. (part x).faults) xs)) (past_limit most_parts spots)) (spots_are xs)
+    ∙ ap (λ faults. first_from (first_from known faults) (past_limit most_parts (map (λ p. p.spot) (map part xs))))
+    (sym (flat_map-map (λ p. p.faults) part xs))
+    ∙ sym (first_from-append (flat_map (λ p. p.faults) (map part xs)) (past_limit most_parts (map (λ p. p.spot) (map part xs))) known)
+  where
+    spots_are : (ys : List X) → map spot ys ≡ map (λ p. p.spot) (map part ys)
+    spots_are [] = refl
+    spots_are (y ∷ ys) = ap (λ s. s ∷ map spot ys) (sym (at y)) ∙ ap (λ ss. (part y).spot ∷ ss) (spots_are ys)
+
+pub kind_spot : (kind : PKind) → (kind_part kind).spot ≡ kind.spot
+kind_spot kind =
+    ap (λ p. p.spot)
+    (fold_out-PKind (List Fault) Part kind_form_faults (λ kind. record { spot = kind.spot; faults = kind.form }) kind)
+
+pub const_spot : (const : PConst) → (const_part const).spot ≡ const.spot
+const_spot const =
+    ap (λ p. p.spot)
+    (fold_out-PConst (List Fault) Part const_form_faults (λ const. record { spot = const.spot; faults = const.form }) const)
+
+-- two sides
+pub sides_told : (known : Option Fault) (a b : Seen) →
+    first_from (first_from (first_from known a.faults) b.faults)
+    (broken_if (are_apart (sight_of a) (sight_of b)) Rule.Kinds a.spot)
+    ≡ first_from known (sides_faults a b)
+unfolding sides_faults
+sides_told known a b =
+    sym
+    (first_from-append (a.faults ++ b.faults) (apart a b a.spot) known
+    ∙ ap (λ k. first_from k (apart a b a.spot)) (first_from-append a.faults b.faults known))
+
+pub bare_told : (known : Option Fault) (e : Seen) →
+    first_with (first_from known e.faults) (broken Rule.Comparison e.spot) ≡ first_from known (bare_faults e)
+unfolding bare_faults
+bare_told known e = sym (first_from-append e.faults (broken Rule.Comparison e.spot ∷ []) known)
+
+-- the lists of a condition
+pub lists_seen : {X : Type 0} (seen : X → Where → List Fault) (place : Where) (lists : List (List X)) →
+    flat_map (λ xs. flat_map (λ s. s place) xs) (map (map seen) lists)
+    ≡ flat_map (λ xs. flat_map (λ x. seen x place) xs) lists
+lists_seen seen place [] = refl
+lists_seen seen place (xs ∷ lists) =
+    ap (λ faults. faults ++ flat_map (λ ys. flat_map (λ s. s place) ys) (map (map seen) lists)) (flat_map-map (λ s. s place) seen xs)
+    ∙ ap (λ faults. flat_map (λ x. seen x place) xs ++ faults) (lists_seen seen place lists)
+
+pub condition_seen : (cond : PCond) (place : Where) →
+    condition_faults cond place
+    ≡ flat_map (λ simples. flat_map (λ simple. simple_seen simple place) simples) cond.any
+condition_seen cond place =
+    ap (λ f. f place)
+    (fold_out-PCond (Where → List Fault) (Where → List Fault) simple_faults
+    (λ cond place. flat_map (λ simples. flat_map (λ simple. simple place) simples) cond.any) cond)
+    ∙ lists_seen simple_seen place cond.any
