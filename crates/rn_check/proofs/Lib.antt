@@ -5,3 +5,4 @@ pub mod SightLemmas
 pub mod KindLemmas
 pub mod ToldLemmas
 pub mod CallLemmas
+pub mod NameLemmas

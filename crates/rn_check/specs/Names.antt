@@ -28,7 +28,7 @@ number_among = number_from 0
 abbrev pub name_faults : List (List ℕ) → PName → List Fault
 name_faults before name =
     broken_if (not (nat_le (length name.text) longest_name)) Rule.Limit name.spot
-    ++ broken_if (list_any (same_name name.text) before) Rule.Once name.spot
+    ++ broken_if (list_any (λ declared. same_name declared name.text) before) Rule.Once name.spot
 
 -- the same of each of these names, which are declared after those
 abbrev pub names_faults : List (List ℕ) → List PName → List Fault

@@ -1,17 +1,15 @@
 //! Declarations of names: what is broken in them is told, and each gets its number.
 ghost use Rattle.std.specs.Prelude.{◌≡◌, ◌++◌, ℕ, List, Option, OnOk, IfOk, map, is_some, length};
-ghost use Rattle.rn_check.specs.Faults.{first_from, broken_if};
+ghost use Rattle.rn_check.specs.Faults.{first_from, past_limit};
 ghost use Rattle.rn_check.specs.Names.{number_among, declared_faults, names_faults};
 ghost use Rattle.rn_check.specs.Tables.{found_in, with_name, name_told};
 
 use crate::fault::Rule;
 use crate::first::First;
-use crate::located::{Located, tell_past};
 use crate::table::Table;
 use rn_inscript::PName;
 use rn_model::limits::LONGEST_NAME;
 use rn_net::{PNet, PPlace, PTransition, PVar};
-use rn_notation::Spot;
 use rn_value::NoMemory;
 use std::alloc::Global;
 
@@ -75,4 +73,35 @@ fn declare(
     let new = table.declare(alloc, &name.text, number)?;
     first.tell_if(!new, Rule::Once, name.spot);
     Ok(())
+}
+
+/// Tells the first name past a limit, where there are more.
+fn tell_past_name<T: Named>(items: &[T], most: usize, first: &mut First)
+    ensures { first.new.fault ≡ first_from first.old.fault
+        (past_limit most (map (λ name. name.spot) (map T.name_of items.now))) }
+{
+    if most < items.len() {
+        first.tell(Rule::Limit, items[most].name().spot);
+    }
+}
+
+/// The table of the names that are declared here, each with the number of its first declaration.
+/// What is broken in the declarations is told.
+pub(crate) fn declare_all<T: Named>(
+    alloc: Global,
+    items: &[T],
+    most: usize,
+    first: &mut First,
+) -> Result<Table, NoMemory>
+    ensures told { OnOk result (first.new.fault ≡ first_from first.old.fault
+        (declared_faults most (map T.name_of items.now))) }
+    ensures found { IfOk result (λ table. (name : List ℕ) → found_in table name
+        ≡ number_among (map (λ n. n.text) (map T.name_of items.now)) name) }
+{
+    let mut table = Table::new(alloc);
+    for i in 0..items.len() {
+        declare(alloc, items[i].name(), i, &mut table, first)?;
+    }
+    tell_past_name(items, most, first);
+    Ok(table)
 }
