@@ -5,3 +5,4 @@ mod LinkLemmas
 mod MentionLemmas
 mod PathLemmas
 mod PartsAgree
+pub mod TestSystem

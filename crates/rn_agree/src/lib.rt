@@ -2,6 +2,8 @@
 #![tactic(auto)]
 
 mod agreement;
+#[cfg(test)]
+mod agreement_tests;
 mod calls;
 mod inscriptions;
 mod links;
