@@ -95,7 +95,7 @@ impl<'a> Growing<'a> {
         }
     }
 
-    /// A node is entered: the start without a caller, and each other node by the one that calls it.
+    /// A node is entered: the start without a caller, and each other one by the node that calls.
     pub fn enter(
         &mut self,
         alloc: Global,

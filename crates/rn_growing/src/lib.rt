@@ -8,6 +8,8 @@ mod growing;
 mod laid;
 mod laws;
 mod slot;
+#[cfg(test)]
+mod tests;
 
 pub use decision::{Caller, Decision, Decisions, Head, Site, Way};
 pub use growing::Growing;
