@@ -45,7 +45,7 @@ pub id_of-stays : (xs ys : List Slot) (path : List ℕ) (u : Unknown) (id : ℕ)
     id_of xs path u ≡ Some id → id_of (xs ++ ys) path u ≡ Some id
 id_of-stays [] ys path u id is = absurd (let no : ⊥ = cc in no)
 id_of-stays (slot ∷ xs) ys path u id is =
-    kept_choice (pointwise nat_eq slot.path path && same_unknown slot.unknown u) (Some slot.id)
+    kept_choice (same_unknown slot.unknown u && pointwise nat_eq slot.path path) (Some slot.id)
     (id_of xs path u) (id_of (xs ++ ys) path u) id (id_of-stays xs ys path u id) is
 
 front_is : {A : Type 0} (xs ys : List A) → take (length xs) ys ≡ xs →
@@ -279,11 +279,11 @@ module _ (path : List ℕ) (u : Unknown) (n : ℕ) where
   pub id_of-last : (slots : List Slot) (p : List ℕ) (v : Unknown) (id : ℕ) →
       id_of (slots ++ new_slot ∷ []) p v ≡ Some id → IsBeforeOrNew slots p v id
   id_of-last [] p v id is =
-      of_test (pointwise nat_eq path p && same_unknown u v) id (IsBeforeOrNew [] p v id)
-      (λ yes same. let both = both_true (pointwise nat_eq path p) (same_unknown u v) yes in
-      inr (same_path path p both.0, unknown_is u v both.1, same)) is
+      of_test (same_unknown u v && pointwise nat_eq path p) id (IsBeforeOrNew [] p v id)
+      (λ yes same. let both = both_true (same_unknown u v) (pointwise nat_eq path p) yes in
+      inr (same_path path p both.1, unknown_is u v both.0, same)) is
   id_of-last (other ∷ slots) p v id is =
-      here_or_before (pointwise nat_eq other.path p && same_unknown other.unknown v)
+      here_or_before (same_unknown other.unknown v && pointwise nat_eq other.path p)
       (Some other.id) (id_of slots p v) (id_of (slots ++ new_slot ∷ []) p v) id
       ((path ≡ p) × (u ≡ v) × (n ≡ id)) (id_of-last slots p v id) is
 
@@ -294,9 +294,9 @@ module _ (path : List ℕ) (u : Unknown) (n : ℕ) where
 
   pub id_of-new : (slots : List Slot) → id_of slots path u ≡ None →
       id_of (slots ++ new_slot ∷ []) path u ≡ Some n
-  id_of-new [] none = rw (path_itself path, unknown_itself u) refl
+  id_of-new [] none = rw (unknown_itself u, path_itself path) refl
   id_of-new (other ∷ slots) none =
-      none_behind (pointwise nat_eq other.path path && same_unknown other.unknown u)
+      none_behind (same_unknown other.unknown u && pointwise nat_eq other.path path)
       (Some other.id) (id_of slots path u) (id_of (slots ++ new_slot ∷ []) path u)
       (id_of-new slots) none (λ e. let no : ⊥ = cc in no)
 

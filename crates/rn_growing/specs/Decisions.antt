@@ -47,8 +47,7 @@ IsOn system (Found head k v) _ = ⊥
 IsOn system (Computed head site way v) _ = ⊥
 
 -- A binding follows decisions where each of them is on an item of it, with that item's value;
--- these
--- are the items that they decide.
+-- these are the items that they decide.
 abbrev pub AreOn : System → Binding → List Decision → List Item → Type 0
 AreOn system b decisions items =
     AllZip (λ d item. Contains (items_of system b) item × IsOn system d item) decisions items

@@ -1,6 +1,5 @@
 -- The equations that the entry of a node brings, one at a time. It only connects the code's steps
--- to
--- what is promised.
+-- to what is promised.
 use Rattle.std.specs.Prelude.{ℕ, ◌≡◌, ◌<◌, List, Option, Some, slice_get}
 use Rattle.rn_value.specs.declared.value.InstRef.TheVariants.{New}
 use Rattle.rn_value.specs.declared.value.Value.TheVariants as Value

@@ -24,8 +24,7 @@ read_at a head site e =
     term_value e (record { this = head.inst; var = a.var head.path; hole = a.hole head.path site })
 
 -- What the entry of a node brings: its equalities, its creations, and the arguments of the
--- downlink
--- that calls it.
+-- downlink that calls it.
 pub record EntryBrings (system : System) (a : Assignment) (head : Head) (caller : Option Caller)
     : Type 0 where
   pub equalities : (k : ℕ) (e : Expr × Expr) →

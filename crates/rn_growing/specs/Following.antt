@@ -16,9 +16,8 @@ use Rattle.rn_growing.specs.Turns.{IsEntered, MayCome, SameThing, AreInTurn, Are
 use Rattle.rn_model.specs.RoundLaws.{ComeIn, IsClosed, AreAll, ForceAll}
 
 -- What decisions in turn say of a binding that follows them: the equations that they bring are
--- those
--- of the items that they decide, these items come in one at a time, and where no further decision
--- may come in, no further item may.
+-- those of the items that they decide, these items come in one at a time, and where no further
+-- decision may come in, no further item may.
 pub record SayOf (system : System) (b : Binding) (decisions : List Decision) (items : List Item)
     : Type 0 where
   pub equations : (a : Assignment) →
@@ -42,8 +41,7 @@ ClosedDecisionsDecide = (system : System) (b : Binding) (depth : ℕ) (decisions
     (Derived system b ↔ (AreAll system b items × ForceAll system b items))
 
 -- A binding that follows decisions follows one more where that is on an item of it too; and where
--- it
--- has the shape and agrees, some decision is on each of its items.
+-- it has the shape and agrees, some decision is on each of its items.
 abbrev pub FollowsOn : Type 0
 FollowsOn = (system : System) (b : Binding) (decisions : List Decision) (items : List Item)
     (d : Decision) (item : Item) → AreOn system b decisions items →
@@ -59,7 +57,7 @@ EachIsDecided = (system : System) (b : Binding) (depth : ℕ) → Shape system b
 abbrev pub GoodHaveFewCreations : Type 0
 GoodHaveFewCreations = (system : System) → Good system → HasFewCreations system
 
--- What may come in after some decisions, and what is new to them, after one more.
+-- What is new to decisions after one more of them.
 abbrev pub NewAfterOne : Type 0
 NewAfterOne = (decisions : List Decision) (last d : Decision) →
     IsNew (decisions ++ last ∷ []) d ↔ (IsNew decisions d × ¬ SameThing last d)

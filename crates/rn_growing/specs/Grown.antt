@@ -35,8 +35,7 @@ HasFewCreations system =
     All (λ net. All (λ t. length t.creations ≤ 256) net.transitions) system.nets
 
 -- The store says what the decisions bring: the assignments that satisfy that are just those that
--- it
--- gives.
+-- it gives.
 pub record Says (system : System) (laid : LaidState) (decisions : List Decision) : Type 0 where
   pub keeps : Keeps laid.store
   pub laid_in : IsLaidIn (id_of laid.slots) laid.store
@@ -76,8 +75,7 @@ TriesIn old equation new true = Adds old equation new
 TriesIn old equation new false = (new ≡ old) × ((a : Assignment) → Gives old a → ¬ equation a)
 
 -- The answer to a decision that is tried: it is taken where some assignment satisfies it with
--- those
--- before, and else all is as before.
+-- those before, and else all is as before.
 abbrev pub Tries : Grown → Decision → Grown → Bool → Type 0
 Tries old d new true = (new ≡ with_decision old d) × IsSolvable old.system
     (old.decisions ++ d ∷ [])

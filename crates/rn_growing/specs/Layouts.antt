@@ -1,6 +1,5 @@
 -- Which ids of a store stand for which unknowns, and what the store says of these. It only
--- connects
--- the code's steps to what is promised.
+-- connects the code's steps to what is promised.
 use Rattle.std.specs.Prelude.{ℕ, ◌≡◌, ◌<◌, Bool, false, ◌&&◌, List, [], ◌∷◌, Option, Some, None}
 use Rattle.std.specs.Prelude.{length, nat_eq, if◌then◌else◌}
 use Rattle.std.specs.Cmp.Lexicographic.{pointwise}
@@ -46,7 +45,7 @@ Layout = List ℕ → Unknown → Option ℕ
 abbrev pub id_of : List Slot → Layout
 id_of [] path u = None
 id_of (slot ∷ slots) path u =
-    if pointwise nat_eq slot.path path && same_unknown slot.unknown u then Some slot.id
+    if same_unknown slot.unknown u && pointwise nat_eq slot.path path then Some slot.id
     else id_of slots path u
 
 -- each id is one of the store's

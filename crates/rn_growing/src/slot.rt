@@ -60,7 +60,7 @@ pub(crate) fn id_of_unknown(slots: &[Slot], path: &[u32], unknown: &Unknown) -> 
     ensures { result ≡ id_of slots.now path.now unknown.now }
 {
     for slot in slots {
-        if slot.path.as_slice() == path && are_same(&slot.unknown, unknown) {
+        if are_same(&slot.unknown, unknown) && slot.path.as_slice() == path {
             return Some(slot.id);
         }
     }
