@@ -1,0 +1,61 @@
+-- The canonical text of a system that some text spells is read back.
+use Rattle.std.proofs.Common.{◌≡◌, ℕ, ◌≤◌, List, [], ◌∷◌, ◌++◌, length, refl, sym, ◌∙◌, subst}
+use Rattle.rn_notation.specs.Limits.{longest_net_text}
+use Rattle.rn_notation.specs.Tokens.{IsToken}
+use Rattle.rn_notation.specs.Reading.{Piece, gap, token, ArePieces, tokens_after, Tokens}
+use Rattle.rn_notation.specs.declared.token.Token.{Token}
+use Rattle.rn_notation.specs.declared.token.TokenKind.{TokenKind}
+use Rattle.rn_net.specs.declared.plain.Plain.{Plain}
+use Rattle.rn_net.specs.Texts.{Spells}
+use Rattle.rn_print.specs.Nets.{canonical_text}
+use Rattle.rn_print.specs.SameButSpots.{SameButSpots}
+use Rattle.rn_print.specs.Laws.{TextsAreReadBack, SpotsDoNotCount}
+use Rattle.rn_print.proofs.Trees.{tokens_in, tokens_whole}
+use Rattle.rn_print.proofs.Atoms.{Legal}
+use Rattle.rn_print.proofs.SpelledExpressions.{AllLegal}
+use Rattle.rn_print.proofs.SpelledSystems.{reads_back}
+use Rattle.rn_print.proofs.SameTexts.{same_text}
+
+-- the tokens of a text are legal
+token_legal : {kind : TokenKind} {prefix rest : List ℕ} → IsToken kind prefix rest → Legal kind
+token_legal (IsToken.name is stops none) = (is, none)
+token_legal (IsToken.word is stops at) = tt
+token_legal (IsToken.number is stops low) = (_, refl, low)
+token_legal (IsToken.text parts are) = (parts, are, refl)
+token_legal (IsToken.sign at longest code) = tt
+
+pieces_legal : (before text : List ℕ) (ps : List Piece) (rest : List ℕ) → ArePieces text ps rest →
+    AllLegal (tokens_after before ps)
+pieces_legal before text [] rest stand = tt
+pieces_legal before text (gap prefix ∷ ps) rest (after, e, fits, others) =
+    pieces_legal (before ++ prefix) after ps rest others
+pieces_legal before text (token kind prefix ∷ ps) rest (after, e, fits, others) =
+    (token_legal fits, pieces_legal (before ++ prefix) after ps rest others)
+
+tokens_legal : {text : List ℕ} {tokens : List Token} → Tokens text tokens → AllLegal tokens
+tokens_legal {text = text} t =
+    subst AllLegal (sym t.among) (pieces_legal [] text t.pieces [] t.stand)
+
+spelled : (bytes : List ℕ) (p : Plain) → Spells bytes p →
+    length (canonical_text p) ≤ longest_net_text →
+    (q : Plain) × Spells (canonical_text p) q × SameButSpots q p
+spelled bytes p is fits =
+    let r = reads_back is.system (tokens_legal is.read) in (
+      r.other,
+      record {
+        tokens = tokens_in [] r.tree [];
+        fits = fits;
+        read = tokens_whole r.tree (canonical_text p) r.spells r.stands;
+        system = r.system;
+      },
+      r.same,
+    )
+
+pub texts_are_read_back : TextsAreReadBack
+texts_are_read_back plain (bytes, (p, is, same)) fits =
+    let e : canonical_text p ≡ canonical_text plain = same_text p plain same in
+    let r = spelled bytes p is (subst (λ text. length text ≤ longest_net_text) (sym e) fits) in
+    (r.0, subst (λ text. Spells text r.0) e r.1, r.2 ∙ same)
+
+pub spots_do_not_count : SpotsDoNotCount
+spots_do_not_count = same_text

@@ -1,0 +1,320 @@
+-- Where some tokens stand for a condition, its text is read back.
+use Rattle.std.proofs.Common.{◌≡◌, ℕ, List, [], ◌∷◌, ◌++◌, map, refl, sym, ap, ◌∙◌, subst}
+use Rattle.std.specs.Prelude.{codes, Some}
+use Rattle.std.specs.List.{AllByRecursion, join_by}
+use Rattle.rn_notation.specs.Words.{signs}
+use Rattle.rn_notation.specs.Tokens.{IsToken}
+use Rattle.rn_notation.specs.Reading.{token_after}
+use Rattle.rn_notation.specs.declared.token.Token.{Token}
+use Rattle.rn_notation.specs.declared.token.TokenKind.TheVariants.{Sign}
+use Rattle.rn_model.specs.declared.expr.CompareKind.{CompareKind}
+use Rattle.rn_model.specs.declared.expr.CompareKind.TheVariants.{Same, Differs, Less, AtMost}
+use Rattle.rn_model.specs.declared.expr.CompareKind.TheVariants.{Greater, AtLeast}
+use Rattle.rn_inscript.specs.declared.exprs.PExpr.{PExpr}
+use Rattle.rn_inscript.specs.declared.conds.PCond.{PCond, fold-roll-PCond, roll-PCond}
+use Rattle.rn_inscript.specs.declared.conds.PSimple.{PSimple, fold_out-PSimple, map-PSimple, out-PSimple}
+use Rattle.rn_inscript.specs.declared.conds.PSimple.TheVariants as S
+use Rattle.rn_inscript.specs.Signs.{compare_of, and_sign, or_sign}
+use Rattle.rn_inscript.specs.Conditions.{any_of, IsCond, IsAlternatives, IsMoreAlternatives, IsBoth, IsMoreBoth, IsSimple}
+use Rattle.rn_print.specs.Pieces.{in_parentheses}
+use Rattle.rn_print.specs.Expressions.{expr_text}
+use Rattle.rn_print.specs.Conditions.{comparison, simple_step, cond_step, all_step, cond_text, simple_text}
+use Rattle.rn_print.specs.SameButSpots.{expr_unplaced, simple_moved, cond_unplaced, simple_unplaced}
+use Rattle.rn_print.proofs.Trees.{both, bytes_in, tokens_in, Reads, reads_text}
+use Rattle.rn_print.proofs.Atoms.{Spaced, spaced, spaced_stands, open_paren_stands, close_paren_stands, not_stands}
+use Rattle.rn_print.proofs.Separated.{Separator, Rows, some}
+use Rattle.rn_print.proofs.ExpressionBack.{Back, sign_tree}
+use Rattle.rn_print.proofs.SpelledExpressions.{AllLegal, expr_back}
+
+-- the texts of conditions by their parts
+pub text-any : (all : List (List PSimple)) →
+    cond_text (any_of all) ≡ join_by all_step (codes " || ") (map (map simple_text) all)
+text-any all = fold-roll-PCond (List ℕ) (List ℕ) simple_step cond_step (record { any = all })
+
+pub out : (s : PSimple) →
+    simple_text s
+    ≡ simple_step (map-PSimple PSimple PCond (List ℕ) (List ℕ) simple_text cond_text (out-PSimple s))
+out s = fold_out-PSimple (List ℕ) (List ℕ) simple_step cond_step s
+
+pub text-Compare : (kind : CompareKind) (a b : PExpr) →
+    simple_text (S.Compare kind a b) ≡ expr_text a ++ comparison kind ++ expr_text b
+text-Compare kind a b = out (S.Compare kind a b) ∙ rw (S.outs-Compare kind a b)
+
+pub text-Bare : (a : PExpr) → simple_text (S.Bare a) ≡ expr_text a
+text-Bare a = out (S.Bare a) ∙ rw (S.outs-Bare a)
+
+pub text-Not : (c : PCond) → simple_text (S.Not c) ≡ codes "!" ++ in_parentheses (cond_text c)
+text-Not c = out (S.Not c) ∙ rw (S.outs-Not c)
+
+-- the same without spots
+pub bare-any : (all : List (List PSimple)) →
+    cond_unplaced (any_of all) ≡ any_of (map (map simple_unplaced) all)
+bare-any all = fold-roll-PCond PSimple PCond simple_moved roll-PCond (record { any = all })
+
+pub bare : (s : PSimple) →
+    simple_unplaced s
+    ≡ simple_moved (map-PSimple PSimple PCond PSimple PCond simple_unplaced cond_unplaced (out-PSimple s))
+bare s = fold_out-PSimple PSimple PCond simple_moved roll-PCond s
+
+pub bare-Compare : (kind : CompareKind) (a b : PExpr) →
+    simple_unplaced (S.Compare kind a b) ≡ S.Compare kind (expr_unplaced a) (expr_unplaced b)
+bare-Compare kind a b = bare (S.Compare kind a b) ∙ rw (S.outs-Compare kind a b)
+
+pub bare-Bare : (a : PExpr) → simple_unplaced (S.Bare a) ≡ S.Bare (expr_unplaced a)
+bare-Bare a = bare (S.Bare a) ∙ rw (S.outs-Bare a)
+
+pub bare-Not : (c : PCond) → simple_unplaced (S.Not c) ≡ S.Not (cond_unplaced c)
+bare-Not c = bare (S.Not c) ∙ rw (S.outs-Not c)
+
+-- the texts are read back
+abbrev pub CondBack : PCond → Type 0
+CondBack c = Reads IsCond cond_unplaced c (cond_text c)
+
+abbrev pub SimpleBack : PSimple → Type 0
+SimpleBack s = Reads IsSimple simple_unplaced s (simple_text s)
+
+abbrev BothBack : List PSimple → Type 0
+BothBack b = Reads IsBoth (map simple_unplaced) b (all_step (map simple_text b))
+
+-- the number and the bytes of the sign of a comparison
+abbrev compare_sign : CompareKind → ℕ
+compare_sign Same = 10
+compare_sign Differs = 11
+compare_sign Less = 12
+compare_sign AtMost = 13
+compare_sign Greater = 14
+compare_sign AtLeast = 15
+
+abbrev compare_bytes : CompareKind → List ℕ
+compare_bytes Same = codes "=="
+compare_bytes Differs = codes "!="
+compare_bytes Less = codes "<"
+compare_bytes AtMost = codes "<="
+compare_bytes Greater = codes ">"
+compare_bytes AtLeast = codes ">="
+
+compare_stands : (kind : CompareKind) → Spaced (compare_sign kind) (compare_bytes kind)
+unfolding signs
+compare_stands Same rest = IsToken.sign refl refl refl
+compare_stands Differs rest = IsToken.sign refl refl refl
+compare_stands Less rest = IsToken.sign refl refl refl
+compare_stands AtMost rest = IsToken.sign refl refl refl
+compare_stands Greater rest = IsToken.sign refl refl refl
+compare_stands AtLeast rest = IsToken.sign refl refl refl
+
+compare_text : (kind : CompareKind) →
+    bytes_in (spaced (compare_sign kind) (compare_bytes kind)) ≡ comparison kind
+compare_text Same = refl
+compare_text Differs = refl
+compare_text Less = refl
+compare_text AtMost = refl
+compare_text Greater = refl
+compare_text AtLeast = refl
+
+compare_is : (kind : CompareKind) → compare_of (Sign (compare_sign kind)) ≡ Some kind
+compare_is Same = refl
+compare_is Differs = refl
+compare_is Less = refl
+compare_is AtMost = refl
+compare_is Greater = refl
+compare_is AtLeast = refl
+
+compare_back : (kind : CompareKind) (a b : PExpr) → Back a → Back b →
+    SimpleBack (S.Compare kind a b)
+compare_back kind a b x y =
+    let ra = x.alone in
+    let rb = y.alone in
+    let sign = spaced (compare_sign kind) (compare_bytes kind) in
+    let text = expr_text a ++ comparison kind ++ expr_text b in
+    let s = S.Compare kind a b in
+    reads_text IsSimple simple_unplaced s text (simple_text s) (sym (text-Compare kind a b)) (record {
+      tree = both (both ra.tree sign) rb.tree;
+      spells =
+          ap (λ t. t ++ bytes_in sign ++ bytes_in rb.tree) ra.spells
+          ∙ ap (λ t. expr_text a ++ t ++ bytes_in rb.tree) (compare_text kind)
+          ∙ ap (λ t. (expr_text a ++ comparison kind) ++ t) rb.spells;
+      stands = λ rest h.
+          let right = bytes_in rb.tree ++ rest in (
+            (
+              ra.stands (bytes_in sign ++ right) refl,
+              spaced_stands (compare_sign kind) (compare_bytes kind) right (compare_stands kind),
+            ),
+            rb.stands rest h,
+          );
+      means = λ before rest.
+          let after = before ++ (bytes_in ra.tree ++ bytes_in sign) in
+          let right = tokens_in after rb.tree rest in
+          let t = token_after ((before ++ bytes_in ra.tree) ++ codes " ")
+          (Sign (compare_sign kind)) (compare_bytes kind) in
+          let n = rb.means after rest in
+          let m = ra.means before (t ∷ right) in (
+            S.Compare kind m.0 n.0,
+            IsSimple.compare m.1 (compare_is kind) n.1,
+            bare-Compare kind m.0 n.0 ∙ ap (λ a. S.Compare kind a (expr_unplaced n.0)) m.2
+                ∙ ap (λ b. S.Compare kind (expr_unplaced a) b) n.2 ∙ sym (bare-Compare kind a b),
+          );
+    })
+
+bare_back : (a : PExpr) → Back a → SimpleBack (S.Bare a)
+bare_back a x =
+    let r = x.alone in
+    reads_text IsSimple simple_unplaced (S.Bare a) (expr_text a) (simple_text (S.Bare a))
+    (sym (text-Bare a)) (record {
+      tree = r.tree;
+      spells = r.spells;
+      stands = r.stands;
+      means = λ before rest.
+          let m = r.means before rest in (
+            S.Bare m.0,
+            IsSimple.bare m.1,
+            bare-Bare m.0 ∙ ap (λ a. S.Bare a) m.2 ∙ sym (bare-Bare a),
+          );
+    })
+
+not_back : (c : PCond) → CondBack c → SimpleBack (S.Not c)
+not_back c r =
+    let text = codes "!" ++ in_parentheses (cond_text c) in
+    reads_text IsSimple simple_unplaced (S.Not c) text (simple_text (S.Not c))
+    (sym (text-Not c)) (record {
+      tree = both (both (both (sign_tree 23 (codes "!")) (sign_tree 4 (codes "("))) r.tree)
+          (sign_tree 5 (codes ")"));
+      spells = ap (λ t. codes "!" ++ in_parentheses t) r.spells;
+      stands = λ rest h.
+          let end = codes ")" ++ rest in (
+            (
+              (not_stands (bytes_in r.tree ++ end), open_paren_stands (bytes_in r.tree ++ end)),
+              r.stands end refl,
+            ),
+            close_paren_stands rest,
+          );
+      means = λ before rest.
+          let v = token_after (before ++ ((codes "!" ++ codes "(") ++ bytes_in r.tree)) (Sign 5) (codes ")") in
+          let m = r.means (before ++ (codes "!" ++ codes "(")) (v ∷ rest) in (
+            S.Not m.0,
+            IsSimple.negation refl refl m.1 refl,
+            bare-Not m.0 ∙ ap (λ c. S.Not c) m.2 ∙ sym (bare-Not c),
+          );
+    })
+
+-- what `&&` and `||` join
+both_rows : Rows IsSimple IsMoreBoth IsBoth and_sign
+both_rows = record {
+  none = λ all rest. IsMoreBoth.no_more_both;
+  more = λ t ts mid rest before all item h x m. IsMoreBoth.more_both h x m;
+  whole = λ ts mid rest item all x m. IsBoth.both x m;
+}
+
+any_rows : Rows IsBoth IsMoreAlternatives IsAlternatives or_sign
+any_rows = record {
+  none = λ all rest. IsMoreAlternatives.no_more_alternatives;
+  more = λ t ts mid rest before all item h x m. IsMoreAlternatives.more_alternatives h x m;
+  whole = λ ts mid rest item all x m. IsAlternatives.alternatives x m;
+}
+
+and_stands : Spaced 21 (codes "&&")
+unfolding signs
+and_stands rest = IsToken.sign refl refl refl
+
+or_stands : Spaced 22 (codes "||")
+unfolding signs
+or_stands rest = IsToken.sign refl refl refl
+
+and_sep : Separator and_sign (codes " && ")
+and_sep = record {
+  tree = spaced 21 (codes "&&");
+  spells = refl;
+  stands = λ rest. spaced_stands 21 (codes "&&") rest and_stands;
+  stops = λ rest. refl;
+  means = λ before rest. (token_after (before ++ codes " ") and_sign (codes "&&"), refl, refl);
+}
+
+or_sep : Separator or_sign (codes " || ")
+or_sep = record {
+  tree = spaced 22 (codes "||");
+  spells = refl;
+  stands = λ rest. spaced_stands 22 (codes "||") rest or_stands;
+  stops = λ rest. refl;
+  means = λ before rest. (token_after (before ++ codes " ") or_sign (codes "||"), refl, refl);
+}
+
+-- one or more, of which each is so
+abbrev Many : {A : Type 0} → (A → Type 0) → List A → Type 0
+Many {A = A} P xs = (x : A) × (others : List A) × (xs ≡ x ∷ others) × P x × AllByRecursion P others
+
+many_push : {A : Type 0} (P : A → Type 0) (xs : List A) (y : A) → Many P xs → P y →
+    Many P (xs ++ y ∷ [])
+many_push {A = A} P xs y (x, others, same, here, all) is =
+    (x, others ++ y ∷ [], ap (λ xs. xs ++ y ∷ []) same, here, push others all)
+  where
+    push : (zs : List A) → AllByRecursion P zs → AllByRecursion P (zs ++ y ∷ [])
+    push [] all = (is, tt)
+    push (z ∷ zs) (here, all) = (here, push zs all)
+
+both_back : (b : List PSimple) → Many SimpleBack b → BothBack b
+both_back b (s, others, same, here, all) =
+    subst BothBack (sym same)
+    (some IsSimple IsMoreBoth IsBoth and_sign both_rows simple_unplaced (codes " && ") and_sep
+    simple_text (λ t. t) s others here all)
+
+any_back : (all : List (List PSimple)) → Many BothBack all → CondBack (any_of all)
+any_back all (b, others, same, here, each) =
+    let text = join_by all_step (codes " || ") (map (map simple_text) all) in
+    let r = subst
+    (λ all. Reads IsAlternatives (map (map simple_unplaced)) all
+    (join_by all_step (codes " || ") (map (map simple_text) all))) (sym same)
+    (some IsBoth IsMoreAlternatives IsAlternatives or_sign any_rows (map simple_unplaced)
+    (codes " || ") or_sep (map simple_text) all_step b others here each) in
+    reads_text IsCond cond_unplaced (any_of all) text (cond_text (any_of all)) (sym (text-any all))
+    (record {
+      tree = r.tree;
+      spells = r.spells;
+      stands = r.stands;
+      means = λ before rest.
+          let m = r.means before rest in (
+            any_of m.0,
+            IsCond.any m.1,
+            bare-any m.0 ∙ ap any_of m.2 ∙ sym (bare-any all),
+          );
+    })
+
+mutual
+  pub cond_back : {ts rest : List Token} {c : PCond} → IsCond ts c rest → AllLegal ts →
+      CondBack c × AllLegal rest
+  cond_back (IsCond.any {all = all} x) h =
+      let p = alternatives_back x h in (any_back all p.0, p.1)
+
+  alternatives_back : {ts rest : List Token} {all : List (List PSimple)} →
+      IsAlternatives ts all rest → AllLegal ts → Many BothBack all × AllLegal rest
+  alternatives_back (IsAlternatives.alternatives {b = b} x m) h =
+      let p = simples_back x h in
+      more_alternatives_back m (b, [], refl, both_back b p.0, tt) p.1
+
+  more_alternatives_back : {before all : List (List PSimple)} {ts rest : List Token} →
+      IsMoreAlternatives before ts all rest → Many BothBack before → AllLegal ts →
+      Many BothBack all × AllLegal rest
+  more_alternatives_back IsMoreAlternatives.no_more_alternatives back h = (back, h)
+  more_alternatives_back (IsMoreAlternatives.more_alternatives {before = before} {b = b} is x m) back h =
+      let p = simples_back x h.1 in
+      more_alternatives_back m (many_push BothBack before b back (both_back b p.0)) p.1
+
+  simples_back : {ts rest : List Token} {b : List PSimple} → IsBoth ts b rest → AllLegal ts →
+      Many SimpleBack b × AllLegal rest
+  simples_back (IsBoth.both {s = s} x m) h =
+      let p = simple_back x h in more_simples_back m (s, [], refl, p.0, tt) p.1
+
+  more_simples_back : {before all : List PSimple} {ts rest : List Token} →
+      IsMoreBoth before ts all rest → Many SimpleBack before → AllLegal ts →
+      Many SimpleBack all × AllLegal rest
+  more_simples_back IsMoreBoth.no_more_both back h = (back, h)
+  more_simples_back (IsMoreBoth.more_both {before = before} {s = s} is x m) back h =
+      let p = simple_back x h.1 in
+      more_simples_back m (many_push SimpleBack before s back p.0) p.1
+
+  simple_back : {ts rest : List Token} {s : PSimple} → IsSimple ts s rest → AllLegal ts →
+      SimpleBack s × AllLegal rest
+  simple_back (IsSimple.bare {a = a} x) h = let p = expr_back x h in (bare_back a p.0, p.1)
+  simple_back (IsSimple.compare {kind = kind} {a = a} {b = b} x is y) h =
+      let p = expr_back x h in
+      let q = expr_back y p.1.1 in (compare_back kind a b p.0 q.0, q.1)
+  simple_back (IsSimple.negation {c = c} is a x b) h =
+      let p = cond_back x h.1.1 in (not_back c p.0, p.1.1)

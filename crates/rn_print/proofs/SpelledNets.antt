@@ -1,0 +1,387 @@
+-- Where some tokens stand for a declaration, a net or a system, its text is read back.
+use Rattle.std.proofs.Common.{◌≡◌, ℕ, List, [], ◌∷◌, ◌++◌, map, refl, sym, ap, ◌∙◌, subst, append_assoc}
+use Rattle.std.specs.Prelude.{codes}
+use Rattle.std.specs.List.{AllByRecursion}
+use Rattle.std.proofs.lemmas.List.{append-nil}
+use Rattle.rn_value.specs.Words.{reserved_words}
+use Rattle.rn_notation.specs.Tokens.{IsGap, IsToken}
+use Rattle.rn_notation.specs.Reading.{gap, token_after}
+use Rattle.rn_notation.specs.declared.token.Spot.{Spot}
+use Rattle.rn_notation.specs.declared.token.Token.{Token}
+use Rattle.rn_notation.specs.declared.token.TokenKind.TheVariants.{Name, Sign}
+use Rattle.rn_inscript.specs.declared.inscriptions.PName.{PName}
+use Rattle.rn_inscript.specs.declared.inscriptions.PInscribed.{PInscribed}
+use Rattle.rn_inscript.specs.declared.inscriptions.PInscription.{PInscription}
+use Rattle.rn_inscript.specs.Signs.{comma}
+use Rattle.rn_inscript.specs.Expressions.{IsExpr, IsProduct, IsUnary, IsPrimary}
+use Rattle.rn_inscript.specs.Inscriptions.{name_at, IsInscribed}
+use Rattle.rn_net.specs.declared.kinds.PKind.{PKind}
+use Rattle.rn_net.specs.declared.constants.PConst.{PConst}
+use Rattle.rn_net.specs.declared.plain.PChannel.{PChannel}
+use Rattle.rn_net.specs.declared.plain.PVar.{PVar}
+use Rattle.rn_net.specs.declared.plain.PPlace.{PPlace}
+use Rattle.rn_net.specs.declared.plain.PTransition.{PTransition}
+use Rattle.rn_net.specs.Words.{semicolon}
+use Rattle.rn_net.specs.Constants.{IsConstant, AreConstants, AreMoreConstants}
+use Rattle.rn_net.specs.Nets.{channel_of, var_of, place_of, transition_of, IsChannel, AreMoreNames, AreVars, IsKindOfPlace, AreInitial, IsPlace, AreInscriptions, IsTransition}
+use Rattle.rn_print.specs.Kinds.{kind_text}
+use Rattle.rn_print.specs.Constants.{constant_text}
+use Rattle.rn_print.specs.Nets.{channel_text, var_text, initial_text, place_text, inscription_line, transition_text}
+use Rattle.rn_print.specs.SameButSpots.{kind_unplaced, constant_unplaced, name_unplaced, inscription_unplaced, channel_unplaced, var_unplaced, place_unplaced, transition_unplaced, first_spot}
+use Rattle.rn_print.proofs.Trees.{Tree, nothing, piece, both, bytes_in, tokens_in, Stands, Stops, Reads}
+use Rattle.rn_print.proofs.Atoms.{spaced, spaced_stands, name_stands, comma_stands, semicolon_stands, equals_stands, open_paren_stands, close_paren_stands, open_brace_stands, close_brace_stands}
+use Rattle.rn_print.proofs.Separated.{Phrases, Separator, some}
+use Rattle.rn_print.proofs.Lines.{Line, Sequence, sequence}
+use Rattle.rn_print.proofs.ExpressionBack.{sign_tree}
+use Rattle.rn_print.proofs.SpelledKinds.{KindBack, kinds_back}
+use Rattle.rn_print.proofs.SpelledConstants.{ConstantBack, constant_rows}
+use Rattle.rn_print.proofs.SpelledInscriptions.{word_tree, WordSpaced, word_stands, name_tree, colon_tree, colon_space_stands, LegalName, InscribedBack}
+
+-- blanks, and the ends of lines
+abbrev pub blanks : Tree
+blanks = both (piece (gap (codes " "))) (piece (gap (codes " ")))
+
+pub blanks_stand : (rest : List ℕ) → Stands blanks rest
+blanks_stand rest = (IsGap.blank refl, IsGap.blank refl)
+
+abbrev pub line_end : Tree
+line_end = piece (gap (codes "\n"))
+
+abbrev pub ended : Tree
+ended = both (sign_tree 7 (codes ";")) line_end
+
+pub ended_stands : (rest : List ℕ) → Stands ended rest
+ended_stands rest = (semicolon_stands (codes "\n" ++ rest), IsGap.blank refl)
+
+abbrev pub opened : Tree
+opened = both (both (piece (gap (codes " "))) (sign_tree 0 (codes "{"))) line_end
+
+pub opened_stands : (rest : List ℕ) → Stands opened rest
+opened_stands rest =
+    ((IsGap.blank refl, open_brace_stands (codes "\n" ++ rest)), IsGap.blank refl)
+
+channel_stands : WordSpaced 3 (codes "channel")
+unfolding reserved_words
+channel_stands rest = IsToken.word refl refl refl
+
+var_stands : WordSpaced 4 (codes "var")
+unfolding reserved_words
+var_stands rest = IsToken.word refl refl refl
+
+place_stands : WordSpaced 1 (codes "place")
+unfolding reserved_words
+place_stands rest = IsToken.word refl refl refl
+
+trans_stands : WordSpaced 2 (codes "trans")
+unfolding reserved_words
+trans_stands rest = IsToken.word refl refl refl
+
+-- channels
+abbrev pub ChannelBack : PChannel → Type 0
+ChannelBack c = Line IsChannel channel_unplaced c (channel_text c)
+
+pub channel_back : (name : PName) (ks : List PKind) → LegalName name → AllByRecursion KindBack ks →
+    ChannelBack (channel_of name ks)
+channel_back name ks is each =
+    let r = kinds_back 5 (codes ")") close_paren_stands (λ rest. refl) ks each in
+    let head = both (word_tree 3 (codes "channel")) (name_tree name.text) in record {
+      tree = both (both head (both (sign_tree 4 (codes "(")) r.tree)) ended;
+      spells = ap (λ t. (codes "channel " ++ name.text) ++ (codes "(" ++ t) ++ codes ";\n") r.spells;
+      stands = λ rest.
+          let end = codes ";\n" ++ rest in
+          let kinds = (codes "(" ++ bytes_in r.tree) ++ end in (
+            (
+              (
+                word_stands 3 (codes "channel") (name.text ++ kinds) channel_stands,
+                name_stands name.text kinds is refl,
+              ),
+              (open_paren_stands (bytes_in r.tree ++ end), r.stands end refl),
+            ),
+            ended_stands rest,
+          );
+      means = λ before rest.
+          let u = token_after (before ++ codes "channel ") (Name name.text) name.text in
+          let front = codes "channel " ++ name.text in
+          let w = token_after (before ++ (front ++ (codes "(" ++ bytes_in r.tree))) semicolon (codes ";") in
+          let m = r.means ((before ++ front) ++ codes "(") (w ∷ rest) in (
+            channel_of (name_at u.spot name.text) m.0,
+            IsChannel.channel refl refl refl m.1 refl,
+            ap (λ ks. channel_of (name_unplaced name) ks) m.2,
+          );
+    }
+
+-- one variable
+abbrev pub IsVar : Phrases PVar
+IsVar ts v rest = AreVars ts (v ∷ []) rest
+
+abbrev pub VarBack : PVar → Type 0
+VarBack v = Line IsVar var_unplaced v (var_text v)
+
+pub var_back : (name : PName) (k : PKind) → LegalName name → KindBack k → VarBack (var_of k name)
+var_back name k is r =
+    let word = both blanks (word_tree 4 (codes "var")) in record {
+      tree = both (both (both (both word (name_tree name.text)) colon_tree) r.tree) ended;
+      spells =
+          ap (λ t. codes "  var " ++ name.text ++ codes ": " ++ t ++ codes ";\n") r.spells;
+      stands = λ rest.
+          let end = codes ";\n" ++ rest in
+          let kind = bytes_in r.tree ++ end in (
+            (
+              (
+                (
+                  (
+                    blanks_stand (codes "var " ++ (name.text ++ (codes ": " ++ kind))),
+                    word_stands 4 (codes "var") (name.text ++ (codes ": " ++ kind)) var_stands,
+                  ),
+                  name_stands name.text (codes ": " ++ kind) is refl,
+                ),
+                colon_space_stands kind,
+              ),
+              r.stands end refl,
+            ),
+            ended_stands rest,
+          );
+      means = λ before rest.
+          let u = token_after (before ++ codes "  var ") (Name name.text) name.text in
+          let front = (codes "  var " ++ name.text) ++ codes ": " in
+          let w = token_after (before ++ (front ++ bytes_in r.tree)) semicolon (codes ";") in
+          let m = r.means (before ++ front) (w ∷ rest) in (
+            var_of m.0 (name_at u.spot name.text),
+            AreVars.vars refl refl AreMoreNames.no_more_names refl m.1 refl,
+            ap (λ k. var_of k (name_unplaced name)) m.2,
+          );
+    }
+
+-- initial tokens
+comma_space : Separator comma (codes ", ")
+comma_space = record {
+  tree = both (sign_tree 6 (codes ",")) (piece (gap (codes " ")));
+  spells = refl;
+  stands = λ rest. (comma_stands (codes " " ++ rest), IsGap.blank refl);
+  stops = λ rest. refl;
+  means = λ before rest. (token_after before comma (codes ","), refl, refl);
+}
+
+-- what may follow the kind of a place
+record InitialBack (items : List PConst) : Type 0 where
+  pub reads : Reads AreInitial (map constant_unplaced) items (initial_text items)
+  pub stops : (rest : List ℕ) → Stops rest → Stops (bytes_in reads.tree ++ rest)
+
+initial_back : (items : List PConst) → AllByRecursion ConstantBack items → InitialBack items
+initial_back [] each = record {
+  reads = record {
+    tree = nothing;
+    spells = refl;
+    stands = λ rest h. tt;
+    means = λ before rest. ([], AreInitial.none, refl);
+  };
+  stops = λ rest h. h;
+}
+initial_back (item ∷ items) (one, each) =
+    let r = some IsConstant AreMoreConstants AreConstants comma constant_rows constant_unplaced
+    (codes ", ") comma_space constant_text (λ t. t) item items one each in record {
+      reads = record {
+        tree = both (spaced 9 (codes "=")) r.tree;
+        spells = ap (λ t. codes " = " ++ t) r.spells;
+        stands = λ rest h.
+            (spaced_stands 9 (codes "=") (bytes_in r.tree ++ rest) equals_stands, r.stands rest h);
+        means = λ before rest.
+            let m = r.means (before ++ codes " = ") rest in
+            (m.0, AreInitial.some refl m.1, m.2);
+      };
+      stops = λ rest h. refl;
+    }
+
+-- places
+abbrev pub PlaceBack : PPlace → Type 0
+PlaceBack p = Line IsPlace place_unplaced p (place_text p)
+
+pub place_back : (name : PName) (k : PKind) (items : List PConst) → LegalName name → KindBack k →
+    AllByRecursion ConstantBack items → PlaceBack (place_of name k items)
+place_back name k items is r each =
+    let initial = initial_back items each in
+    let i = initial.reads in
+    let word = both blanks (word_tree 1 (codes "place")) in record {
+      tree = both (both (both (both (both word (name_tree name.text)) colon_tree) r.tree) i.tree) ended;
+      spells =
+          ap (λ t. codes "  place " ++ name.text ++ codes ": " ++ t ++ bytes_in i.tree ++ codes ";\n")
+          r.spells
+          ∙ ap (λ t. codes "  place " ++ name.text ++ codes ": " ++ kind_text k ++ t ++ codes ";\n")
+          i.spells;
+      stands = λ rest.
+          let end = codes ";\n" ++ rest in
+          let tokens = bytes_in i.tree ++ end in
+          let kind = bytes_in r.tree ++ tokens in (
+            (
+              (
+                (
+                  (
+                    (
+                      blanks_stand (codes "place " ++ (name.text ++ (codes ": " ++ kind))),
+                      word_stands 1 (codes "place") (name.text ++ (codes ": " ++ kind)) place_stands,
+                    ),
+                    name_stands name.text (codes ": " ++ kind) is refl,
+                  ),
+                  colon_space_stands kind,
+                ),
+                r.stands tokens (initial.stops end refl),
+              ),
+              i.stands end refl,
+            ),
+            ended_stands rest,
+          );
+      means = λ before rest.
+          let u = token_after (before ++ codes "  place ") (Name name.text) name.text in
+          let front = (codes "  place " ++ name.text) ++ codes ": " in
+          let after = before ++ (front ++ bytes_in r.tree) in
+          let v = token_after (before ++ ((front ++ bytes_in r.tree) ++ bytes_in i.tree)) semicolon (codes ";") in
+          let n = i.means after (v ∷ rest) in
+          let m = r.means (before ++ front) (tokens_in after i.tree (v ∷ rest)) in (
+            place_of (name_at u.spot name.text) m.0 n.0,
+            IsPlace.place refl refl (IsKindOfPlace.given refl m.1) n.1 refl,
+            ap (λ k. place_of (name_unplaced name) k (map constant_unplaced n.0)) m.2
+                ∙ ap (λ items. place_of (name_unplaced name) (kind_unplaced k) items) n.2,
+          );
+    }
+
+-- an inscription begins with a token
+abbrev Begins : List Token → Type 0
+Begins ts = (t : Token) × (us : List Token) × (ts ≡ t ∷ us)
+
+primary_begins : {ts rest : List Token} {e : _} → IsPrimary ts e rest → Begins ts
+primary_begins (IsPrimary.number is) = (_, _, refl)
+primary_begins (IsPrimary.text is) = (_, _, refl)
+primary_begins (IsPrimary.name is) = (_, _, refl)
+primary_begins (IsPrimary.this is) = (_, _, refl)
+primary_begins (IsPrimary.step is a b) = (_, _, refl)
+primary_begins (IsPrimary.tuple is x) = (_, _, refl)
+primary_begins (IsPrimary.list is x) = (_, _, refl)
+primary_begins (IsPrimary.list_with_tail is x a y b) = (_, _, refl)
+primary_begins (IsPrimary.parentheses is x a) = (_, _, refl)
+
+unary_begins : {ts rest : List Token} {e : _} → IsUnary ts e rest → Begins ts
+unary_begins (IsUnary.negative is x) = (_, _, refl)
+unary_begins (IsUnary.primary x) = primary_begins x
+
+product_begins : {ts rest : List Token} {e : _} → IsProduct ts e rest → Begins ts
+product_begins (IsProduct.product x m) = unary_begins x
+
+expr_begins : {ts rest : List Token} {e : _} → IsExpr ts e rest → Begins ts
+expr_begins (IsExpr.sum x m) = product_begins x
+
+form_begins : {ts rest : List Token} {form : PInscribed} → IsInscribed ts form rest → Begins ts
+form_begins (IsInscribed.plain_arc is a) = (_, _, refl)
+form_begins (IsInscribed.arc is a b x) = (_, _, refl)
+form_begins (IsInscribed.guard is x) = (_, _, refl)
+form_begins (IsInscribed.print is a x) = (_, _, refl)
+form_begins (IsInscribed.set is a b x) = (_, _, refl)
+form_begins (IsInscribed.uplink is x) = (_, _, refl)
+form_begins (IsInscribed.creation is a b d) = (_, _, refl)
+form_begins (IsInscribed.downlink is a x) = (_, _, refl)
+form_begins (IsInscribed.equality x is y) = expr_begins x
+
+-- an inscription with its semicolon
+pub record IsLine (ts : List Token) (i : PInscription) (rest : List Token) : Type 0 where
+  pub first : Token
+  pub others : List Token
+  pub end : Token
+  pub begins : ts ≡ first ∷ others
+  pub form : IsInscribed (first ∷ others) i.form (end ∷ rest)
+  pub ends : end.kind ≡ semicolon
+  pub spot : first.spot ≡ i.spot
+
+abbrev pub LineBack : PInscription → Type 0
+LineBack i = Line IsLine inscription_unplaced i (inscription_line i)
+
+inscription_of : PInscribed → Spot → PInscription
+inscription_of form spot = record { form = form; spot = spot }
+
+pub line_back : (form : PInscribed) (s : Spot) → InscribedBack form →
+    LineBack (record { form = form; spot = s })
+line_back form s r = record {
+  tree = both (both (both blanks blanks) r.tree) ended;
+  spells = ap (λ t. codes "    " ++ t ++ codes ";\n") r.spells;
+  stands = λ rest.
+      let end = codes ";\n" ++ rest in (
+        (
+          (blanks_stand (codes "  " ++ (bytes_in r.tree ++ end)), blanks_stand (bytes_in r.tree ++ end)),
+          r.stands end refl,
+        ),
+        ended_stands rest,
+      );
+  means = λ before rest.
+      let u = token_after (before ++ (codes "    " ++ bytes_in r.tree)) semicolon (codes ";") in
+      let m = r.means (before ++ codes "    ") (u ∷ rest) in
+      let b = form_begins m.1 in (
+        record { form = m.0; spot = b.0.spot },
+        record {
+          first = b.0;
+          others = b.1;
+          end = u;
+          begins = b.2;
+          form = subst (λ ts. IsInscribed ts m.0 (u ∷ rest)) b.2 m.1;
+          ends = refl;
+          spot = refl;
+        },
+        ap (λ f. record { form = f; spot = first_spot }) m.2,
+      );
+}
+
+lines_are : {ts rest : List Token} {items : List PInscription} (before : List PInscription) →
+    Sequence IsLine ts items rest → AreInscriptions before ts (before ++ items) rest
+lines_are {ts = ts} before Sequence.done =
+    subst (λ all. AreInscriptions before ts all ts) (sym (append-nil before))
+    AreInscriptions.no_more_inscriptions
+lines_are {rest = rest} before (Sequence.next {mid = mid} {item = i} {items = items} l more) =
+    let whole : record { form = i.form; spot = l.first.spot } ≡ i =
+    ap (λ s. record { form = i.form; spot = s }) l.spot in
+    let later = subst (λ all. AreInscriptions (before ++ i ∷ []) mid all rest)
+    (append_assoc before (i ∷ []) items) (lines_are (before ++ i ∷ []) more) in
+    subst (λ ts. AreInscriptions before ts (before ++ i ∷ items) rest) (sym l.begins)
+    (AreInscriptions.more_inscriptions l.form l.ends
+    (subst (λ j. AreInscriptions (before ++ j ∷ []) mid (before ++ i ∷ items) rest) (sym whole) later))
+
+-- transitions
+abbrev pub TransitionBack : PTransition → Type 0
+TransitionBack t = Line IsTransition transition_unplaced t (transition_text t)
+
+pub transition_back : (name : PName) (items : List PInscription) → LegalName name →
+    AllByRecursion LineBack items → TransitionBack (transition_of name items)
+transition_back name items is each =
+    let r = sequence IsLine inscription_unplaced inscription_line items each in
+    let word = both blanks (word_tree 2 (codes "trans")) in
+    let close = both (both blanks (sign_tree 1 (codes "}"))) line_end in record {
+      tree = both (both (both (both word (name_tree name.text)) opened) r.tree) close;
+      spells =
+          ap (λ t. codes "  trans " ++ name.text ++ codes " {\n" ++ t ++ codes "  }\n") r.spells;
+      stands = λ rest.
+          let end = codes "  }\n" ++ rest in
+          let lines = bytes_in r.tree ++ end in (
+            (
+              (
+                (
+                  (
+                    blanks_stand (codes "trans " ++ (name.text ++ (codes " {\n" ++ lines))),
+                    word_stands 2 (codes "trans") (name.text ++ (codes " {\n" ++ lines)) trans_stands,
+                  ),
+                  name_stands name.text (codes " {\n" ++ lines) is refl,
+                ),
+                opened_stands lines,
+              ),
+              r.stands end,
+            ),
+            (
+              (blanks_stand (codes "}\n" ++ rest), close_brace_stands (codes "\n" ++ rest)),
+              IsGap.blank refl,
+            ),
+          );
+      means = λ before rest.
+          let u = token_after (before ++ codes "  trans ") (Name name.text) name.text in
+          let front = (codes "  trans " ++ name.text) ++ codes " {\n" in
+          let w = token_after ((before ++ (front ++ bytes_in r.tree)) ++ codes "  ") (Sign 1) (codes "}") in
+          let m = r.means (before ++ front) (w ∷ rest) in (
+            transition_of (name_at u.spot name.text) m.0,
+            IsTransition.transition refl refl refl (lines_are [] m.1) refl,
+            ap (λ items. transition_of (name_unplaced name) items) m.2,
+          );
+    }

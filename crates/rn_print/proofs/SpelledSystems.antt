@@ -1,0 +1,374 @@
+-- Where some tokens stand for a net or a system, its text is read back.
+use Rattle.std.proofs.Common.{◌≡◌, List, [], ◌∷◌, ◌++◌, map, refl, sym, ap, ◌∙◌, subst, append_assoc}
+use Rattle.std.specs.Prelude.{codes}
+use Rattle.std.specs.List.{flat_map, AllByRecursion}
+use Rattle.std.proofs.lemmas.List.{append-nil}
+use Rattle.rn_value.specs.Words.{reserved_words}
+use Rattle.rn_notation.specs.Tokens.{IsGap, IsToken}
+use Rattle.rn_notation.specs.Reading.{token_after}
+use Rattle.rn_notation.specs.declared.token.Spot.{Spot}
+use Rattle.rn_notation.specs.declared.token.Token.{Token}
+use Rattle.rn_notation.specs.declared.token.TokenKind.TheVariants.{Name, Sign}
+use Rattle.rn_inscript.specs.declared.inscriptions.PName.{PName}
+use Rattle.rn_inscript.specs.declared.inscriptions.PInscription.{PInscription}
+use Rattle.rn_inscript.specs.Inscriptions.{name_at}
+use Rattle.rn_net.specs.declared.kinds.PKind.{PKind}
+use Rattle.rn_net.specs.declared.constants.PConst.{PConst}
+use Rattle.rn_net.specs.declared.plain.Plain.{Plain}
+use Rattle.rn_net.specs.declared.plain.PChannel.{PChannel}
+use Rattle.rn_net.specs.declared.plain.PVar.{PVar}
+use Rattle.rn_net.specs.declared.plain.PPlace.{PPlace}
+use Rattle.rn_net.specs.declared.plain.PTransition.{PTransition}
+use Rattle.rn_net.specs.declared.plain.PNet.{PNet}
+use Rattle.rn_net.specs.Nets.{var_of, net_of, plain_of, IsChannel, AreMoreNames, AreVars, IsKindOfPlace, AreInitial, IsPlace, AreInscriptions, IsTransition, AreParts, IsNet, AreItems, IsSystem}
+use Rattle.rn_print.specs.Nets.{channel_text, var_text, place_text, transition_text, net_text, canonical_text}
+use Rattle.rn_print.specs.SameButSpots.{name_unplaced, channel_unplaced, var_unplaced, place_unplaced, transition_unplaced, net_unplaced, unplaced}
+use Rattle.rn_print.proofs.Trees.{Tree, both, bytes_in, tokens_in, Stands}
+use Rattle.rn_print.proofs.Atoms.{name_stands, close_brace_stands}
+use Rattle.rn_print.proofs.Lines.{Line, Sequence, sequence}
+use Rattle.rn_print.proofs.ExpressionBack.{sign_tree}
+use Rattle.rn_print.proofs.SpelledExpressions.{AllLegal, legal}
+use Rattle.rn_print.proofs.SpelledKinds.{KindBack, kind_back, listed_kinds, tuple_back}
+use Rattle.rn_print.proofs.SpelledConstants.{ConstantBack, constants_back}
+use Rattle.rn_print.proofs.SpelledInscriptions.{word_tree, WordSpaced, word_stands, name_tree, LegalName, form_back}
+use Rattle.rn_print.proofs.SpelledNets.{opened, opened_stands, line_end, ChannelBack, channel_back, IsVar, VarBack, var_back, PlaceBack, place_back, LineBack, line_back, TransitionBack, transition_back}
+
+net_stands : WordSpaced 0 (codes "net")
+unfolding reserved_words
+net_stands rest = IsToken.word refl refl refl
+
+-- sequences of declarations are parts of a net
+vars_are : {ts mid rest : List Token} {items vars : List PVar} {name : PName} {places : List PPlace}
+    {transitions : List PTransition} {net : PNet} → Sequence IsVar ts items mid →
+    AreParts (net_of name (vars ++ items) places transitions) mid net rest →
+    AreParts (net_of name vars places transitions) ts net rest
+vars_are {mid = mid} {rest = rest} {vars = vars} {name = name} {places = places} {transitions = transitions} {net = net} Sequence.done parts =
+    subst (λ vars. AreParts (net_of name vars places transitions) mid net rest) (append-nil vars) parts
+vars_are {mid = mid} {rest = rest} {vars = vars} {name = name} {places = places} {transitions = transitions} {net = net} (Sequence.next {item = v} {items = items} x more) parts =
+    AreParts.and_vars x (vars_are more
+    (subst (λ vars. AreParts (net_of name vars places transitions) mid net rest)
+    (sym (append_assoc vars (v ∷ []) items)) parts))
+
+places_are : {ts mid rest : List Token} {items places : List PPlace} {name : PName} {vars : List PVar}
+    {transitions : List PTransition} {net : PNet} → Sequence IsPlace ts items mid →
+    AreParts (net_of name vars (places ++ items) transitions) mid net rest →
+    AreParts (net_of name vars places transitions) ts net rest
+places_are {mid = mid} {rest = rest} {places = places} {name = name} {vars = vars} {transitions = transitions} {net = net} Sequence.done parts =
+    subst (λ places. AreParts (net_of name vars places transitions) mid net rest) (append-nil places) parts
+places_are {mid = mid} {rest = rest} {places = places} {name = name} {vars = vars} {transitions = transitions} {net = net} (Sequence.next {item = p} {items = items} x more) parts =
+    AreParts.and_place x (places_are more
+    (subst (λ places. AreParts (net_of name vars places transitions) mid net rest)
+    (sym (append_assoc places (p ∷ []) items)) parts))
+
+transitions_are : {ts mid rest : List Token} {items transitions : List PTransition} {name : PName}
+    {vars : List PVar} {places : List PPlace} {net : PNet} → Sequence IsTransition ts items mid →
+    AreParts (net_of name vars places (transitions ++ items)) mid net rest →
+    AreParts (net_of name vars places transitions) ts net rest
+transitions_are {mid = mid} {rest = rest} {transitions = transitions} {name = name} {vars = vars} {places = places} {net = net} Sequence.done parts =
+    subst (λ transitions. AreParts (net_of name vars places transitions) mid net rest)
+    (append-nil transitions) parts
+transitions_are {mid = mid} {rest = rest} {transitions = transitions} {name = name} {vars = vars} {places = places} {net = net} (Sequence.next {item = t} {items = items} x more) parts =
+    AreParts.and_transition x (transitions_are more
+    (subst (λ transitions. AreParts (net_of name vars places transitions) mid net rest)
+    (sym (append_assoc transitions (t ∷ []) items)) parts))
+
+-- the text of the net is read back
+abbrev NetBack : PNet → Type 0
+NetBack n = Line IsNet net_unplaced n (net_text n)
+
+-- the texts of its parts are
+record PartsBack (net : PNet) : Type 0 where
+  pub name : LegalName net.name
+  pub vars : AllByRecursion VarBack net.vars
+  pub places : AllByRecursion PlaceBack net.places
+  pub transitions : AllByRecursion TransitionBack net.transitions
+
+net_back : (net : PNet) → PartsBack net → NetBack net
+net_back net back =
+    let name = net.name.text in
+    let v = sequence IsVar var_unplaced var_text net.vars back.vars in
+    let p = sequence IsPlace place_unplaced place_text net.places back.places in
+    let r = sequence IsTransition transition_unplaced transition_text net.transitions back.transitions in
+    let head = both (both (word_tree 0 (codes "net")) (name_tree name)) opened in
+    let close = both (sign_tree 1 (codes "}")) line_end in
+    let start = codes "net " ++ name ++ codes " {\n" in record {
+      tree = both (both (both (both head v.tree) p.tree) r.tree) close;
+      spells =
+          ap (λ t. start ++ t ++ bytes_in p.tree ++ bytes_in r.tree ++ codes "}\n") v.spells
+          ∙ ap (λ t. start ++ flat_map var_text net.vars ++ t ++ bytes_in r.tree ++ codes "}\n") p.spells
+          ∙ ap (λ t. start ++ flat_map var_text net.vars ++ flat_map place_text net.places ++ t ++ codes "}\n") r.spells;
+      stands = λ rest.
+          let end = codes "}\n" ++ rest in
+          let transitions = bytes_in r.tree ++ end in
+          let places = bytes_in p.tree ++ transitions in
+          let vars = bytes_in v.tree ++ places in (
+            (
+              (
+                (
+                  (
+                    (
+                      word_stands 0 (codes "net") (name ++ (codes " {\n" ++ vars)) net_stands,
+                      name_stands name (codes " {\n" ++ vars) back.name refl,
+                    ),
+                    opened_stands vars,
+                  ),
+                  v.stands places,
+                ),
+                p.stands transitions,
+              ),
+              r.stands end,
+            ),
+            (close_brace_stands (codes "\n" ++ rest), IsGap.blank refl),
+          );
+      means = λ before rest.
+          let u = token_after (before ++ codes "net ") (Name name) name in
+          let a = start ++ bytes_in v.tree in
+          let b = a ++ bytes_in p.tree in
+          let w = token_after (before ++ (b ++ bytes_in r.tree)) (Sign 1) (codes "}") in
+          let l = r.means (before ++ b) (w ∷ rest) in
+          let m = p.means (before ++ a) (tokens_in (before ++ b) r.tree (w ∷ rest)) in
+          let n = v.means (before ++ start)
+          (tokens_in (before ++ a) p.tree (tokens_in (before ++ b) r.tree (w ∷ rest))) in (
+            net_of (name_at u.spot name) n.0 m.0 l.0,
+            IsNet.net refl refl refl
+                (vars_are n.1 (places_are m.1 (transitions_are l.1 AreParts.no_more_parts))) refl,
+            ap (λ vs. net_of (name_unplaced net.name) vs (map place_unplaced m.0) (map transition_unplaced l.0)) n.2
+                ∙ ap (λ ps. net_of (name_unplaced net.name) (map var_unplaced net.vars) ps (map transition_unplaced l.0)) m.2
+                ∙ ap (λ ts. net_of (name_unplaced net.name) (map var_unplaced net.vars) (map place_unplaced net.places) ts) l.2,
+          );
+    }
+
+-- lists of which each element is so
+all_push : {A : Type 0} (P : A → Type 0) (xs : List A) (y : A) → AllByRecursion P xs → P y →
+    AllByRecursion P (xs ++ y ∷ [])
+all_push P [] y all is = (is, tt)
+all_push P (x ∷ xs) y (here, all) is = (here, all_push P xs y all is)
+
+all_join : {A : Type 0} (P : A → Type 0) (xs ys : List A) → AllByRecursion P xs →
+    AllByRecursion P ys → AllByRecursion P (xs ++ ys)
+all_join P [] ys all more = more
+all_join P (x ∷ xs) ys (here, all) more = (here, all_join P xs ys all more)
+
+names_legal : {before names : List PName} {ts rest : List Token} →
+    AreMoreNames before ts names rest → AllByRecursion LegalName before → AllLegal ts →
+    AllByRecursion LegalName names × AllLegal rest
+names_legal AreMoreNames.no_more_names back h = (back, h)
+names_legal (AreMoreNames.more_names {u = u} {before = before} {name = name} is a m) back h =
+    names_legal m (all_push LegalName before (name_at u.spot name) back (legal a h.1.0)) h.1.1
+
+each_var : (k : PKind) (names : List PName) → KindBack k → AllByRecursion LegalName names →
+    AllByRecursion VarBack (map (var_of k) names)
+each_var k [] back all = tt
+each_var k (name ∷ names) back (is, all) = (var_back name k is back, each_var k names back all)
+
+vars_back : {ts rest : List Token} {vars : List PVar} → AreVars ts vars rest → AllLegal ts →
+    AllByRecursion VarBack vars × AllLegal rest
+vars_back (AreVars.vars {u = u} {name = name} {names = names} {kind = kind} is a m c k e) h =
+    let p = names_legal m (legal a h.1.0, tt) h.1.1 in
+    let q = kind_back k p.1.1 in
+    (each_var kind names q.0 p.0, q.1.1)
+
+kind_of_place : {spot : Spot} {ts rest : List Token} {k : PKind} → IsKindOfPlace spot ts k rest →
+    AllLegal ts → KindBack k × AllLegal rest
+kind_of_place (IsKindOfPlace.absent {spot = spot}) h = (tuple_back spot [] tt, h)
+kind_of_place (IsKindOfPlace.given is k) h = kind_back k h.1
+
+initial_of_place : {ts rest : List Token} {items : List PConst} → AreInitial ts items rest →
+    AllLegal ts → AllByRecursion ConstantBack items × AllLegal rest
+initial_of_place AreInitial.none h = (tt, h)
+initial_of_place (AreInitial.some is x) h = constants_back x h.1
+
+one_place : {ts rest : List Token} {p : PPlace} → IsPlace ts p rest → AllLegal ts →
+    PlaceBack p × AllLegal rest
+one_place (IsPlace.place {u = u} {name = name} {kind = kind} {initial = initial} is a k i e) h =
+    let p = kind_of_place k h.1.1 in
+    let q = initial_of_place i p.1 in
+    (place_back (name_at u.spot name) kind initial (legal a h.1.0) p.0 q.0, q.1.1)
+
+lines_back : {before items : List PInscription} {ts rest : List Token} →
+    AreInscriptions before ts items rest → AllByRecursion LineBack before → AllLegal ts →
+    AllByRecursion LineBack items × AllLegal rest
+lines_back AreInscriptions.no_more_inscriptions back h = (back, h)
+lines_back (AreInscriptions.more_inscriptions {t = t} {before = before} {form = form} x e m) back h =
+    let p = form_back x h in
+    lines_back m
+    (all_push LineBack before (record { form = form; spot = t.spot }) back (line_back form t.spot p.0))
+    p.1.1
+
+one_transition : {ts rest : List Token} {t : PTransition} → IsTransition ts t rest → AllLegal ts →
+    TransitionBack t × AllLegal rest
+one_transition (IsTransition.transition {u = u} {name = name} {inscriptions = items} is a b m e) h =
+    let p = lines_back m tt h.1.1.1 in
+    (transition_back (name_at u.spot name) items (legal a h.1.0) p.0, p.1.1)
+
+parts_back : {start net : PNet} {ts rest : List Token} → AreParts start ts net rest →
+    PartsBack start → AllLegal ts → PartsBack net × AllLegal rest
+parts_back AreParts.no_more_parts back h = (back, h)
+parts_back (AreParts.and_vars {vars = vars} {more = more} x m) back h =
+    let p = vars_back x h in
+    parts_back m (record {
+      name = back.name;
+      vars = all_join VarBack vars more back.vars p.0;
+      places = back.places;
+      transitions = back.transitions;
+    }) p.1
+parts_back (AreParts.and_place {places = places} {place = place} x m) back h =
+    let p = one_place x h in
+    parts_back m (record {
+      name = back.name;
+      vars = back.vars;
+      places = all_push PlaceBack places place back.places p.0;
+      transitions = back.transitions;
+    }) p.1
+parts_back (AreParts.and_transition {transitions = transitions} {transition = t} x m) back h =
+    let p = one_transition x h in
+    parts_back m (record {
+      name = back.name;
+      vars = back.vars;
+      places = back.places;
+      transitions = all_push TransitionBack transitions t back.transitions p.0;
+    }) p.1
+
+one_net : {ts rest : List Token} {net : PNet} → IsNet ts net rest → AllLegal ts →
+    NetBack net × AllLegal rest
+one_net (IsNet.net {u = u} {name = name} {parts = net} is a b m e) h =
+    let p = parts_back m
+    (record { name = legal a h.1.0; vars = tt; places = tt; transitions = tt }) h.1.1.1 in
+    (net_back net p.0, p.1.1)
+
+one_channel : {ts rest : List Token} {c : PChannel} → IsChannel ts c rest → AllLegal ts →
+    ChannelBack c × AllLegal rest
+one_channel (IsChannel.channel {u = u} {name = name} {kinds = ks} is a b x e) h =
+    let p = listed_kinds x h.1.1.1 in
+    (channel_back (name_at u.spot name) ks (legal a h.1.0) p.0, p.1.1)
+
+-- the texts of all declarations of a system are read back
+record PlainBack (plain : Plain) : Type 0 where
+  pub channels : AllByRecursion ChannelBack plain.channels
+  pub nets : AllByRecursion NetBack plain.nets
+
+items_back : {start plain : Plain} {ts : List Token} → AreItems start ts plain → PlainBack start →
+    AllLegal ts → PlainBack plain
+items_back AreItems.no_more_items back h = back
+items_back (AreItems.and_channel {channels = channels} {channel = c} x m) back h =
+    let p = one_channel x h in
+    items_back m (record {
+      channels = all_push ChannelBack channels c back.channels p.0;
+      nets = back.nets;
+    }) p.1
+items_back (AreItems.and_net {nets = nets} {net = net} x m) back h =
+    let p = one_net x h in
+    items_back m (record {
+      channels = back.channels;
+      nets = all_push NetBack nets net back.nets p.0;
+    }) p.1
+
+-- a system has a channel or a net
+abbrev HasItem : Plain → Type 0
+HasItem plain = plain.channels ≡ [] → plain.nets ≡ [] → ⊥
+
+not_nil : {A : Type 0} (xs : List A) (x : A) → xs ++ x ∷ [] ≡ [] → ⊥
+not_nil [] x e = cc
+not_nil (y ∷ xs) x e = cc
+
+stays : {start plain : Plain} {ts : List Token} → AreItems start ts plain → HasItem start →
+    HasItem plain
+stays AreItems.no_more_items some = some
+stays (AreItems.and_channel {channels = channels} {channel = c} x m) some =
+    stays m (λ e f. not_nil channels c e)
+stays (AreItems.and_net {nets = nets} {net = net} x m) some = stays m (λ e f. not_nil nets net f)
+
+has_item : {tokens : List Token} {plain : Plain} → IsSystem tokens plain → HasItem plain
+has_item (IsSystem.system (AreItems.and_channel {channels = channels} {channel = c} x m)) =
+    stays m (λ e f. not_nil channels c e)
+has_item (IsSystem.system (AreItems.and_net {nets = nets} {net = net} x m)) =
+    stays m (λ e f. not_nil nets net f)
+
+system_back : {tokens : List Token} {plain : Plain} → IsSystem tokens plain → AllLegal tokens →
+    PlainBack plain
+system_back (IsSystem.system m) h = items_back m (record { channels = tt; nets = tt }) h
+
+-- sequences of channels and nets are a system
+channels_are : {ts mid : List Token} {items channels : List PChannel} {nets : List PNet}
+    {plain : Plain} → Sequence IsChannel ts items mid →
+    AreItems (plain_of (channels ++ items) nets) mid plain →
+    AreItems (plain_of channels nets) ts plain
+channels_are {mid = mid} {channels = channels} {nets = nets} {plain = plain} Sequence.done m =
+    subst (λ channels. AreItems (plain_of channels nets) mid plain) (append-nil channels) m
+channels_are {mid = mid} {channels = channels} {nets = nets} {plain = plain} (Sequence.next {item = c} {items = items} x more) m =
+    AreItems.and_channel x (channels_are more
+    (subst (λ channels. AreItems (plain_of channels nets) mid plain)
+    (sym (append_assoc channels (c ∷ []) items)) m))
+
+nets_are : {ts mid : List Token} {items nets : List PNet} {channels : List PChannel}
+    {plain : Plain} → Sequence IsNet ts items mid →
+    AreItems (plain_of channels (nets ++ items)) mid plain →
+    AreItems (plain_of channels nets) ts plain
+nets_are {mid = mid} {nets = nets} {channels = channels} {plain = plain} Sequence.done m =
+    subst (λ nets. AreItems (plain_of channels nets) mid plain) (append-nil nets) m
+nets_are {mid = mid} {nets = nets} {channels = channels} {plain = plain} (Sequence.next {item = n} {items = items} x more) m =
+    AreItems.and_net x (nets_are more
+    (subst (λ nets. AreItems (plain_of channels nets) mid plain)
+    (sym (append_assoc nets (n ∷ []) items)) m))
+
+begun : {ts : List Token} {plain : Plain} → (t : Token) (us : List Token) → ts ≡ t ∷ us →
+    AreItems (plain_of [] []) ts plain → IsSystem ts plain
+begun {plain = plain} t us e m =
+    subst (λ ts. IsSystem ts plain) (sym e)
+    (IsSystem.system (subst (λ ts. AreItems (plain_of [] []) ts plain) e m))
+
+channel_begins : {ts rest : List Token} {c : PChannel} → IsChannel ts c rest →
+    (t : Token) × (us : List Token) × (ts ≡ t ∷ us)
+channel_begins (IsChannel.channel is a b x e) = (_, _, refl)
+
+net_begins : {ts rest : List Token} {n : PNet} → IsNet ts n rest →
+    (t : Token) × (us : List Token) × (ts ≡ t ∷ us)
+net_begins (IsNet.net is a b m e) = (_, _, refl)
+
+system_of : {ts mid : List Token} {cs : List PChannel} {ns : List PNet} →
+    Sequence IsChannel ts cs mid → Sequence IsNet mid ns [] → (cs ≡ [] → ns ≡ [] → ⊥) →
+    AreItems (plain_of [] []) ts (plain_of cs ns) → IsSystem ts (plain_of cs ns)
+system_of (Sequence.next x more) others some m =
+    let b = channel_begins x in begun b.0 b.1 b.2 m
+system_of Sequence.done (Sequence.next x more) some m =
+    let b = net_begins x in begun b.0 b.1 b.2 m
+system_of Sequence.done Sequence.done some m = absurd (some refl refl)
+
+map_nil : {A B : Type 0} (f : A → B) (xs : List A) → map f xs ≡ [] → xs ≡ []
+map_nil f [] e = refl
+map_nil f (x ∷ xs) e = absurd (let no : ⊥ = cc in no)
+
+-- The canonical text of a system that some tokens stand for is tokens of the same system but for
+-- spots.
+pub record IsReadBack (plain : Plain) : Type 0 where
+  pub tree : Tree
+  pub spells : bytes_in tree ≡ canonical_text plain
+  pub stands : Stands tree []
+  pub other : Plain
+  pub system : IsSystem (tokens_in [] tree []) other
+  pub same : unplaced other ≡ unplaced plain
+
+pub reads_back : {tokens : List Token} {plain : Plain} → IsSystem tokens plain → AllLegal tokens →
+    IsReadBack plain
+reads_back {plain = plain} is h =
+    let back = system_back is h in
+    let c = sequence IsChannel channel_unplaced channel_text plain.channels back.channels in
+    let n = sequence IsNet net_unplaced net_text plain.nets back.nets in
+    let o = n.means (bytes_in c.tree) [] in
+    let m = c.means [] (tokens_in (bytes_in c.tree) n.tree []) in
+    record {
+      tree = both c.tree n.tree;
+      spells =
+          ap (λ t. t ++ bytes_in n.tree) c.spells
+          ∙ ap (λ t. flat_map channel_text plain.channels ++ t) n.spells;
+      stands = (c.stands (bytes_in n.tree ++ []), n.stands []);
+      other = plain_of m.0 o.0;
+      system = system_of m.1 o.1
+          (λ e f. has_item is
+          (map_nil channel_unplaced plain.channels (sym m.2 ∙ ap (map channel_unplaced) e))
+          (map_nil net_unplaced plain.nets (sym o.2 ∙ ap (map net_unplaced) f)))
+          (channels_are m.1 (nets_are o.1 AreItems.no_more_items));
+      same =
+          ap (λ cs. plain_of cs (map net_unplaced o.0)) m.2
+          ∙ ap (λ ns. plain_of (map channel_unplaced plain.channels) ns) o.2;
+    }

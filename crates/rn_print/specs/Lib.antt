@@ -1,0 +1,10 @@
+pub mod Pieces
+pub mod Kinds
+pub mod Constants
+pub mod Expressions
+pub mod Conditions
+pub mod Inscriptions
+pub mod Nets
+pub mod SameButSpots
+pub mod ReadingBack
+pub mod Laws

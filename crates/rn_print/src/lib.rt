@@ -1,0 +1,15 @@
+//! The canonical text of nets.
+#![tactic(auto)]
+
+mod conditions;
+mod constants;
+mod expressions;
+mod inscriptions;
+mod kinds;
+mod laws;
+mod nets;
+mod pieces;
+#[cfg(test)]
+mod tests;
+
+pub use nets::print_system;

@@ -1,0 +1,163 @@
+//! The text of channels, nets and whole systems.
+ghost use Rattle.std.specs.Prelude.{◌≡◌, ◌++◌, IfOk, OnOk};
+ghost use Rattle.std.specs.List.{flat_map};
+ghost use Rattle.rn_print.specs.Nets.{channel_text, var_text, initial_text, place_text};
+ghost use Rattle.rn_print.specs.Nets.{inscription_line, transition_text, net_text, canonical_text};
+ghost use Rattle.rn_print.specs.ReadingBack.{IsReadBack};
+
+use crate::constants::put_constants;
+use crate::inscriptions::put_inscribed;
+use crate::kinds::{put_kind, put_kinds};
+use crate::pieces::{put, put_text};
+use rn_inscript::PInscription;
+use rn_items::NoMemory;
+use rn_net::{PChannel, PConst, PNet, PPlace, PTransition, PVar, Plain};
+use std::alloc::Global;
+
+fn put_channel(channel: &PChannel, out: &mut Vec<u8>) -> Result<(), NoMemory>
+    ensures { OnOk result (out.new.items ≡ out.old.items ++ channel_text channel.now) }
+{
+    put(b"channel ", out)?;
+    put_text(&channel.name.text, out)?;
+    put(b"(", out)?;
+    put_kinds(channel.kinds.as_slice(), out)?;
+    put(b");\n", out)
+}
+
+fn put_var(var: &PVar, out: &mut Vec<u8>) -> Result<(), NoMemory>
+    ensures { OnOk result (out.new.items ≡ out.old.items ++ var_text var.now) }
+{
+    put(b"  var ", out)?;
+    put_text(&var.name.text, out)?;
+    put(b": ", out)?;
+    put_kind(&var.kind, out)?;
+    put(b";\n", out)
+}
+
+fn put_initial(alloc: Global, initial: &[PConst], out: &mut Vec<u8>) -> Result<(), NoMemory>
+    ensures { OnOk result (out.new.items ≡ out.old.items ++ initial_text initial.now) }
+{
+    if initial.is_empty() {
+        return Ok(());
+    }
+    put(b" = ", out)?;
+    put_constants(alloc, initial, b", ", out)
+}
+
+fn put_place(alloc: Global, place: &PPlace, out: &mut Vec<u8>) -> Result<(), NoMemory>
+    ensures { OnOk result (out.new.items ≡ out.old.items ++ place_text place.now) }
+{
+    put(b"  place ", out)?;
+    put_text(&place.name.text, out)?;
+    put(b": ", out)?;
+    put_kind(&place.kind, out)?;
+    put_initial(alloc, place.initial.as_slice(), out)?;
+    put(b";\n", out)
+}
+
+fn put_inscription(
+    alloc: Global,
+    inscription: &PInscription,
+    out: &mut Vec<u8>,
+) -> Result<(), NoMemory>
+    ensures { OnOk result (out.new.items ≡ out.old.items ++ inscription_line inscription.now) }
+{
+    put(b"    ", out)?;
+    put_inscribed(alloc, &inscription.form, out)?;
+    put(b";\n", out)
+}
+
+fn put_transition(
+    alloc: Global,
+    transition: &PTransition,
+    out: &mut Vec<u8>,
+) -> Result<(), NoMemory>
+    ensures { OnOk result (out.new.items ≡ out.old.items ++ transition_text transition.now) }
+{
+    put(b"  trans ", out)?;
+    put_text(&transition.name.text, out)?;
+    put(b" {\n", out)?;
+    for inscription in transition.inscriptions.as_slice() {
+        put_inscription(alloc, inscription, out)?;
+    }
+    put(b"  }\n", out)
+}
+
+fn put_vars(vars: &[PVar], out: &mut Vec<u8>) -> Result<(), NoMemory>
+    ensures { OnOk result (out.new.items ≡ out.old.items ++ flat_map var_text vars.now) }
+{
+    for var in vars {
+        put_var(var, out)?;
+    }
+    Ok(())
+}
+
+fn put_places(alloc: Global, places: &[PPlace], out: &mut Vec<u8>) -> Result<(), NoMemory>
+    ensures { OnOk result (out.new.items ≡ out.old.items ++ flat_map place_text places.now) }
+{
+    for place in places {
+        put_place(alloc, place, out)?;
+    }
+    Ok(())
+}
+
+fn put_transitions(
+    alloc: Global,
+    transitions: &[PTransition],
+    out: &mut Vec<u8>,
+) -> Result<(), NoMemory>
+    ensures { OnOk result (out.new.items
+        ≡ out.old.items ++ flat_map transition_text transitions.now) }
+{
+    for transition in transitions {
+        put_transition(alloc, transition, out)?;
+    }
+    Ok(())
+}
+
+fn put_net(alloc: Global, net: &PNet, out: &mut Vec<u8>) -> Result<(), NoMemory>
+    ensures { OnOk result (out.new.items ≡ out.old.items ++ net_text net.now) }
+{
+    put(b"net ", out)?;
+    put_text(&net.name.text, out)?;
+    put(b" {\n", out)?;
+    put_vars(net.vars.as_slice(), out)?;
+    put_places(alloc, net.places.as_slice(), out)?;
+    put_transitions(alloc, net.transitions.as_slice(), out)?;
+    put(b"}\n", out)
+}
+
+fn put_channels(channels: &[PChannel], out: &mut Vec<u8>) -> Result<(), NoMemory>
+    ensures { OnOk result (out.new.items ≡ out.old.items ++ flat_map channel_text channels.now) }
+{
+    for channel in channels {
+        put_channel(channel, out)?;
+    }
+    Ok(())
+}
+
+fn put_nets(alloc: Global, nets: &[PNet], out: &mut Vec<u8>) -> Result<(), NoMemory>
+    ensures { OnOk result (out.new.items ≡ out.old.items ++ flat_map net_text nets.now) }
+{
+    for net in nets {
+        put_net(alloc, net, out)?;
+    }
+    Ok(())
+}
+
+/// The canonical text of a system, in UTF-8.
+///
+/// Channels come first and then nets, each in their order, and in a net its variables, places and
+/// transitions. It takes time linear in the text, and recurses as deep as expressions, conditions,
+/// kinds and constants nest.
+pub fn print_system(alloc: Global, plain: &Plain) -> Result<Vec<u8>, NoMemory>
+    ensures text { IfOk result (λ bytes. bytes.items ≡ canonical_text plain.now) }
+
+    // What is returned spells the plain form again, but for its spots, where some text does.
+    ensures read_back { IfOk result (λ bytes. IsReadBack bytes.items plain.now) }
+{
+    let mut out = Vec::new(alloc);
+    put_channels(plain.channels.as_slice(), &mut out)?;
+    put_nets(alloc, plain.nets.as_slice(), &mut out)?;
+    Ok(out)
+}
