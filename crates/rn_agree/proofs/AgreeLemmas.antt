@@ -24,7 +24,8 @@ pub kind_at : (net : Net) (vars : List Var) (x : ℕ) (var : Var) → vars ≡ n
     x < length net.vars → var ≡ get_or vars x var → var_kind_in net x ≡ var.kind
 kind_at net vars x var same h is =
     let there : slice_get net.vars x ≡ Some var
-    = slice_get-get_or net.vars x var h ∙ ap (λ l. Some (get_or l x var)) (sym same) ∙ ap (λ v. Some v) (sym is) in
+    = slice_get-get_or net.vars x var h ∙ ap (λ l. Some (get_or l x var)) (sym same) ∙ ap
+    (λ v. Some v) (sym is) in
     rw there refl
 
 abbrev Alike : Env → Env → Expr → Expr → Type 0
@@ -38,21 +39,24 @@ pub call_by_args : (system : System) (caller : Node) (downlink : Downlink) (chil
     worth downlink.target env ≡ Some (Value.Inst child.inst) →
     (IsTrue answer ↔ AllZip (λ e f. HaveOneValue (worth e env) (worth f other)) args others) →
     IsTrue answer ↔ CallAgrees system caller downlink child
-call_by_args system caller downlink child env other args others answer own its are beside target decides = (
-  λ holds. record {
-    target = ap (worth downlink.target) (sym own) ∙ target;
-    args =
-        subst (λ l. AllZip (Alike (env_of system caller) (env_of system child)) downlink.args l) beside
-        (subst (λ l. AllZip (Alike (env_of system caller) (env_of system child)) l others) are
-        (subst (λ e. AllZip (Alike (env_of system caller) e) args others) its
-        (subst (λ e. AllZip (Alike e other) args others) own (decides.0 holds))));
-  },
-  λ agrees. decides.1
-      (subst (λ e. AllZip (Alike e other) args others) (sym own)
-      (subst (λ e. AllZip (Alike (env_of system caller) e) args others) (sym its)
-      (subst (λ l. AllZip (Alike (env_of system caller) (env_of system child)) l others) (sym are)
-      (subst (λ l. AllZip (Alike (env_of system caller) (env_of system child)) downlink.args l) (sym beside) agrees.args)))),
-)
+call_by_args system caller downlink child env other args others answer own its are beside target
+    decides = (
+      λ holds. record {
+        target = ap (worth downlink.target) (sym own) ∙ target;
+        args =
+            subst (λ l. AllZip (Alike (env_of system caller) (env_of system child)) downlink.args l)
+            beside
+            (subst (λ l. AllZip (Alike (env_of system caller) (env_of system child)) l others) are
+            (subst (λ e. AllZip (Alike (env_of system caller) e) args others) its
+            (subst (λ e. AllZip (Alike e other) args others) own (decides.0 holds))));
+      },
+      λ agrees. decides.1
+          (subst (λ e. AllZip (Alike e other) args others) (sym own)
+          (subst (λ e. AllZip (Alike (env_of system caller) e) args others) (sym its)
+          (subst (λ l. AllZip (Alike (env_of system caller) (env_of system child)) l others) (sym are)
+          (subst (λ l. AllZip (Alike (env_of system caller) (env_of system child)) downlink.args l)
+          (sym beside) agrees.args)))),
+    )
 
 -- the kinds of a node's values, by its net and its transition
 pub own_kinds : (system : System) (node : Node) (net : Net) (vars : List ℕ) (values : List Value)
@@ -61,7 +65,8 @@ pub own_kinds : (system : System) (node : Node) (net : Net) (vars : List ℕ) (v
     (IsTrue answer ↔ AllZip (λ x v. HasKind v (var_kind_in net x)) vars values) →
     IsTrue answer ↔ HaveOwnKinds system node
 own_kinds system node net vars values answer of are its decides =
-    subst (λ n. IsTrue answer ↔ AllZip (λ x v. HasKind v (var_kind_in n x)) (transition_of system node).vars node.values) of
+    subst (λ n. IsTrue answer ↔ AllZip (λ x v. HasKind v (var_kind_in n x))
+    (transition_of system node).vars node.values) of
     (subst (λ l. IsTrue answer ↔ AllZip (λ x v. HasKind v (var_kind_in net x)) l node.values) are
     (subst (λ l. IsTrue answer ↔ AllZip (λ x v. HasKind v (var_kind_in net x)) vars l) its decides))
 
@@ -71,6 +76,11 @@ pub hold_by_arcs : (t : Transition) (path : List ℕ) (env : Env) (answer : Bool
     All (IsTrueUnder env) t.guards → (IsTrue answer ↔ All (ArcHasValue t env) t.arcs) →
     IsTrue answer ↔ HoldUnder t path env
 hold_by_arcs t path env answer created equal hold decides = (
-  λ holds. record { equalities = equal; creations = created; guards = hold; arcs = decides.0 holds },
+  λ holds. record {
+    equalities = equal;
+    creations = created;
+    guards = hold;
+    arcs = decides.0 holds;
+  },
   λ under. decides.1 under.arcs,
 )

@@ -1,5 +1,6 @@
 -- What holds of each element of a list, element by element.
-use Rattle.std.proofs.Common.{◌≡◌, ℕ, ◌+◌, ◌<◌, ◌≤◌, true, false, List, ◌∷◌, length, get_or, drop, refl, sym, ap, ◌∙◌, subst, arith}
+use Rattle.std.proofs.Common.{◌≡◌, ℕ, ◌+◌, ◌<◌, ◌≤◌, true, false, List, ◌∷◌, length, get_or, drop}
+use Rattle.std.proofs.Common.{refl, sym, ap, ◌∙◌, subst, arith}
 use Rattle.std.specs.Prelude.{Some, All, nat_lt, slice_get, ◌↔◌}
 use Rattle.std.specs.List.{AllZip}
 use Rattle.std.proofs.lemmas.Option.{slice_get_within, slice_get-get_or, same_Some}
@@ -45,7 +46,8 @@ module _ {X : Type 0} (P : ℕ → X → Type 0) (all xs : List X) (same : all �
         | false ↦ λ t.
             let last : j ≡ i = grind (arith, nat_tests) in
             let there : slice_get xs i ≡ Some (get_or all i x)
-            = subst (λ l. slice_get l i ≡ Some (get_or all i x)) same (slice_get-get_or all i x h) in
+            = subst (λ l. slice_get l i ≡ Some (get_or all i x)) same
+            (slice_get-get_or all i x h) in
             let one : get_or all i x ≡ y
             = same_Some (get_or all i x) y (sym there ∙ ap (slice_get xs) (sym last) ∙ e) in
             subst (λ n. P n y) (sym last) (subst (P i) one here)
@@ -64,7 +66,8 @@ module _ {X : Type 0} (P : ℕ → X → Type 0) (all xs : List X) (same : all �
       before j y (omega (arith, low, ends)) e
 
 -- two lists from an index on, where it has an element in both
-pub zip_here : {X Y : Type 0} (R : X → Y → Type 0) (xs : List X) (ys : List Y) (k : ℕ) (x : X) (y : Y) →
+pub zip_here : {X Y : Type 0} (R : X → Y → Type 0) (xs : List X) (ys : List Y) (k : ℕ) (x : X)
+    (y : Y) →
     k < length xs → k < length ys → x ≡ get_or xs k x → y ≡ get_or ys k y →
     AllZip R (drop k xs) (drop k ys) ↔ (R x y × AllZip R (drop (k + 1) xs) (drop (k + 1) ys))
 zip_here R xs ys k x y h g e f =
@@ -72,13 +75,15 @@ zip_here R xs ys k x y h g e f =
     = drop_more xs k x h ∙ ap (λ z. z ∷ drop (k + 1) xs) (sym e) in
     let right : drop k ys ≡ y ∷ drop (k + 1) ys
     = drop_more ys k y g ∙ ap (λ z. z ∷ drop (k + 1) ys) (sym f) in (
-      λ all. subst (λ l. AllZip R l (y ∷ drop (k + 1) ys)) left (subst (λ l. AllZip R (drop k xs) l) right all),
+      λ all. subst (λ l. AllZip R l (y ∷ drop (k + 1) ys)) left
+          (subst (λ l. AllZip R (drop k xs) l) right all),
       λ all. subst (λ l. AllZip R l (drop k ys)) (sym left)
           (subst (λ l. AllZip R (x ∷ drop (k + 1) xs) l) (sym right) all),
     )
 
 -- where they agree there, they agree from there on as they do after it
-pub zip_more : {X Y : Type 0} (R : X → Y → Type 0) (xs : List X) (ys : List Y) (k : ℕ) (x : X) (y : Y) →
+pub zip_more : {X Y : Type 0} (R : X → Y → Type 0) (xs : List X) (ys : List Y) (k : ℕ) (x : X)
+    (y : Y) →
     k < length xs → k < length ys → x ≡ get_or xs k x → y ≡ get_or ys k y → R x y →
     (AllZip R (drop k xs) (drop k ys) ↔ AllZip R xs ys) →
     AllZip R (drop (k + 1) xs) (drop (k + 1) ys) ↔ AllZip R xs ys
@@ -87,7 +92,8 @@ zip_more R xs ys k x y h g e f here so_far =
     (λ all. so_far.0 (at.1 (here, all)), λ all. (at.0 (so_far.1 all)).1)
 
 -- and where they agree as a whole, they agree there
-pub zip_at : {X Y : Type 0} (R : X → Y → Type 0) (xs : List X) (ys : List Y) (k : ℕ) (x : X) (y : Y) →
+pub zip_at : {X Y : Type 0} (R : X → Y → Type 0) (xs : List X) (ys : List Y) (k : ℕ) (x : X)
+    (y : Y) →
     k < length xs → k < length ys → x ≡ get_or xs k x → y ≡ get_or ys k y →
     (AllZip R (drop k xs) (drop k ys) ↔ AllZip R xs ys) → AllZip R xs ys → R x y
 zip_at R xs ys k x y h g e f so_far all = ((zip_here R xs ys k x y h g e f).0 (so_far.1 all)).0

@@ -1,6 +1,8 @@
 -- Nodes on paths, their children and their callers.
-use Rattle.std.proofs.Common.{◌≡◌, ◌≢◌, ℕ, suc, zero, ◌<◌, ◌≤◌, Bool, true, false, List, [], ◌∷◌, ◌++◌, length, get_or, refl, sym, ap, ◌∙◌, subst, arith}
-use Rattle.std.specs.Prelude.{Some, None, find, nat_eq, nat_lt, slice_get, Contains, All, IsTrue, ◌↔◌}
+use Rattle.std.proofs.Common.{◌≡◌, ◌≢◌, ℕ, suc, zero, ◌<◌, ◌≤◌, Bool, true, false, List, [], ◌∷◌}
+use Rattle.std.proofs.Common.{◌++◌, length, get_or, refl, sym, ap, ◌∙◌, subst, arith}
+use Rattle.std.specs.Prelude.{Some, None, find, nat_eq, nat_lt, slice_get, Contains, All, IsTrue}
+use Rattle.std.specs.Prelude.{◌↔◌}
 use Rattle.std.specs.Cmp.Lexicographic.{pointwise}
 use Rattle.std.specs.Cmp.Lexicographic.{slice_cmp}
 use Rattle.std.specs.Cmp.{tied_itself}
@@ -24,14 +26,15 @@ use Rattle.rn_agree.proofs.PathLemmas.{found_there, lower_first}
 find_passes : {X : Type 0} (test : X → Bool) (xs : List X) (y : X) → find test xs ≡ Some y →
     Contains xs y × (test y ≡ true)
 find_passes test [] y e = absurd (let no : ⊥ = cc in no)
-find_passes test (x ∷ xs) y e = elim (test x) as (λ t. test x ≡ t → Contains (x ∷ xs) y × (test y ≡ true)) [
-  | true ↦ λ passes.
-      let same : x ≡ y = same_Some x y (rw passes at e) in
-      ((0, omega arith, same), ap test (sym same) ∙ passes)
-  | false ↦ λ fails.
-      let rest = find_passes test xs y (rw fails at e) in
-      ((suc rest.0.0, omega (arith, rest.0.1), rest.0.2), rest.1)
-] refl
+find_passes test (x ∷ xs) y e = elim (test x) as
+    (λ t. test x ≡ t → Contains (x ∷ xs) y × (test y ≡ true)) [
+      | true ↦ λ passes.
+          let same : x ≡ y = same_Some x y (rw passes at e) in
+          ((0, omega arith, same), ap test (sym same) ∙ passes)
+      | false ↦ λ fails.
+          let rest = find_passes test xs y (rw fails at e) in
+          ((suc rest.0.0, omega (arith, rest.0.1), rest.0.2), rest.1)
+    ] refl
 
 -- the node on a path is one of the binding's, and has this path
 pub on_its_path : (b : Binding) (path : List ℕ) (node : Node) → node_at b path ≡ Some node →
@@ -64,7 +67,8 @@ not_empty : (p : List ℕ) (i : ℕ) → p ++ i ∷ [] ≢ []
 not_empty [] i e = let no : ⊥ = cc in no
 not_empty (x ∷ p) i e = let no : ⊥ = cc in no
 
-has_element : {X : Type 0} (xs : List X) (i : ℕ) → i < length xs → (x : X) × (slice_get xs i ≡ Some x)
+has_element : {X : Type 0} (xs : List X) (i : ℕ) → i < length xs →
+    (x : X) × (slice_get xs i ≡ Some x)
 has_element [] i h = let no : ⊥ = omega (arith, h) in absurd no
 has_element (x ∷ xs) i h = (get_or (x ∷ xs) i x, slice_get-get_or (x ∷ xs) i x h)
 
@@ -103,7 +107,8 @@ module _ (system : System) (b : Binding) (node : Node) (front : List ℕ) (last 
     λ has.
         let (other, f, below) = caller_found has in
         let same : caller ≡ other = same_Some caller other (sym e ∙ f) in
-        let low : last < count = subst (λ n. last < n) (sym (is ∙ ap (λ n. length (transition_of system n).downlinks) same)) below in
+        let low : last < count = subst (λ n. last < n)
+        (sym (is ∙ ap (λ n. length (transition_of system n).downlinks) same)) below in
         grind (arith, nat_tests),
   )
 
@@ -140,7 +145,8 @@ module _ (system : System) (b : Binding) (node : Node) (up : AscendByPath b.node
   -- the child by downlink i is the node of an index that is no smaller
   no_smaller : (i : ℕ) → i < count → Standing i
   unfolding Standing
-  no_smaller zero h = let (k, child, low, e, path) = child_stands 0 h in (k, child, omega arith, low, e, path)
+  no_smaller zero h = let (k, child, low, e, path) = child_stands 0 h in
+      (k, child, omega arith, low, e, path)
   no_smaller (suc i) h =
       let (k, child, place, low, e, path) = no_smaller i (omega (arith, h)) in
       let (j, next, inside, f, way) = child_stands (suc i) h in
@@ -211,8 +217,13 @@ pub links_of_shape : (system : System) (b : Binding) (depth : ℕ) → Shape sys
     All (IsLinked system b) b.nodes
 links_of_shape system b depth shape k d h = record {
   children = λ i downlink at.
-      let (child, calls, answers) = shape.children (get_or b.nodes k d) i downlink (Contains-get_or b.nodes k d h) at in
-      (child, subst (λ p. node_at b p ≡ Some child) calls.path (found_itself b child shape.ascending calls.node_there), answers);
+      let (child, calls, answers) = shape.children (get_or b.nodes k d) i downlink
+      (Contains-get_or b.nodes k d h) at in (
+        child,
+        subst (λ p. node_at b p ≡ Some child) calls.path
+            (found_itself b child shape.ascending calls.node_there),
+        answers,
+      );
   called = λ full.
       let (caller, i, downlink, calls) = shape.called k d h full in
       (caller, i, downlink, calls.caller_there, calls.downlink_there, calls.path);

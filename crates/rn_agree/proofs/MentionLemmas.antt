@@ -1,5 +1,6 @@
 -- Which numbers stand in both of two lists.
-use Rattle.std.proofs.Common.{◌≡◌, ℕ, Bool, true, false, ◌||◌, ◌&&◌, List, [], ◌∷◌, refl, sym, ap, ◌∙◌, subst}
+use Rattle.std.proofs.Common.{◌≡◌, ℕ, Bool, true, false, ◌||◌, ◌&&◌, List, [], ◌∷◌, refl, sym, ap}
+use Rattle.std.proofs.Common.{◌∙◌, subst}
 use Rattle.std.specs.Prelude.{nat_eq}
 use Rattle.std.specs.List.{list_any}
 use Rattle.rn_model.specs.declared.system.Transition.{Transition}
@@ -9,7 +10,8 @@ use Rattle.rn_model.specs.Systems.{vars_in, is_output, holds_action_var, awaits_
 or_any : {X : Type 0} (p q : X → Bool) (xs : List X) →
     (list_any p xs || list_any q xs) ≡ list_any (λ x. p x || q x) xs
 or_any p q [] = refl
-or_any p q (x ∷ xs) = by_cases (p x) (q x) (list_any p xs) (list_any q xs) ∙ ap (λ b. (p x || q x) || b) (or_any p q xs)
+or_any p q (x ∷ xs) = by_cases (p x) (q x) (list_any p xs) (list_any q xs) ∙ ap
+    (λ b. (p x || q x) || b) (or_any p q xs)
   where
     by_cases : (a b c d : Bool) → ((a || c) || (b || d)) ≡ ((a || b) || (c || d))
     by_cases true b c d = refl

@@ -1,7 +1,9 @@
 -- In a good system a binding of the shape agrees exactly where its parts do: values that stand for
 -- expressions have their kinds, since those of variables have.
-use Rattle.std.proofs.Common.{◌≡◌, ◌≢◌, ℕ, ◌<◌, Bool, true, false, List, [], ◌∷◌, ◌++◌, length, get_or, refl, sym, ◌∙◌, subst, arith}
-use Rattle.std.specs.Prelude.{Some, None, All, Contains, slice_get, zip, nat_eq, if◌then◌else◌, IsTrue, ◌↔◌}
+use Rattle.std.proofs.Common.{◌≡◌, ◌≢◌, ℕ, ◌<◌, Bool, true, false, List, [], ◌∷◌, ◌++◌, length}
+use Rattle.std.proofs.Common.{get_or, refl, sym, ◌∙◌, subst, arith}
+use Rattle.std.specs.Prelude.{Some, None, All, Contains, slice_get, zip, nat_eq, if◌then◌else◌}
+use Rattle.std.specs.Prelude.{IsTrue, ◌↔◌}
 use Rattle.std.specs.List.{AllZip}
 use Rattle.std.proofs.lemmas.Bool.{eqb-true}
 use Rattle.std.proofs.lemmas.Option.{same_Some, slice_get-get_or}
@@ -92,13 +94,15 @@ module _ (system : System) (b : Binding) (depth : ℕ) (good : Good system)
       let node = get_or b.nodes k d in
       let there : Contains b.nodes node = Contains-get_or b.nodes k d h in
       let t = good_at node there in
-      let few = no_more_downlinks system b node shape.ascending (links_of_shape system b depth shape k d h).children in
+      let few = no_more_downlinks system b node shape.ascending
+      (links_of_shape system b depth shape k d h).children in
       let many = shape.many in
       record {
         own = shape.nodes k d h;
         ascending = t.its_vars.ascending;
         in_range = λ j e low.
-            All-contains (λ x. x < length (net_at system node.net).vars) (occurring (transition_of system node)) _ t.in_range
+            All-contains (λ x. x < length (net_at system node.net).vars)
+            (occurring (transition_of system node)) _ t.in_range
             ((t.its_vars.vars (get_or (transition_of system node).vars j e)).0
             (Contains-get_or (transition_of system node).vars j e low)).0;
         few = omega (arith, few, many);
@@ -110,7 +114,8 @@ module _ (system : System) (b : Binding) (depth : ℕ) (good : Good system)
       CallAgrees system caller downlink node
   calls_by_path caller there agree i downlink node calls =
       agree i downlink calls.downlink_there node
-      (subst (λ p. node_at b p ≡ Some node) calls.path (found_itself b node shape.ascending calls.node_there))
+      (subst (λ p. node_at b p ≡ Some node) calls.path
+      (found_itself b node shape.ascending calls.node_there))
 
   module _ (parts : AgreesInParts system b) where
     called : (caller : Node) (i : ℕ) (downlink : Downlink) (node : Node) →
@@ -147,7 +152,8 @@ module _ (system : System) (b : Binding) (depth : ℕ) (good : Good system)
           let call = All-contains
           (λ d. HasExprKind kinds d.target Kind.Net × IsGoodCall system kinds d.channel d.args)
           t.downlinks d well.downlinks (got_contained t.downlinks i d at) in
-          valued_left env (env_of system child) kinds d.args (uplink_args (transition_of system child))
+          valued_left env (env_of system child) kinds d.args
+          (uplink_args (transition_of system child))
           (channel_kinds system d.channel) have agrees.args call.1.fits
 
       -- a node with an uplink isn't the start
@@ -155,19 +161,24 @@ module _ (system : System) (b : Binding) (depth : ℕ) (good : Good system)
       not_start u is empty =
           let (start, at, starts) = shape.start in
           let here : node_at b [] ≡ Some node
-          = subst (λ p. node_at b p ≡ Some node) empty (found_itself b node shape.ascending there) in
+          = subst (λ p. node_at b p ≡ Some node) empty
+          (found_itself b node shape.ascending there) in
           let same : start ≡ node = same_Some start node (sym at ∙ here) in
-          let none : t.uplink ≡ None = subst (λ n. (transition_of system n).uplink ≡ None) same starts.uplink in
+          let none : t.uplink ≡ None = subst
+          (λ n. (transition_of system n).uplink ≡ None) same starts.uplink in
           let no : ⊥ = cc in no
 
       uplink_valued : (u : Uplink) → t.uplink ≡ Some u → HaveKindsOf system env u.channel u.args
       uplink_valued u is =
           let (k, h, e) = there in
-          let (caller, i, d, calls) = subst (λ n. n.path ≢ [] → IsCalled system b n) e (shape.called k node h) (not_start u is) in
+          let (caller, i, d, calls) = subst (λ n. n.path ≢ [] → IsCalled system b n) e
+          (shape.called k node h) (not_start u is) in
           let agrees = called caller i d node calls in
           let args : uplink_args t ≡ u.args = rw is refl in
-          valued_right (env_of system caller) env kinds d.args u.args (channel_kinds system u.channel) have
-          (subst (λ l. AllZip (λ e f. HaveOneValue (worth e (env_of system caller)) (worth f env)) d.args l) args agrees.args)
+          valued_right (env_of system caller) env kinds d.args u.args
+          (channel_kinds system u.channel) have
+          (subst (λ l. AllZip (λ e f. HaveOneValue (worth e (env_of system caller)) (worth f env))
+          d.args l) args agrees.args)
           (well.uplink u is).fits
 
       agrees_there : NodeAgrees system node
@@ -180,7 +191,8 @@ module _ (system : System) (b : Binding) (depth : ℕ) (good : Good system)
             let value = holds.inscriptions.arcs k d h waits in
             let fits = well.arcs k d h in
             (value.0, value.1, values_have_kinds kinds env _ _ value.0 have fits.kind value.1);
-        downlinks = λ k d h. downlinks_valued k (get_or t.downlinks k d) (slice_get-get_or t.downlinks k d h);
+        downlinks = λ k d h. downlinks_valued k (get_or t.downlinks k d)
+            (slice_get-get_or t.downlinks k d h);
         uplink = uplink_valued;
       }
 

@@ -1,10 +1,14 @@
 -- Nodes that ascend by path are found by halving.
-use Rattle.std.proofs.Common.{◌≡◌, ◌≢◌, ℕ, suc, zero, ◌+◌, ◌<◌, ◌≤◌, Bool, true, false, List, [], ◌∷◌, ◌++◌, length, get_or, take, drop, refl, sym, ap, ◌∙◌, subst, arith}
-use Rattle.std.specs.Prelude.{Some, None, Ok, Err, Result, IfSome, option_and_then, find, nat_eq, nat_lt, slice_get}
+use Rattle.std.proofs.Common.{◌≡◌, ◌≢◌, ℕ, suc, zero, ◌+◌, ◌<◌, ◌≤◌, Bool, true, false, List, []}
+use Rattle.std.proofs.Common.{◌∷◌, ◌++◌, length, get_or, take, drop, refl, sym, ap, ◌∙◌, subst}
+use Rattle.std.proofs.Common.{arith}
+use Rattle.std.specs.Prelude.{Some, None, Ok, Err, Result, IfSome, option_and_then, find, nat_eq}
+use Rattle.std.specs.Prelude.{nat_lt, slice_get}
 use Rattle.std.proofs.lemmas.Bool.Decides.{nat_tests}
 use Rattle.std.specs.List.{All}
 use Rattle.std.specs.Result.{result_ok}
-use Rattle.std.specs.List.Sorted.{IsPartitionPoint, IsNonDecreasingBy, IsSearchInRange, IsBinarySearchResult}
+use Rattle.std.specs.List.Sorted.{IsPartitionPoint, IsNonDecreasingBy, IsSearchInRange}
+use Rattle.std.specs.List.Sorted.{IsBinarySearchResult}
 use Rattle.std.specs.Cmp.{IsTotalOrder, tied_itself}
 use Rattle.std.specs.Cmp.Lexicographic.{slice_cmp, pointwise}
 use Rattle.std.specs.Ordering.{nat_cmp, ordering_then, ordering_index, ordering_reverse, is_lt}
@@ -30,7 +34,8 @@ shorter (x ∷ p) (y ∷ q) r h =
 -- a path that is no shorter compares by its front first
 pub longer : (p q r : List ℕ) → length q ≤ length p →
     slice_cmp nat_cmp p (q ++ r)
-    ≡ ordering_then (slice_cmp nat_cmp (take (length q) p) q) (slice_cmp nat_cmp (drop (length q) p) r)
+    ≡ ordering_then (slice_cmp nat_cmp (take (length q) p) q)
+    (slice_cmp nat_cmp (drop (length q) p) r)
 longer p [] r h = refl
 longer [] (y ∷ q) r h = let no : ⊥ = omega (arith, h) in absurd no
 longer (x ∷ p) (y ∷ q) r h =
@@ -72,15 +77,20 @@ lower_first nodes up k j x y h g e f rises =
       | Less ↦ λ o. ranked k j Less (sym o)
       | Equal ↦ λ o.
           let same : k ≡ j = ranked k j Equal (sym o) in
-          let one : x ≡ y = sym e ∙ ap (get_or nodes k) refl ∙ get_or_default nodes k x y h ∙ ap (λ n. get_or nodes n y) same ∙ f in
-          let tied : by_path x y ≡ Equal = subst (λ z. by_path x z ≡ Equal) one (tied_itself by_path_total x) in
+          let one : x ≡ y = sym e ∙ ap (get_or nodes k) refl ∙ get_or_default nodes k x y h ∙ ap
+          (λ n. get_or nodes n y) same ∙ f in
+          let tied : by_path x y ≡ Equal = subst (λ z. by_path x z ≡ Equal) one
+          (tied_itself by_path_total x) in
           let no : ⊥ = cc in absurd no
       | Greater ↦ λ o.
           let after : j < k = ranked k j Greater (sym o) in
-          let falls : by_path (get_or nodes j y) (get_or nodes k y) ≡ Less = below_later nodes j k y up after h in
+          let falls : by_path (get_or nodes j y) (get_or nodes k y)
+          ≡ Less = below_later nodes j k y up after h in
           let there : get_or nodes k y ≡ x = get_or_default nodes k y x h ∙ e in
-          let back : by_path y x ≡ Less = subst (λ z. by_path y z ≡ Less) there (subst (λ z. by_path z (get_or nodes k y) ≡ Less) f falls) in
-          let other : by_path x y ≡ Greater = by_path_total.antisymm x y ∙ ap ordering_reverse back in
+          let back : by_path y x ≡ Less = subst (λ z. by_path y z ≡ Less) there
+          (subst (λ z. by_path z (get_or nodes k y) ≡ Less) f falls) in
+          let other : by_path x y ≡ Greater = by_path_total.antisymm x y
+          ∙ ap ordering_reverse back in
           let no : ⊥ = cc in absurd no
     ] refl
 
@@ -96,7 +106,8 @@ apart p q o e other = by_test (pointwise nat_eq p q) refl
     by_test false is = refl
     by_test true is =
         let tied : slice_cmp nat_cmp p q ≡ Equal
-        = subst (λ r. slice_cmp nat_cmp p r ≡ Equal) (same_numbers p q is) (tied_itself nat_list_cmp_total p) in
+        = subst (λ r. slice_cmp nat_cmp p r ≡ Equal) (same_numbers p q is)
+        (tied_itself nat_list_cmp_total p) in
         absurd (other (sym e ∙ tied))
 
 find_first : {X : Type 0} (test : X → Bool) (xs : List X) (i : ℕ) (d : X) → i < length xs →
@@ -115,7 +126,8 @@ find_none test (x ∷ xs) none =
     rw (none 0 x (omega arith))
     (find_none test xs (λ k d h. none (suc k) d (omega (arith, h))))
 
-got : {X : Type 0} (xs : List X) (i : ℕ) (d : X) → i < length xs → slice_get xs i ≡ Some (get_or xs i d)
+got : {X : Type 0} (xs : List X) (i : ℕ) (d : X) → i < length xs → slice_get xs i ≡ Some
+    (get_or xs i d)
 got [] i d h = let no : ⊥ = omega (arith, h) in absurd no
 got (x ∷ xs) zero d h = refl
 got (x ∷ xs) (suc i) d h = got xs i d (omega (arith, h))
@@ -149,7 +161,8 @@ answers_rise nodes path up =
     searchable_from_sorted nat_list_cmp_total (λ (n : Node). n.path) nodes path
     (λ k d z h. not_below (get_or nodes k d).path (get_or nodes (k + 1) d).path (up k d h))
   where
-    not_below : (p q : List ℕ) → slice_cmp nat_cmp p q ≡ Less → is_lt (slice_cmp nat_cmp q p) ≡ false
+    not_below : (p q : List ℕ) → slice_cmp nat_cmp p q ≡ Less → is_lt (slice_cmp nat_cmp q p)
+        ≡ false
     not_below p q less = ap is_lt (nat_list_cmp_total.antisymm q p ∙ ap ordering_reverse less)
 
 found_nowhere : (nodes : List Node) (path : List ℕ) (i : ℕ) → IsPartitionPoint
@@ -179,6 +192,7 @@ found_by_search nodes path (Err i) up h at =
     found_nowhere nodes path i (at (answers_rise nodes path up))
 
 -- and it is one of the nodes
-pub within_search : (n : ℕ) (r : Result ℕ ℕ) → IsSearchInRange r n → IfSome (result_ok r) (λ k. k < n)
+pub within_search : (n : ℕ) (r : Result ℕ ℕ) → IsSearchInRange r n → IfSome (result_ok r)
+    (λ k. k < n)
 within_search n (Ok i) h = h
 within_search n (Err i) h = tt

@@ -8,7 +8,8 @@ use Rattle.rn_model.specs.declared.system.Net.{Net}
 use Rattle.rn_model.specs.declared.system.Transition.{Transition}
 use Rattle.rn_model.specs.Names.{IsGoodName}
 use Rattle.rn_model.specs.Systems.{empty_transition, var_kind_in}
-use Rattle.rn_model.specs.Good.{Good, IsGoodNet, IsGoodTransition, HasItsVars, UsesActions, IsWellKinded}
+use Rattle.rn_model.specs.Good.{Good, IsGoodNet, IsGoodTransition, HasItsVars, UsesActions}
+use Rattle.rn_model.specs.Good.{IsWellKinded}
 use Rattle.rn_model.proofs.EnablingLemmas.{not_in_nil}
 
 abbrev pub t : Transition
@@ -74,10 +75,12 @@ good_main = record {
   name = named_main;
   vars = All-nil _;
   places = All-nil _;
-  transitions = All-cons (IsGoodTransition single main) t [] good_t (All-nil (IsGoodTransition single main));
+  transitions = All-cons (IsGoodTransition single main) t [] good_t
+      (All-nil (IsGoodTransition single main));
   vars_distinct = λ i j d below short. absurd (let no : ⊥ = omega (arith, below, short) in no);
   places_distinct = λ i j d below short. absurd (let no : ⊥ = omega (arith, below, short) in no);
-  transitions_distinct = λ i j d below short. absurd (let no : ⊥ = omega (arith, below, short) in no);
+  transitions_distinct = λ i j d below short. absurd
+      (let no : ⊥ = omega (arith, below, short) in no);
   few_vars = omega arith;
   few_places = omega arith;
   few_transitions = omega arith;

@@ -1,6 +1,7 @@
 -- What the parts of the code decide of a node and of its calls. This only connects the code to the
 -- definitions.
-use Rattle.std.specs.Prelude.{ℕ, ◌≡◌, ◌<◌, ◌≤◌, false, List, [], ◌∷◌, ◌++◌, length, Some, slice_get, All}
+use Rattle.std.specs.Prelude.{ℕ, ◌≡◌, ◌<◌, ◌≤◌, false, List, [], ◌∷◌, ◌++◌, length, Some, slice_get}
+use Rattle.std.specs.Prelude.{All}
 use Rattle.std.specs.List.{AllZip}
 use Rattle.std.specs.List.Sorted.{IsStrictlyIncreasing}
 use Rattle.rn_value.specs.Kinds.{HasKind}
@@ -25,7 +26,8 @@ use Rattle.rn_model.specs.Agreement.{CallAgrees}
 pub record IsReadable (system : System) (node : Node) : Type 0 where
   pub own : IsNodeOf system node
   pub ascending : IsStrictlyIncreasing (transition_of system node).vars
-  pub in_range : All (λ x. x < length (net_at system node.net).vars) (transition_of system node).vars
+  pub in_range : All (λ x. x < length (net_at system node.net).vars)
+      (transition_of system node).vars
   pub few : length (transition_of system node).downlinks ≤ most_nodes
 
 -- both sides of an equality have one value
@@ -52,7 +54,8 @@ pub record HoldUnder (t : Transition) (path : List ℕ) (env : Env) : Type 0 whe
 -- each value of a node has its variable's kind
 abbrev pub HaveOwnKinds : System → Node → Type 0
 HaveOwnKinds system node =
-    AllZip (λ x v. HasKind v (var_kind system node.net x)) (transition_of system node).vars node.values
+    AllZip (λ x v. HasKind v (var_kind system node.net x))
+    (transition_of system node).vars node.values
 
 -- what a node's own inscriptions ask, but for the kinds of what isn't a variable
 pub record NodeHolds (system : System) (node : Node) : Type 0 where
@@ -62,7 +65,8 @@ pub record NodeHolds (system : System) (node : Node) : Type 0 where
 -- the call by a downlink agrees with the child that is there
 abbrev pub CallAgreesAt : System → Binding → Node → ℕ → Downlink → Type 0
 CallAgreesAt system b caller i downlink =
-    (node : Node) → node_at b (caller.path ++ i ∷ []) ≡ Some node → CallAgrees system caller downlink node
+    (node : Node) → node_at b (caller.path ++ i ∷ []) ≡ Some node
+    → CallAgrees system caller downlink node
 
 -- each call of this caller agrees
 abbrev pub CallsAgree : System → Binding → Node → Type 0

@@ -28,7 +28,8 @@ fn nodes_hold(alloc: Global, system: &System, binding: &Binding) -> Result<bool,
 fn all_calls_agree(alloc: Global, system: &System, binding: &Binding) -> Result<bool, NoMemory>
     requires ascending { AscendByPath binding.now.nodes }
     requires nodes { All (IsReadable system.now) binding.now.nodes }
-    ensures { IfOk result (λ yes. IsTrue yes ↔ All (CallsAgree system.now binding.now) binding.now.nodes) }
+    ensures { IfOk result
+        (λ yes. IsTrue yes ↔ All (CallsAgree system.now binding.now) binding.now.nodes) }
 {
     let nodes = binding.nodes.as_slice();
     for node in nodes {

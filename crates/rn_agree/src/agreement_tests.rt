@@ -1,125 +1,18 @@
 //! Bindings that agree, and one for each way to disagree.
-ghost use Rattle.std.specs.Prelude.{◌≡◌, ◌<◌, All, IfOk, IsTrue, codes, length};
-ghost use Rattle.std.specs.List.Sorted.{IsStrictlyIncreasing};
+ghost use Rattle.std.specs.Prelude.{◌≡◌, IfOk, codes};
 ghost use Rattle.rn_model.specs.Good.{Good};
 ghost use Rattle.rn_model.specs.Systems.{empty_transition};
-ghost use Rattle.rn_agree.specs.Agreeing.{IsReadable};
 
-use crate::agreement::agrees_in_parts;
-use crate::nodes::{is_node_of, net_of, transition_of};
+use crate::test_help::{agrees, arc, bare, exprs, net, op, positive};
 use crate::{does_agree, has_shape};
-use rn_items::{Boxed, Items};
-use rn_model::limits::MOST_NODES;
+use rn_items::Items;
 use rn_model::{
-    Action, ArcKind, Binding, CompareKind, Cond, Creation, Downlink, Expr, Exprs, Net, NetArc,
-    Node, OpKind, Place, Simple, System, Transition, Uplink, Var,
+    Action, ArcKind, Binding, Creation, Downlink, Expr, Net, Node, OpKind, System, Transition,
+    Uplink,
 };
 use rn_value::{InstRef, Kind, NoMemory, Str, Value};
 use std::alloc::Global;
 use std::test::Fail;
-
-fn ascend(vars: &[u32]) -> bool
-    ensures { IsTrue result → IsStrictlyIncreasing vars.now }
-{
-    for k in 1..vars.len() {
-        if vars[k - 1] >= vars[k] {
-            return false;
-        }
-    }
-    true
-}
-
-fn are_below(vars: &[u32], count: usize) -> bool
-    ensures { IsTrue result → All (λ x. x < count) vars.now }
-{
-    for x in vars {
-        if *x as usize >= count {
-            return false;
-        }
-    }
-    true
-}
-
-fn is_readable(system: &System, node: &Node) -> bool
-    ensures { IsTrue result → IsReadable system.now node.now }
-{
-    if !is_node_of(system, node) {
-        return false;
-    }
-    let transition = transition_of(system, node);
-    let count = net_of(system, node).vars.len();
-    ascend(transition.vars.as_slice())
-        && are_below(transition.vars.as_slice(), count)
-        && transition.downlinks.len() <= MOST_NODES
-}
-
-fn are_readable(system: &System, nodes: &[Node]) -> bool
-    ensures { IsTrue result → All (IsReadable system.now) nodes.now }
-{
-    for node in nodes {
-        if !is_readable(system, node) {
-            return false;
-        }
-    }
-    true
-}
-
-// Whether a binding of the shape agrees; nothing where it hasn't the shape.
-fn agrees(alloc: Global, system: &System, binding: &Binding) -> Result<Option<bool>, NoMemory> {
-    if !has_shape(system, 16, binding) {
-        return Ok(None);
-    }
-    if !are_readable(system, binding.nodes.as_slice()) {
-        return Ok(None);
-    }
-    Ok(Some(agrees_in_parts(alloc, system, binding)?))
-}
-
-fn no_name(alloc: Global) -> Str {
-    Str::from_string(String::new(alloc))
-}
-
-fn exprs(alloc: Global, expr: Expr) -> Result<Exprs, NoMemory> {
-    let mut exprs = Items::new(alloc);
-    exprs.push(expr)?;
-    Ok(exprs)
-}
-
-fn op(alloc: Global, kind: OpKind, a: Expr, b: Expr) -> Result<Expr, NoMemory> {
-    Ok(Expr::Op(kind, Boxed::new(alloc, a)?, Boxed::new(alloc, b)?))
-}
-
-fn arc(kind: ArcKind, place: u32, inscription: Expr) -> NetArc {
-    NetArc {
-        kind,
-        place,
-        inscription,
-    }
-}
-
-fn bare(alloc: Global, vars: &[u32]) -> Result<Transition, NoMemory> {
-    Ok(Transition {
-        name: no_name(alloc),
-        vars: Items::from_vec(Vec::from_slice(alloc, vars)?),
-        action_vars: Items::new(alloc),
-        equalities: Items::new(alloc),
-        guards: Items::new(alloc),
-        actions: Items::new(alloc),
-        creations: Items::new(alloc),
-        uplink: None,
-        downlinks: Items::new(alloc),
-        arcs: Items::new(alloc),
-    })
-}
-
-// `guard x > 0;`
-fn positive(alloc: Global, x: u32) -> Result<Cond, NoMemory> {
-    let mut simples = Items::new(alloc);
-    simples.push(Simple::Compare(CompareKind::Greater, Expr::Var(x), Expr::Int(0)))?;
-    let mut any = Items::new(alloc);
-    any.push(simples)?;
-    Ok(Cond { any })
-}
 
 // `in p: x; x = y; guard x > 0; test q: u; n: new w; n:init(x); action z = x; out p: z;
 // out p: 6 / (x - 2);`, where n, x, y, z, u are the variables 0 to 4.
@@ -147,45 +40,23 @@ fn start(alloc: Global) -> Result<Transition, NoMemory> {
     Ok(start)
 }
 
-fn net(alloc: Global, kinds: [Kind; 5], transition: Transition) -> Result<Net, NoMemory> {
-    let mut vars = Items::new(alloc);
-    for kind in kinds {
-        vars.push(Var {
-            name: no_name(alloc),
-            kind,
-        })?;
-    }
-    let mut places = Items::new(alloc);
-    for kind in [Kind::Int, Kind::Tuple(Items::new(alloc))] {
-        places.push(Place {
-            name: no_name(alloc),
-            kind,
-            initial: Items::new(alloc),
-        })?;
-    }
-    let mut transitions = Items::new(alloc);
-    transitions.push(transition)?;
-    Ok(Net {
-        name: no_name(alloc),
-        vars,
-        places,
-        transitions,
-    })
-}
-
 // The net of `start`, and a net with `:init(v)`, where v is the variable 1.
 fn system(alloc: Global) -> Result<System, NoMemory> {
     let black = Kind::Tuple(Items::new(alloc));
     let kinds = [Kind::Net, Kind::Int, Kind::Int, Kind::Int, black];
+    let mut transitions = Items::new(alloc);
+    transitions.push(start(alloc)?)?;
     let mut nets = Items::new(alloc);
-    nets.push(net(alloc, kinds, start(alloc)?)?)?;
+    nets.push(net(alloc, Vec::from_array(alloc, kinds)?, transitions)?)?;
     let mut init = bare(alloc, &[1])?;
     init.uplink = Some(Uplink {
         channel: 0,
         args: exprs(alloc, Expr::Var(1))?,
     });
-    let kinds = [Kind::Int, Kind::Int, Kind::Int, Kind::Int, Kind::Int];
-    nets.push(net(alloc, kinds, init)?)?;
+    let mut transitions = Items::new(alloc);
+    transitions.push(init)?;
+    let kinds = [Kind::Net, Kind::Int];
+    nets.push(net(alloc, Vec::from_array(alloc, kinds)?, transitions)?)?;
     Ok(System {
         nets,
         channels: Items::new(alloc),
@@ -206,7 +77,8 @@ fn inst(alloc: Global, on: On) -> InstRef {
     }
 }
 
-// The values of n, x, y and u of the start, u being `[]` or not; and the child's instance and value.
+// The values of n, x, y and u of the start, u being `[]` or not; and the child's instance and
+// value.
 #[derive(Clone, Copy)]
 struct Case {
     n: On,
@@ -327,7 +199,8 @@ fn name(alloc: Global, text: &str) -> Result<Str, NoMemory>
 
 // `trans t { }`
 fn idle(alloc: Global) -> Result<Transition, NoMemory>
-    ensures { IfOk result (λ transition. transition ≡ record empty_transition { name = codes "t" }) }
+    ensures { IfOk result
+        (λ transition. transition ≡ record empty_transition { name = codes "t" }) }
 {
     Ok(Transition {
         name: name(alloc, "t")?,

@@ -44,7 +44,8 @@ fn leads_to(
     values: &NodeValues<'_>,
     inst: &InstRef,
 ) -> Result<bool, NoMemory>
-    ensures { IfOk result (λ yes. IsTrue yes ↔ (worth target.now (lent_env values.now) ≡ Some (Of.Inst inst.now))) }
+    ensures { IfOk result
+        (λ yes. IsTrue yes ↔ (worth target.now (lent_env values.now) ≡ Some (Of.Inst inst.now))) }
 {
     match read(alloc, target, values)? {
         Some(value) => Ok(names(value.get(), inst)),
@@ -93,7 +94,8 @@ fn call_agrees(
 ) -> Result<bool, NoMemory>
     requires caller { IsReadable system.now caller.now }
     requires child { IsReadable system.now child.now }
-    ensures { IfOk result (λ yes. IsTrue yes ↔ CallAgrees system.now caller.now downlink.now child.now) }
+    ensures { IfOk result
+        (λ yes. IsTrue yes ↔ CallAgrees system.now caller.now downlink.now child.now) }
 {
     let values = NodeValues::new(system, caller);
     if !leads_to(alloc, &downlink.target, &values, &child.inst)? {
@@ -122,7 +124,8 @@ fn call_agrees_at(
     requires ascending { AscendByPath binding.now.nodes }
     requires nodes { All (IsReadable system.now) binding.now.nodes }
     requires own { IsReadable system.now caller.now }
-    ensures { IfOk result (λ yes. IsTrue yes ↔ CallAgreesAt system.now binding.now caller.now i downlink.now) }
+    ensures { IfOk result
+        (λ yes. IsTrue yes ↔ CallAgreesAt system.now binding.now caller.now i downlink.now) }
 {
     match child_on(binding, caller.path.as_slice(), i) {
         Some(child) => call_agrees(alloc, system, caller, downlink, child),

@@ -7,7 +7,8 @@ ghost use Rattle.rn_value.specs.declared.value.Value.TheVariants as Of;
 ghost use Rattle.rn_model.specs.Lists.{value_beside};
 ghost use Rattle.rn_model.specs.Systems.{var_kind_in};
 ghost use Rattle.rn_model.specs.Evaluation.{IsTrueUnder};
-ghost use Rattle.rn_agree.specs.Agreeing.{AreCreated, ArcHasValue, HaveOwnKinds, HoldUnder, IsEqual};
+ghost use Rattle.rn_agree.specs.Agreeing.{AreCreated, ArcHasValue, HaveOwnKinds, HoldUnder};
+ghost use Rattle.rn_agree.specs.Agreeing.{IsEqual};
 ghost use Rattle.rn_agree.specs.Agreeing.{IsReadable, NodeHolds};
 ghost use Rattle.rn_agree.specs.NodeValues.{lent_env};
 
@@ -23,7 +24,8 @@ use std::alloc::Global;
 fn have_kinds(net: &Net, vars: &[u32], values: &[Value]) -> bool
     requires in_range { All (λ x. x < length net.now.vars) vars.now }
     requires len { length values.now ≡ length vars.now }
-    ensures { IsTrue result ↔ AllZip (λ x v. HasKind v (var_kind_in net.now x)) vars.now values.now }
+    ensures { IsTrue result ↔ AllZip
+        (λ x v. HasKind v (var_kind_in net.now x)) vars.now values.now }
 {
     for k in 0..vars.len() {
         let var = &net.vars.as_slice()[vars[k] as usize];
@@ -58,7 +60,8 @@ fn equalities_hold(
 
 // Whether a variable is the instance that creation `j` of the node on a path makes.
 fn is_created(values: &NodeValues<'_>, x: u32, path: &[u32], j: usize) -> bool
-    ensures { IsTrue result ↔ (value_beside (lent_env values.now).pairs x ≡ Some (Of.Inst (Made path.now j))) }
+    ensures { IsTrue result
+        ↔ (value_beside (lent_env values.now).pairs x ≡ Some (Of.Inst (Made path.now j))) }
 {
     match values.value(x) {
         Some(Value::Inst(InstRef::New(maker, k))) => {
@@ -97,7 +100,8 @@ fn arc_has_value(
     arc: &NetArc,
     values: &NodeValues<'_>,
 ) -> Result<bool, NoMemory>
-    ensures { IfOk result (λ yes. IsTrue yes ↔ ArcHasValue transition.now (lent_env values.now) arc.now) }
+    ensures { IfOk result
+        (λ yes. IsTrue yes ↔ ArcHasValue transition.now (lent_env values.now) arc.now) }
 {
     if awaits_action(transition, arc) {
         return Ok(true);
@@ -138,7 +142,8 @@ fn inscriptions_hold(
     path: &[u32],
     values: &NodeValues<'_>,
 ) -> Result<bool, NoMemory>
-    ensures { IfOk result (λ yes. IsTrue yes ↔ HoldUnder transition.now path.now (lent_env values.now)) }
+    ensures { IfOk result
+        (λ yes. IsTrue yes ↔ HoldUnder transition.now path.now (lent_env values.now)) }
 {
     if !are_created(values, path, transition.creations.as_slice()) {
         return Ok(false);

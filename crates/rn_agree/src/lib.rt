@@ -14,6 +14,10 @@ mod nodes;
 mod shape;
 #[cfg(test)]
 mod shape_tests;
+#[cfg(test)]
+mod test_help;
+#[cfg(test)]
+mod worked_tests;
 
 pub use agreement::does_agree;
 pub use lookup::{child_index, child_on, node_index, node_on};

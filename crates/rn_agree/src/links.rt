@@ -1,5 +1,6 @@
 //! How a node stands among the others: its children, its caller, and the creation of its instance.
-ghost use Rattle.std.specs.Prelude.{◌≡◌, ◌<◌, ◌≤◌, ◌↔◌, ◌∷◌, ◌++◌, [], All, Contains, IsTrue, Some, length};
+ghost use Rattle.std.specs.Prelude.{◌≡◌, ◌<◌, ◌≤◌, ◌↔◌, ◌∷◌, ◌++◌, [], All, Contains, IsTrue, Some};
+ghost use Rattle.std.specs.Prelude.{length};
 ghost use Rattle.rn_model.specs.declared.binding.Node.{Node as Occurrence};
 ghost use Rattle.rn_model.specs.Bindings.{IsNodeOf, Answers, IsOfCreation, node_at};
 ghost use Rattle.rn_model.specs.Limits.{most_nodes};
@@ -15,7 +16,8 @@ use rn_value::InstRef;
 fn has_child(system: &System, binding: &Binding, parent: &[u32], i: u32, channel: u32) -> bool
     requires ascending { AscendByPath binding.now.nodes }
     requires nodes { All (IsNodeOf system.now) binding.now.nodes }
-    ensures { IsTrue result ↔ ((node : Occurrence) × (node_at binding.now (parent.now ++ i ∷ []) ≡ Some node)
+    ensures { IsTrue result
+        ↔ ((node : Occurrence) × (node_at binding.now (parent.now ++ i ∷ []) ≡ Some node)
         × Answers system.now node channel) }
 {
     match child_on(binding, parent, i) {

@@ -1,5 +1,6 @@
 //! The nodes of a binding by their paths.
-ghost use Rattle.std.specs.Prelude.{◌≡◌, ◌<◌, ◌++◌, ◌∷◌, [], IfSome, Contains, length, slice_get, option_and_then, option_copied};
+ghost use Rattle.std.specs.Prelude.{◌≡◌, ◌<◌, ◌++◌, ◌∷◌, [], IfSome, Contains, length, slice_get};
+ghost use Rattle.std.specs.Prelude.{option_and_then, option_copied};
 ghost use Rattle.std.specs.Ordering.{nat_cmp};
 ghost use Rattle.std.specs.Cmp.Lexicographic.{slice_cmp};
 ghost use Rattle.rn_model.specs.Bindings.{node_at};
@@ -30,7 +31,8 @@ fn compare_child(node: &Node, parent: &[u32], i: u32) -> Ordering
 pub fn node_index(binding: &Binding, path: &[u32]) -> Option<usize>
     requires ascending { AscendByPath binding.now.nodes }
     ensures within { IfSome result (λ k. k < length binding.now.nodes) }
-    ensures node { node_at binding.now path.now ≡ option_and_then (slice_get binding.now.nodes) result }
+    ensures node { node_at binding.now path.now ≡ option_and_then
+        (slice_get binding.now.nodes) result }
 {
     let nodes = binding.nodes.as_slice();
     let found = nodes.binary_search_by(|node| compare_path(node, path));
@@ -41,7 +43,8 @@ pub fn node_index(binding: &Binding, path: &[u32]) -> Option<usize>
 pub fn child_index(binding: &Binding, parent: &[u32], i: u32) -> Option<usize>
     requires ascending { AscendByPath binding.now.nodes }
     ensures within { IfSome result (λ k. k < length binding.now.nodes) }
-    ensures node { node_at binding.now (parent.now ++ i ∷ []) ≡ option_and_then (slice_get binding.now.nodes) result }
+    ensures node { node_at binding.now (parent.now ++ i ∷ []) ≡ option_and_then
+        (slice_get binding.now.nodes) result }
 {
     let nodes = binding.nodes.as_slice();
     let found = nodes.binary_search_by(|node| compare_child(node, parent, i));

@@ -23,7 +23,8 @@ fn mentions(expr: &Expr, vars: &[u32]) -> bool
 
 #[cycle(mentions)]
 fn mention(exprs: &[Expr], vars: &[u32]) -> bool
-    ensures { result ≡ list_any (λ x. list_any (λ y. nat_eq y x) vars.now) (concat (map vars_in exprs.now)) }
+    ensures { result ≡ list_any (λ x. list_any (λ y. nat_eq y x) vars.now)
+        (concat (map vars_in exprs.now)) }
 {
     for expr in exprs {
         if mentions(expr, vars) {

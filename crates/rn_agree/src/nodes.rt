@@ -17,7 +17,8 @@ pub(crate) fn net_of<'a>(system: &'a System, node: &Node) -> &'a Net
 /// The transition that occurs in a node.
 pub fn transition_of<'a>(system: &'a System, node: &Node) -> &'a Transition
     requires net { node.now.net < length system.now.nets }
-    requires transition { node.now.transition < length (net_at system.now node.now.net).transitions }
+    requires transition { node.now.transition < length
+        (net_at system.now node.now.net).transitions }
     ensures { result.now ≡ transition_of system.now node.now }
 {
     &net_of(system, node).transitions.as_slice()[node.transition as usize]

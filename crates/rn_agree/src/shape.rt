@@ -46,7 +46,8 @@ fn are_in_range(system: &System, depth: u32, nodes: &[Node]) -> bool
 fn has_start(system: &System, binding: &Binding) -> bool
     requires ascending { AscendByPath binding.now.nodes }
     requires nodes { All (IsNodeOf system.now) binding.now.nodes }
-    ensures { IsTrue result ↔ ((node : Occurrence) × (node_at binding.now [] ≡ Some node) × IsStart system.now node) }
+    ensures { IsTrue result
+        ↔ ((node : Occurrence) × (node_at binding.now [] ≡ Some node) × IsStart system.now node) }
 {
     match node_on(binding, &[]) {
         Some(node) => is_start(system, node),

@@ -8,8 +8,8 @@ use rn_value::{InstRef, NoMemory, Str, Value};
 use std::alloc::Global;
 use std::test::Fail;
 
-// An instance that is there, or one that the creation of this index of the start makes, or of a node
-// that isn't there.
+// An instance that is there, or one that the creation of this index of the start makes, or one of
+// a node that isn't there.
 #[derive(Clone, Copy)]
 enum On {
     Old(u32),

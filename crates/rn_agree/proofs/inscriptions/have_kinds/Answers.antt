@@ -13,7 +13,8 @@ returns-then-not-has_kind c = (
   λ no. absurd (let no : ⊥ = cc in no),
   λ all.
       let x = get_or c.args.vars.now c.loop-k.k 0 in
-      let fits = zip_at (λ x (v : Value). HasKind v (var_kind_in c.args.net.now x)) c.args.vars.now c.args.values.now
+      let fits = zip_at (λ x (v : Value). HasKind v (var_kind_in c.args.net.now x)) c.args.vars.now
+      c.args.values.now
       c.loop-k.k x c.index-values-k.result c.loop-k-test.true
       (omega (arith, c.requires.len, c.loop-k-test.true))
       (get_or_default c.args.vars.now c.loop-k.k 0 x c.loop-k-test.true)
@@ -21,7 +22,8 @@ returns-then-not-has_kind c = (
       let kind = kind_at c.args.net.now c.as_slice.result.now x c.index-as_slice-vars.result
       c.as_slice.ensures (c.requires.in_range c.loop-k.k 0 c.loop-k-test.true)
       c.index-as_slice-vars.is in
-      sym c.if-not-has_kind.true ∙ c.has_kind.ensures.1 (subst (HasKind c.index-values-k.result) kind fits),
+      sym c.if-not-has_kind.true ∙ c.has_kind.ensures.1
+      (subst (HasKind c.index-values-k.result) kind fits),
 )
 
 pub loop-k-preserved : goal.loop-k-preserved
@@ -30,10 +32,12 @@ loop-k-preserved c =
     let kind = kind_at c.args.net.now c.as_slice.result.now x c.index-as_slice-vars.result
     c.as_slice.ensures (c.requires.in_range c.loop-k.k 0 c.loop-k-test.true)
     c.index-as_slice-vars.is in
-    zip_more (λ x (v : Value). HasKind v (var_kind_in c.args.net.now x)) c.args.vars.now c.args.values.now
+    zip_more (λ x (v : Value). HasKind v (var_kind_in c.args.net.now x)) c.args.vars.now
+    c.args.values.now
     c.loop-k.k x c.index-values-k.result c.loop-k-test.true
     (omega (arith, c.requires.len, c.loop-k-test.true))
     (get_or_default c.args.vars.now c.loop-k.k 0 x c.loop-k-test.true)
     c.index-values-k.is
-    (subst (HasKind c.index-values-k.result) (sym kind) (c.has_kind.ensures.0 c.if-not-has_kind.false))
+    (subst (HasKind c.index-values-k.result) (sym kind)
+    (c.has_kind.ensures.0 c.if-not-has_kind.false))
     c.loop-k.invariant

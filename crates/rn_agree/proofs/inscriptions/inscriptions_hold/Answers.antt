@@ -12,7 +12,8 @@ pub returns-then-not-branch : goal.returns-then-not-branch
 returns-then-not-branch c = (
   λ no. absurd (let no : ⊥ = cc in no),
   λ hold. sym c.if-not-branch.true ∙ c.in_ok-equalities_hold.ensures.1
-      (subst (All (IsEqual (lent_env c.args.values.now))) (sym c.as_slice-2.ensures) hold.equalities),
+      (subst (All (IsEqual (lent_env c.args.values.now)))
+      (sym c.as_slice-2.ensures) hold.equalities),
 )
 
 pub returns : goal.returns

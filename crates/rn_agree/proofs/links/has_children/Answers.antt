@@ -17,7 +17,8 @@ returns-then-downlinks-len c = (
       c.requires.ascending has in
       let all : length c.as_slice-downlinks.result.now
       ≡ length (transition_of c.args.system.now c.args.node.now).downlinks
-      = ap (λ l. length l) (c.as_slice-downlinks.ensures ∙ ap (λ t. t.downlinks) c.transition_of.ensures) in
+      = ap (λ l. length l) (c.as_slice-downlinks.ensures ∙ ap
+      (λ t. t.downlinks) c.transition_of.ensures) in
       let no : ⊥ = omega (arith, few, all) in absurd no,
 )
 
@@ -26,7 +27,8 @@ returns-then-not-has_child c = (
   λ no. absurd (let no : ⊥ = cc in no),
   λ has.
       let child = indexed_at
-      (λ j (d : Downlink). (n : Node) × (node_at c.args.binding.now (c.args.node.now.path ++ j ∷ []) ≡ Some n)
+      (λ j (d : Downlink). (n : Node) ×
+      (node_at c.args.binding.now (c.args.node.now.path ++ j ∷ []) ≡ Some n)
       × Answers c.args.system.now n d.channel)
       c.as_slice-downlinks.result.now (transition_of c.args.system.now c.args.node.now).downlinks
       (c.as_slice-downlinks.ensures ∙ ap (λ t. t.downlinks) c.transition_of.ensures)
@@ -37,7 +39,8 @@ returns-then-not-has_child c = (
 pub loop-i-preserved : goal.loop-i-preserved
 loop-i-preserved c =
     indexed_more
-    (λ j (d : Downlink). (n : Node) × (node_at c.args.binding.now (c.args.node.now.path ++ j ∷ []) ≡ Some n)
+    (λ j (d : Downlink). (n : Node) ×
+    (node_at c.args.binding.now (c.args.node.now.path ++ j ∷ []) ≡ Some n)
     × Answers c.args.system.now n d.channel)
     c.as_slice-downlinks.result.now (transition_of c.args.system.now c.args.node.now).downlinks
     (c.as_slice-downlinks.ensures ∙ ap (λ t. t.downlinks) c.transition_of.ensures)
@@ -47,7 +50,8 @@ loop-i-preserved c =
 pub returns : goal.returns
 returns c = (
   λ yes. indexed_all
-      (λ j (d : Downlink). (n : Node) × (node_at c.args.binding.now (c.args.node.now.path ++ j ∷ []) ≡ Some n)
+      (λ j (d : Downlink). (n : Node) ×
+      (node_at c.args.binding.now (c.args.node.now.path ++ j ∷ []) ≡ Some n)
       × Answers c.args.system.now n d.channel)
       c.as_slice-downlinks.result.now (transition_of c.args.system.now c.args.node.now).downlinks
       (c.as_slice-downlinks.ensures ∙ ap (λ t. t.downlinks) c.transition_of.ensures)

@@ -18,4 +18,5 @@ returns-clause-node c =
     (λ (y : Node). slice_cmp nat_cmp y.path (c.args.parent.now ++ c.args.i ∷ []))
     (always_returns_same _ _ _ (λ a r f called. search rules)) in
     rw (c.ok.ensures.value, ← c.as_slice-nodes.ensures)
-    (found_by_search c.as_slice-nodes.result.now _ _ (rw c.as_slice-nodes.ensures c.requires.ascending) c.binary_search_by-found.ensures.bound at)
+    (found_by_search c.as_slice-nodes.result.now _ _
+    (rw c.as_slice-nodes.ensures c.requires.ascending) c.binary_search_by-found.ensures.bound at)

@@ -6,5 +6,6 @@ use Rattle.rn_agree.proofs.mentions.+mentions.Given as goal
 
 abbrev pub invariant-mention-loop-expr : goal.invariant-mention-loop-expr
 invariant-mention-loop-expr l =
-    list_any (λ x. list_any (λ y. nat_eq y x) l.vars) (concat (map vars_in (drop l.expr-index l.exprs)))
+    list_any (λ x. list_any (λ y. nat_eq y x) l.vars)
+    (concat (map vars_in (drop l.expr-index l.exprs)))
     ≡ list_any (λ x. list_any (λ y. nat_eq y x) l.vars) (concat (map vars_in l.exprs))

@@ -6,7 +6,8 @@ use Rattle.rn_agree.proofs.node_values.NodeValuesValues.value.Goals as goal
 pub returns-in-Ok : goal.returns-in-Ok
 returns-in-Ok c =
     let lent = c.args.self.now in
-    let at = beside_found lent.vars.now lent.values.now c.args.x c.in-Ok.k lent.ascending c.in-Ok.ensures.position in
+    let at = beside_found lent.vars.now lent.values.now c.args.x c.in-Ok.k lent.ascending
+    c.in-Ok.ensures.position in
     rw at (search rules)
 
 pub returns-in-Err : goal.returns-in-Err
