@@ -13,3 +13,4 @@ pub mod Numbering
 pub mod Checked
 pub mod Tables
 pub mod Sights
+pub mod Scopes

@@ -1,6 +1,9 @@
 -- Transitions: what is broken in their inscriptions.
 use Rattle.std.specs.Prelude.{ℕ, ◌+◌, Bool, true, false, ◌||◌, List, [], ◌∷◌, ◌++◌, length, map}
 use Rattle.std.specs.Prelude.{Option, if◌then◌else◌}
+use Rattle.rn_notation.specs.declared.token.Spot.{Spot}
+use Rattle.rn_inscript.specs.declared.exprs.PExpr.{PExpr}
+use Rattle.rn_inscript.specs.declared.inscriptions.PName.{PName}
 use Rattle.rn_inscript.specs.declared.inscriptions.PInscribed.{PInscribed}
 use Rattle.rn_inscript.specs.declared.inscriptions.PInscribed.TheVariants as I
 use Rattle.rn_inscript.specs.declared.inscriptions.PInscription.{PInscription}
@@ -59,6 +62,28 @@ elsewhere scope p = record {
   step_may = false;
 }
 
+-- what is broken in an action that sets a variable
+unfoldable pub set_action_faults : Scope → Progress → PName → PExpr → List Fault
+set_action_faults scope p var e =
+    set_faults (scope.pattern_of_var var.text) (p.setter var.text) p.past var
+    ++ value_faults (scope.pattern_of_var var.text) (seen_of e (in_action scope p))
+
+-- what is broken in a call of a channel
+unfoldable pub channel_faults : Scope → Progress → PName → List PExpr → List Fault
+channel_faults scope p channel args =
+    call_faults (scope.channel channel.text (length args)) channel
+    (map (λ seen. seen (elsewhere scope p)) (map seen_of args))
+
+-- what is broken in an uplink, of which a transition has at most one
+unfoldable pub uplink_faults : Scope → Progress → Spot → PName → List PExpr → List Fault
+uplink_faults scope p spot channel args =
+    broken_if p.called Rule.Uplink spot ++ channel_faults scope p channel args
+
+-- what is broken in a downlink
+unfoldable pub downlink_faults : Scope → Progress → PExpr → PName → List PExpr → List Fault
+downlink_faults scope p target channel args =
+    target_faults (seen_of target (elsewhere scope p)) ++ channel_faults scope p channel args
+
 -- what is broken in one inscription
 abbrev pub inscription_faults : Scope → Progress → PInscription → PInscribed → List Fault
 inscription_faults scope p i (I.Arc kind place e) =
@@ -66,19 +91,12 @@ inscription_faults scope p i (I.Arc kind place e) =
     (if is_output kind then in_output scope p else elsewhere scope p)
 inscription_faults scope p i (I.Guard cond) = condition_faults cond (elsewhere scope p)
 inscription_faults scope p i (I.Print e) = (seen_of e (in_action scope p)).faults
-inscription_faults scope p i (I.Set var e) =
-    set_faults (scope.pattern_of_var var.text) (p.setter var.text) p.past var
-    ++ value_faults (scope.pattern_of_var var.text) (seen_of e (in_action scope p))
-inscription_faults scope p i (I.Uplink channel args) =
-    broken_if p.called Rule.Uplink i.spot
-    ++ call_faults (scope.channel channel.text (length args)) channel
-    (map (λ e. seen_of e (elsewhere scope p)) args)
+inscription_faults scope p i (I.Set var e) = set_action_faults scope p var e
+inscription_faults scope p i (I.Uplink channel args) = uplink_faults scope p i.spot channel args
 inscription_faults scope p i (I.New var net) =
     creation_faults (elsewhere scope p) var net (scope.is_net net.text)
 inscription_faults scope p i (I.Downlink target channel args) =
-    target_faults (seen_of target (elsewhere scope p))
-    ++ call_faults (scope.channel channel.text (length args)) channel
-    (map (λ e. seen_of e (elsewhere scope p)) args)
+    downlink_faults scope p target channel args
 inscription_faults scope p i (I.Equality a b) =
     sides_faults (seen_of a (elsewhere scope p)) (seen_of b (elsewhere scope p))
 

@@ -15,6 +15,7 @@ pub(crate) struct Sight {
 
 /// Where an expression stands: the variables of its net, the numbers of the actions that set some
 /// of them, how many of these come before, and whether `step()` may stand there.
+#[derive(Drop)]
 pub(crate) struct Here<'a> {
     pub(crate) vars: &'a Declared,
     pub(crate) setters: &'a Table,
