@@ -18,21 +18,21 @@ use Rattle.rn_model.specs.Bindings.{env_of}
 use Rattle.rn_model.specs.Demands.{Reading, readings, asked_by_arc, asked_by_node, asked_at}
 use Rattle.rn_model.specs.Evaluation.{Env, worth}
 use Rattle.rn_model.specs.Systems.{transition_of}
-use Rattle.rn_arcs.specs.Asks.{spot_of, is_wanted, arc_asks, node_asks, binding_asks}
-use Rattle.rn_arcs.specs.Places.{Spot}
+use Rattle.rn_arcs.specs.Asks.{place_asked, is_wanted, arc_asks, node_asks, binding_asks}
+use Rattle.rn_arcs.specs.Places.{InstPlace}
 use Rattle.rn_arcs.specs.declared.ask.Ask.{Ask}
 use Rattle.rn_arcs.proofs.Gathering.{at_place, at_place-one, at_place-flat, flat_nothing, nil}
 use Rattle.rn_arcs.proofs.PlaceOrder.{at_both}
 
 module _ {A : Type 0} (pick : ArcKind → Value → List A) (outputs : Bool)
     (nothing : (kind : ArcKind) (v : Value) → is_wanted outputs kind ≡ false → pick kind v ≡ [])
-    (k : Spot) where
+    (k : InstPlace) where
   -- what an ask asks
   abbrev picked : Ask → List A
   picked a = pick a.kind a.value
 
   abbrev here : List Ask → List A
-  here = at_place spot_of picked k
+  here = at_place place_asked picked k
 
   by_tests : (inst place : Bool) (vs : List A) →
       cond (inst && place) vs [] ≡ cond inst (cond place vs []) []
@@ -65,7 +65,7 @@ module _ {A : Type 0} (pick : ArcKind → Value → List A) (outputs : Bool)
   by_value inst arc true None e =
       none_there (is_eq (inst_cmp inst k.0)) (nat_eq arc.place k.1)
   by_value inst arc true (Some v) e =
-      at_place-one spot_of picked k (ask inst arc v)
+      at_place-one place_asked picked k (ask inst arc v)
       ∙ ap (λ t. cond t (pick arc.kind v) []) (at_both k inst arc.place)
       ∙ by_tests (is_eq (inst_cmp inst k.0)) (nat_eq arc.place k.1) (pick arc.kind v)
 
@@ -90,13 +90,13 @@ module _ {A : Type 0} (pick : ArcKind → Value → List A) (outputs : Bool)
       let env = env_of system node in
       let arcs = (transition_of system node).arcs in
       let inst = is_eq (inst_cmp node.inst k.0) in
-      at_place-flat spot_of picked k (arc_asks outputs env node.inst) arcs
+      at_place-flat place_asked picked k (arc_asks outputs env node.inst) arcs
       ∙ (λ i. flat_map (λ arc. by_arc env node.inst arc i) arcs)
       ∙ by_inst inst (asked_by_arc pick env k.1) arcs
 
   pub asks_are : (system : System) (b : Binding) →
       here (binding_asks outputs system b) ≡ asked_at pick system (readings system b) k.0 k.1
   asks_are system b =
-      at_place-flat spot_of picked k (node_asks outputs system) b.nodes
+      at_place-flat place_asked picked k (node_asks outputs system) b.nodes
       ∙ (λ i. flat_map (λ node. by_node system node i) b.nodes)
       ∙ sym (flat_map-map (asked_by_node pick system k.0 k.1) (reading system) b.nodes)

@@ -7,9 +7,9 @@ use Rattle.std.proofs.lemmas.List.{append-nil}
 use Rattle.std.proofs.Math.ListN.{set}
 use Rattle.rn_value.specs.declared.value.Value.{Value}
 use Rattle.rn_model.specs.declared.system.ArcKind.{ArcKind}
-use Rattle.rn_arcs.specs.Asks.{spot_of}
+use Rattle.rn_arcs.specs.Asks.{place_asked}
 use Rattle.rn_arcs.specs.Groups.{place_of, fresh, with_arc, first_of, with_ask}
-use Rattle.rn_arcs.specs.Places.{Spot, is_at}
+use Rattle.rn_arcs.specs.Places.{InstPlace, is_at}
 use Rattle.rn_arcs.specs.declared.ask.Ask.{Ask}
 use Rattle.rn_arcs.specs.declared.asked.Asked.{Asked}
 use Rattle.rn_arcs.proofs.Gathering.{at_place, at_place-append, at_place-one}
@@ -17,7 +17,7 @@ use Rattle.rn_arcs.proofs.PlaceOrder.{same_place}
 
 -- an ask of the last place
 pub with_ask-last : (gs : List Asked) (a : Ask) (n : ℕ) (d : Asked) → length gs ≡ n + 1 →
-    is_at (place_of (get_or gs n d)) (spot_of a) ≡ true →
+    is_at (place_of (get_or gs n d)) (place_asked a) ≡ true →
     with_ask gs a ≡ set gs n (with_arc a.kind a.value (get_or gs n d))
 with_ask-last [] a n d count e = absurd (let no : ⊥ = omega (arith, count) in no)
 with_ask-last (g ∷ []) a zero d count e =
@@ -31,7 +31,7 @@ with_ask-last (g ∷ h ∷ gs) a (suc n) d count e =
 
 -- an ask of another place than the last
 pub with_ask-new : (gs : List Asked) (a : Ask) (n : ℕ) (d : Asked) → length gs ≡ n + 1 →
-    is_at (place_of (get_or gs n d)) (spot_of a) ≡ false →
+    is_at (place_of (get_or gs n d)) (place_asked a) ≡ false →
     with_ask gs a ≡ gs ++ first_of a ∷ []
 with_ask-new [] a n d count e = refl
 with_ask-new (g ∷ []) a zero d count e =
@@ -45,10 +45,10 @@ with_ask-new (g ∷ h ∷ gs) a (suc n) d count e =
 
 -- What is asked of a place in one way, where one more arc adds what it asks in that way.
 module _ {A : Type 0} (select : Asked → List A) (pick : ArcKind → Value → List A)
-    (nothing : (k : Spot) → select (fresh k) ≡ [])
+    (nothing : (k : InstPlace) → select (fresh k) ≡ [])
     (more : (kind : ArcKind) (v : Value) (g : Asked) →
     select (with_arc kind v g) ≡ select g ++ pick kind v)
-    (k : Spot) where
+    (k : InstPlace) where
   abbrev picked : Ask → List A
   picked a = pick a.kind a.value
 
@@ -56,25 +56,25 @@ module _ {A : Type 0} (select : Asked → List A) (pick : ArcKind → Value → 
   of_places = at_place place_of select k
 
   abbrev of_asks : List Ask → List A
-  of_asks = at_place spot_of picked k
+  of_asks = at_place place_asked picked k
 
   first_asks : (a : Ask) → select (first_of a) ≡ picked a
   first_asks a =
-      more a.kind a.value (fresh (spot_of a))
-      ∙ ap (λ vs. vs ++ picked a) (nothing (spot_of a))
+      more a.kind a.value (fresh (place_asked a))
+      ∙ ap (λ vs. vs ++ picked a) (nothing (place_asked a))
 
   new_place : (a : Ask) → of_places (first_of a ∷ []) ≡ of_asks (a ∷ [])
   new_place a =
       at_place-one place_of select k (first_of a)
-      ∙ ap (λ vs. cond (is_at k (spot_of a)) vs []) (first_asks a)
-      ∙ sym (at_place-one spot_of picked k a)
+      ∙ ap (λ vs. cond (is_at k (place_asked a)) vs []) (first_asks a)
+      ∙ sym (at_place-one place_asked picked k a)
 
   by_tests : (here : Bool) (vs ws : List A) →
       cond here (vs ++ ws) [] ≡ cond here vs [] ++ cond here ws []
   by_tests true vs ws = refl
   by_tests false vs ws = refl
 
-  same_place_more : (g : Asked) (a : Ask) → place_of g ≡ spot_of a →
+  same_place_more : (g : Asked) (a : Ask) → place_of g ≡ place_asked a →
       of_places (with_arc a.kind a.value g ∷ []) ≡ of_places (g ∷ []) ++ of_asks (a ∷ [])
   same_place_more g a e =
       let here = is_at k (place_of g) in
@@ -83,7 +83,7 @@ module _ {A : Type 0} (select : Asked → List A) (pick : ArcKind → Value → 
       ∙ by_tests here (select g) (picked a)
       ∙ ap (λ vs. vs ++ cond here (picked a) []) (sym (at_place-one place_of select k g))
       ∙ ap (λ l. of_places (g ∷ []) ++ cond (is_at k l) (picked a) []) e
-      ∙ ap (λ vs. of_places (g ∷ []) ++ vs) (sym (at_place-one spot_of picked k a))
+      ∙ ap (λ vs. of_places (g ∷ []) ++ vs) (sym (at_place-one place_asked picked k a))
 
   other_place_more : (g : Asked) (a : Ask) →
       of_places (g ∷ first_of a ∷ []) ≡ of_places (g ∷ []) ++ of_asks (a ∷ [])
@@ -91,16 +91,16 @@ module _ {A : Type 0} (select : Asked → List A) (pick : ArcKind → Value → 
       at_place-append place_of select k (g ∷ []) (first_of a ∷ [])
       ∙ ap (λ vs. of_places (g ∷ []) ++ vs) (new_place a)
 
-  one_more : (g : Asked) (a : Ask) (here : Bool) → is_at (place_of g) (spot_of a) ≡ here →
+  one_more : (g : Asked) (a : Ask) (here : Bool) → is_at (place_of g) (place_asked a) ≡ here →
       of_places (cond here (with_arc a.kind a.value g ∷ []) (g ∷ first_of a ∷ []))
       ≡ of_places (g ∷ []) ++ of_asks (a ∷ [])
-  one_more g a true e = same_place_more g a (sym (same_place (place_of g) (spot_of a) e))
+  one_more g a true e = same_place_more g a (sym (same_place (place_of g) (place_asked a) e))
   one_more g a false e = other_place_more g a
 
   with_ask-asks : (gs : List Asked) (a : Ask) →
       of_places (with_ask gs a) ≡ of_places gs ++ of_asks (a ∷ [])
   with_ask-asks [] a = new_place a
-  with_ask-asks (g ∷ []) a = one_more g a (is_at (place_of g) (spot_of a)) refl
+  with_ask-asks (g ∷ []) a = one_more g a (is_at (place_of g) (place_asked a)) refl
   with_ask-asks (g ∷ h ∷ gs) a =
       at_place-append place_of select k (g ∷ []) (with_ask (h ∷ gs) a)
       ∙ ap (λ vs. of_places (g ∷ []) ++ vs) (with_ask-asks (h ∷ gs) a)
@@ -115,7 +115,7 @@ module _ {A : Type 0} (select : Asked → List A) (pick : ArcKind → Value → 
       groups-ask (with_ask gs a) bs
       ∙ ap (λ vs. vs ++ of_asks bs) (with_ask-asks gs a)
       ∙ append_assoc (of_places gs) (of_asks (a ∷ [])) (of_asks bs)
-      ∙ ap (λ vs. of_places gs ++ vs) (sym (at_place-append spot_of picked k (a ∷ []) bs))
+      ∙ ap (λ vs. of_places gs ++ vs) (sym (at_place-append place_asked picked k (a ∷ []) bs))
 
 -- within a list it doesn't matter what stands past its end
 any_default : (gs : List Asked) (n : ℕ) (d e : Asked) → n < length gs →
@@ -127,11 +127,11 @@ any_default (g ∷ gs) (suc n) d e low = any_default gs n d e (omega (arith, low
 -- the last place after what was added to it
 pub joins : (gs : List Asked) (a : Ask) (n : ℕ) (last again now : Asked) →
     length gs ≡ n + 1 → last ≡ get_or gs n last → again ≡ get_or gs n again →
-    is_at (place_of last) (spot_of a) ≡ true → now ≡ with_arc a.kind a.value again →
+    is_at (place_of last) (place_asked a) ≡ true → now ≡ with_arc a.kind a.value again →
     set gs n now ≡ with_ask gs a
 joins gs a n last again now count is same here added =
-    let there : is_at (place_of (get_or gs n last)) (spot_of a) ≡ true =
-    subst (λ g. is_at (place_of g) (spot_of a) ≡ true) is here in
+    let there : is_at (place_of (get_or gs n last)) (place_asked a) ≡ true =
+    subst (λ g. is_at (place_of g) (place_asked a) ≡ true) is here in
     let one : again ≡ get_or gs n last =
     same ∙ any_default gs n again last (omega (arith, count)) in
     ap (set gs n) (added ∙ ap (with_arc a.kind a.value) one)
@@ -139,11 +139,11 @@ joins gs a n last again now count is same here added =
 
 -- a new place after the last
 pub comes_after : (gs : List Asked) (a : Ask) (n : ℕ) (last now : Asked) → length gs ≡ n + 1 →
-    last ≡ get_or gs n last → is_at (place_of last) (spot_of a) ≡ false →
+    last ≡ get_or gs n last → is_at (place_of last) (place_asked a) ≡ false →
     now ≡ first_of a → gs ++ now ∷ [] ≡ with_ask gs a
 comes_after gs a n last now count is here added =
-    let there : is_at (place_of (get_or gs n last)) (spot_of a) ≡ false =
-    subst (λ g. is_at (place_of g) (spot_of a) ≡ false) is here in
+    let there : is_at (place_of (get_or gs n last)) (place_asked a) ≡ false =
+    subst (λ g. is_at (place_of g) (place_asked a) ≡ false) is here in
     ap (λ g. gs ++ g ∷ []) added ∙ sym (with_ask-new gs a n last count there)
 
 -- the first place

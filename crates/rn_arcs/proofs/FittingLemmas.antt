@@ -20,7 +20,7 @@ use Rattle.rn_model.proofs.EnablingLemmas.{idle, not_in_nil}
 use Rattle.rn_model.proofs.ValueLists.{others_are_taken}
 use Rattle.rn_arcs.specs.Groups.{place_of, AreAsked}
 use Rattle.rn_arcs.specs.Meeting.{Meets}
-use Rattle.rn_arcs.specs.Places.{Spot}
+use Rattle.rn_arcs.specs.Places.{InstPlace}
 use Rattle.rn_arcs.specs.declared.asked.Asked.{Asked}
 use Rattle.rn_arcs.proofs.RisingPlaces.{those_at, one_at, OneAt, each_one, all_map}
 
@@ -133,7 +133,7 @@ module _ (system : System) (m : Marking) (b : Binding) (inst : InstRef) (place :
 module _ (outputs : Bool) (system : System) (m : Marking) (b : Binding) (gs : List Asked)
     (asked : AreAsked outputs system b gs) where
   -- what the only one of a place asks in one way
-  only_asks : {A : Type 0} (select : Asked → List A) (k : Spot) (g : Asked) (vs : List A) →
+  only_asks : {A : Type 0} (select : Asked → List A) (k : InstPlace) (g : Asked) (vs : List A) →
       flat_map select (those_at k gs) ≡ vs → those_at k gs ≡ g ∷ [] → select g ≡ vs
   only_asks select k g vs are only =
       sym (append-nil (select g)) ∙ sym (ap (flat_map select) only) ∙ are
@@ -141,7 +141,7 @@ module _ (outputs : Bool) (system : System) (m : Marking) (b : Binding) (gs : Li
   abbrev MeetsThere : Asked → Type 0
   MeetsThere g = Meets (tokens m g.inst g.place) g
 
-  module _ (k : Spot) (g : Asked) (only : those_at k gs ≡ g ∷ []) where
+  module _ (k : InstPlace) (g : Asked) (only : those_at k gs ≡ g ∷ []) where
     pub taken_is : g.taken ≡ taken_at system b k.0 k.1
     taken_is = only_asks (λ g. g.taken) k g _ (asked.taken k) only
 
@@ -154,11 +154,11 @@ module _ (outputs : Bool) (system : System) (m : Marking) (b : Binding) (gs : Li
     pub cleared_is : g.cleared ≡ cleared_at system b k.0 k.1
     cleared_is = only_asks (λ g. g.cleared) k g _ (asked.cleared k) only
 
-  none_asked : {A : Type 0} (select : Asked → List A) (k : Spot) (vs : List A) →
+  none_asked : {A : Type 0} (select : Asked → List A) (k : InstPlace) (vs : List A) →
       flat_map select (those_at k gs) ≡ vs → those_at k gs ≡ [] → vs ≡ []
   none_asked select k vs are none = sym are ∙ ap (flat_map select) none
 
-  fits_by_place : (k : Spot) → All MeetsThere gs → (those_at k gs ≡ []) ⊎ OneAt k gs →
+  fits_by_place : (k : InstPlace) → All MeetsThere gs → (those_at k gs ≡ []) ⊎ OneAt k gs →
       PlaceFits system m b k.0 k.1
   fits_by_place k meet (inl none) =
       idle system m b k.0 k.1
@@ -169,7 +169,7 @@ module _ (outputs : Bool) (system : System) (m : Marking) (b : Binding) (gs : Li
   fits_by_place k meet (inr (g, there, is, only)) =
       meets_fits system m b k.0 k.1 g (taken_is k g only) (tested_is k g only)
       (inhibited_is k g only) (cleared_is k g only)
-      (subst (λ (l : Spot). Meets (tokens m l.0 l.1) g) is
+      (subst (λ (l : InstPlace). Meets (tokens m l.0 l.1) g) is
       (All-contains MeetsThere gs g meet there))
 
   places_fit : All MeetsThere gs → (inst : InstRef) (place : ℕ) → PlaceFits system m b inst place

@@ -18,10 +18,10 @@ use Rattle.rn_model.specs.declared.binding.Binding.{Binding}
 use Rattle.rn_model.specs.Lists.{ordered_values}
 use Rattle.rn_model.specs.Demands.{readings, asked_at, takes, puts, tests, inhibits, clears}
 use Rattle.rn_model.proofs.ValueLists.{ordered_values_ascend}
-use Rattle.rn_arcs.specs.Asks.{spot_of, is_wanted, binding_asks}
+use Rattle.rn_arcs.specs.Asks.{place_asked, is_wanted, binding_asks}
 use Rattle.rn_arcs.specs.Groups.{place_of, fresh, with_arc, groups_of, in_order, Rises}
 use Rattle.rn_arcs.specs.Groups.{asked_in, AreAsked}
-use Rattle.rn_arcs.specs.Places.{Spot, place_cmp, is_at}
+use Rattle.rn_arcs.specs.Places.{InstPlace, place_cmp, is_at}
 use Rattle.rn_arcs.specs.declared.ask.Ask.{Ask}
 use Rattle.rn_arcs.specs.declared.asked.Asked.{Asked}
 use Rattle.rn_arcs.proofs.AsksOfBindings.{asks_are}
@@ -34,7 +34,7 @@ mapped_test : (g : Asked) (hs : List Asked) (here : Bool) →
 mapped_test g hs true = refl
 mapped_test g hs false = refl
 
-those_mapped : (k : Spot) (gs : List Asked) →
+those_mapped : (k : InstPlace) (gs : List Asked) →
     those_at k (map in_order gs) ≡ map in_order (those_at k gs)
 those_mapped k [] = refl
 those_mapped k (g ∷ gs) =
@@ -42,7 +42,7 @@ those_mapped k (g ∷ gs) =
     ap (λ hs. cond here (in_order g ∷ hs) hs) (those_mapped k gs)
     ∙ mapped_test g (those_at k gs) here
 
-all_mapped : (k : Spot) (gs : List Asked) →
+all_mapped : (k : InstPlace) (gs : List Asked) →
     AllByRecursion (λ h. place_cmp k (place_of h) ≡ Less) gs →
     AllByRecursion (λ h. place_cmp k (place_of h) ≡ Less) (map in_order gs)
 all_mapped k [] all = tt
@@ -55,7 +55,7 @@ rises_mapped (g ∷ gs) r = (all_mapped (place_of g) gs r.0, rises_mapped gs r.1
 -- putting the places in order changes what is asked of each
 module _ {A : Type 0} (select : Asked → List A) (change : List A → List A)
     (nothing : change [] ≡ []) (is : (g : Asked) → select (in_order g) ≡ change (select g)) where
-  by_places : (k : Spot) (gs : List Asked) → (those_at k gs ≡ []) ⊎ OneAt k gs →
+  by_places : (k : InstPlace) (gs : List Asked) → (those_at k gs ≡ []) ⊎ OneAt k gs →
       flat_map select (map in_order (those_at k gs)) ≡ change (flat_map select (those_at k gs))
   by_places k gs (inl none) =
       ap (λ hs. flat_map select (map in_order hs)) none
@@ -66,7 +66,7 @@ module _ {A : Type 0} (select : Asked → List A) (change : List A → List A)
       ∙ ap change (sym (append-nil (select g)))
       ∙ ap (λ hs. change (flat_map select hs)) (sym only)
 
-  ordered_asks : (gs : List Asked) → Rises gs → (k : Spot) →
+  ordered_asks : (gs : List Asked) → Rises gs → (k : InstPlace) →
       asked_in select (map in_order gs) k ≡ change (asked_in select gs k)
   ordered_asks gs r k =
       ap (flat_map select) (those_mapped k gs) ∙ by_places k gs (one_at k gs r)
@@ -99,16 +99,16 @@ puts_wanted true are kind v e = cc
 puts_wanted false are kind v e = cc
 
 module _ (outputs : Bool) (system : System) (b : Binding) (sorted : List Ask)
-    (up : IsSortedByKey spot_of place_cmp sorted)
-    (stable : (k : Spot) → filter (λ a. is_at k (spot_of a)) sorted
-    ≡ filter (λ a. is_at k (spot_of a)) (binding_asks outputs system b)) where
+    (up : IsSortedByKey place_asked place_cmp sorted)
+    (stable : (k : InstPlace) → filter (λ a. is_at k (place_asked a)) sorted
+    ≡ filter (λ a. is_at k (place_asked a)) (binding_asks outputs system b)) where
   module _ {A : Type 0} (select : Asked → List A) (pick : ArcKind → Value → List A)
-      (none : (k : Spot) → select (fresh k) ≡ [])
+      (none : (k : InstPlace) → select (fresh k) ≡ [])
       (more : (kind : ArcKind) (v : Value) (g : Asked) →
       select (with_arc kind v g) ≡ select g ++ pick kind v)
       (wanted : (kind : ArcKind) (v : Value) → is_wanted outputs kind ≡ false →
       pick kind v ≡ []) where
-    groups_are : (k : Spot) →
+    groups_are : (k : InstPlace) →
         asked_in select (groups_of sorted) k ≡ asked_at pick system (readings system b) k.0 k.1
     groups_are k =
         groups-ask select pick none more k [] sorted
@@ -116,7 +116,7 @@ module _ (outputs : Bool) (system : System) (b : Binding) (sorted : List Ask)
         ∙ asks_are pick outputs wanted k system b
 
     in_order_are : (change : List A → List A) → change [] ≡ [] →
-        ((g : Asked) → select (in_order g) ≡ change (select g)) → (k : Spot) →
+        ((g : Asked) → select (in_order g) ≡ change (select g)) → (k : InstPlace) →
         asked_in select (map in_order (groups_of sorted)) k
         ≡ change (asked_at pick system (readings system b) k.0 k.1)
     in_order_are change nothing is k =

@@ -16,7 +16,7 @@ use Rattle.rn_model.specs.declared.binding.Binding.{Binding}
 use Rattle.rn_model.specs.Demands.{taken_at, tested_at, inhibited_at, cleared_at, put_at}
 use Rattle.rn_arcs.specs.Demanded.{HasRows, AreDemandsOf, one_row, row_place, rows_at}
 use Rattle.rn_arcs.specs.Groups.{place_of, asked_in, AreAsked, Rises}
-use Rattle.rn_arcs.specs.Places.{Spot, place_cmp, is_at}
+use Rattle.rn_arcs.specs.Places.{InstPlace, place_cmp, is_at}
 use Rattle.rn_arcs.specs.Rows.{row_of, rows_of, taken_rows, tested_rows, inhibited_rows}
 use Rattle.rn_arcs.specs.Rows.{cleared_rows, put_rows}
 use Rattle.rn_arcs.specs.declared.asked.Asked.{Asked}
@@ -51,19 +51,19 @@ module _ (lists : Asked → List (List Value)) where
   abbrev rows : Asked → List Place2
   rows g = rows_of (place_of g) (lists g)
 
-  all_own : (P : Spot → Type 0) (l : Spot) (vss : List (List Value)) (rs : List Place2) → P l →
+  all_own : (P : InstPlace → Type 0) (l : InstPlace) (vss : List (List Value)) (rs : List Place2) → P l →
       AllByRecursion (λ r. P (row_place r)) rs →
       AllByRecursion (λ r. P (row_place r)) (rows_of l vss ++ rs)
   all_own P l [] rs p all = all
   all_own P l (vs ∷ vss) rs p all = (p, all_own P l vss rs p all)
 
-  all_rows : (P : Spot → Type 0) (gs : List Asked) → AllByRecursion (λ g. P (place_of g)) gs →
+  all_rows : (P : InstPlace → Type 0) (gs : List Asked) → AllByRecursion (λ g. P (place_of g)) gs →
       AllByRecursion (λ r. P (row_place r)) (flat_map rows gs)
   all_rows P [] all = tt
   all_rows P (g ∷ gs) all =
       all_own P (place_of g) (lists g) (flat_map rows gs) all.0 (all_rows P gs all.1)
 
-  ups_own : (l : Spot) (vss : List (List Value)) (rs : List Place2) →
+  ups_own : (l : InstPlace) (vss : List (List Value)) (rs : List Place2) →
       AllByRecursion (λ r. is_lt (place_cmp (row_place r) l) ≡ false) rs → Ups rs →
       Ups (rows_of l vss ++ rs)
   ups_own l [] rs low up = up
@@ -73,7 +73,7 @@ module _ (lists : Asked → List (List Value)) where
     ups_own l vss rs low up,
   )
 
-  not_below : (k l : Spot) → place_cmp k l ≡ Less → is_lt (place_cmp l k) ≡ false
+  not_below : (k l : InstPlace) → place_cmp k l ≡ Less → is_lt (place_cmp l k) ≡ false
   not_below k l low =
       ap is_lt (place_total.antisymm l k ∙ ap ordering_reverse low)
 
@@ -88,7 +88,7 @@ module _ (lists : Asked → List (List Value)) where
       (rows_up gs r.1)
 
   -- the rows of a place
-  module _ (k : Spot) where
+  module _ (k : InstPlace) where
     abbrev values_at : List Place2 → List (List Value)
     values_at rs = rows_at rs k.0 k.1
 
@@ -99,7 +99,7 @@ module _ (lists : Asked → List (List Value)) where
         ap (map (λ r. r.values)) (filter-append here rs ss)
         ∙ map-append (λ r. r.values) (filter here rs) (filter here ss)
 
-    by_test : (l : Spot) (vs : List Value) (here : Bool) (rest : List Place2)
+    by_test : (l : InstPlace) (vs : List Value) (here : Bool) (rest : List Place2)
         (vss : List (List Value)) → map (λ r. r.values) rest ≡ cond here vss [] →
         map (λ r. r.values) (cond here (row_of l vs ∷ rest) rest) ≡ cond here (vs ∷ vss) []
     by_test l vs true rest vss e = ap (λ us. vs ∷ us) e
@@ -109,7 +109,7 @@ module _ (lists : Asked → List (List Value)) where
     no_lists true = refl
     no_lists false = refl
 
-    own_values : (l : Spot) (vss : List (List Value)) →
+    own_values : (l : InstPlace) (vss : List (List Value)) →
         values_at (rows_of l vss) ≡ cond (is_at k l) vss []
     own_values l [] = no_lists (is_at k l)
     own_values l (vs ∷ vss) =
@@ -126,7 +126,7 @@ module _ (lists : Asked → List (List Value)) where
         ∙ sym (at_place-append place_of lists k (g ∷ []) gs)
 
   pub has_rows : (gs : List Asked) (wanted : InstRef → ℕ → List (List Value)) → Rises gs →
-      ((k : Spot) → asked_in lists gs k ≡ wanted k.0 k.1) → HasRows (flat_map rows gs) wanted
+      ((k : InstPlace) → asked_in lists gs k ≡ wanted k.0 k.1) → HasRows (flat_map rows gs) wanted
   has_rows gs wanted r are = record {
     ascending = sorted_of (flat_map rows gs) (rows_up gs r);
     exact = λ inst place. all_values (inst, place) gs ∙ are (inst, place);
@@ -134,7 +134,7 @@ module _ (lists : Asked → List (List Value)) where
 
 -- one row of what is asked of a place
 module _ (select : Asked → List Value) where
-  by_places : (k : Spot) (gs : List Asked) → (those_at k gs ≡ []) ⊎ OneAt k gs →
+  by_places : (k : InstPlace) (gs : List Asked) → (those_at k gs ≡ []) ⊎ OneAt k gs →
       flat_map (λ g. one_row (select g)) (those_at k gs)
       ≡ one_row (flat_map select (those_at k gs))
   by_places k gs (inl none) =
@@ -146,13 +146,13 @@ module _ (select : Asked → List Value) where
       ∙ ap (λ hs. one_row (flat_map select hs)) (sym only)
 
   in_one_row : (gs : List Asked) (wanted : InstRef → ℕ → List Value) → Rises gs →
-      ((k : Spot) → asked_in select gs k ≡ wanted k.0 k.1) → (k : Spot) →
+      ((k : InstPlace) → asked_in select gs k ≡ wanted k.0 k.1) → (k : InstPlace) →
       asked_in (λ g. one_row (select g)) gs k ≡ one_row (wanted k.0 k.1)
   in_one_row gs wanted r are k =
       by_places k gs (one_at k gs r) ∙ ap one_row (are k)
 
   pub has_one_row : (gs : List Asked) (wanted : InstRef → ℕ → List Value) → Rises gs →
-      ((k : Spot) → asked_in select gs k ≡ wanted k.0 k.1) →
+      ((k : InstPlace) → asked_in select gs k ≡ wanted k.0 k.1) →
       HasRows (flat_map (λ g. rows_of (place_of g) (one_row (select g))) gs)
       (λ inst place. one_row (wanted inst place))
   has_one_row gs wanted r are =

@@ -11,12 +11,12 @@ use Rattle.rn_model.specs.declared.binding.Binding.{Binding}
 use Rattle.rn_model.specs.Bindings.{env_of}
 use Rattle.rn_model.specs.Evaluation.{Env, worth}
 use Rattle.rn_model.specs.Systems.{is_output, transition_of}
-use Rattle.rn_arcs.specs.Places.{Spot}
+use Rattle.rn_arcs.specs.Places.{InstPlace}
 use Rattle.rn_arcs.specs.declared.ask.Ask.{Ask}
 
 -- the place of which an arc asks
-abbrev pub spot_of : Ask → Spot
-spot_of a = (a.inst, a.place)
+abbrev pub place_asked : Ask → InstPlace
+place_asked a = (a.inst, a.place)
 
 -- whether an arc of this kind is looked at
 abbrev pub is_wanted : Bool → ArcKind → Bool

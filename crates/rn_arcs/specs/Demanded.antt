@@ -6,12 +6,12 @@ use Rattle.rn_value.specs.declared.value.Value.{Value}
 use Rattle.rn_model.specs.declared.system.System.{System}
 use Rattle.rn_model.specs.declared.binding.Binding.{Binding}
 use Rattle.rn_model.specs.Demands.{taken_at, tested_at, inhibited_at, cleared_at, put_at}
-use Rattle.rn_arcs.specs.Places.{Spot, place_cmp, is_at}
+use Rattle.rn_arcs.specs.Places.{InstPlace, place_cmp, is_at}
 use Rattle.rn_arcs.specs.declared.demands.Place2.{Place2}
 use Rattle.rn_arcs.specs.declared.demands.Demands.{Demands}
 
 -- the place of a row
-abbrev pub row_place : Place2 → Spot
+abbrev pub row_place : Place2 → InstPlace
 row_place r = (r.inst, r.place)
 
 -- the values of the rows of a place, row by row

@@ -10,17 +10,17 @@ use Rattle.rn_model.specs.declared.binding.Binding.{Binding}
 use Rattle.rn_model.specs.Lists.{ordered_values}
 use Rattle.rn_model.specs.Demands.{takes, puts, tests, inhibits, clears, taken_at, tested_at}
 use Rattle.rn_model.specs.Demands.{inhibited_at, cleared_at, put_at}
-use Rattle.rn_arcs.specs.Places.{Spot, place_cmp, is_at}
-use Rattle.rn_arcs.specs.Asks.{spot_of}
+use Rattle.rn_arcs.specs.Places.{InstPlace, place_cmp, is_at}
+use Rattle.rn_arcs.specs.Asks.{place_asked}
 use Rattle.rn_arcs.specs.declared.ask.Ask.{Ask}
 use Rattle.rn_arcs.specs.declared.asked.Asked.{Asked}
 
 -- the place of which all this is asked
-abbrev pub place_of : Asked → Spot
+abbrev pub place_of : Asked → InstPlace
 place_of g = (g.inst, g.place)
 
 -- nothing is asked of a place
-abbrev pub fresh : Spot → Asked
+abbrev pub fresh : InstPlace → Asked
 fresh k = record {
   inst = k.0;
   place = k.1;
@@ -45,14 +45,14 @@ with_arc kind v g = record {
 
 -- the place that one arc asks of
 abbrev pub first_of : Ask → Asked
-first_of a = with_arc a.kind a.value (fresh (spot_of a))
+first_of a = with_arc a.kind a.value (fresh (place_asked a))
 
 -- What an arc asks joins what is asked of the last place where that is its own, and else stands
 -- after it.
 abbrev pub with_ask : List Asked → Ask → List Asked
 with_ask [] a = first_of a ∷ []
 with_ask (g ∷ []) a =
-    if is_at (place_of g) (spot_of a) then with_arc a.kind a.value g ∷ []
+    if is_at (place_of g) (place_asked a) then with_arc a.kind a.value g ∷ []
     else g ∷ first_of a ∷ []
 with_ask (g ∷ h ∷ gs) a = g ∷ with_ask (h ∷ gs) a
 
@@ -78,7 +78,7 @@ Rises [] = ⊤
 Rises (g ∷ gs) = AllByRecursion (λ h. place_cmp (place_of g) (place_of h) ≡ Less) gs × Rises gs
 
 -- what is asked of a place, in one way
-abbrev pub asked_in : {A : Type 0} → (Asked → List A) → List Asked → Spot → List A
+abbrev pub asked_in : {A : Type 0} → (Asked → List A) → List Asked → InstPlace → List A
 asked_in select gs k = flat_map select (filter (λ g. is_at k (place_of g)) gs)
 
 -- These are the places of which a binding asks, in order, with its demands at each. What is put is
@@ -86,9 +86,9 @@ asked_in select gs k = flat_map select (filter (λ g. is_at k (place_of g)) gs)
 pub record AreAsked (outputs : Bool) (system : System) (b : Binding) (gs : List Asked)
     : Type 0 where
   pub rises : Rises gs
-  pub taken : (k : Spot) → asked_in (λ g. g.taken) gs k ≡ taken_at system b k.0 k.1
-  pub tested : (k : Spot) → asked_in (λ g. g.tested) gs k ≡ tested_at system b k.0 k.1
-  pub inhibited : (k : Spot) → asked_in (λ g. g.inhibited) gs k ≡ inhibited_at system b k.0 k.1
-  pub cleared : (k : Spot) → asked_in (λ g. g.cleared) gs k ≡ cleared_at system b k.0 k.1
-  pub put : outputs ≡ true → (k : Spot) →
+  pub taken : (k : InstPlace) → asked_in (λ g. g.taken) gs k ≡ taken_at system b k.0 k.1
+  pub tested : (k : InstPlace) → asked_in (λ g. g.tested) gs k ≡ tested_at system b k.0 k.1
+  pub inhibited : (k : InstPlace) → asked_in (λ g. g.inhibited) gs k ≡ inhibited_at system b k.0 k.1
+  pub cleared : (k : InstPlace) → asked_in (λ g. g.cleared) gs k ≡ cleared_at system b k.0 k.1
+  pub put : outputs ≡ true → (k : InstPlace) →
       asked_in (λ g. g.put) gs k ≡ put_at system b k.0 k.1

@@ -3,15 +3,15 @@ use Rattle.std.specs.Prelude.{List, map}
 use Rattle.rn_value.specs.declared.value.Value.{Value}
 use Rattle.rn_arcs.specs.Demanded.{one_row}
 use Rattle.rn_arcs.specs.Groups.{place_of}
-use Rattle.rn_arcs.specs.Places.{Spot}
+use Rattle.rn_arcs.specs.Places.{InstPlace}
 use Rattle.rn_arcs.specs.declared.asked.Asked.{Asked}
 use Rattle.rn_arcs.specs.declared.demands.Place2.{Place2}
 
-abbrev pub row_of : Spot → List Value → Place2
+abbrev pub row_of : InstPlace → List Value → Place2
 row_of k vs = record { inst = k.0; place = k.1; values = vs }
 
 -- a row of a place for each list
-abbrev pub rows_of : Spot → List (List Value) → List Place2
+abbrev pub rows_of : InstPlace → List (List Value) → List Place2
 rows_of k lists = map (row_of k) lists
 
 abbrev pub taken_rows : Asked → List Place2

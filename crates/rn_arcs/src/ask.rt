@@ -1,8 +1,8 @@
 //! What one arc asks, and the order of places.
 ghost use Rattle.std.specs.Prelude.{◌≡◌, OnOk, filter};
 ghost use Rattle.std.specs.List.Sorted.{IsSortedByKey};
-ghost use Rattle.rn_arcs.specs.Places.{Spot, place_cmp, is_at};
-ghost use Rattle.rn_arcs.specs.Asks.{spot_of};
+ghost use Rattle.rn_arcs.specs.Places.{InstPlace, place_cmp, is_at};
+ghost use Rattle.rn_arcs.specs.Asks.{place_asked};
 
 use rn_items::NoMemory;
 use rn_model::ArcKind;
@@ -32,9 +32,9 @@ pub(crate) fn compare_places(inst: &InstRef, place: u32, other: &InstRef, number
 
 /// Sorts by place. What asks of one place stays in order.
 pub(crate) fn sort_asks(asks: &mut Vec<Ask>) -> Result<(), NoMemory>
-    ensures sorted { OnOk result (IsSortedByKey spot_of place_cmp asks.new.items) }
-    ensures stable { (k : Spot) → filter (λ a. is_at k (spot_of a)) asks.new.items
-        ≡ filter (λ a. is_at k (spot_of a)) asks.old.items }
+    ensures sorted { OnOk result (IsSortedByKey place_asked place_cmp asks.new.items) }
+    ensures stable { (k : InstPlace) → filter (λ a. is_at k (place_asked a)) asks.new.items
+        ≡ filter (λ a. is_at k (place_asked a)) asks.old.items }
 {
     asks.sort_by(|a, b| compare_places(&a.inst, a.place, &b.inst, b.place))?;
     Ok(())

@@ -3,7 +3,7 @@ use Rattle.std.specs.Prelude.{filter, All}
 use Rattle.std.specs.List.Sorted.{IsSorted}
 use Rattle.rn_value.specs.Order.{value_cmp}
 use Rattle.std.proofs.lemmas.Result.{IfOk-weaker}
-use Rattle.rn_arcs.specs.Asks.{spot_of}
+use Rattle.rn_arcs.specs.Asks.{place_asked}
 use Rattle.rn_arcs.specs.Groups.{AreAsked, in_order}
 use Rattle.rn_arcs.specs.Places.{is_at}
 use Rattle.rn_arcs.proofs.PlacesInOrder.{are_asked, taken_sorted}
@@ -17,7 +17,7 @@ returns-clause-asked c =
     (are_asked c.args.outputs c.args.system.now c.args.binding.now
     c.sort_asks.new.asks.items c.in_ok-sort_asks.ensures.sorted
     (λ k. c.sort_asks.ensures.stable k
-    ∙ ap (filter (λ a. is_at k (spot_of a))) c.in_ok-asks.ensures)))
+    ∙ ap (filter (λ a. is_at k (place_asked a))) c.in_ok-asks.ensures)))
     c.sorted_each.ensures
 
 pub returns-clause-sorted : goal.returns-clause-sorted

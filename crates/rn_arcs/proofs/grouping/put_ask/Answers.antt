@@ -1,6 +1,6 @@
 use Rattle.std.proofs.Common.{◌≡◌, ◌-◌, ◌+◌, ◌∷◌, [], ◌++◌, ◌∙◌, ap, arith, length}
 use Rattle.std.proofs.Common.{true, false, rules}
-use Rattle.rn_arcs.specs.Asks.{spot_of}
+use Rattle.rn_arcs.specs.Asks.{place_asked}
 use Rattle.rn_arcs.specs.Groups.{place_of, first_of, with_arc, with_ask}
 use Rattle.rn_arcs.specs.Places.{is_at}
 use Rattle.rn_arcs.proofs.AsksOfPlaces.{joins, comes_after, comes_first}
@@ -12,7 +12,7 @@ returns-then-is_eq c =
     let gs = c.args.places.now.items in
     let n = c.len-count.result - 1 in
     let count : length gs ≡ n + 1 = omega arith in
-    let here : is_at (place_of c.index-last.result.now) (spot_of c.args.ask) ≡ true =
+    let here : is_at (place_of c.index-last.result.now) (place_asked c.args.ask) ≡ true =
     search rules in
     joins gs c.args.ask n c.index-last.result.now c.index_mut.result.now c.add.new.self count
     c.index-last.ensures c.index_mut.ensures.value here c.in_ok-add.ensures
@@ -29,7 +29,7 @@ returns c =
       | then-count-gt0+else-is_eq w ↦
           let n = c.len-count.result - 1 in
           let count : length gs ≡ n + 1 = omega arith in
-          let there : is_at (place_of w.index-last.result.now) (spot_of c.args.ask) ≡ false =
+          let there : is_at (place_of w.index-last.result.now) (place_asked c.args.ask) ≡ false =
           search rules in
           comes_after gs c.args.ask n w.index-last.result.now now count w.index-last.ensures
           there added
