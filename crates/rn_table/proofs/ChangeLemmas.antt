@@ -1,7 +1,7 @@
 -- A change by counts: its net steps make of each place what the change says.
-use Rattle.std.proofs.Common.{◌≡◌, ℕ, zero, suc, ◌+◌, ◌-◌, ◌<◌, ◌≤◌, nat_eq, Bool, true, false, cond, Option, Some, None, List, [], ◌∷◌, ◌++◌, length, get_or, map, refl, sym, ap, ◌∙◌, subst, arith}
-use Rattle.std.specs.Prelude.{not, filter, ◌&&◌, flat_map, slice_get, unwrap_or, option_and_then}
-use Rattle.std.specs.List.{AllByRecursion, enumerate_from, sum_by}
+use Rattle.std.proofs.Common.{◌≡◌, ℕ, zero, suc, ◌+◌, ◌-◌, ◌<◌, ◌≤◌, nat_eq, Bool, true, false, cond, Some, List, [], ◌∷◌, ◌++◌, length, get_or, map, refl, sym, ap, ◌∙◌, subst, arith}
+use Rattle.std.specs.Prelude.{not, filter, ◌&&◌, slice_get, unwrap_or, option_and_then}
+use Rattle.std.specs.List.{AllByRecursion, enumerate_from}
 use Rattle.std.specs.List.Sorted.{IsSorted}
 use Rattle.std.proofs.lemmas.List.Sums.{sum_by-cons, sum_by-append}
 use Rattle.std.proofs.lemmas.List.{map-append}
@@ -17,8 +17,8 @@ use Rattle.rn_model.proofs.ValueLists.{ordered_values_ascend, ordered_values_sta
 use Rattle.rn_table.specs.declared.change.Row.{Row}
 use Rattle.rn_table.specs.declared.change.Change.{Change}
 use Rattle.rn_table.specs.Changes.{changed, changed_tokens, new_from, values_at}
-use Rattle.rn_table.specs.Leaves.{Ascending, HasSortedPlaces, numbered}
-use Rattle.rn_table.specs.Steps.{Step, AreNet, stepped, step_at, after_step, steps_at, after_steps, steps_of, steps_in, all_steps, is_at, times}
+use Rattle.rn_table.specs.Leaves.{Ascending, HasSortedPlaces}
+use Rattle.rn_table.specs.Steps.{Step, AreNet, step_at, after_step, steps_at, after_steps, steps_of, steps_in, all_steps, is_at, times}
 use Rattle.rn_table.specs.Tables.{started, starting_in}
 use Rattle.rn_model.specs.Systems.{may_start}
 use Rattle.rn_table.proofs.InstanceLemmas.{numbered_at, all_get}

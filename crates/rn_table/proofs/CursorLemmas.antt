@@ -1,12 +1,11 @@
 -- The first number from another on that may start, by the bits of words, and the page of a number.
-use Rattle.std.proofs.Common.{◌≡◌, ◌≢◌, ℕ, zero, suc, ◌+◌, ◌-◌, ◌*◌, ◌/◌, ◌%◌, ◌<◌, ◌≤◌, nat_eq, Bool, true, false, cond, Option, Some, None, List, [], ◌∷◌, ◌++◌, length, get_or, drop, refl, sym, ap, ◌∙◌, subst, arith, inl, inr}
-use Rattle.std.specs.Prelude.{filter, find, nat_le, IfSome, IfNone, IsSome}
+use Rattle.std.proofs.Common.{◌≡◌, ℕ, zero, suc, ◌+◌, ◌*◌, ◌<◌, ◌≤◌, Bool, true, false, cond, Option, Some, None, List, [], ◌∷◌, ◌++◌, drop, refl, sym, ap, ◌∙◌, subst, arith, inl, inr}
+use Rattle.std.specs.Prelude.{find, nat_le, IfSome, IfNone, IsSome}
 use Rattle.std.proofs.lemmas.Bool.{true≢false, false≢true, cases_lt, le-leb, lt-leb}
-use Rattle.std.proofs.lemmas.List.{drop_more}
 use Rattle.rn_model.specs.Markings.{Instance}
 use Rattle.rn_bag.specs.Words.{has_bit}
 use Rattle.rn_bag.specs.Slots.{there_from}
-use Rattle.rn_table.specs.Leaves.{Leaf, IsLeaf, AreLeaves, bit_of, page_of, has_number, kept_in, instances_in, numbered, starting_of, starting_from, upward}
+use Rattle.rn_table.specs.Leaves.{Leaf, IsLeaf, bit_of, page_of, kept_in, numbered, starting_of, starting_from, upward}
 use Rattle.rn_table.proofs.InstanceLemmas.{numbered_passed, numbered_out}
 use Rattle.rn_table.proofs.LeafLemmas.{bit_back}
 

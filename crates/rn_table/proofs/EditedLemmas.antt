@@ -1,16 +1,16 @@
 -- Pages after a step.
-use Rattle.std.proofs.Common.{◌≡◌, ◌≢◌, ℕ, zero, suc, ◌+◌, ◌-◌, ◌*◌, ◌/◌, ◌%◌, ◌<◌, ◌≤◌, nat_eq, Bool, true, false, cond, Option, Some, None, List, [], ◌∷◌, ◌++◌, length, get_or, set, length-set, map, refl, sym, ap, ◌∙◌, subst, arith, inl, inr}
+use Rattle.std.proofs.Common.{◌≡◌, ℕ, zero, suc, ◌+◌, ◌*◌, ◌<◌, ◌≤◌, List, [], ◌∷◌, ◌++◌, length, get_or, set, length-set, map, sym, ap, ◌∙◌, subst, arith, inl, inr}
 use Rattle.std.specs.Prelude.{filter, ◌⊎◌}
 use Rattle.std.specs.List.{AllByRecursion}
 use Rattle.std.proofs.lemmas.List.{map-append}
 use Rattle.rn_model.specs.Markings.{Instance}
 use Rattle.rn_bag.specs.Words.{has_bit}
-use Rattle.rn_table.specs.Leaves.{Leaf, Ascending, HasSortedPlaces, IsTable, IsLeaf, AreLeaves, page_of, bit_of, has_number, kept_in, instances_in, numbered, starting_of, starting_from}
+use Rattle.rn_table.specs.Leaves.{Leaf, HasSortedPlaces, IsTable, IsLeaf, AreLeaves, page_of, bit_of, has_number, kept_in, instances_in, starting_of, starting_from}
 use Rattle.rn_table.specs.Steps.{Step, after_step}
-use Rattle.rn_table.proofs.InstanceLemmas.{NoneHas, all_get, all_map, all_filtered, ascending_filtered, filter_again, numbered_passed}
+use Rattle.rn_table.proofs.InstanceLemmas.{NoneHas, all_get, all_filtered, ascending_filtered, filter_again, numbered_passed}
 use Rattle.rn_table.proofs.LeafLemmas.{bit_back}
 use Rattle.rn_table.proofs.StepLemmas.{none_stay, ascending_after, all_numbers, sorted_after, numbered_after, filter_after}
-use Rattle.rn_table.proofs.TableLemmas.{leaf_pages, none_of_page, none_later, none_beyond, all_positive, leaf_here, leaves_here, all_with}
+use Rattle.rn_table.proofs.TableLemmas.{leaf_pages, none_of_page, none_later, none_beyond, all_positive, leaves_here, all_with}
 
 module _ (s : Step) where
   abbrev f : Instance → Instance

@@ -1,5 +1,5 @@
 -- A change with the rows of a firing, place by place.
-use Rattle.std.proofs.Common.{◌≡◌, ℕ, zero, suc, ◌+◌, ◌-◌, ◌<◌, ◌≤◌, List, [], ◌∷◌, ◌++◌, length, map, refl, sym, ap, ◌∙◌, subst, arith}
+use Rattle.std.proofs.Common.{◌≡◌, ℕ, ◌+◌, List, [], ◌∷◌, ◌++◌, length, map, refl, ap, ◌∙◌, arith}
 use Rattle.std.specs.Prelude.{flat_map}
 use Rattle.std.specs.List.{enumerate_from}
 use Rattle.std.proofs.lemmas.List.{map-append, length-map}
@@ -8,13 +8,13 @@ use Rattle.rn_value.specs.declared.value.Value.{Value}
 use Rattle.rn_value.proofs.SortedLists.{values_by_counts}
 use Rattle.rn_model.specs.declared.system.System.{System}
 use Rattle.rn_model.specs.declared.binding.Binding.{Binding}
-use Rattle.rn_model.specs.Lists.{count_of, without_each, ordered_values}
+use Rattle.rn_model.specs.Lists.{without_each, ordered_values}
 use Rattle.rn_model.specs.Demands.{asked_at, puts, rest_at, taken_at, cleared_at}
 use Rattle.rn_model.specs.Markings.{Instance, Marking, fresh_instance}
-use Rattle.rn_model.specs.Firing.{Made, Effects, changed_instance, tokens_after, instance_after, new_instance, marking_after}
+use Rattle.rn_model.specs.Firing.{Made, Effects, changed_instance, tokens_after, instance_after, new_instance}
 use Rattle.rn_model.proofs.ValueLists.{ordered_values_ascend, ordered_values_stay, others_are_taken}
 use Rattle.rn_table.specs.declared.change.Change.{Change}
-use Rattle.rn_table.specs.Changes.{changed, changed_tokens, new_from, values_at}
+use Rattle.rn_table.specs.Changes.{changed_tokens, new_from, values_at}
 use Rattle.rn_table.specs.Laws.{IsChangeOf, LeavesNew, FiringsAreChanges}
 use Rattle.rn_table.proofs.ChangeLemmas.{count_append, places_same}
 use Rattle.rn_table.proofs.StepLemmas.{with_places}

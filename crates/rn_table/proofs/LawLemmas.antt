@@ -1,13 +1,11 @@
 -- The laws over changed tables.
-use Rattle.std.proofs.Common.{◌≡◌, ℕ, ◌+◌, ◌-◌, ◌<◌, ◌≤◌, Bool, true, false, cond, Option, Some, None, List, [], ◌∷◌, ◌++◌, length, get_or, append-nil, map, refl, sym, ap, ◌∙◌, subst, arith}
+use Rattle.std.proofs.Common.{◌≡◌, ℕ, ◌<◌, true, false, cond, Some, None, List, [], ◌∷◌, ◌++◌, length, get_or, append-nil, map, refl, sym, ap, ◌∙◌, subst, arith}
 use Rattle.std.specs.Prelude.{filter, slice_get, unwrap_or, option_and_then, option_map}
 use Rattle.std.proofs.lemmas.Option.{slice_get-get_or}
-use Rattle.std.specs.List.Sorted.{IsSorted}
-use Rattle.rn_value.specs.Order.{value_cmp}
 use Rattle.rn_value.specs.declared.value.Value.{Value}
 use Rattle.rn_value.proofs.SortedLists.{values_by_counts}
-use Rattle.rn_model.specs.Lists.{count_of, without_each, ordered_values}
-use Rattle.rn_model.specs.Markings.{Instance, Marking, instance_at, tokens_at}
+use Rattle.rn_model.specs.Lists.{without_each}
+use Rattle.rn_model.specs.Markings.{Instance, instance_at, tokens_at}
 use Rattle.rn_model.specs.Firing.{changed_instance}
 use Rattle.rn_model.proofs.ValueLists.{ordered_values_ascend, ordered_values_stay, others_are_taken}
 use Rattle.rn_model.proofs.AfterFiring.{found_before, found_number, changed_place}

@@ -1,7 +1,7 @@
 -- A page whose instances or words change.
-use Rattle.std.proofs.Common.{◌≡◌, ◌≢◌, ℕ, zero, suc, ◌+◌, ◌-◌, ◌*◌, ◌/◌, ◌%◌, ◌<◌, ◌≤◌, nat_eq, Bool, true, false, cond, Option, Some, None, List, [], ◌∷◌, ◌++◌, length, take, drop, get_or, map, append-nil, refl, sym, ap, ◌∙◌, subst, arith, inl, inr}
+use Rattle.std.proofs.Common.{◌≡◌, ◌≢◌, ℕ, ◌+◌, ◌*◌, ◌<◌, ◌≤◌, nat_eq, Bool, true, false, cond, Some, None, List, [], ◌∷◌, ◌++◌, refl, sym, ap, ◌∙◌, subst, arith, inl, inr}
 use Rattle.std.specs.Prelude.{filter, not, ◌&&◌, ◌⊎◌}
-use Rattle.std.proofs.lemmas.Bool.{false≢true, true≢false, eqb-true}
+use Rattle.std.proofs.lemmas.Bool.{true≢false, eqb-true}
 use Rattle.std.proofs.lemmas.List.Elements.{filter-append}
 use Rattle.std.proofs.lemmas.Nat.Bits.{bit_at-zero}
 use Rattle.std.specs.List.{AllByRecursion}
@@ -10,7 +10,7 @@ use Rattle.rn_bag.specs.Words.{has_bit}
 use Rattle.rn_bag.specs.Slots.{there_from}
 use Rattle.rn_table.proofs.StartingLemmas.{bit_added, bit_dropped}
 use Rattle.rn_table.specs.Leaves.{Leaf, starting_of, upward, Ascending, HasSortedPlaces, IsLeaf, bit_of, page_of, has_number, kept_in, numbered}
-use Rattle.rn_table.proofs.InstanceLemmas.{NoneHas, same_number, other_number, all_get, all_map, all_joined, all_lower, all_filtered, ascending_filtered, ascending_more, numbered_none, numbered_later, numbered_kept, numbered_passed, numbered_is, filter_same, filter_both, filter_again, filter_none}
+use Rattle.rn_table.proofs.InstanceLemmas.{same_number, all_map, all_joined, all_lower, all_filtered, ascending_filtered, ascending_more, numbered_later, numbered_kept, numbered_passed, numbered_is, filter_same, filter_both, filter_again, filter_none}
 
 -- numbers of one page
 pub page_is : (k n : ℕ) → 64 * k < n → n ≤ 64 * k + 64 → page_of n ≡ k

@@ -1,7 +1,7 @@
 -- Lists of values that are compared one after another.
 use Rattle.std.proofs.Common.{◌≡◌, ℕ, zero, suc, ◌+◌, ◌<◌, ◌≤◌, List, [], ◌∷◌, ◌++◌, length, take, drop, get_or, refl, sym, ap, ◌∙◌, subst, arith}
-use Rattle.std.proofs.lemmas.List.{take_more, take_all, drop_more}
-use Rattle.std.specs.Prelude.{Bool, true, false, cond, not, nat_lt, Option, Some, None, position}
+use Rattle.std.proofs.lemmas.List.{take_more, drop_more}
+use Rattle.std.specs.Prelude.{Bool, true, false, cond, not, nat_lt, Some, None, position}
 use Rattle.std.specs.List.{AllByRecursion, position_or_len}
 use Rattle.std.proofs.lemmas.Bool.{lt-ltb, le-ltb}
 use Rattle.rn_value.specs.declared.value.Value.{Value}

@@ -1,12 +1,12 @@
 -- The numbers of a page that may start, by the bits of a word.
-use Rattle.std.proofs.Common.{◌≡◌, ◌≢◌, ℕ, zero, suc, ◌+◌, ◌-◌, ◌*◌, ◌<◌, ◌≤◌, nat_eq, Bool, true, false, cond, List, [], ◌∷◌, ◌++◌, length, refl, sym, ap, ◌∙◌, subst, arith, inl, inr}
+use Rattle.std.proofs.Common.{◌≡◌, ◌≢◌, ℕ, zero, suc, ◌+◌, ◌<◌, ◌≤◌, nat_eq, Bool, true, false, cond, List, [], ◌∷◌, ◌++◌, refl, sym, ap, ◌∙◌, subst, arith, inl, inr}
 use Rattle.std.specs.Prelude.{filter, not}
 use Rattle.std.proofs.lemmas.Bool.{true≢false, eqb-true, cases_lt}
 use Rattle.std.specs.List.{AllByRecursion}
 use Rattle.rn_bag.specs.Words.{has_bit}
 use Rattle.rn_bag.specs.Slots.{there_from}
 use Rattle.rn_table.specs.Leaves.{upward}
-use Rattle.rn_table.proofs.InstanceLemmas.{same_number, other_number}
+use Rattle.rn_table.proofs.InstanceLemmas.{same_number}
 
 drop_case : (t u e : Bool) (x n : ℕ) (r s : List ℕ) → nat_eq x n ≡ e → (e ≡ true → u ≡ false) → (e ≡ false → u ≡ t) → r ≡ filter (λ y. not (nat_eq y n)) s → cond u (x ∷ r) r ≡ filter (λ y. not (nat_eq y n)) (cond t (x ∷ s) s)
 drop_case true u true x n r s is gone same rest =

@@ -1,5 +1,5 @@
 -- Steps: what one of them, and some of them, make of places and instances.
-use Rattle.std.proofs.Common.{◌≡◌, ◌≢◌, ℕ, zero, suc, ◌+◌, ◌-◌, ◌<◌, ◌≤◌, nat_eq, Bool, true, false, cond, Option, Some, None, List, [], ◌∷◌, ◌++◌, length, get_or, set, map, refl, sym, ap, ◌∙◌, subst, arith}
+use Rattle.std.proofs.Common.{◌≡◌, ◌≢◌, ℕ, zero, suc, ◌+◌, ◌<◌, ◌≤◌, nat_eq, Bool, true, false, cond, Option, Some, List, [], ◌∷◌, length, get_or, set, map, refl, sym, ap, ◌∙◌, subst, arith}
 use Rattle.std.specs.Prelude.{filter, ◌&&◌}
 use Rattle.std.specs.List.{AllByRecursion, enumerate_from}
 use Rattle.std.specs.Ordering.{is_lt}
@@ -9,13 +9,12 @@ use Rattle.rn_value.specs.declared.value.Value.{Value}
 use Rattle.rn_value.proofs.SortedLists.{values_by_counts}
 use Rattle.rn_model.specs.Lists.{same_value, count_of, with_value, without_one, ordered_values}
 use Rattle.rn_model.specs.Markings.{Instance}
-use Rattle.rn_model.specs.Firing.{changed_instance}
 use Rattle.rn_model.proofs.ValueLists.{ordered_values_ascend, ordered_values_stay, count_of-cons, one_if}
-use Rattle.rn_bag.specs.Cuts.{Ascends, NoneBelow}
+use Rattle.rn_bag.specs.Cuts.{Ascends}
 use Rattle.rn_bag.proofs.AscendingLemmas.{sorted_of}
 use Rattle.rn_bag.proofs.CursorLemmas.{ascends_of}
 use Rattle.rn_table.specs.Leaves.{Ascending, HasSortedPlaces, numbered}
-use Rattle.rn_table.specs.Steps.{Step, stepped, step_at, after_step, steps_at, after_steps}
+use Rattle.rn_table.specs.Steps.{Step, stepped, step_at, after_step}
 use Rattle.rn_table.proofs.InstanceLemmas.{NoneHas, same_number, other_number, all_get}
 
 -- an element that is read through a list of pointers

@@ -1,8 +1,8 @@
 -- Pages one after another.
-use Rattle.std.proofs.Common.{◌≡◌, ◌≢◌, ℕ, zero, suc, ◌+◌, ◌-◌, ◌*◌, ◌/◌, ◌%◌, ◌<◌, ◌≤◌, nat_eq, Bool, true, false, cond, Option, Some, None, List, [], ◌∷◌, ◌++◌, length, take, drop, get_or, set, length-set, length-append, map, append-nil, append_assoc, refl, sym, ap, ◌∙◌, subst, arith, inl, inr}
-use Rattle.std.specs.Prelude.{filter, not, find, ◌||◌, ◌&&◌}
+use Rattle.std.proofs.Common.{◌≡◌, ◌≢◌, ℕ, zero, suc, ◌+◌, ◌*◌, ◌<◌, ◌≤◌, nat_eq, Bool, true, false, cond, None, List, [], ◌∷◌, ◌++◌, length, get_or, set, length-set, length-append, map, append-nil, append_assoc, refl, sym, ap, ◌∙◌, subst, arith}
+use Rattle.std.specs.Prelude.{filter, not, ◌||◌, ◌&&◌}
 use Rattle.std.specs.List.{list_any}
-use Rattle.std.proofs.lemmas.Bool.{false≢true, true≢false, eqb-true, cases_lt}
+use Rattle.std.proofs.lemmas.Bool.{true≢false}
 use Rattle.std.proofs.lemmas.List.{get_or_default}
 use Rattle.std.proofs.lemmas.List.Elements.{filter-append, All-from_recursion}
 use Rattle.std.specs.List.{AllByRecursion}
@@ -17,8 +17,8 @@ use Rattle.rn_model.proofs.ValueLists.{ordered_values_ascend}
 use Rattle.rn_table.specs.Tables.{started}
 use Rattle.rn_model.specs.Markings.{Instance}
 use Rattle.rn_bag.specs.Words.{has_bit}
-use Rattle.rn_table.specs.Leaves.{Leaf, Ascending, HasSortedPlaces, IsTable, IsLeaf, AreLeaves, page_of, bit_of, has_number, kept_in, instances_in, numbered, starting_of, starting_from, stays, upward}
-use Rattle.rn_table.proofs.InstanceLemmas.{filter_both, filter_all, all_true, NoneHas, same_number, other_number, all_get, all_map, all_joined, all_filtered, ascending_filtered, numbered_none, numbered_later, numbered_earlier}
+use Rattle.rn_table.specs.Leaves.{Leaf, Ascending, HasSortedPlaces, IsTable, IsLeaf, AreLeaves, page_of, has_number, kept_in, instances_in, numbered, starting_of, starting_from, stays, upward}
+use Rattle.rn_table.proofs.InstanceLemmas.{filter_both, filter_all, all_true, NoneHas, other_number, all_map, all_joined, all_filtered, ascending_filtered, numbered_none, numbered_later, numbered_earlier}
 use Rattle.rn_bag.proofs.SlotLemmas.{there_all}
 use Rattle.rn_table.proofs.LeafLemmas.{page_is, no_bit}
 use Rattle.rn_table.proofs.StartingLemmas.{numbers_all, no_starts}

@@ -1,17 +1,17 @@
 -- When a change of one place, and one that makes one instance, may come.
-use Rattle.std.proofs.Common.{◌≡◌, ℕ, zero, suc, ◌+◌, ◌-◌, ◌<◌, ◌≤◌, nat_eq, Bool, true, false, cond, Option, Some, None, List, [], ◌∷◌, ◌++◌, length, get_or, append-nil, map, refl, sym, ap, ◌∙◌, subst, arith}
-use Rattle.std.specs.Prelude.{◌&&◌, All, slice_get, unwrap_or, option_and_then}
+use Rattle.std.proofs.Common.{◌≡◌, ℕ, ◌<◌, ◌≤◌, nat_eq, Bool, true, false, cond, Option, Some, None, List, [], ◌∷◌, ◌++◌, length, append-nil, refl, sym, ap, ◌∙◌, subst, arith}
+use Rattle.std.specs.Prelude.{◌&&◌, slice_get, unwrap_or, option_and_then}
 use Rattle.std.proofs.lemmas.Bool.{false≢true, eqb-true}
 use Rattle.std.proofs.lemmas.List.Elements.{All-nil, All-cons}
 use Rattle.std.specs.List.Sorted.{IsSorted}
 use Rattle.rn_value.specs.Order.{value_cmp}
 use Rattle.rn_value.specs.declared.value.Value.{Value}
 use Rattle.rn_model.specs.declared.system.System.{System}
-use Rattle.rn_model.specs.Lists.{count_of, IsWithin}
+use Rattle.rn_model.specs.Lists.{IsWithin}
 use Rattle.rn_model.specs.Markings.{Instance, Marking, instance_at, tokens_at}
 use Rattle.rn_table.specs.declared.change.Row.{Row}
 use Rattle.rn_table.specs.declared.change.Change.{Change}
-use Rattle.rn_table.specs.Changes.{MayCome, ArePlaced, values_at, with_made}
+use Rattle.rn_table.specs.Changes.{MayCome, ArePlaced, with_made}
 use Rattle.rn_table.proofs.InstanceLemmas.{numbered_kept}
 
 abbrev row_of : ℕ → List Value → Row

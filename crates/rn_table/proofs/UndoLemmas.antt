@@ -1,8 +1,8 @@
 -- Pages that are put back.
-use Rattle.std.proofs.Common.{◌≡◌, ℕ, zero, suc, ◌+◌, ◌-◌, ◌<◌, ◌≤◌, List, [], ◌∷◌, ◌++◌, length, get_or, set, take, refl, sym, ap, ◌∙◌, subst, arith}
+use Rattle.std.proofs.Common.{◌≡◌, ℕ, zero, suc, ◌+◌, ◌<◌, ◌≤◌, List, [], ◌∷◌, ◌++◌, length, get_or, set, take, refl, sym, ap, ◌∙◌, subst, arith}
 use Rattle.std.proofs.lemmas.List.{take_more, take_all}
 use Rattle.rn_table.specs.Leaves.{Leaf}
-use Rattle.rn_table.specs.Undo.{restored, Undoes}
+use Rattle.rn_table.specs.Undo.{restored}
 use Rattle.rn_table.specs.declared.undo.Saved.{Saved}
 use Rattle.rn_table.proofs.TableLemmas.{set_again}
 

@@ -1,8 +1,7 @@
 -- A change as single tokens that are taken or put, one after another. It only connects the code to
 -- the change.
 use Rattle.std.specs.Prelude.{ℕ, ◌≡◌, ◌≤◌, ◌+◌, ◌&&◌, Bool, true, false, not, nat_eq}
-use Rattle.std.specs.Prelude.{if◌then◌else◌, List, [], ◌∷◌, ◌++◌, length, map, flat_map, refl}
-use Rattle.std.specs.Prelude.{slice_set, take}
+use Rattle.std.specs.Prelude.{if◌then◌else◌, List, [], ◌∷◌, ◌++◌, map, flat_map, refl}
 use Rattle.std.specs.Coded.{Coded, code_by, coded×, coded_ℕ, coded_bool}
 use Rattle.std.specs.List.{sum_by}
 use Rattle.rn_value.specs.declared.value.Value.{Value}
@@ -10,7 +9,6 @@ use Rattle.rn_value.specs.contracts.value.Value as token
 use Rattle.rn_model.specs.Lists.{same_value, with_value, without_one}
 use Rattle.rn_model.specs.Markings.{Instance}
 use Rattle.rn_model.specs.Firing.{changed_instance}
-use Rattle.rn_table.specs.Leaves.{Leaf}
 use Rattle.rn_table.specs.declared.change.Row.{Row}
 use Rattle.rn_table.specs.declared.change.Change.{Change}
 

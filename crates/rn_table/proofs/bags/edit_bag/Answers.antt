@@ -1,4 +1,4 @@
-use Rattle.std.proofs.Common.{rules, ◌≡◌, Bool, true, false, sym, ap, ◌∙◌, ◌<◌, cond, refl, subst}
+use Rattle.std.proofs.Common.{rules, ◌≡◌, true, false, sym, ap, ◌∙◌, ◌<◌, cond, refl, subst}
 use Rattle.std.specs.Bool.{OnTrue, OnFalse}
 use Rattle.rn_table.specs.Steps.{Step, stepped}
 use Rattle.rn_table.proofs.StepLemmas.{absent_stays}

@@ -1,8 +1,7 @@
-use Rattle.std.proofs.Common.{◌≡◌, ◌∷◌, ◌+◌, ◌≤◌, drop, sym, ap, ◌∙◌, arith}
+use Rattle.std.proofs.Common.{◌≡◌, ◌∷◌, ◌+◌, drop, sym, ap, ◌∙◌, arith}
 use Rattle.std.proofs.lemmas.List.{drop_more}
 use Rattle.rn_table.specs.Leaves.{instances_in}
-use Rattle.rn_table.specs.Steps.{Step, after_step, after_steps}
-use Rattle.rn_table.specs.Undo.{Undoes}
+use Rattle.rn_table.specs.Steps.{after_steps}
 use Rattle.rn_table.proofs.pages.edit_all.Goals as goal
 
 pub edit_one-requires : goal.edit_one-requires

@@ -1,4 +1,4 @@
-use Rattle.std.proofs.Common.{◌≡◌, ◌<◌, ◌+◌, length, sym, ap, ◌∙◌, subst, arith}
+use Rattle.std.proofs.Common.{sym, ap, ◌∙◌, subst, arith}
 use Rattle.rn_table.specs.Leaves.{IsLeaf, page_of}
 use Rattle.rn_table.specs.Steps.{Step}
 use Rattle.rn_table.proofs.TableLemmas.{leaf_here}

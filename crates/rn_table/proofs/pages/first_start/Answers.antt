@@ -1,7 +1,7 @@
-use Rattle.std.proofs.Common.{◌≡◌, ◌∷◌, ◌+◌, ◌≤◌, drop, sym, ap, ◌∙◌, subst, arith}
+use Rattle.std.proofs.Common.{◌≡◌, ◌∷◌, ◌+◌, drop, sym, ap, ◌∙◌, subst, arith}
 use Rattle.std.specs.Prelude.{find, nat_le}
 use Rattle.std.proofs.lemmas.List.{drop_more}
-use Rattle.rn_table.specs.Leaves.{bit_of, page_of, starting_from}
+use Rattle.rn_table.specs.Leaves.{bit_of, starting_from}
 use Rattle.rn_table.proofs.CursorLemmas.{Begins, begins_first, begins_next, found_start, no_start, pages_before}
 use Rattle.rn_table.proofs.pages.first_start.Goals as goal
 

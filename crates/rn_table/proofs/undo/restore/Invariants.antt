@@ -1,4 +1,4 @@
-use Rattle.std.proofs.Common.{◌≡◌, take, vec_len}
+use Rattle.std.proofs.Common.{◌≡◌, vec_len}
 use Rattle.rn_table.specs.Undo.{restored}
 use Rattle.rn_table.proofs.undo.restore.Given as goal
 

@@ -1,4 +1,4 @@
-use Rattle.std.proofs.Common.{◌≡◌, ◌∷◌, [], ◌++◌, take, ◌-◌, slice_set, ap, ◌∙◌, sym, subst, arith}
+use Rattle.std.proofs.Common.{◌≡◌, take, ◌-◌, slice_set, ap, ◌∙◌, sym, subst, arith}
 use Rattle.std.proofs.lemmas.List.{get_or_default}
 use Rattle.rn_table.specs.Undo.{restored}
 use Rattle.rn_table.proofs.UndoLemmas.{covered_last, covered_by, saved_as_is}

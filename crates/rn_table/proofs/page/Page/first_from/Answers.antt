@@ -1,4 +1,4 @@
-use Rattle.std.proofs.Common.{◌≡◌, ◌<◌, ◌≤◌, ◌+◌, ◌-◌, ◌/◌, suc, take, sym, ap, subst, arith}
+use Rattle.std.proofs.Common.{◌≡◌, ◌<◌, ◌≤◌, ◌+◌, ◌-◌, ◌/◌, suc, take, ap, subst, arith}
 use Rattle.std.specs.List.{AllByRecursion}
 use Rattle.rn_model.specs.Markings.{Instance}
 use Rattle.rn_table.proofs.InstanceLemmas.{halved_up, halved_down, read_value}

@@ -1,4 +1,4 @@
-use Rattle.std.proofs.Common.{◌≤◌, ◌<◌, ◌-◌, length, take, drop, map}
+use Rattle.std.proofs.Common.{◌≤◌, ◌<◌, ◌-◌, length, take, drop}
 use Rattle.std.specs.List.{AllByRecursion}
 use Rattle.rn_table.proofs.page.Page.first_from.Given as goal
 

@@ -1,6 +1,5 @@
-use Rattle.std.proofs.Common.{◌≡◌, Some, sym, ap, ◌∙◌, arith}
+use Rattle.std.proofs.Common.{◌≡◌, Some, sym, ap, ◌∙◌}
 use Rattle.rn_model.specs.Markings.{Instance}
-use Rattle.std.proofs.lemmas.List.{get_or_read}
 use Rattle.rn_table.proofs.InstanceLemmas.{numbered_none, numbered_at, read_value}
 use Rattle.rn_table.proofs.page.Page.get.Goals as goal
 

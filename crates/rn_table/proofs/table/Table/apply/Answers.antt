@@ -1,4 +1,4 @@
-use Rattle.std.proofs.Common.{◌≡◌, ℕ, ◌+◌, ◌++◌, Bool, false, true, List, Result, Ok, Err, length, sym, ap, ◌∙◌, subst}
+use Rattle.std.proofs.Common.{◌≡◌, ℕ, ◌+◌, ◌++◌, false, List, Result, Ok, Err, length, sym, ap, ◌∙◌, subst}
 use Rattle.std.specs.Result.{OnOk, is_err}
 use Rattle.std.proofs.lemmas.Bool.{false≢true}
 use Rattle.std.specs.List.{AllByRecursion}
@@ -6,7 +6,7 @@ use Rattle.rn_model.specs.Lists.{IsWithin}
 use Rattle.rn_model.specs.Markings.{Instance, Marking, tokens_at}
 use Rattle.rn_table.specs.Changes.{changed, new_from, values_at, with_made}
 use Rattle.rn_table.specs.Leaves.{Ascending, HasSortedPlaces, instances_in, starting_from}
-use Rattle.rn_table.specs.Steps.{AreNet, Step, after_steps, all_steps}
+use Rattle.rn_table.specs.Steps.{AreNet, after_steps, all_steps}
 use Rattle.rn_table.specs.Tables.{Kept, started, starting_in}
 use Rattle.rn_table.proofs.ChangeLemmas.{changed_by_steps, still_of_system}
 use Rattle.rn_table.proofs.table.Table.apply.Goals as goal

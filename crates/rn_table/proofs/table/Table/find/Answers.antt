@@ -1,7 +1,6 @@
-use Rattle.std.proofs.Common.{◌≡◌, ◌<◌, ◌+◌, sym, ap, ◌∙◌, subst, arith}
+use Rattle.std.proofs.Common.{sym, ap, ◌∙◌, arith}
 use Rattle.rn_model.specs.Markings.{instance_at}
 use Rattle.rn_table.specs.Tables.{Kept}
-use Rattle.rn_table.specs.Leaves.{page_of}
 use Rattle.rn_table.proofs.TableLemmas.{leaf_here, found_in, found_none}
 use Rattle.rn_table.proofs.table.Table.find.Goals as goal
 

@@ -1,9 +1,9 @@
-use Rattle.std.proofs.Common.{◌≡◌, ℕ, ◌+◌, ◌*◌, ◌<◌, ◌≤◌, Bool, false, true, Option, Some, None, sym, ap, ◌∙◌, subst, arith}
+use Rattle.std.proofs.Common.{◌≡◌, ℕ, ◌+◌, ◌*◌, ◌<◌, ◌≤◌, false, Some, sym, ap, ◌∙◌, arith}
 use Rattle.std.specs.Prelude.{find, nat_eq}
 use Rattle.std.proofs.lemmas.Bool.{false≢true}
 use Rattle.rn_model.specs.Markings.{Instance, IsThere, instance_at}
 use Rattle.rn_bag.specs.Words.{has_bit}
-use Rattle.rn_table.specs.Leaves.{Leaf, kept_in, instances_in, numbered}
+use Rattle.rn_table.specs.Leaves.{kept_in, numbered}
 use Rattle.rn_table.specs.Tables.{Kept}
 use Rattle.rn_table.proofs.LeafLemmas.{page_is}
 use Rattle.rn_table.proofs.TableLemmas.{found_in, found_none, leaf_here}

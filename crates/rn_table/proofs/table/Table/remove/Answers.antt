@@ -1,9 +1,8 @@
-use Rattle.std.proofs.Common.{◌≡◌, ◌<◌, ◌+◌, length, refl, sym, ap, ◌∙◌, subst, arith}
+use Rattle.std.proofs.Common.{◌<◌, sym, ap, ◌∙◌, subst, arith}
 use Rattle.std.specs.List.{AllByRecursion}
 use Rattle.std.specs.Prelude.{filter, not, nat_eq}
-use Rattle.rn_model.specs.Markings.{Instance}
 use Rattle.rn_table.specs.Tables.{Kept}
-use Rattle.rn_table.specs.Leaves.{Leaf, IsLeaf, page_of, instances_in, starting_from}
+use Rattle.rn_table.specs.Leaves.{Leaf, IsLeaf, instances_in, starting_from}
 use Rattle.rn_table.proofs.InstanceLemmas.{all_get}
 use Rattle.rn_table.proofs.TableLemmas.{leaf_here, leaves_here, all_with, length_with, dropped_in, dropped_none, dropped_zero, starts_dropped, starts_none, starts_zero}
 use Rattle.rn_table.proofs.table.Table.remove.Goals as goal

@@ -1,4 +1,4 @@
-use Rattle.std.proofs.Common.{◌≡◌, ◌+◌, ◌++◌, ◌∷◌, [], take, get_or, refl, sym, ap, ◌∙◌, arith}
+use Rattle.std.proofs.Common.{◌≡◌, ◌+◌, ◌++◌, ◌∷◌, [], take, get_or, refl, sym, ap, ◌∙◌}
 use Rattle.std.specs.Prelude.{filter, not, nat_eq}
 use Rattle.std.proofs.lemmas.List.{take_more}
 use Rattle.rn_model.specs.Markings.{Instance}
