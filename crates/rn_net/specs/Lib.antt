@@ -3,3 +3,9 @@ pub mod Kinds
 pub mod Constants
 pub mod Nets
 pub mod Texts
+pub mod Levels
+pub mod Progress
+pub mod Lists
+pub mod Parts
+pub mod Refusals
+pub mod Answers

@@ -1,9 +1,19 @@
 //! Whole net texts: what they are, with names in place of numbers, and their grammar.
 #![tactic(auto)]
 
+mod constant_reader;
 mod constants;
+mod copying;
+mod cursor;
+mod declaration_reader;
+mod kind_reader;
 mod kinds;
+mod net_reader;
+mod part;
 mod plain;
+mod reading;
+mod refusal;
+mod system_reader;
 
 pub use constants::{PConst, PConstForm, PConsts};
 pub use kinds::{PKind, PKindForm, PKinds};
@@ -11,3 +21,5 @@ pub use plain::{
     PChannel, PChannels, PInscriptions, PNet, PNets, PPlace, PPlaces, PTransition, PTransitions,
     PVar, PVars, Plain,
 };
+pub use reading::read_system;
+pub use refusal::Refusal;

@@ -1,0 +1,244 @@
+-- The productions of declarations, one token after another.
+use Rattle.std.proofs.Common.{◌≡◌, ℕ, ◌+◌, ◌<◌, ◌≤◌, ◌⊎◌, inl, inr, true, false, List, [], ◌∷◌, ◌++◌, length, drop, refl, sym, ◌∙◌, ap, subst, append_assoc, arith}
+use Rattle.std.specs.Prelude.{map, Result, Ok, Err, MatchResult}
+use Rattle.rn_notation.specs.declared.token.Spot.{Spot}
+use Rattle.rn_notation.specs.declared.token.Token.{Token}
+use Rattle.rn_notation.specs.declared.token.TokenKind.{TokenKind}
+use Rattle.rn_notation.specs.declared.token.TokenKind.TheVariants.{Name, Word, Number, Text, Sign}
+use Rattle.rn_inscript.specs.Inscriptions.{name_at}
+use Rattle.rn_inscript.specs.Signs.{open_brace, close_brace, open_paren, close_paren, comma, colon, equals}
+use Rattle.rn_inscript.specs.Stages.{Phrases, Then, Done, Takes, BeginAlike, CanEnd, IsNextKind}
+use Rattle.rn_inscript.specs.NextNames.{IsNotNextKind, IsNextName, IsNoName}
+use Rattle.rn_inscript.specs.declared.inscriptions.PName.{PName}
+use Rattle.rn_inscript.specs.declared.inscriptions.PInscription.{PInscription}
+use Rattle.rn_inscript.specs.declared.fault.InscriptFault.{InscriptFault}
+use Rattle.rn_inscript.specs.declared.fault.InscriptFault.TheVariants as Fault
+use Rattle.rn_net.specs.declared.kinds.PKind.{PKind}
+use Rattle.rn_net.specs.declared.kinds.PKindForm.TheVariants as K
+use Rattle.rn_net.specs.declared.constants.PConst.{PConst}
+use Rattle.rn_net.specs.declared.plain.PChannel.{PChannel}
+use Rattle.rn_net.specs.declared.plain.PVar.{PVar}
+use Rattle.rn_net.specs.declared.plain.PPlace.{PPlace}
+use Rattle.rn_net.specs.Words.{semicolon, channel_word, var_word, place_word}
+use Rattle.rn_net.specs.Kinds.{IsKind, AreListed, kind_at}
+use Rattle.rn_net.specs.Constants.{AreConstants}
+use Rattle.rn_net.specs.Lists.{AreConstantsUpTo}
+use Rattle.rn_net.specs.Nets.{IsChannel, AreVars, AreMoreNames, IsKindOfPlace, AreInitial, IsPlace, channel_of, var_of, place_of}
+use Rattle.rn_net.specs.Parts.{IsName, AreNames, AreNamesUpTo, IsInitialUpTo}
+use Rattle.rn_net.specs.Levels.{Region, is_too_deep, after}
+use Rattle.rn_net.specs.Levels.Region.{between, declaring}
+use Rattle.rn_net.specs.Progress.{Sort, Stage, Fails, Reads, Moves, done, HasNext}
+use Rattle.rn_net.proofs.Steps.{alike-cons, begin, change, stuck}
+use Rattle.rn_net.proofs.Sorts.{any, WithKind, kind_then, name_then, then, kind_read, kind_stuck, name_read, name_fails, then_read, then_fails, from_done, next_is, tell_apart}
+use Rattle.rn_net.proofs.Rows.{Row, row_up_to}
+use Rattle.rn_net.proofs.KindPhrases as KP
+use Rattle.rn_net.proofs.ConstantPhrases.{constant_row}
+
+pub has_next : {kind : TokenKind} (tokens : List Token) (at : ℕ) (next : IsNextKind tokens at kind) → HasNext tokens at kind next.0.spot
+has_next tokens at next = (next.0, next.1, next.2, refl)
+
+-- `channel c(int,text);`
+abbrev pub channel_end : PName → List PKind → Sort PChannel
+channel_end name kinds = kind_then semicolon (λ s. done (channel_of name kinds))
+
+abbrev pub channel_kinds : PName → Sort PChannel
+channel_kinds name = then (KP.listed close_paren) (channel_end name)
+
+abbrev pub channel_open : PName → Sort PChannel
+channel_open name = kind_then open_paren (λ p. channel_kinds name)
+
+abbrev pub channel_sort : Sort PChannel
+channel_sort = kind_then channel_word (λ w. name_then channel_open)
+
+pub channel-on : (ts : List Token) (e : PChannel) (rest : List Token) → channel_sort.is ts e rest → IsChannel ts e rest
+channel-on ts e rest x =
+    let n = x.4 in let p = n.5 in let k = p.4 in let s = k.3 in
+    subst (λ us. IsChannel us e rest) (sym (x.2 ∙ ap (λ us. x.0 ∷ us) (n.3 ∙ ap (λ us. n.0 ∷ us) p.2)))
+    (from_done (λ b r. IsChannel (x.0 ∷ n.0 ∷ p.0 ∷ p.1) b r) s.4 (IsChannel.channel x.3 n.4 p.3 (subst (λ us. AreListed close_paren p.1 k.0 us) s.2 k.2) s.3))
+
+pub channel-only : (ts : List Token) (e : PChannel) (rest : List Token) → IsChannel ts e rest → channel_sort.is ts e rest
+channel-only ts e rest x = by x
+  where
+    by : {ts rest : List Token} {e : PChannel} → IsChannel ts e rest → channel_sort.is ts e rest
+    by (IsChannel.channel a b c l s) = (_, _, refl, a, (_, _, _, refl, b, (_, _, refl, c, (_, _, l, (_, _, refl, s, (refl, refl))))))
+
+pub channel_begun : (tokens : List Token) (at start : ℕ) → IsNextKind tokens at channel_word → start ≡ at + 1 → Stage IsChannel (drop at tokens) between (name_then channel_open) (drop start tokens) (declaring 0)
+channel_begun tokens at start next there = kind_read (λ w. name_then channel_open) tokens at start (declaring 0) (begin channel_sort (drop at tokens) between channel-on (λ ts e rest alike x. channel-only ts e rest x)) (has_next tokens at next) there refl refl
+
+pub channel_named : (tokens : List Token) (at start after_name : ℕ) (name : PName) → IsNextKind tokens at channel_word → start ≡ at + 1 → IsNextName tokens start name → after_name ≡ start + 1 →
+    Stage IsChannel (drop at tokens) between (channel_open name) (drop after_name tokens) (declaring 0)
+channel_named tokens at start after_name name next begun named there = name_read channel_open tokens start after_name (declaring 0) name (channel_begun tokens at start next begun) named there (λ s. refl) (λ s. refl)
+
+pub channel_inside : {spot : Spot} (tokens : List Token) (at start after_name inside : ℕ) (name : PName) → IsNextKind tokens at channel_word → start ≡ at + 1 → IsNextName tokens start name → after_name ≡ start + 1 →
+    HasNext tokens after_name open_paren spot → inside ≡ after_name + 1 → Stage IsChannel (drop at tokens) between (channel_kinds name) (drop inside tokens) (declaring (0 + 1))
+channel_inside tokens at start after_name inside name next begun named there paren then_at = kind_read (λ p. channel_kinds name) tokens after_name inside (declaring (0 + 1)) (channel_named tokens at start after_name name next begun named there) paren then_at refl refl
+
+-- `var x, y: int;`
+abbrev pub names : Sort PName
+names = record { is = IsName; ends = (any (Name []) ∷ [], _, λ rest. (any (Name []), rest, [], refl, refl, (refl, refl))) }
+
+pub more-names-split : {all es : List PName} {ts rest : List Token} → AreMoreNames all ts es rest →
+    ((es ≡ all) × (rest ≡ ts)) ⊎ ((t : Token) × (us : List Token) × (ts ≡ t ∷ us) × (t.kind ≡ comma) × Then IsName (λ e. AreMoreNames (all ++ e ∷ [])) us es rest)
+more-names-split (AreMoreNames.no_more_names) = inl (refl, refl)
+more-names-split (AreMoreNames.more_names c h more) = inr (_, _, refl, c, (_, _, (_, _, _, refl, h, (refl, refl)), more))
+
+pub more-names-on : {t : Token} {us mid rest : List Token} {all es : List PName} {e : PName} → t.kind ≡ comma → IsName us e mid → AreMoreNames (all ++ e ∷ []) mid es rest → AreMoreNames all (t ∷ us) es rest
+more-names-on {t = t} {us = us} {mid = mid} {rest = rest} {all = all} {es = es} c x more =
+    subst (λ vs. AreMoreNames all (t ∷ vs) es rest) (sym x.3)
+    (AreMoreNames.more_names c x.4 (subst (λ vs. AreMoreNames (all ++ name_at x.0.spot x.2 ∷ []) vs es rest) x.5.1 (subst (λ n. AreMoreNames (all ++ n ∷ []) mid es rest) x.5.0 more)))
+
+abbrev pub name_row : Row names AreNames AreMoreNames
+name_row = record {
+  nothing = λ all ts. AreMoreNames.no_more_names;
+  on = λ c x more. more-names-on c x more;
+  split = λ x. more-names-split x;
+  join = λ x more. (_, _, x, more);
+  part = λ x. x;
+}
+
+pub name_reads : {name : PName} (tokens : List Token) (at next : ℕ) → IsNextName tokens at name → next ≡ at + 1 → Stage IsName (drop at tokens) (declaring 0) (done name) (drop next tokens) (declaring 0)
+name_reads {name = name} tokens at next named there = name_read done tokens at next (declaring 0) name (begin (name_then done) (drop at tokens) (declaring 0) (λ ts e rest x. x) (λ ts e rest alike x. x)) named there (λ s. refl) (λ s. refl)
+
+pub name_none : (tokens : List Token) (at : ℕ) (e : InscriptFault) → at ≤ length tokens → IsNoName tokens at e → Fails IsName (drop at tokens) (declaring 0) (length tokens) e
+name_none tokens at e inside bad = name_fails done tokens at e (begin (name_then done) (drop at tokens) (declaring 0) (λ ts e rest x. x) (λ ts e rest alike x. x)) inside bad
+
+abbrev pub vars_end : List PName → PKind → Sort (List PVar)
+vars_end names kind = kind_then semicolon (λ s. done (map (var_of kind) names))
+
+abbrev pub vars_kind : List PName → Sort (List PVar)
+vars_kind names = then KP.kinds (vars_end names)
+
+abbrev pub vars_names : Sort (List PVar)
+vars_names = then (row_up_to name_row colon) vars_kind
+
+abbrev pub vars_sort : Sort (List PVar)
+vars_sort = kind_then var_word (λ w. vars_names)
+
+pub vars-on : (ts : List Token) (e : List PVar) (rest : List Token) → vars_sort.is ts e rest → AreVars ts e rest
+vars-on ts e rest x =
+    let ns = x.4.2 in let n = ns.2.2 in let k = x.4.3 in let s = k.3 in
+    subst (λ us. AreVars us e rest) (sym (x.2 ∙ ap (λ us. x.0 ∷ us) n.3))
+    (from_done (λ b r. AreVars (x.0 ∷ n.0 ∷ n.1) b r) s.4
+    (AreVars.vars x.3 n.4
+    (subst (λ us. AreMoreNames (name_at n.0.spot n.2 ∷ []) us x.4.0 (ns.3.0 ∷ x.4.1)) n.5.1 (subst (λ m. AreMoreNames (m ∷ []) ns.2.1 x.4.0 (ns.3.0 ∷ x.4.1)) n.5.0 (subst (λ es. AreMoreNames (ns.2.0 ∷ []) ns.2.1 es (ns.3.0 ∷ x.4.1)) (sym ns.3.3) (subst (λ r. AreMoreNames (ns.2.0 ∷ []) ns.2.1 ns.0 r) ns.3.1 ns.2.3))))
+    ns.3.2 (subst (λ us. IsKind x.4.1 k.0 us) s.2 k.2) s.3))
+
+pub vars-only : (ts : List Token) (e : List PVar) (rest : List Token) → AreVars ts e rest → vars_sort.is ts e rest
+vars-only ts e rest x = by x
+  where
+    by : {ts rest : List Token} {e : List PVar} → AreVars ts e rest → vars_sort.is ts e rest
+    by (AreVars.vars a b ns c k s) = (_, _, refl, a, (_, _, (_, _, (_, _, (_, _, _, refl, b, (refl, refl)), ns), (_, refl, c, refl)), (_, _, k, (_, _, refl, s, (refl, refl)))))
+
+pub vars_begun : (tokens : List Token) (at start : ℕ) → IsNextKind tokens at var_word → start ≡ at + 1 → Stage AreVars (drop at tokens) between vars_names (drop start tokens) (declaring 0)
+vars_begun tokens at start next there = kind_read (λ w. vars_names) tokens at start (declaring 0) (begin vars_sort (drop at tokens) between vars-on (λ ts e rest alike x. vars-only ts e rest x)) (has_next tokens at next) there refl refl
+
+-- initial tokens
+abbrev InitialForms : Phrases (List PConst)
+InitialForms ts es rest = WithKind semicolon (λ spot. Done []) ts es rest ⊎ WithKind equals (λ spot. (row_up_to constant_row semicolon).is) ts es rest
+
+initial-split : {ts rest : List Token} {es : List PConst} → IsInitialUpTo ts es rest → InitialForms ts es rest
+initial-split x = by x.2 x.3
+  where
+    by : {ts mid rest : List Token} {es is : List PConst} → AreInitial ts is mid → Takes semicolon is mid es rest → InitialForms ts es rest
+    by (AreInitial.none) y = inl (y.0, _, y.1, y.2, (y.3, refl))
+    by (AreInitial.some c k) y = inr (_, _, refl, c, (_, _, k, y))
+
+abbrev pub initials : Sort (List PConst)
+initials = record { is = IsInitialUpTo; ends = (any semicolon ∷ [], [], λ rest. ([], any semicolon ∷ rest, AreInitial.none, (any semicolon, refl, refl, refl))) }
+
+pub initial_none : {spot : Spot} (tokens : List Token) (at next : ℕ) → HasNext tokens at semicolon spot → next ≡ at + 1 → Stage IsInitialUpTo (drop at tokens) (declaring 0) (done []) (drop next tokens) between
+initial_none tokens at next here there = kind_read (λ spot. done []) tokens at next between
+    (begin (kind_then semicolon (λ spot. done [])) (drop at tokens) (declaring 0)
+    (λ ts es rest x. ([], ts, AreInitial.none, (x.0, x.2 ∙ ap (λ us. x.0 ∷ us) (sym x.4.1), x.3, x.4.0)))
+    (λ ts es rest alike x. elim (initial-split {ts = ts} {rest = rest} {es = es} x) as (λ w. WithKind semicolon (λ spot. Done []) ts es rest) [ inl y ↦ y | inr y ↦ absurd (tell_apart semicolon equals (sym (next_is tokens at y.0 y.1 here alike y.2) ∙ y.3) (λ e. omega (arith, e))) ]))
+    here there refl refl
+
+initial-some : (tokens : List Token) (at : ℕ) → IsNotNextKind tokens at semicolon → Stage IsInitialUpTo (drop at tokens) (declaring 0) (kind_then equals (λ spot. row_up_to constant_row semicolon)) (drop at tokens) (declaring 0)
+initial-some tokens at other = begin (kind_then equals (λ spot. row_up_to constant_row semicolon)) (drop at tokens) (declaring 0)
+    (λ ts es rest x. subst (λ us. IsInitialUpTo us es rest) (sym x.2) (x.4.0, x.4.1, AreInitial.some x.3 x.4.2, x.4.3))
+    (λ ts es rest alike x. elim (initial-split {ts = ts} {rest = rest} {es = es} x) as (λ w. WithKind equals (λ spot. (row_up_to constant_row semicolon).is) ts es rest) [
+      | inl y ↦ absurd (let next = alike-cons (drop at tokens) y.0 y.1 (subst (λ us. BeginAlike (drop at tokens) us) y.2 alike) in other y.0 next.0 next.1 y.3)
+      | inr y ↦ y
+    ])
+
+pub initial_stuck : (tokens : List Token) (at : ℕ) → at ≤ length tokens → IsNotNextKind tokens at semicolon → IsNotNextKind tokens at equals → Fails IsInitialUpTo (drop at tokens) (declaring 0) (length tokens) (Fault.P2 at)
+initial_stuck tokens at inside a b = kind_stuck (λ spot. row_up_to constant_row semicolon) tokens at (initial-some tokens at a) inside b
+
+pub initial_open : {spot : Spot} (tokens : List Token) (at next : ℕ) → IsNotNextKind tokens at semicolon → HasNext tokens at equals spot → next ≡ at + 1 → Stage IsInitialUpTo (drop at tokens) (declaring 0) (row_up_to constant_row semicolon) (drop next tokens) (declaring 0)
+initial_open tokens at next a here there = kind_read (λ spot. row_up_to constant_row semicolon) tokens at next (declaring 0) (initial-some tokens at a) here there refl refl
+
+-- `place p: int = 1, 2;`
+abbrev pub place_end : PName → PKind → Sort PPlace
+place_end name kind = then initials (λ initial. done (place_of name kind initial))
+
+abbrev pub place_kind : PName → Sort PPlace
+place_kind name = then KP.kinds (place_end name)
+
+-- what stands after the name of a place
+abbrev pub PlaceOn : PName → Phrases PPlace
+PlaceOn name ts e rest = WithKind colon (λ c. (place_kind name).is) ts e rest ⊎ (place_end name (kind_at name.spot (K.Tuple []))).is ts e rest
+
+abbrev pub place_on : PName → Sort PPlace
+place_on name = record { is = PlaceOn name; ends = let y = (place_end name (kind_at name.spot (K.Tuple []))).ends in (y.0, y.1, λ rest. inr (y.2 rest)) }
+
+abbrev pub place_sort : Sort PPlace
+place_sort = kind_then place_word (λ w. name_then place_on)
+
+place-built : {t u : Token} {ts mid rest : List Token} {s : List ℕ} {kind : PKind} {e : PPlace} → t.kind ≡ place_word → u.kind ≡ Name s → IsKindOfPlace u.spot ts kind mid → (place_end (name_at u.spot s) kind).is mid e rest → IsPlace (t ∷ u ∷ ts) e rest
+place-built {t = t} {u = u} {ts = ts} {kind = kind} a b k x = from_done (λ c r. IsPlace (t ∷ u ∷ ts) c r) x.3
+    (subst (λ is. IsPlace (t ∷ u ∷ ts) (place_of (name_at u.spot _) kind is) x.1) (sym x.2.3.3) (IsPlace.place a b k (subst (λ us. AreInitial _ x.2.0 us) x.2.3.1 x.2.2) x.2.3.2))
+
+pub place-on : (ts : List Token) (e : PPlace) (rest : List Token) → place_sort.is ts e rest → IsPlace ts e rest
+place-on ts e rest x = let n = x.4 in
+    subst (λ us. IsPlace us e rest) (sym (x.2 ∙ ap (λ us. x.0 ∷ us) n.3)) (elim n.5 as (λ w. IsPlace (x.0 ∷ n.0 ∷ n.1) e rest) [
+      | inl y ↦ place-built x.3 n.4 (subst (λ us. IsKindOfPlace n.0.spot us y.4.0 y.4.1) (sym y.2) (IsKindOfPlace.given y.3 y.4.2)) y.4.3
+      | inr y ↦ place-built x.3 n.4 IsKindOfPlace.absent y
+    ])
+
+pub place-only : (ts : List Token) (e : PPlace) (rest : List Token) → IsPlace ts e rest → place_sort.is ts e rest
+place-only ts e rest x = by x
+  where
+    end-of : {mid rest : List Token} {v : Token} {name : PName} {kind : PKind} {initial : List PConst} → AreInitial mid initial (v ∷ rest) → v.kind ≡ semicolon → (place_end name kind).is mid (place_of name kind initial) rest
+    end-of i s = (_, _, (_, _, i, (_, refl, s, refl)), (refl, refl))
+
+    on-of : {spot : Spot} {s : List ℕ} {ts mid rest : List Token} {v : Token} {kind : PKind} {initial : List PConst} → IsKindOfPlace spot ts kind mid → AreInitial mid initial (v ∷ rest) → v.kind ≡ semicolon → PlaceOn (name_at spot s) ts (place_of (name_at spot s) kind initial) rest
+    on-of (IsKindOfPlace.absent) i s = inr (end-of i s)
+    on-of (IsKindOfPlace.given c k) i s = inl (_, _, refl, c, (_, _, k, end-of i s))
+
+    by : {ts rest : List Token} {e : PPlace} → IsPlace ts e rest → place_sort.is ts e rest
+    by (IsPlace.place a b k i s) = (_, _, refl, a, (_, _, _, refl, b, on-of k i s))
+
+pub place_begun : (tokens : List Token) (at start : ℕ) → IsNextKind tokens at place_word → start ≡ at + 1 → Stage IsPlace (drop at tokens) between (name_then place_on) (drop start tokens) (declaring 0)
+place_begun tokens at start next there = kind_read (λ w. name_then place_on) tokens at start (declaring 0) (begin place_sort (drop at tokens) between place-on (λ ts e rest alike x. place-only ts e rest x)) (has_next tokens at next) there refl refl
+
+pub place_named : (tokens : List Token) (at start after_name : ℕ) (name : PName) → IsNextKind tokens at place_word → start ≡ at + 1 → IsNextName tokens start name → after_name ≡ start + 1 → Stage IsPlace (drop at tokens) between (place_on name) (drop after_name tokens) (declaring 0)
+place_named tokens at start after_name name next begun named there = name_read place_on tokens start after_name (declaring 0) name (place_begun tokens at start next begun) named there (λ s. refl) (λ s. refl)
+
+-- a colon is next, or none
+initial-first : {k : TokenKind} {spot : Spot} (tokens : List Token) (at : ℕ) {ts rest : List Token} {es : List PConst} → HasNext tokens at k spot → BeginAlike (drop at tokens) ts → IsInitialUpTo ts es rest → (k ≡ semicolon) ⊎ (k ≡ equals)
+initial-first tokens at {ts = ts} {rest = rest} {es = es} here alike x = elim (initial-split {ts = ts} {rest = rest} {es = es} x) [ inl y ↦ inl (sym (next_is tokens at y.0 y.1 here alike y.2) ∙ y.3) | inr y ↦ inr (sym (next_is tokens at y.0 y.1 here alike y.2) ∙ y.3) ]
+
+pub place_colon : {spot : Spot} {start : List Token} {first : Region} (tokens : List Token) (at next : ℕ) (name : PName) → Stage IsPlace start first (place_on name) (drop at tokens) (declaring 0) → HasNext tokens at colon spot → next ≡ at + 1 →
+    Stage IsPlace start first (place_kind name) (drop next tokens) (declaring 0)
+place_colon tokens at next name s here there = kind_read (λ c. place_kind name) tokens at next (declaring 0)
+    (change (kind_then colon (λ c. place_kind name)) s (λ ts e rest x. inl x) (λ ts e rest alike x. elim x as (λ w. WithKind colon (λ c. (place_kind name).is) ts e rest) [
+      | inl y ↦ y
+      | inr y ↦ absurd (elim (initial-first tokens at here alike y.2) as (λ w. ⊥) [ inl e ↦ tell_apart colon semicolon e (λ h. omega (arith, h)) | inr e ↦ tell_apart colon equals e (λ h. omega (arith, h)) ])
+    ]))
+    here there refl refl
+
+pub place_no_colon : {start : List Token} {first : Region} (tokens : List Token) (at : ℕ) (name : PName) → Stage IsPlace start first (place_on name) (drop at tokens) (declaring 0) → IsNotNextKind tokens at colon →
+    Stage IsPlace start first (place_end name (kind_at name.spot (K.Tuple []))) (drop at tokens) (declaring 0)
+place_no_colon tokens at name s other = change (place_end name (kind_at name.spot (K.Tuple []))) s (λ ts e rest x. inr x) (λ ts e rest alike x. elim x as (λ w. (place_end name (kind_at name.spot (K.Tuple []))).is ts e rest) [
+  | inl y ↦ absurd (let next = alike-cons (drop at tokens) y.0 y.1 (subst (λ us. BeginAlike (drop at tokens) us) y.2 alike) in other y.0 next.0 next.1 y.3)
+  | inr y ↦ y
+])
+
+-- a name read is what was expected
+pub name_result : (tokens : List Token) (at : ℕ) (r : Result (PName × ℕ) InscriptFault) → at ≤ length tokens → MatchResult r (λ found. IsNextName tokens at found.0 × (found.1 ≡ at + 1)) (λ fault. IsNoName tokens at fault) → Reads IsName tokens at (declaring 0) (declaring 0) r
+name_result tokens at (Ok (name, next)) inside h = name_reads tokens at next h.0 h.1
+name_result tokens at (Err e) inside h = name_none tokens at e inside h
+
+pub name_moves : (tokens : List Token) (at : ℕ) (r : Result (PName × ℕ) InscriptFault) → MatchResult r (λ found. IsNextName tokens at found.0 × (found.1 ≡ at + 1)) (λ fault. IsNoName tokens at fault) → Moves tokens at r
+name_moves tokens at (Ok (name, next)) h = (omega (arith, h.1), omega (arith, h.1, h.0.2.1))
+name_moves tokens at (Err e) h = tt

@@ -1,0 +1,11 @@
+mod Steps
+mod Sorts
+mod Rows
+mod KindPhrases
+mod ConstantPhrases
+mod Fronts
+mod InscriptionReading
+mod DeclarationPhrases
+mod NetPhrases
+mod Systems
+mod Settling

@@ -1,0 +1,171 @@
+-- From the items of a text to its answer.
+use Rattle.std.proofs.Common.{◌≡◌, ℕ, ℤ, pos, zero, suc, ◌+◌, ◌<◌, ◌≤◌, ◌⊎◌, inl, inr, true, false, List, [], ◌∷◌, ◌++◌, length, drop, refl, sym, ◌∙◌, ap, subst, append_assoc, arith}
+use Rattle.std.proofs.Math.Seq.{drop-append_seam}
+use Rattle.std.specs.Prelude.{Result, Ok, Err, Option, Some, None, IfOk, IfErr, IfSome, IfNone}
+use Rattle.std.specs.List.{AllByRecursion}
+use Rattle.rn_notation.specs.Limits.{longest_net_text}
+use Rattle.rn_notation.specs.Spots.{spot_after}
+use Rattle.rn_notation.specs.Tokens.{IsToken}
+use Rattle.rn_notation.specs.Words.{number_of}
+use Rattle.rn_notation.specs.Reading.{Tokens, FirstFault, IsSlice}
+use Rattle.rn_notation.specs.declared.token.Spot.{Spot}
+use Rattle.rn_notation.specs.declared.token.Token.{Token}
+use Rattle.rn_notation.specs.declared.token.TokenKind.{TokenKind}
+use Rattle.rn_notation.specs.declared.token.TokenKind.TheVariants.{Name, Word, Number, Text, Sign}
+use Rattle.rn_notation.specs.declared.token.LexFault.{LexFault}
+use Rattle.rn_inscript.specs.Stages.{BeginAlike, IsNext, HasNoNext}
+use Rattle.rn_net.specs.declared.plain.Plain.{Plain}
+use Rattle.rn_net.specs.declared.refusal.Refusal.{Refusal}
+use Rattle.rn_net.specs.declared.refusal.Refusal.TheVariants as R
+use Rattle.rn_net.specs.Levels.{IsShallow, region_after, is_too_deep}
+use Rattle.rn_net.specs.Levels.Region.{between}
+use Rattle.rn_net.specs.Nets.{AreItems, plain_of, IsSystem}
+use Rattle.rn_net.specs.Progress.{HaveNaturals}
+use Rattle.rn_net.specs.Texts.{Spells}
+use Rattle.rn_net.specs.Refusals.{IsBeginning, IsStopped, IsDeep, AreFine, IsRefused, IsReason, refusal_of}
+use Rattle.rn_net.specs.Answers.{Top, Halts, Sinks, Reason, Settles, unfinished_of}
+use Rattle.rn_net.proofs.InscriptionReading.{append-nil}
+use Rattle.rn_net.proofs.NetPhrases.{item_sort}
+use Rattle.rn_net.proofs.Systems.{is-system, items-split, no-item, begins-with}
+
+system-items : {ts : List Token} {p : Plain} → IsSystem ts p → AreItems (plain_of [] []) ts p
+system-items (IsSystem.system x) = x
+
+system-some : {ts : List Token} {p : Plain} → IsSystem ts p → ts ≡ [] → ⊥
+system-some (IsSystem.system x) e = cc
+
+pub whole_system : (tokens : List Token) (p : Plain) → Top tokens [] p → (tokens ≡ [] → ⊥) → IsSystem tokens p
+whole_system tokens p s some = is-system tokens p (subst (λ us. AreItems (plain_of [] []) us p) (sym s.whole) (s.on [] p AreItems.no_more_items)) some
+
+pub one_system : (tokens : List Token) (p q : Plain) → Top tokens [] p → IsSystem tokens q → q ≡ p
+one_system tokens p q s x = elim (items-split {p = p} {e = q} {ts = []} (s.only [] q tt (subst (λ us. AreItems (plain_of [] []) us q) s.whole (system-items x)))) as (λ w. q ≡ p) [
+  | inl d ↦ d.1
+  | inr g ↦ absurd (no-item g.0 g.1 g.2)
+]
+
+pub fine : (tokens : List Token) (p : Plain) → Top tokens [] p → AreFine tokens
+fine tokens p s = (subst IsBeginning (sym s.whole) (begins-with s [] item_sort.ends), subst (IsShallow between) (sym (s.whole ∙ append-nil s.taken)) s.within)
+
+-- what is left after the tokens taken
+left-of : (tokens before left : List Token) (k : ℕ) → tokens ≡ before ++ left → k ≡ length before → drop k tokens ≡ left
+left-of tokens before left k parts stands = ap (λ n. drop n tokens) stands ∙ ap (drop (length before)) parts ∙ drop-append_seam before left
+
+pub halts_at : (tokens : List Token) (k : ℕ) (t : Token) → Halts tokens k → IsNext tokens k t → IsStopped tokens t.spot
+halts_at tokens k t h next = record {
+  before = h.before;
+  token = t;
+  left = drop (k + 1) tokens;
+  parts = h.parts ∙ ap (λ us. h.before ++ us) here;
+  begins = h.begins;
+  none = λ b. h.none (t ∷ b.0) b.1 (subst (λ us. BeginAlike us (t ∷ b.0)) (sym here) refl) (λ e. absurd (let f = e in cc)) (subst (λ us. AreItems (plain_of [] []) us b.1) (append_assoc h.before (t ∷ []) b.0) (system-items b.2));
+  within = h.within;
+  stands = refl;
+}
+  where
+    here : h.left ≡ t ∷ drop (k + 1) tokens
+    here = sym (left-of tokens h.before h.left k h.parts h.stands) ∙ next.0
+
+pub halts_end : (tokens : List Token) (k : ℕ) → Halts tokens k → HasNoNext tokens k → AreFine tokens × ((p : Plain) → IsSystem tokens p → ⊥)
+halts_end tokens k h none = (
+  (subst IsBeginning same h.begins, subst (IsShallow between) same h.within),
+  λ p x. h.none [] p tt (λ e. here) (subst (λ us. AreItems (plain_of [] []) us p) (h.parts ∙ ap (λ us. h.before ++ us) here) (system-items x)),
+)
+  where
+    here : h.left ≡ []
+    here = sym (left-of tokens h.before h.left k h.parts h.stands) ∙ none
+
+    same : h.before ≡ tokens
+    same = sym (h.parts ∙ ap (λ us. h.before ++ us) here ∙ append-nil h.before)
+
+sunk : (tokens : List Token) (k : ℕ) (s : Sinks tokens k) → drop k tokens ≡ s.token ∷ s.left
+sunk tokens k s = left-of tokens s.before (s.token ∷ s.left) k s.parts s.stands
+
+pub sinks_at : (tokens : List Token) (k : ℕ) (t : Token) → Sinks tokens k → IsNext tokens k t → IsDeep tokens t.spot
+sinks_at tokens k t s next = record {
+  before = s.before;
+  token = s.token;
+  left = s.left;
+  parts = s.parts;
+  begins = s.begins;
+  within = s.within;
+  deep = s.deep;
+  stands = ap (λ u. u.spot) (let h : t ≡ s.token = let a = sunk tokens k s in let b = next.0 in cc in h);
+}
+
+pub sinks_somewhere : (tokens : List Token) (k : ℕ) → Sinks tokens k → HasNoNext tokens k → ⊥
+sinks_somewhere tokens k s none = let a = sunk tokens k s in let b = none in cc
+
+-- the numbers of a text aren't negative
+all-drop : (P : Token → Type 0) (at : ℕ) (ts : List Token) → AllByRecursion P ts → AllByRecursion P (drop at ts)
+all-drop P zero ts h = h
+all-drop P (suc n) [] h = h
+all-drop P (suc n) (t ∷ ts) h = all-drop P n ts h.1
+
+natural : {kind : TokenKind} {word rest : List ℕ} (n : ℤ) → IsToken kind word rest → kind ≡ Number n → (m : ℕ) × (n ≡ pos m)
+natural n (IsToken.name a b c) e = absurd (let f = e in cc)
+natural n (IsToken.word a b c) e = absurd (let f = e in cc)
+natural n (IsToken.number {digits = digits} a b c) e = (number_of digits, let f = e in cc)
+natural n (IsToken.text parts a) e = absurd (let f = e in cc)
+natural n (IsToken.sign a b c) e = absurd (let f = e in cc)
+
+pub naturals : (bytes : List ℕ) (tokens : List Token) → AllByRecursion (IsSlice bytes) tokens → HaveNaturals tokens
+naturals bytes tokens all = λ at t n next is.
+    let h = subst (AllByRecursion (IsSlice bytes)) next.0 (all-drop (IsSlice bytes) at tokens all) in natural n h.0.stands is
+
+-- the answer of a text from that of its tokens
+as-reason : (bytes : List ℕ) (r : Refusal) → IsRefused bytes r → IsReason bytes r
+as-reason bytes (R.P1 s) x = x
+as-reason bytes (R.P2 s) x = x
+as-reason bytes (R.P3 s) x = x
+as-reason bytes (R.P4 s) x = x
+as-reason bytes (R.P5 s) x = x
+as-reason bytes (R.P6 s) x = x
+as-reason bytes (R.P7 s) x = x
+as-reason bytes R.NoMemory x = tt
+
+refused-by : (bytes : List ℕ) (tokens : List Token) (fault : Option LexFault) (end : Spot) (r : Refusal) → length bytes ≤ longest_net_text → IfNone fault (Tokens bytes tokens) → IfSome fault (FirstFault bytes tokens) → end ≡ spot_after bytes →
+    Reason tokens fault end r → IsRefused bytes r
+refused-by bytes tokens fault end r fits none some there reason = by fault none some reason
+  where
+    of : (fault : Option LexFault) → IfNone fault (Tokens bytes tokens) → IfSome fault (FirstFault bytes tokens) → Tokens bytes tokens ⊎ ((f : LexFault) × FirstFault bytes tokens f)
+    of None none some = inl none
+    of (Some f) none some = inr (f, some)
+
+    by : (fault : Option LexFault) → IfNone fault (Tokens bytes tokens) → IfSome fault (FirstFault bytes tokens) → Reason tokens fault end r → IsRefused bytes r
+    by fault none some (inl x) = subst (IsRefused bytes) (sym x.1) (IsRefused.stopped fits (of fault none some) x.2)
+    by fault none some (inr (inl x)) = subst (IsRefused bytes) (sym x.1) (IsRefused.deep fits (of fault none some) x.2)
+    by fault none some (inr (inr (inl x))) = subst (IsRefused bytes) (sym x.2) (IsRefused.faulty fits (subst (λ o. IfSome o (FirstFault bytes tokens)) x.1 some) x.3)
+    by fault none some (inr (inr (inr x))) = subst (IsRefused bytes) (sym (x.1 ∙ ap R.P2 there)) (IsRefused.unfinished fits (subst (λ o. IfNone o (Tokens bytes tokens)) x.0 none) x.2 x.3)
+
+pub settled_refused : (bytes : List ℕ) (tokens : List Token) (fault : Option LexFault) (end : Spot) (r : Result Plain Refusal) → length bytes ≤ longest_net_text → IfNone fault (Tokens bytes tokens) → IfSome fault (FirstFault bytes tokens) → end ≡ spot_after bytes →
+    Settles tokens fault end r → IfErr r (λ refusal. IsReason bytes refusal)
+settled_refused bytes tokens fault end (Ok plain) fits none some there s = tt
+settled_refused bytes tokens fault end (Err (R.P1 x)) fits none some there s = as-reason bytes (R.P1 x) (refused-by bytes tokens fault end (R.P1 x) fits none some there s)
+settled_refused bytes tokens fault end (Err (R.P2 x)) fits none some there s = as-reason bytes (R.P2 x) (refused-by bytes tokens fault end (R.P2 x) fits none some there s)
+settled_refused bytes tokens fault end (Err (R.P3 x)) fits none some there s = as-reason bytes (R.P3 x) (refused-by bytes tokens fault end (R.P3 x) fits none some there s)
+settled_refused bytes tokens fault end (Err (R.P4 x)) fits none some there s = as-reason bytes (R.P4 x) (refused-by bytes tokens fault end (R.P4 x) fits none some there s)
+settled_refused bytes tokens fault end (Err (R.P5 x)) fits none some there s = as-reason bytes (R.P5 x) (refused-by bytes tokens fault end (R.P5 x) fits none some there s)
+settled_refused bytes tokens fault end (Err (R.P6 x)) fits none some there s = as-reason bytes (R.P6 x) (refused-by bytes tokens fault end (R.P6 x) fits none some there s)
+settled_refused bytes tokens fault end (Err (R.P7 x)) fits none some there s = as-reason bytes (R.P7 x) (refused-by bytes tokens fault end (R.P7 x) fits none some there s)
+settled_refused bytes tokens fault end (Err R.NoMemory) fits none some there s = tt
+
+pub settled_read : (bytes : List ℕ) (tokens : List Token) (fault : Option LexFault) (end : Spot) (r : Result Plain Refusal) → length bytes ≤ longest_net_text → IfNone fault (Tokens bytes tokens) →
+    Settles tokens fault end r → IfOk r (λ plain. Spells bytes plain)
+settled_read bytes tokens fault end (Ok plain) fits none s = record { tokens = tokens; fits = fits; read = subst (λ o. IfNone o (Tokens bytes tokens)) s.0 none; system = s.1 }
+settled_read bytes tokens fault end (Err r) fits none s = tt
+
+pub settles_fault : (tokens : List Token) (fault : Option LexFault) (end : Spot) (f : LexFault) → fault ≡ Some f → AreFine tokens → Settles tokens fault end (Err (refusal_of f))
+settles_fault tokens fault end (LexFault.P1 s) is x = inr (inr (inl (LexFault.P1 s, is, refl, x)))
+settles_fault tokens fault end (LexFault.P3 s) is x = inr (inr (inl (LexFault.P3 s, is, refl, x)))
+settles_fault tokens fault end (LexFault.P4 s) is x = inr (inr (inl (LexFault.P4 s, is, refl, x)))
+settles_fault tokens fault end (LexFault.P7 s) is x = inr (inr (inl (LexFault.P7 s, is, refl, x)))
+
+pub settles_unfinished : (tokens : List Token) (fault : Option LexFault) (end : Spot) (r : Refusal) → r ≡ unfinished_of fault end → AreFine tokens → ((p : Plain) → IsSystem tokens p → ⊥) → Settles tokens fault end (Err r)
+settles_unfinished tokens (Some f) end r is x none = subst (λ s. Settles tokens (Some f) end (Err s)) (sym is) (settles_fault tokens (Some f) end f refl x)
+settles_unfinished tokens None end r is x none = subst (λ s. Settles tokens None end (Err s)) (sym is) (inr (inr (inr (refl, refl, x, none))))
+
+pub settles_empty : (tokens : List Token) (fault : Option LexFault) (end : Spot) (r : Refusal) (p : Plain) → tokens ≡ [] → r ≡ unfinished_of fault end → Top tokens [] p → Settles tokens fault end (Err r)
+settles_empty tokens fault end r p none is s = settles_unfinished tokens fault end r is (fine tokens p s) (λ q x. system-some x none)
+
+pub settles_whole : (tokens : List Token) (fault : Option LexFault) (end : Spot) (p : Plain) → (tokens ≡ [] → ⊥) → fault ≡ None → Top tokens [] p → Settles tokens fault end (Ok p)
+settles_whole tokens fault end p some none s = (none, whole_system tokens p s some, λ q x. one_system tokens p q s x)
