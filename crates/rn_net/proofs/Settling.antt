@@ -7,6 +7,7 @@ use Rattle.rn_notation.specs.Limits.{longest_net_text}
 use Rattle.rn_notation.specs.Spots.{spot_after}
 use Rattle.rn_notation.specs.Tokens.{IsToken}
 use Rattle.rn_notation.specs.Words.{number_of}
+use Rattle.rn_notation.specs.Laws.{OneReading, OneFault, NoFaultInTokens}
 use Rattle.rn_notation.specs.Reading.{Tokens, FirstFault, IsSlice}
 use Rattle.rn_notation.specs.declared.token.Spot.{Spot}
 use Rattle.rn_notation.specs.declared.token.Token.{Token}
@@ -17,12 +18,12 @@ use Rattle.rn_inscript.specs.Stages.{BeginAlike, IsNext, HasNoNext}
 use Rattle.rn_net.specs.declared.plain.Plain.{Plain}
 use Rattle.rn_net.specs.declared.refusal.Refusal.{Refusal}
 use Rattle.rn_net.specs.declared.refusal.Refusal.TheVariants as R
-use Rattle.rn_net.specs.Levels.{IsShallow, region_after, is_too_deep}
+use Rattle.rn_net.specs.Levels.{Region, IsShallow, region_after, is_too_deep, after}
 use Rattle.rn_net.specs.Levels.Region.{between}
 use Rattle.rn_net.specs.Nets.{AreItems, plain_of, IsSystem}
 use Rattle.rn_net.specs.Progress.{HaveNaturals}
 use Rattle.rn_net.specs.Texts.{Spells}
-use Rattle.rn_net.specs.Refusals.{IsBeginning, IsStopped, IsDeep, AreFine, IsRefused, IsReason, refusal_of}
+use Rattle.rn_net.specs.Refusals.{IsBeginning, IsStopped, IsDeep, AreFine, IsRefused, IsReason, Answers, refusal_of}
 use Rattle.rn_net.specs.Answers.{Top, Halts, Sinks, Reason, Settles, unfinished_of}
 use Rattle.rn_net.proofs.InscriptionReading.{append-nil}
 use Rattle.rn_net.proofs.NetPhrases.{item_sort}
@@ -151,7 +152,7 @@ settled_refused bytes tokens fault end (Err R.NoMemory) fits none some there s =
 
 pub settled_read : (bytes : List ℕ) (tokens : List Token) (fault : Option LexFault) (end : Spot) (r : Result Plain Refusal) → length bytes ≤ longest_net_text → IfNone fault (Tokens bytes tokens) →
     Settles tokens fault end r → IfOk r (λ plain. Spells bytes plain)
-settled_read bytes tokens fault end (Ok plain) fits none s = record { tokens = tokens; fits = fits; read = subst (λ o. IfNone o (Tokens bytes tokens)) s.0 none; system = s.1 }
+settled_read bytes tokens fault end (Ok plain) fits none s = record { tokens = tokens; fits = fits; read = subst (λ o. IfNone o (Tokens bytes tokens)) s.0 none; system = s.1; within = s.3 }
 settled_read bytes tokens fault end (Err r) fits none s = tt
 
 pub settles_fault : (tokens : List Token) (fault : Option LexFault) (end : Spot) (f : LexFault) → fault ≡ Some f → AreFine tokens → Settles tokens fault end (Err (refusal_of f))
@@ -168,4 +169,71 @@ pub settles_empty : (tokens : List Token) (fault : Option LexFault) (end : Spot)
 settles_empty tokens fault end r p none is s = settles_unfinished tokens fault end r is (fine tokens p s) (λ q x. system-some x none)
 
 pub settles_whole : (tokens : List Token) (fault : Option LexFault) (end : Spot) (p : Plain) → (tokens ≡ [] → ⊥) → fault ≡ None → Top tokens [] p → Settles tokens fault end (Ok p)
-settles_whole tokens fault end p some none s = (none, whole_system tokens p s some, λ q x. one_system tokens p q s x)
+settles_whole tokens fault end p some none s = (none, whole_system tokens p s some, (λ q x. one_system tokens p q s x), (fine tokens p s).1)
+
+-- what is refused once is refused for one reason, and isn't spelled
+begins-front : (a b : List Token) → IsBeginning (a ++ b) → IsBeginning a
+begins-front a b x = (b ++ x.0, x.1, subst (λ us. IsSystem us x.1) (append_assoc a b x.0) x.2)
+
+shallow-at : (r : Region) (a : List Token) (t : Token) (m : List Token) → IsShallow r (a ++ t ∷ m) → is_too_deep (region_after r a) t.kind ≡ false
+shallow-at r [] t m h = h.0
+shallow-at r (x ∷ a) t m h = shallow-at (after r x.kind) a t m h.1
+
+-- a token at which reading ends: with it the tokens are no beginning, or it is too deep
+record Ends (tokens : List Token) (spot : Spot) : Type 0 where
+  before : List Token
+  token : Token
+  left : List Token
+  parts : tokens ≡ before ++ token ∷ left
+  begins : IsBeginning before
+  within : IsShallow between before
+  why : (IsBeginning (before ++ token ∷ []) → ⊥) ⊎ (is_too_deep (region_after between before) token.kind ≡ true)
+  stands : spot ≡ token.spot
+
+stopped-ends : {tokens : List Token} {spot : Spot} → IsStopped tokens spot → Ends tokens spot
+stopped-ends s = record { before = s.before; token = s.token; left = s.left; parts = s.parts; begins = s.begins; within = s.within; why = inl s.none; stands = s.stands }
+
+deep-ends : {tokens : List Token} {spot : Spot} → IsDeep tokens spot → Ends tokens spot
+deep-ends s = record { before = s.before; token = s.token; left = s.left; parts = s.parts; begins = begins-front s.before (s.token ∷ []) s.begins; within = s.within; why = inr s.deep; stands = s.stands }
+
+not-on : {tokens : List Token} {spot : Spot} (e : Ends tokens spot) (m ts : List Token) → ts ≡ e.before ++ e.token ∷ m → IsBeginning ts → IsShallow between ts → ⊥
+not-on e m ts is b w = elim e.why as (λ x. ⊥) [
+  | inl none ↦ none (begins-front (e.before ++ e.token ∷ []) m (subst IsBeginning (is ∙ sym (append_assoc e.before (e.token ∷ []) m)) b))
+  | inr deep ↦ (let no = shallow-at between e.before e.token m (subst (IsShallow between) is w) in let yes = deep in cc)
+]
+
+ends-fine : {tokens : List Token} {spot : Spot} → Ends tokens spot → AreFine tokens → ⊥
+ends-fine {tokens = tokens} e f = not-on e e.left tokens e.parts f.0 f.1
+
+same-tokens : OneReading → OneFault → NoFaultInTokens → (bytes : List ℕ) (s t : List Token) → Tokens bytes s → Tokens bytes t ⊎ ((fault : LexFault) × FirstFault bytes t fault) → s ≡ t
+same-tokens one fault apart bytes s t a (inl b) = one bytes s t a b
+same-tokens one fault apart bytes s t a (inr b) = absurd (apart bytes s t b.0 a b.1)
+
+spelled-alone : OneReading → OneFault → NoFaultInTokens → {bytes : List ℕ} {p : Plain} {r : Refusal} → Spells bytes p → IsRefused bytes r → ⊥
+spelled-alone one fault apart {bytes = bytes} {p = p} s x = by x
+  where
+    fine-tokens : AreFine s.tokens
+    fine-tokens = (([], p, subst (λ us. IsSystem us p) (sym (append-nil s.tokens)) s.system), s.within)
+
+    by : {r : Refusal} → IsRefused bytes r → ⊥
+    by (IsRefused.too_long h) = let f = s.fits in omega (arith, h, f)
+    by (IsRefused.stopped {tokens = tokens} fits of y) = ends-fine (stopped-ends y) (subst AreFine (same-tokens one fault apart bytes s.tokens tokens s.read of) fine-tokens)
+    by (IsRefused.deep {tokens = tokens} fits of y) = ends-fine (deep-ends y) (subst AreFine (same-tokens one fault apart bytes s.tokens tokens s.read of) fine-tokens)
+    by (IsRefused.faulty {tokens = tokens} {fault = f} fits y z) = apart bytes s.tokens tokens f s.read y
+    by (IsRefused.unfinished {tokens = tokens} fits y z none) = none p (subst (λ us. IsSystem us p) (one bytes s.tokens tokens s.read y) s.system)
+
+pub settled_reads : OneReading → OneFault → NoFaultInTokens → (bytes : List ℕ) (tokens : List Token) (fault : Option LexFault) (end : Spot) (r : Result Plain Refusal) → length bytes ≤ longest_net_text → IfNone fault (Tokens bytes tokens) → IfSome fault (FirstFault bytes tokens) → end ≡ spot_after bytes →
+    Settles tokens fault end r → (plain : Plain) → Spells bytes plain → Answers r (Ok plain)
+settled_reads one only apart bytes tokens fault end (Ok q) fits none some there s plain x =
+    ap Ok (sym (s.2 plain (subst (λ us. IsSystem us plain) (one bytes x.tokens tokens x.read (subst (λ o. IfNone o (Tokens bytes tokens)) s.0 none)) x.system)))
+settled_reads one only apart bytes tokens fault end (Err (R.P1 y)) fits none some there s plain x = absurd (spelled-alone one only apart x (refused-by bytes tokens fault end (R.P1 y) fits none some there s))
+settled_reads one only apart bytes tokens fault end (Err (R.P2 y)) fits none some there s plain x = absurd (spelled-alone one only apart x (refused-by bytes tokens fault end (R.P2 y) fits none some there s))
+settled_reads one only apart bytes tokens fault end (Err (R.P3 y)) fits none some there s plain x = absurd (spelled-alone one only apart x (refused-by bytes tokens fault end (R.P3 y) fits none some there s))
+settled_reads one only apart bytes tokens fault end (Err (R.P4 y)) fits none some there s plain x = absurd (spelled-alone one only apart x (refused-by bytes tokens fault end (R.P4 y) fits none some there s))
+settled_reads one only apart bytes tokens fault end (Err (R.P5 y)) fits none some there s plain x = absurd (spelled-alone one only apart x (refused-by bytes tokens fault end (R.P5 y) fits none some there s))
+settled_reads one only apart bytes tokens fault end (Err (R.P6 y)) fits none some there s plain x = absurd (spelled-alone one only apart x (refused-by bytes tokens fault end (R.P6 y) fits none some there s))
+settled_reads one only apart bytes tokens fault end (Err (R.P7 y)) fits none some there s plain x = absurd (spelled-alone one only apart x (refused-by bytes tokens fault end (R.P7 y) fits none some there s))
+settled_reads one only apart bytes tokens fault end (Err R.NoMemory) fits none some there s plain x = tt
+
+pub long_reads : (bytes : List ℕ) (spot : Spot) → longest_net_text < length bytes → (plain : Plain) → Spells bytes plain → Answers (Err (R.P6 spot)) (Ok plain)
+long_reads bytes spot long plain x = absurd (let f = x.fits in omega (arith, long, f))

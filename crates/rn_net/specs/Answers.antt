@@ -63,7 +63,7 @@ Reason tokens fault end refusal =
 
 abbrev pub Settles : List Token → Option LexFault → Spot → Result Plain Refusal → Type 0
 Settles tokens fault end (Ok plain) = (fault ≡ None) × IsSystem tokens plain
-    × ((other : Plain) → IsSystem tokens other → other ≡ plain)
+    × ((other : Plain) → IsSystem tokens other → other ≡ plain) × IsShallow between tokens
 Settles tokens fault end (Err R.NoMemory) = Unit {0}
 Settles tokens fault end (Err refusal) = Reason tokens fault end refusal
 

@@ -14,6 +14,8 @@ mod plain;
 mod reading;
 mod refusal;
 mod system_reader;
+#[cfg(test)]
+mod tests;
 
 pub use constants::{PConst, PConstForm, PConsts};
 pub use kinds::{PKind, PKindForm, PKinds};

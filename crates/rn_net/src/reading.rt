@@ -1,7 +1,8 @@
 //! Reading a net text.
 ghost use Rattle.std.specs.Prelude.{◌≡◌, ◌≤◌, IfErr, IfOk};
 ghost use Rattle.rn_net.specs.Answers.{ItemsAnswer, Settles, unfinished_of};
-ghost use Rattle.rn_net.specs.Refusals.{IsReason, refusal_of};
+ghost use Rattle.rn_net.specs.Refusals.{Answers, IsReason, refusal_of};
+ghost use Rattle.rn_net.specs.declared.plain.Plain.{Plain as System};
 ghost use Rattle.rn_net.specs.Texts.{Spells};
 
 use crate::cursor::next;
@@ -10,7 +11,7 @@ use crate::refusal::Refusal;
 use crate::system_reader::items;
 use rn_inscript::InscriptFault;
 use rn_notation::limits::LONGEST_NET_TEXT;
-use rn_notation::{LexFault, Lexed, Spot, lex};
+use rn_notation::{LexFault, Lexed, Spot, lex, token_laws};
 use std::alloc::Global;
 
 fn refusal_of(fault: LexFault) -> Refusal
@@ -78,7 +79,10 @@ pub fn read_system(alloc: Global, bytes: &[u8]) -> Result<Plain, Refusal>
     // What is returned is spelled by the text, and what is refused is refused for this reason.
     ensures read { IfOk result (λ plain. Spells bytes.now plain) }
     ensures refused { IfErr result (λ refusal. IsReason bytes.now refusal) }
+    // Where the text spells a system, that is returned.
+    ensures reads { (plain : System) → Spells bytes.now plain → Answers result (Ok plain) }
 {
+    token_laws();
     if bytes.len() > LONGEST_NET_TEXT {
         return Err(Refusal::P6(Spot { line: 1, column: 1 }));
     }
