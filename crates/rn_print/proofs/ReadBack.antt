@@ -6,7 +6,7 @@ use Rattle.rn_notation.specs.Reading.{Piece, gap, token, ArePieces, tokens_after
 use Rattle.rn_notation.specs.declared.token.Token.{Token}
 use Rattle.rn_notation.specs.declared.token.TokenKind.{TokenKind}
 use Rattle.rn_net.specs.declared.plain.Plain.{Plain}
-use Rattle.rn_net.specs.Texts.{Spells}
+use Rattle.rn_net.specs.Texts.{IsTextOf}
 use Rattle.rn_print.specs.Nets.{canonical_text}
 use Rattle.rn_print.specs.SameButSpots.{SameButSpots}
 use Rattle.rn_print.specs.Laws.{TextsAreReadBack, SpotsDoNotCount}
@@ -36,9 +36,9 @@ tokens_legal : {text : List ℕ} {tokens : List Token} → Tokens text tokens �
 tokens_legal {text = text} t =
     subst AllLegal (sym t.among) (pieces_legal [] text t.pieces [] t.stand)
 
-spelled : (bytes : List ℕ) (p : Plain) → Spells bytes p →
+spelled : (bytes : List ℕ) (p : Plain) → IsTextOf bytes p →
     length (canonical_text p) ≤ longest_net_text →
-    (q : Plain) × Spells (canonical_text p) q × SameButSpots q p
+    (q : Plain) × IsTextOf (canonical_text p) q × SameButSpots q p
 spelled bytes p is fits =
     let r = reads_back is.system (tokens_legal is.read) in (
       r.other,
@@ -55,7 +55,7 @@ pub texts_are_read_back : TextsAreReadBack
 texts_are_read_back plain (bytes, (p, is, same)) fits =
     let e : canonical_text p ≡ canonical_text plain = same_text p plain same in
     let r = spelled bytes p is (subst (λ text. length text ≤ longest_net_text) (sym e) fits) in
-    (r.0, subst (λ text. Spells text r.0) e r.1, r.2 ∙ same)
+    (r.0, subst (λ text. IsTextOf text r.0) e r.1, r.2 ∙ same)
 
 pub spots_do_not_count : SpotsDoNotCount
 spots_do_not_count = same_text
