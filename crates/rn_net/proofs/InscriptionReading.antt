@@ -109,7 +109,7 @@ out : {A : Type 0} (u : Token) → u.kind ≡ semicolon → IsInside u → A
 out u is inside = absurd (let h : is_inside u.kind ≡ false = ap is_inside is in cc)
 
 -- two lists that make the same list
-split-at : (a b c d : List Token) → a ++ b ≡ c ++ d → ((m : List Token) × (c ≡ a ++ m) × (b ≡ m ++ d)) ⊎ ((t : Token) × (m : List Token) × (a ≡ c ++ t ∷ m) × (d ≡ t ∷ m ++ b))
+pub split-at : (a b c d : List Token) → a ++ b ≡ c ++ d → ((m : List Token) × (c ≡ a ++ m) × (b ≡ m ++ d)) ⊎ ((t : Token) × (m : List Token) × (a ≡ c ++ t ∷ m) × (d ≡ t ∷ m ++ b))
 split-at [] b c d is = inl (c, refl, is)
 split-at (x ∷ a) b [] d is = inr (x, a, refl, sym is)
 split-at (x ∷ a) b (y ∷ c) d is =

@@ -9,3 +9,4 @@ mod DeclarationPhrases
 mod NetPhrases
 mod Systems
 mod Settling
+mod Refusing

@@ -172,7 +172,7 @@ pub settles_whole : (tokens : List Token) (fault : Option LexFault) (end : Spot)
 settles_whole tokens fault end p some none s = (none, whole_system tokens p s some, (λ q x. one_system tokens p q s x), (fine tokens p s).1)
 
 -- what is refused once is refused for one reason, and isn't spelled
-begins-front : (a b : List Token) → IsBeginning (a ++ b) → IsBeginning a
+pub begins-front : (a b : List Token) → IsBeginning (a ++ b) → IsBeginning a
 begins-front a b x = (b ++ x.0, x.1, subst (λ us. IsSystem us x.1) (append_assoc a b x.0) x.2)
 
 shallow-at : (r : Region) (a : List Token) (t : Token) (m : List Token) → IsShallow r (a ++ t ∷ m) → is_too_deep (region_after r a) t.kind ≡ false
@@ -180,36 +180,36 @@ shallow-at r [] t m h = h.0
 shallow-at r (x ∷ a) t m h = shallow-at (after r x.kind) a t m h.1
 
 -- a token at which reading ends: with it the tokens are no beginning, or it is too deep
-record Ends (tokens : List Token) (spot : Spot) : Type 0 where
-  before : List Token
-  token : Token
-  left : List Token
-  parts : tokens ≡ before ++ token ∷ left
-  begins : IsBeginning before
-  within : IsShallow between before
-  why : (IsBeginning (before ++ token ∷ []) → ⊥) ⊎ (is_too_deep (region_after between before) token.kind ≡ true)
-  stands : spot ≡ token.spot
+pub record Ends (tokens : List Token) (spot : Spot) : Type 0 where
+  pub before : List Token
+  pub token : Token
+  pub left : List Token
+  pub parts : tokens ≡ before ++ token ∷ left
+  pub begins : IsBeginning before
+  pub within : IsShallow between before
+  pub why : (IsBeginning (before ++ token ∷ []) → ⊥) ⊎ (is_too_deep (region_after between before) token.kind ≡ true)
+  pub stands : spot ≡ token.spot
 
-stopped-ends : {tokens : List Token} {spot : Spot} → IsStopped tokens spot → Ends tokens spot
+unfoldable pub stopped-ends : {tokens : List Token} {spot : Spot} → IsStopped tokens spot → Ends tokens spot
 stopped-ends s = record { before = s.before; token = s.token; left = s.left; parts = s.parts; begins = s.begins; within = s.within; why = inl s.none; stands = s.stands }
 
-deep-ends : {tokens : List Token} {spot : Spot} → IsDeep tokens spot → Ends tokens spot
+unfoldable pub deep-ends : {tokens : List Token} {spot : Spot} → IsDeep tokens spot → Ends tokens spot
 deep-ends s = record { before = s.before; token = s.token; left = s.left; parts = s.parts; begins = begins-front s.before (s.token ∷ []) s.begins; within = s.within; why = inr s.deep; stands = s.stands }
 
-not-on : {tokens : List Token} {spot : Spot} (e : Ends tokens spot) (m ts : List Token) → ts ≡ e.before ++ e.token ∷ m → IsBeginning ts → IsShallow between ts → ⊥
+pub not-on : {tokens : List Token} {spot : Spot} (e : Ends tokens spot) (m ts : List Token) → ts ≡ e.before ++ e.token ∷ m → IsBeginning ts → IsShallow between ts → ⊥
 not-on e m ts is b w = elim e.why as (λ x. ⊥) [
   | inl none ↦ none (begins-front (e.before ++ e.token ∷ []) m (subst IsBeginning (is ∙ sym (append_assoc e.before (e.token ∷ []) m)) b))
   | inr deep ↦ (let no = shallow-at between e.before e.token m (subst (IsShallow between) is w) in let yes = deep in cc)
 ]
 
-ends-fine : {tokens : List Token} {spot : Spot} → Ends tokens spot → AreFine tokens → ⊥
+pub ends-fine : {tokens : List Token} {spot : Spot} → Ends tokens spot → AreFine tokens → ⊥
 ends-fine {tokens = tokens} e f = not-on e e.left tokens e.parts f.0 f.1
 
 same-tokens : OneReading → OneFault → NoFaultInTokens → (bytes : List ℕ) (s t : List Token) → Tokens bytes s → Tokens bytes t ⊎ ((fault : LexFault) × FirstFault bytes t fault) → s ≡ t
 same-tokens one fault apart bytes s t a (inl b) = one bytes s t a b
 same-tokens one fault apart bytes s t a (inr b) = absurd (apart bytes s t b.0 a b.1)
 
-spelled-alone : OneReading → OneFault → NoFaultInTokens → {bytes : List ℕ} {p : Plain} {r : Refusal} → Spells bytes p → IsRefused bytes r → ⊥
+pub spelled-alone : OneReading → OneFault → NoFaultInTokens → {bytes : List ℕ} {p : Plain} {r : Refusal} → Spells bytes p → IsRefused bytes r → ⊥
 spelled-alone one fault apart {bytes = bytes} {p = p} s x = by x
   where
     fine-tokens : AreFine s.tokens

@@ -1,8 +1,9 @@
 //! Reading a net text.
 ghost use Rattle.std.specs.Prelude.{◌≡◌, ◌≤◌, IfErr, IfOk};
 ghost use Rattle.rn_net.specs.Answers.{ItemsAnswer, Settles, unfinished_of};
-ghost use Rattle.rn_net.specs.Refusals.{Answers, IsReason, refusal_of};
+ghost use Rattle.rn_net.specs.Refusals.{Answers, IsReason, IsRefused, refusal_of};
 ghost use Rattle.rn_net.specs.declared.plain.Plain.{Plain as System};
+ghost use Rattle.rn_net.specs.declared.refusal.Refusal.{Refusal as Why};
 ghost use Rattle.rn_net.specs.Texts.{Spells};
 
 use crate::cursor::next;
@@ -81,6 +82,8 @@ pub fn read_system(alloc: Global, bytes: &[u8]) -> Result<Plain, Refusal>
     ensures refused { IfErr result (λ refusal. IsReason bytes.now refusal) }
     // Where the text spells a system, that is returned.
     ensures reads { (plain : System) → Spells bytes.now plain → Answers result (Ok plain) }
+    // Where there is a reason to refuse the text, that is returned. So no text has two.
+    ensures refuses { (why : Why) → IsRefused bytes.now why → Answers result (Err why) }
 {
     token_laws();
     if bytes.len() > LONGEST_NET_TEXT {
