@@ -129,6 +129,13 @@ unique (x ∷ p) (y ∷ q) u v r s a b h i is =
     let here : x ≡ y = cc in
     (ap (λ us. x ∷ us) rest.0 ∙ ap (λ w. w ∷ q) here, rest.1)
 
+-- one inscription ends at the first semicolon
+pub one_up_to_semicolon : OneInscription → {i j : PInscription} {ts r q : List Token} → IsInscriptionUpTo ts i r → IsInscriptionUpTo ts j q → (i ≡ j) × (r ≡ q)
+one_up_to_semicolon law {i = i} {j = j} {r = r} {q = q} x y =
+    let c = cut x in let d = cut y in
+    let same = unique c.part d.part c.end d.end r q c.inside d.inside c.ends d.ends (sym c.parts ∙ d.parts) in
+    (law d.part i j (subst (λ us. IsInscription us i) same.0 c.whole) d.whole, same.1)
+
 -- levels and operators of the text are those of the inscription
 not-semicolon : (kind : TokenKind) → is_inside kind ≡ true → is_semicolon kind ≡ false
 not-semicolon (Sign k) h = grind (arith, nat_tests, common_steps)

@@ -10,3 +10,5 @@ mod NetPhrases
 mod Systems
 mod Settling
 mod Refusing
+mod OnePhrase
+mod OneSystem

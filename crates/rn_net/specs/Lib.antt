@@ -9,3 +9,4 @@ pub mod Lists
 pub mod Parts
 pub mod Refusals
 pub mod Answers
+pub mod Laws

@@ -8,6 +8,7 @@ mod cursor;
 mod declaration_reader;
 mod kind_reader;
 mod kinds;
+mod laws;
 mod net_reader;
 mod part;
 mod plain;
@@ -19,6 +20,7 @@ mod tests;
 
 pub use constants::{PConst, PConstForm, PConsts};
 pub use kinds::{PKind, PKindForm, PKinds};
+pub use laws::net_laws;
 pub use plain::{
     PChannel, PChannels, PInscriptions, PNet, PNets, PPlace, PPlaces, PTransition, PTransitions,
     PVar, PVars, Plain,

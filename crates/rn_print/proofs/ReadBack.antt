@@ -1,5 +1,5 @@
 -- The canonical text of a system that some text spells is read back.
-use Rattle.std.proofs.Common.{◌≡◌, ℕ, ◌≤◌, List, [], ◌∷◌, ◌++◌, length, refl, sym, ◌∙◌, subst}
+use Rattle.std.proofs.Common.{◌≡◌, ℕ, ◌≤◌, List, [], ◌∷◌, ◌++◌, length, refl, sym, ap, ◌∙◌, subst}
 use Rattle.rn_notation.specs.Limits.{longest_net_text}
 use Rattle.rn_notation.specs.Tokens.{IsToken}
 use Rattle.rn_notation.specs.Reading.{Piece, gap, token, ArePieces, tokens_after, Tokens}
@@ -7,9 +7,11 @@ use Rattle.rn_notation.specs.declared.token.Token.{Token}
 use Rattle.rn_notation.specs.declared.token.TokenKind.{TokenKind}
 use Rattle.rn_net.specs.declared.plain.Plain.{Plain}
 use Rattle.rn_net.specs.Texts.{IsTextOf}
+use Rattle.rn_net.specs.Laws.{OneTextOf}
+use Rattle.rn_net.specs.Laws as Net
 use Rattle.rn_print.specs.Nets.{canonical_text}
-use Rattle.rn_print.specs.SameButSpots.{SameButSpots}
-use Rattle.rn_print.specs.Laws.{TextsAreReadBack, SpotsDoNotCount}
+use Rattle.rn_print.specs.SameButSpots.{SameButSpots, unplaced}
+use Rattle.rn_print.specs.Laws.{TextsAreReadBack, SpotsDoNotCount, TextsAreFixed, TextsTellApart, TextsAreRefusedForDepth}
 use Rattle.rn_print.proofs.Trees.{tokens_in, tokens_whole}
 use Rattle.rn_print.proofs.Atoms.{Legal}
 use Rattle.rn_print.proofs.SpelledExpressions.{AllLegal}
@@ -59,3 +61,21 @@ texts_are_read_back plain (bytes, (p, is, same)) fits =
 
 pub spots_do_not_count : SpotsDoNotCount
 spots_do_not_count = same_text
+
+pub texts_are_fixed : OneTextOf → TextsAreFixed
+texts_are_fixed one p q spelled is =
+    let r = texts_are_read_back p spelled is.fits in
+    let same : q ≡ r.0 = one (canonical_text p) q r.0 is r.1 in
+    same_text q p (ap unplaced same ∙ r.2)
+
+pub texts_tell_apart : OneTextOf → TextsTellApart
+texts_tell_apart one p q first second same fits =
+    let r = texts_are_read_back p first fits in
+    let s = texts_are_read_back q second (subst (λ text. length text ≤ longest_net_text) same fits) in
+    let read : IsTextOf (canonical_text p) s.0 = subst (λ text. IsTextOf text s.0) (sym same) s.1 in
+    sym r.2 ∙ ap unplaced (one (canonical_text p) r.0 s.0 r.1 read) ∙ s.2
+
+pub refused_for_depth : Net.TextsAreRefusedForDepth → TextsAreRefusedForDepth
+refused_for_depth alone plain refusal spelled fits x =
+    let r = texts_are_read_back plain spelled fits in
+    alone (canonical_text plain) r.0 refusal r.1 x

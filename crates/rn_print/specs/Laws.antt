@@ -1,9 +1,15 @@
 -- Laws of canonical texts.
-use Rattle.std.specs.Prelude.{◌≡◌}
+use Rattle.std.specs.Prelude.{◌≡◌, ◌≤◌, length}
+use Rattle.rn_notation.specs.Limits.{longest_net_text}
+use Rattle.rn_notation.specs.declared.token.Spot.{Spot}
 use Rattle.rn_net.specs.declared.plain.Plain.{Plain}
+use Rattle.rn_net.specs.declared.refusal.Refusal.{Refusal}
+use Rattle.rn_net.specs.declared.refusal.Refusal.TheVariants as R
+use Rattle.rn_net.specs.Refusals.{IsRefused}
+use Rattle.rn_net.specs.Texts.{IsTextOf}
 use Rattle.rn_print.specs.Nets.{canonical_text}
 use Rattle.rn_print.specs.SameButSpots.{SameButSpots}
-use Rattle.rn_print.specs.ReadingBack.{IsReadBack}
+use Rattle.rn_print.specs.ReadingBack.{IsSpelled, IsReadBack}
 
 -- Where some text spells a plain form, but for its spots, its canonical text does so, unless it is
 -- longer than a net text may be.
@@ -13,3 +19,19 @@ TextsAreReadBack = (plain : Plain) → IsReadBack (canonical_text plain) plain
 -- plain forms that are the same but for spots have one canonical text
 abbrev pub SpotsDoNotCount : Type 0
 SpotsDoNotCount = (p q : Plain) → SameButSpots p q → canonical_text p ≡ canonical_text q
+
+-- canonical texts are fixed points: what is read from one has that very text again
+abbrev pub TextsAreFixed : Type 0
+TextsAreFixed = (p q : Plain) → IsSpelled p → IsTextOf (canonical_text p) q →
+    canonical_text q ≡ canonical_text p
+
+-- what has one canonical text is the same but for spots
+abbrev pub TextsTellApart : Type 0
+TextsTellApart = (p q : Plain) → IsSpelled p → IsSpelled q → canonical_text p ≡ canonical_text q →
+    length (canonical_text p) ≤ longest_net_text → SameButSpots p q
+
+-- the canonical text of what some text spells is refused for its depth alone
+abbrev pub TextsAreRefusedForDepth : Type 0
+TextsAreRefusedForDepth = (plain : Plain) (refusal : Refusal) → IsSpelled plain →
+    length (canonical_text plain) ≤ longest_net_text → IsRefused (canonical_text plain) refusal →
+    (spot : Spot) × (refusal ≡ R.P5 spot)

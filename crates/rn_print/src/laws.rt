@@ -1,10 +1,18 @@
 //! Laws of canonical texts.
-ghost use Rattle.rn_print.specs.Laws.{TextsAreReadBack, SpotsDoNotCount};
+ghost use Rattle.rn_print.specs.Laws.{SpotsDoNotCount, TextsAreFixed, TextsAreReadBack};
+ghost use Rattle.rn_print.specs.Laws.{TextsAreRefusedForDepth, TextsTellApart};
 
-/// The canonical text of what a text spells is read back, and doesn't depend on spots.
+use rn_net::net_laws;
+
+/// The canonical text of what a text spells is read back, is fixed, and tells all but spots.
 ///
 /// It does nothing: its clauses say what holds of all plain forms.
 pub fn printing_laws()
     ensures texts_are_read_back { TextsAreReadBack }
     ensures spots_do_not_count { SpotsDoNotCount }
-{}
+    ensures texts_are_fixed { TextsAreFixed }
+    ensures texts_tell_apart { TextsTellApart }
+    ensures refused_for_depth { TextsAreRefusedForDepth }
+{
+    net_laws();
+}

@@ -5,7 +5,9 @@ use crate::print_system;
 use rn_inscript::{PExpr, PForm, PInscribed, PInscription, PName};
 use rn_items::{Boxed, Items};
 use rn_model::{ArcKind, OpKind};
-use rn_net::{PConst, PConstForm, PKind, PKindForm, PNet, PPlace, PTransition, Plain};
+use rn_net::{
+    PConst, PConstForm, PKind, PKindForm, PNet, PPlace, PTransition, Plain, Refusal, read_system,
+};
 use rn_notation::Spot;
 use rn_value::Str;
 use std::alloc::Global;
@@ -211,5 +213,65 @@ fn worked_net(rt: HostRuntime) -> Result<(), Fail> {
 }
 ";
     assert_eq!(rt; text.as_slice(), wanted.as_bytes());
+    Ok(())
+}
+
+// Whether the text spells a system whose canonical text is this.
+fn is_printed_as(alloc: Global, text: &str, wanted: &str) -> Result<bool, Refusal> {
+    let plain = read_system(alloc, text.as_bytes())?;
+    let bytes = print_system(alloc, &plain)?;
+    Ok(bytes.as_slice() == wanted.as_bytes())
+}
+
+// each form of inscription, in another layout and as it is printed
+const FORMS: &str = "net n{trans t{flexin p;flexout p:{x,(y):z};clear p;:c( x,\"a\\n\");
+this :c(007);m:new n;action print -(a);action v=step( );x+1=y;
+guard!((x)==2&&b)||a<=((c));}} channel c(int,{text});";
+
+const PRINTED_FORMS: &str = "channel c(int,{text});
+net n {
+  trans t {
+    flexin p;
+    flexout p: {x,y:z};
+    clear p;
+    :c(x,\"a\\n\");
+    this:c(7);
+    m: new n;
+    action print -a;
+    action v = step();
+    x + 1 = y;
+    guard !(x == 2 && b) || a <= c;
+  }
+}
+";
+
+// declarations in another order
+const ORDER: &str = "net main { trans t { in p ; out q: (x)-( y*2 ) ; }
+place q; place p=[ ],[]; var x,y : int; }";
+
+const PRINTED_ORDER: &str = "net main {
+  var x: int;
+  var y: int;
+  place q: [];
+  place p: [] = [], [];
+  trans t {
+    in p: [];
+    out q: x - y * 2;
+  }
+}
+";
+
+#[test]
+fn texts_are_printed(rt: HostRuntime) -> Result<(), Fail> {
+    let rows = [
+        (FORMS, PRINTED_FORMS),
+        (PRINTED_FORMS, PRINTED_FORMS),
+        (ORDER, PRINTED_ORDER),
+        (PRINTED_ORDER, PRINTED_ORDER),
+    ];
+    for (text, wanted) in rows {
+        let found = is_printed_as(rt.alloc(), text, wanted);
+        assert_eq!(&rt; found, Ok(true));
+    }
     Ok(())
 }

@@ -1,0 +1,226 @@
+-- Tokens are one system at most, and those of a system are refused for their depth alone.
+use Rattle.std.proofs.Common.{◌≡◌, ℕ, ◌⊎◌, inl, inr, List, [], ◌∷◌, ◌++◌, refl, sym, ◌∙◌, ap, subst, append_assoc, arith}
+use Rattle.rn_notation.specs.declared.token.Token.{Token}
+use Rattle.rn_notation.specs.declared.token.TokenKind.{TokenKind}
+use Rattle.rn_notation.specs.declared.token.Spot.{Spot}
+use Rattle.rn_notation.specs.Laws.{OneReading, NoFaultInTokens}
+use Rattle.rn_inscript.specs.Laws.{OneInscription}
+use Rattle.rn_inscript.specs.Signs.{close_brace, open_brace, open_paren, close_paren, colon, comma}
+use Rattle.rn_inscript.specs.Inscriptions.{name_at}
+use Rattle.rn_inscript.specs.declared.inscriptions.PName.{PName}
+use Rattle.rn_inscript.specs.declared.inscriptions.PInscription.{PInscription}
+use Rattle.rn_net.specs.declared.constants.PConst.{PConst}
+use Rattle.rn_net.specs.declared.kinds.PKind.{PKind}
+use Rattle.rn_net.specs.declared.kinds.PKindForm.TheVariants as K
+use Rattle.rn_net.specs.declared.plain.Plain.{Plain}
+use Rattle.rn_net.specs.declared.plain.PNet.{PNet}
+use Rattle.rn_net.specs.declared.plain.PPlace.{PPlace}
+use Rattle.rn_net.specs.declared.part.Part.{Part}
+use Rattle.rn_net.specs.declared.part.Item.{Item}
+use Rattle.rn_net.specs.Words.{semicolon, net_word, trans_word, var_word, place_word, channel_word}
+use Rattle.rn_net.specs.Kinds.{IsKind, AreListed, kind_at}
+use Rattle.rn_net.specs.Nets.{IsChannel, AreMoreNames, AreVars, AreInitial, IsPlace, AreInscriptions, IsTransition, AreParts, IsNet, AreItems, IsSystem, net_of, plain_of}
+use Rattle.rn_net.specs.Lists.{IsInscriptionUpTo}
+use Rattle.rn_net.specs.Parts.{IsPart, IsItem, IsInitialUpTo, AreNames, with_part, with_item}
+use Rattle.rn_net.specs.declared.refusal.Refusal.{Refusal}
+use Rattle.rn_net.specs.declared.refusal.Refusal.TheVariants as R
+use Rattle.rn_net.specs.Refusals.{IsStopped, AreTokensOf, IsRefused}
+use Rattle.rn_net.specs.Laws.{OneSystem, OneTextOf, TextsAreRefusedForDepth}
+use Rattle.rn_net.proofs.Sorts.{tell}
+use Rattle.rn_net.proofs.Rows.{row_up_to}
+use Rattle.rn_net.proofs.DeclarationPhrases.{channel_sort, channel_open, channel_kinds, channel_end, channel-only, name_row, vars_sort, vars_names, vars_kind, vars_end, vars-only, PlaceOn, place_on, place_kind, place_end, place_sort, place-only}
+use Rattle.rn_net.proofs.NetPhrases.{inscriptions-apart, inscriptions_sort, transition_inside, transition_open, transition_sort, transition-only, parts-split, parts-apart, part-begins, net_inside, net_open, net_sort, net-only, item-begins}
+use Rattle.rn_net.proofs.Systems.{items-split}
+use Rattle.rn_net.proofs.InscriptionReading.{one_up_to_semicolon}
+use Rattle.rn_net.proofs.OnePhrase.{Same, One, differ, NoComma, OneRow, one_done, one_kind_then, one_name_then, one_then, one_up_to, one_kind, one_listed, one-constants}
+
+-- tokens don't begin with two words
+two_words : {ts us vs : List Token} {j k : TokenKind} {t u : Token} → ts ≡ t ∷ us → ts ≡ u ∷ vs → t.kind ≡ j → u.kind ≡ k → (tell j ≡ tell k → ⊥) → ⊥
+two_words {t = t} {u = u} e f h k other = differ h (let same : t ≡ u = cc in ap (λ v. v.kind) same ∙ k) other
+
+-- channels
+one-channel : One channel_sort.is
+one-channel = one_kind_then channel_word (λ w. _) (λ w.
+    one_name_then (λ n. (channel_open n).is) (λ n.
+    one_kind_then open_paren (λ p. (channel_kinds n).is) (λ p.
+    one_then (AreListed close_paren) (λ ks. (channel_end n ks).is) (one_listed close_paren refl (λ e. cc)) (λ ks.
+    one_kind_then semicolon (λ s. _) (λ s. one_done _)))))
+
+one_channel : One IsChannel
+one_channel ts r q a b x y = one-channel ts r q a b (channel-only ts a r x) (channel-only ts b q y)
+
+-- variables
+one-more-names : {a b c : List PName} {ts r q : List Token} → AreMoreNames a ts b r → AreMoreNames a ts c q → NoComma r → NoComma q → Same b c r q
+one-more-names AreMoreNames.no_more_names AreMoreNames.no_more_names e f = (refl, refl)
+one-more-names AreMoreNames.no_more_names (AreMoreNames.more_names h x m) e f = absurd (e h)
+one-more-names (AreMoreNames.more_names h x m) AreMoreNames.no_more_names e f = absurd (f h)
+one-more-names {a = a} {c = c} {q = q} (AreMoreNames.more_names {u = u} {ts = ts} {name = s} h x m) (AreMoreNames.more_names {name = z} i y n) e f =
+    one-more-names m (subst (λ j. AreMoreNames (a ++ name_at u.spot j ∷ []) ts c q) (let d : z ≡ s = cc in d) n) e f
+
+one-names : OneRow AreNames
+one-names ts r q a b x y e f =
+    let i = x.2 in let j = y.2 in
+    let first : j.0 ≡ i.0 = let g = i.3 in let h = j.3 in cc in
+    let others : y.1 ≡ x.1 = let g = i.3 in let h = j.3 in let k = i.5.1 in let l = j.5.1 in cc in
+    let name : j.2 ≡ i.2 = let g = i.4 in let h = j.4 in cc in
+    let same : y.0 ≡ x.0 = j.5.0 ∙ ap (λ t. name_at t.spot j.2) first ∙ ap (λ s. name_at i.0.spot s) name ∙ sym i.5.0 in
+    one-more-names x.3 (subst (λ us. AreMoreNames (x.0 ∷ []) us b q) others (subst (λ n. AreMoreNames (n ∷ []) y.1 b q) same y.3)) e f
+
+one-vars : One vars_sort.is
+one-vars = one_kind_then var_word (λ w. vars_names.is) (λ w.
+    one_then (row_up_to name_row colon).is (λ ns. (vars_kind ns).is) (one_up_to AreNames colon (λ e. cc) one-names) (λ ns.
+    one_then IsKind (λ k. (vars_end ns k).is) one_kind (λ k.
+    one_kind_then semicolon (λ s. _) (λ s. one_done _))))
+
+one_vars : One AreVars
+one_vars ts r q a b x y = one-vars ts r q a b (vars-only ts a r x) (vars-only ts b q y)
+
+-- places
+one-initial : {ts r q us vs : List Token} {a b : List PConst} {u v : Token} → AreInitial ts a r → AreInitial ts b q → r ≡ u ∷ us → q ≡ v ∷ vs → u.kind ≡ semicolon → v.kind ≡ semicolon → Same a b r q
+one-initial AreInitial.none AreInitial.none e f h k = (refl, refl)
+one-initial {u = u} AreInitial.none (AreInitial.some {t = t} i x) e f h k = absurd (let same : t ≡ u = cc in let g : t.kind ≡ semicolon = ap (λ w. w.kind) same ∙ h in cc)
+one-initial {v = v} (AreInitial.some {t = t} i x) AreInitial.none e f h k = absurd (let same : t ≡ v = cc in let g : t.kind ≡ semicolon = ap (λ w. w.kind) same ∙ k in cc)
+one-initial {us = us} {vs = vs} {u = u} {v = v} (AreInitial.some i x) (AreInitial.some j y) e f h k = one-constants x y (subst NoComma (sym e) (λ c. let g = h in cc)) (subst NoComma (sym f) (λ c. let g = k in cc))
+
+one_initial : One IsInitialUpTo
+one_initial ts r q a b x y =
+    let s = one-initial x.2 y.2 x.3.1 y.3.1 x.3.2 y.3.2 in
+    (x.3.3 ∙ s.0 ∙ sym y.3.3, let d = s.1 in let e = x.3.1 in let f = y.3.1 in cc)
+
+one_place_end : (n : PName) (k : PKind) → One (place_end n k).is
+one_place_end n k = one_then IsInitialUpTo (λ is. _) one_initial (λ is. one_done _)
+
+-- initial tokens and the semicolon don't begin with a colon
+no_colon : {ts mid rest : List Token} {is : List PConst} {t u : Token} {us : List Token} → AreInitial ts is mid → mid ≡ u ∷ rest → u.kind ≡ semicolon → ts ≡ t ∷ us → t.kind ≡ colon → ⊥
+no_colon {t = t} {u = u} AreInitial.none e h f k = let same : t ≡ u = cc in let g : t.kind ≡ semicolon = ap (λ w. w.kind) same ∙ h in cc
+no_colon {t = t} (AreInitial.some {t = v} i x) e h f k = let same : v ≡ t = cc in let g : v.kind ≡ colon = ap (λ w. w.kind) same ∙ k in cc
+
+one_place_on : (n : PName) → One (PlaceOn n)
+one_place_on n ts r q a b (inl x) (inl y) =
+    one_kind_then colon (λ c. (place_kind n).is) (λ c. one_then IsKind (λ k. (place_end n k).is) one_kind (λ k. one_place_end n k)) ts r q a b x y
+one_place_on n ts r q a b (inl x) (inr y) = let z = y.2 in absurd (no_colon z.2 z.3.1 z.3.2 x.2 x.3)
+one_place_on n ts r q a b (inr x) (inl y) = let z = x.2 in absurd (no_colon z.2 z.3.1 z.3.2 y.2 y.3)
+one_place_on n ts r q a b (inr x) (inr y) = one_place_end n (kind_at n.spot (K.Tuple [])) ts r q a b x y
+
+one-place : One place_sort.is
+one-place = one_kind_then place_word (λ w. _) (λ w. one_name_then (λ n. (place_on n).is) one_place_on)
+
+one_place : One IsPlace
+one_place ts r q a b x y = one-place ts r q a b (place-only ts a r x) (place-only ts b q y)
+
+-- the tokens go on with a closing brace
+abbrev Closes : List Token → Type 0
+Closes ts = (t : Token) × (us : List Token) × (ts ≡ t ∷ us) × (t.kind ≡ close_brace)
+
+-- transitions
+no_inscription : {ts mid : List Token} {i : PInscription} → Closes ts → IsInscriptionUpTo ts i mid → ⊥
+no_inscription {mid = mid} {i = i} c x = inscriptions-apart (subst (λ us. IsInscriptionUpTo us i mid) c.2 x) c.3
+
+one-inscriptions : OneInscription → {a b c : List PInscription} {ts r q : List Token} → AreInscriptions a ts b r → AreInscriptions a ts c q → Closes r → Closes q → Same b c r q
+one-inscriptions law AreInscriptions.no_more_inscriptions AreInscriptions.no_more_inscriptions e f = (refl, refl)
+one-inscriptions law AreInscriptions.no_more_inscriptions (AreInscriptions.more_inscriptions x h m) e f = absurd (no_inscription e (_, _, _, _, refl, x, h, refl))
+one-inscriptions law (AreInscriptions.more_inscriptions x h m) AreInscriptions.no_more_inscriptions e f = absurd (no_inscription f (_, _, _, _, refl, x, h, refl))
+one-inscriptions law {a = a} {c = c} {q = q} (AreInscriptions.more_inscriptions {t = t} {ts = ts} {mid = mid} {form = form} x h m) (AreInscriptions.more_inscriptions {mid = end} {form = other} y k n) e f =
+    let s = one_up_to_semicolon law {i = record { form = form; spot = t.spot }} {j = record { form = other; spot = t.spot }} (_, _, _, _, refl, x, h, refl) (_, _, _, _, refl, y, k, refl) in
+    one-inscriptions law m (subst (λ us. AreInscriptions (a ++ record { form = form; spot = t.spot } ∷ []) us c q) (sym s.1) (subst (λ i. AreInscriptions (a ++ i ∷ []) end c q) (sym s.0) n)) e f
+
+one-transition : OneInscription → One transition_sort.is
+one-transition law = one_kind_then trans_word (λ w. _) (λ w.
+    one_name_then (λ n. (transition_open n).is) (λ n.
+    one_kind_then open_brace (λ b. (transition_inside n).is) (λ b.
+    one_then inscriptions_sort.is (λ all. _) (λ ts r q a b x y.
+    let s = one-inscriptions law x.2 y.2 (x.3.0, r, x.3.1, x.3.2) (y.3.0, q, y.3.1, y.3.2) in
+    (x.3.3 ∙ s.0 ∙ sym y.3.3, let d = s.1 in let e = x.3.1 in let f = y.3.1 in cc)) (λ all. one_done _))))
+
+-- parts of nets
+one_part : OneInscription → One IsPart
+one_part law ts r q (Part.Vars a) (Part.Vars b) x y = let s = one_vars ts r q a b x y in (ap Part.Vars s.0, s.1)
+one_part law ts r q (Part.Place a) (Part.Place b) x y = let s = one_place ts r q a b x y in (ap Part.Place s.0, s.1)
+one_part law ts r q (Part.Transition a) (Part.Transition b) x y = let s = one-transition law ts r q a b (transition-only ts a r x) (transition-only ts b q y) in (ap Part.Transition s.0, s.1)
+one_part law ts r q (Part.Vars a) (Part.Place b) x y = let i = vars-only ts a r x in let j = place-only ts b q y in absurd (two_words i.2 j.2 i.3 j.3 (λ e. omega (arith, e)))
+one_part law ts r q (Part.Vars a) (Part.Transition b) x y = let i = vars-only ts a r x in let j = transition-only ts b q y in absurd (two_words i.2 j.2 i.3 j.3 (λ e. omega (arith, e)))
+one_part law ts r q (Part.Place a) (Part.Vars b) x y = let i = place-only ts a r x in let j = vars-only ts b q y in absurd (two_words i.2 j.2 i.3 j.3 (λ e. omega (arith, e)))
+one_part law ts r q (Part.Place a) (Part.Transition b) x y = let i = place-only ts a r x in let j = transition-only ts b q y in absurd (two_words i.2 j.2 i.3 j.3 (λ e. omega (arith, e)))
+one_part law ts r q (Part.Transition a) (Part.Vars b) x y = let i = transition-only ts a r x in let j = vars-only ts b q y in absurd (two_words i.2 j.2 i.3 j.3 (λ e. omega (arith, e)))
+one_part law ts r q (Part.Transition a) (Part.Place b) x y = let i = transition-only ts a r x in let j = place-only ts b q y in absurd (two_words i.2 j.2 i.3 j.3 (λ e. omega (arith, e)))
+
+no_part : {ts : List Token} (mid : List Token) (p : Part) → Closes ts → IsPart ts p mid → ⊥
+no_part mid p c x = parts-apart c.0 c.1 mid p (subst (λ us. IsPart us p mid) c.2 x) c.3
+
+ends-parts : {n b : PNet} {ts q : List Token} → AreParts n ts b q → Closes ts → Same n b ts q
+ends-parts y e = elim (parts-split y) [ inl d ↦ (sym d.0, sym d.1) | inr g ↦ absurd (no_part g.1 g.0 e g.2) ]
+
+-- a part, and then the others
+next_part : OneInscription → {n b : PNet} {ts mid q : List Token} (p : Part) → IsPart ts p mid → AreParts n ts b q → Closes q → AreParts (with_part n p) mid b q
+next_part law {n = n} {b = b} {ts = ts} {mid = mid} {q = q} p x y f = elim (parts-split y) as (λ w. AreParts (with_part n p) mid b q) [
+  | inl d ↦ absurd (no_part mid p (subst Closes d.1 f) x)
+  | inr g ↦ let s = one_part law ts mid g.1 p g.0 x g.2 in
+      subst (λ us. AreParts (with_part n p) us b q) (sym s.1) (subst (λ o. AreParts (with_part n o) g.1 b q) (sym s.0) g.3)
+]
+
+one-parts : OneInscription → {n a b : PNet} {ts r q : List Token} → AreParts n ts a r → AreParts n ts b q → Closes r → Closes q → Same a b r q
+one-parts law AreParts.no_more_parts y e f = ends-parts y e
+one-parts law (AreParts.and_vars {more = more} x m) y e f = one-parts law m (next_part law (Part.Vars more) x y f) e f
+one-parts law (AreParts.and_place {place = p} x m) y e f = one-parts law m (next_part law (Part.Place p) x y f) e f
+one-parts law (AreParts.and_transition {transition = t} x m) y e f = one-parts law m (next_part law (Part.Transition t) x y f) e f
+
+-- nets
+one-net : OneInscription → One net_sort.is
+one-net law = one_kind_then net_word (λ w. _) (λ w.
+    one_name_then (λ n. (net_open n).is) (λ n.
+    one_kind_then open_brace (λ b. (net_inside n).is) (λ b ts r q a c x y.
+    let s = one-parts law x.2 y.2 (x.3.0, r, x.3.1, x.3.2) (y.3.0, q, y.3.1, y.3.2) in
+    (x.3.3 ∙ s.0 ∙ sym y.3.3, let d = s.1 in let e = x.3.1 in let f = y.3.1 in cc))))
+
+-- items, up to the end
+one_item : OneInscription → One IsItem
+one_item law ts r q (Item.Channel a) (Item.Channel b) x y = let s = one_channel ts r q a b x y in (ap Item.Channel s.0, s.1)
+one_item law ts r q (Item.Net a) (Item.Net b) x y = let s = one-net law ts r q a b (net-only ts a r x) (net-only ts b q y) in (ap Item.Net s.0, s.1)
+one_item law ts r q (Item.Channel a) (Item.Net b) x y = let i = channel-only ts a r x in let j = net-only ts b q y in absurd (two_words i.2 j.2 i.3 j.3 (λ e. omega (arith, e)))
+one_item law ts r q (Item.Net a) (Item.Channel b) x y = let i = net-only ts a r x in let j = channel-only ts b q y in absurd (two_words i.2 j.2 i.3 j.3 (λ e. omega (arith, e)))
+
+no_item : {ts : List Token} (mid : List Token) (i : Item) → ts ≡ [] → IsItem ts i mid → ⊥
+no_item {ts = ts} mid i is x = let y = item-begins ts mid i x in let e = y.2 in cc
+
+next_item : OneInscription → {p b : Plain} {ts mid : List Token} (i : Item) → IsItem ts i mid → AreItems p ts b → AreItems (with_item p i) mid b
+next_item law {p = p} {b = b} {ts = ts} {mid = mid} i x y = elim (items-split y) as (λ w. AreItems (with_item p i) mid b) [
+  | inl d ↦ absurd (no_item mid i d.0 x)
+  | inr g ↦ let s = one_item law ts mid g.1 i g.0 x g.2 in
+      subst (λ us. AreItems (with_item p i) us b) (sym s.1) (subst (λ o. AreItems (with_item p o) g.1 b) (sym s.0) g.3)
+]
+
+ends-items : {p b : Plain} {ts : List Token} → AreItems p ts b → ts ≡ [] → p ≡ b
+ends-items y e = elim (items-split y) [ inl d ↦ sym d.1 | inr g ↦ absurd (no_item g.1 g.0 e g.2) ]
+
+one-items : OneInscription → {p a b : Plain} {ts : List Token} → AreItems p ts a → AreItems p ts b → a ≡ b
+one-items law AreItems.no_more_items y = ends-items y refl
+one-items law (AreItems.and_channel {channel = c} x m) y = one-items law m (next_item law (Item.Channel c) x y)
+one-items law (AreItems.and_net {net = n} x m) y = one-items law m (next_item law (Item.Net n) x y)
+
+pub one_system : OneInscription → OneSystem
+one_system law tokens p q x y = by x y
+  where
+    by : {ts : List Token} {a b : Plain} → IsSystem ts a → IsSystem ts b → a ≡ b
+    by (IsSystem.system x) (IsSystem.system y) = one-items law x y
+
+pub one_text : OneInscription → OneReading → OneTextOf
+one_text law one bytes p q x y =
+    one_system law x.tokens p q x.system (subst (λ ts. IsSystem ts q) (one bytes y.tokens x.tokens y.read x.read) y.system)
+
+-- all tokens of a system begin one
+none-stops : {tokens : List Token} {p : Plain} {spot : Spot} → IsSystem tokens p → IsStopped tokens spot → ⊥
+none-stops {p = p} x s = s.none (s.left, p, subst (λ ts. IsSystem ts p) (s.parts ∙ sym (append_assoc s.before (s.token ∷ []) s.left)) x)
+
+pub depth_alone : OneReading → NoFaultInTokens → TextsAreRefusedForDepth
+depth_alone one apart bytes p r t x = by x
+  where
+    same : {us : List Token} → AreTokensOf bytes us → us ≡ t.tokens
+    same {us = us} (inl b) = one bytes us t.tokens b t.read
+    same {us = us} (inr b) = absurd (apart bytes t.tokens us b.0 t.read b.1)
+
+    by : {r : Refusal} → IsRefused bytes r → (spot : Spot) × (r ≡ R.P5 spot)
+    by (IsRefused.too_long h) = absurd (let f = t.fits in omega (arith, h, f))
+    by (IsRefused.stopped {spot = spot} h of a) = absurd (none-stops t.system (subst (λ ts. IsStopped ts spot) (same of) a))
+    by (IsRefused.deep {spot = spot} h of a) = (spot, refl)
+    by (IsRefused.faulty {tokens = us} {fault = f} h a fine) = absurd (apart bytes t.tokens us f t.read a)
+    by (IsRefused.unfinished h a fine none) = absurd (none p (subst (λ ts. IsSystem ts p) (sym (same (inl a))) t.system))
