@@ -11,6 +11,10 @@ mod forms;
 mod inscriptions;
 mod laws;
 mod reading;
+#[cfg(test)]
+mod shown;
+#[cfg(test)]
+mod tests;
 
 pub use conds::{PAlts, PCond, PSimple, PSimples};
 pub use exprs::{PExpr, PExprs, PForm};

@@ -1,0 +1,461 @@
+//! Readings, their ends and spots, refusals, and the limits of levels and operators, as tables.
+use crate::InscriptFault::{P2, P5};
+use crate::shown::{put_expr, put_form};
+use crate::{
+    InscriptFault, PExpr, PInscribed, PInscription, read_expr, read_transition_inscription,
+};
+use rn_notation::lex;
+use rn_value::NoMemory;
+use std::alloc::Global;
+use std::test::Fail;
+
+// Bytes of a text of a table, at most.
+const LONGEST_ROW: usize = 10_000;
+
+fn expression(alloc: Global, text: &str) -> Result<(PExpr, usize), InscriptFault> {
+    if text.len() > LONGEST_ROW {
+        return Err(InscriptFault::NoMemory);
+    }
+    let lexed = lex(alloc, text.as_bytes())?;
+    read_expr(alloc, &lexed.tokens, 0)
+}
+
+fn inscription(alloc: Global, text: &str) -> Result<(PInscription, usize), InscriptFault> {
+    if text.len() > LONGEST_ROW {
+        return Err(InscriptFault::NoMemory);
+    }
+    let lexed = lex(alloc, text.as_bytes())?;
+    read_transition_inscription(alloc, &lexed.tokens, 0)
+}
+
+fn expression_shown(alloc: Global, e: &PExpr) -> Result<String, InscriptFault> {
+    let mut out = String::new(alloc);
+    put_expr(alloc, e, &mut out)?;
+    Ok(out)
+}
+
+fn form_shown(alloc: Global, form: &PInscribed) -> Result<String, InscriptFault> {
+    let mut out = String::new(alloc);
+    put_form(alloc, form, &mut out)?;
+    Ok(out)
+}
+
+fn inscription_shown(alloc: Global, i: &PInscription) -> Result<String, InscriptFault> {
+    form_shown(alloc, &i.form)
+}
+
+fn shape_of_expression(alloc: Global, text: &str) -> Result<String, InscriptFault> {
+    let (e, _) = expression(alloc, text)?;
+    expression_shown(alloc, &e)
+}
+
+fn shape_of_inscription(alloc: Global, text: &str) -> Result<String, InscriptFault> {
+    let (i, _) = inscription(alloc, text)?;
+    inscription_shown(alloc, &i)
+}
+
+fn with_column(e: &PExpr, end: usize) -> (u32, usize) {
+    (e.spot.column, end)
+}
+
+fn with_column_of_form(i: &PInscription, end: usize) -> (u32, usize) {
+    (i.spot.column, end)
+}
+
+// The column of an expression's spot, and the index after the expression.
+fn extent_of_expression(alloc: Global, text: &str) -> Result<(u32, usize), InscriptFault> {
+    let (e, end) = expression(alloc, text)?;
+    Ok(with_column(&e, end))
+}
+
+// The column of an inscription's spot, and the index after the inscription.
+fn extent_of_inscription(alloc: Global, text: &str) -> Result<(u32, usize), InscriptFault> {
+    let (i, end) = inscription(alloc, text)?;
+    Ok(with_column_of_form(&i, end))
+}
+
+// The column of the expression of an arc, where there is one.
+fn column_of_arc(i: &PInscription) -> Option<u32> {
+    match &i.form {
+        PInscribed::Arc {
+            inscription: Some(e),
+            ..
+        } => Some(e.spot.column),
+        _ => None,
+    }
+}
+
+fn column_in(alloc: Global, text: &str) -> Result<Option<u32>, InscriptFault> {
+    let (i, _) = inscription(alloc, text)?;
+    Ok(column_of_arc(&i))
+}
+
+// The index after an inscription.
+fn end_of(alloc: Global, text: &str) -> Result<usize, InscriptFault> {
+    let (_, end) = extent_of_inscription(alloc, text)?;
+    Ok(end)
+}
+
+#[test]
+fn expressions(rt: HostRuntime) -> Result<(), Fail> {
+    let rows = [
+        ("12", "12"),
+        ("007", "7"),
+        ("\"a\"", "'a"),
+        ("x", "x"),
+        ("this", "THIS"),
+        ("step()", "STEP"),
+        ("step", "step"),
+        ("[]", "[]"),
+        ("[1,x]", "[1;x;]"),
+        ("{}", "{}"),
+        ("{a,b}", "{a;b;}"),
+        ("{a,b:t}", "{a;b;:t}"),
+        ("{a:{b:t}}", "{a;:{b;:t}}"),
+        ("((x))", "x"),
+        ("a + b + c", "((a+b)+c)"),
+        ("a - b - c", "((a-b)-c)"),
+        ("a - b + c", "((a-b)+c)"),
+        ("a * b / c", "((a*b)/c)"),
+        ("a / b % c", "((a/b)%c)"),
+        ("a + b * c", "(a+(b*c))"),
+        ("a * b + c", "((a*b)+c)"),
+        ("a - b % c - d", "((a-(b%c))-d)"),
+        ("(a + b) * c", "((a+b)*c)"),
+        ("a - (b - c)", "(a-(b-c))"),
+        ("-x*y", "((-x)*y)"),
+        ("-x + y", "((-x)+y)"),
+        ("-(x + y)", "(-(x+y))"),
+        ("a - -b", "(a-(-b))"),
+        ("a * -b", "(a*(-b))"),
+        ("--x", "(-(-x))"),
+        ("-step()", "(-STEP)"),
+    ];
+    for (text, wanted) in rows {
+        let made = shape_of_expression(rt.alloc(), text)?;
+        assert_eq!(rt; made.as_str(), wanted, "{text}");
+    }
+    Ok(())
+}
+
+#[test]
+fn conditions(rt: HostRuntime) -> Result<(), Fail> {
+    let rows = [
+        ("guard x", "guard any(all(x;))"),
+        ("guard x == 1", "guard any(all(x==1;))"),
+        ("guard x != 1", "guard any(all(x!=1;))"),
+        ("guard x < 1", "guard any(all(x<1;))"),
+        ("guard x <= 1", "guard any(all(x<=1;))"),
+        ("guard x > 1", "guard any(all(x>1;))"),
+        ("guard x >= 1", "guard any(all(x>=1;))"),
+        ("guard a && b && c", "guard any(all(a;b;c;))"),
+        ("guard a || b || c", "guard any(all(a;)all(b;)all(c;))"),
+        ("guard a && b || c", "guard any(all(a;b;)all(c;))"),
+        ("guard a || b && c", "guard any(all(a;)all(b;c;))"),
+        ("guard a + 1 < -b && c", "guard any(all((a+1)<(-b);c;))"),
+        (
+            "guard !(a == b) && c < d",
+            "guard any(all(not any(all(a==b;));c<d;))",
+        ),
+        (
+            "guard !(a && !(b || c))",
+            "guard any(all(not any(all(a;not any(all(b;)all(c;));));))",
+        ),
+        ("guard (a) > (b)", "guard any(all(a>b;))"),
+    ];
+    for (text, wanted) in rows {
+        let made = shape_of_inscription(rt.alloc(), text)?;
+        assert_eq!(rt; made.as_str(), wanted, "{text}");
+    }
+    Ok(())
+}
+
+#[test]
+fn inscriptions(rt: HostRuntime) -> Result<(), Fail> {
+    let rows = [
+        ("in p: e", "in p e"),
+        ("in p", "in p []"),
+        ("out p", "out p []"),
+        ("test p", "test p []"),
+        ("reserve p", "reserve p []"),
+        ("inhibit p", "inhibit p []"),
+        ("flexin p", "flexin p"),
+        ("flexout p", "flexout p"),
+        ("clear p", "clear p"),
+        ("flexout p: x", "flexout p x"),
+        ("action print x + 1", "print (x+1)"),
+        ("action v = e", "set v e"),
+        (":ch()", "up ch "),
+        (":ch(x,2)", "up ch x;2;"),
+        ("x: new n", "new x n"),
+        ("x:ch()", "down x ch "),
+        ("this:ch(1)", "down THIS ch 1;"),
+        ("step:step(1)", "down step step 1;"),
+        ("x = y", "equal x y"),
+        ("x + 1 = y", "equal (x+1) y"),
+        ("(x) = 1", "equal x 1"),
+        ("-1 = x", "equal (-1) x"),
+        ("1 = x", "equal 1 x"),
+        ("\"a\" = x", "equal 'a x"),
+        ("this = [x]", "equal THIS [x;]"),
+        ("step() = x", "equal STEP x"),
+        ("{x:y} = {1}", "equal {x;:y} {1;}"),
+    ];
+    for (text, wanted) in rows {
+        let made = shape_of_inscription(rt.alloc(), text)?;
+        assert_eq!(rt; made.as_str(), wanted, "{text}");
+    }
+    Ok(())
+}
+
+#[test]
+fn extents_of_expressions(rt: HostRuntime) -> Result<(), Fail> {
+    let rows = [
+        ("x", (1, 1)),
+        (" x;", (2, 1)),
+        ("((x))", (3, 5)),
+        ("(a + b) * c", (2, 7)),
+        ("a * (b + c)", (1, 7)),
+        ("(-x)", (2, 4)),
+        ("([x])", (2, 5)),
+        ("{(x)}", (1, 5)),
+        ("x y", (1, 1)),
+        ("x == y", (1, 1)),
+        ("x)", (1, 1)),
+        ("x: y", (1, 1)),
+        ("x = y", (1, 1)),
+    ];
+    for (text, wanted) in rows {
+        let found = extent_of_expression(rt.alloc(), text);
+        assert_eq!(&rt; found, Ok(wanted), "{text}");
+    }
+    Ok(())
+}
+
+#[test]
+fn extents_of_inscriptions(rt: HostRuntime) -> Result<(), Fail> {
+    let rows = [
+        ("in p;", (1, 2)),
+        (" in p: x + 1;", (2, 6)),
+        ("in p x", (1, 2)),
+        ("clear p: x", (1, 4)),
+        ("guard x; y", (1, 2)),
+        ("guard a == b == c", (1, 4)),
+        ("action v = e = f", (1, 4)),
+        (":ch() x", (1, 4)),
+        ("x: new n(", (1, 4)),
+        ("x:ch():", (1, 5)),
+        ("  (x) = 1;", (3, 5)),
+        ("x = y = z", (1, 3)),
+    ];
+    for (text, wanted) in rows {
+        let found = extent_of_inscription(rt.alloc(), text);
+        assert_eq!(&rt; found, Ok(wanted), "{text}");
+    }
+    Ok(())
+}
+
+// An absent inscription has the spot of the place's name.
+#[test]
+fn columns_of_arcs(rt: HostRuntime) -> Result<(), Fail> {
+    let rows = [
+        ("in p", Some(4)),
+        (" test  p", Some(8)),
+        ("in p: []", Some(7)),
+        ("in p: (x)", Some(8)),
+        ("clear p", None),
+    ];
+    for (text, wanted) in rows {
+        let found = column_in(rt.alloc(), text);
+        assert_eq!(&rt; found, Ok(wanted), "{text}");
+    }
+    Ok(())
+}
+
+#[test]
+fn no_expressions(rt: HostRuntime) -> Result<(), Fail> {
+    let rows = [
+        ("", 0),
+        (")", 0),
+        ("net", 0),
+        ("+ x", 0),
+        ("!(x)", 0),
+        ("-", 1),
+        ("()", 1),
+        ("a +", 2),
+        ("a + ;", 2),
+        ("a * / b", 2),
+        ("(x", 2),
+        ("(x]", 2),
+        ("(x, y)", 2),
+        ("[x y]", 2),
+        ("[x,]", 3),
+        ("{x,}", 3),
+        ("{:x}", 1),
+        ("{x:}", 3),
+        ("{x:y,z}", 4),
+        ("[x:y]", 2),
+        ("step(1)", 2),
+    ];
+    for (text, k) in rows {
+        let found = extent_of_expression(rt.alloc(), text);
+        assert_eq!(&rt; found, Err(P2(k)), "{text}");
+    }
+    Ok(())
+}
+
+#[test]
+fn no_inscriptions(rt: HostRuntime) -> Result<(), Fail> {
+    let rows = [
+        ("", 0),
+        (";", 0),
+        ("var", 0),
+        ("in", 1),
+        ("in 1", 1),
+        ("in p:", 3),
+        ("in p: ;", 3),
+        ("in p: (x", 5),
+        ("in p: [x,]", 6),
+        ("guard", 1),
+        ("guard a &&", 3),
+        ("guard a || ;", 3),
+        ("guard a ==", 3),
+        ("guard !a", 2),
+        ("guard !(a;", 4),
+        ("guard (a == b)", 3),
+        ("action", 1),
+        ("action 1", 1),
+        ("action print", 2),
+        ("action v 1", 2),
+        ("action v =", 3),
+        (":", 1),
+        (":ch", 2),
+        (":ch(", 3),
+        (":ch(1,)", 5),
+        (":new n", 1),
+        ("x:", 2),
+        ("x: 1", 2),
+        ("x: ch", 3),
+        ("x: new", 3),
+        ("x: new 1", 3),
+        ("this: new n", 2),
+        ("(x):ch()", 3),
+        ("1:ch()", 1),
+        ("step():ch()", 3),
+        ("x", 1),
+        ("x + 1;", 3),
+        ("x == y", 1),
+        ("x = ", 2),
+    ];
+    for (text, k) in rows {
+        let found = end_of(rt.alloc(), text);
+        assert_eq!(&rt; found, Err(P2(k)), "{text}");
+    }
+    Ok(())
+}
+
+fn push_times(out: &mut String, part: &str, times: u32) -> Result<(), NoMemory> {
+    for _ in 0..times {
+        out.push_str(part)?;
+    }
+    Ok(())
+}
+
+// A text between others, with so many copies of one before it and as many of another after it.
+fn nested(
+    alloc: Global,
+    times: u32,
+    start: &str,
+    (open, inner, close): (&str, &str, &str),
+) -> Result<usize, InscriptFault> {
+    let mut text = String::from_str(alloc, start)?;
+    push_times(&mut text, open, times)?;
+    text.push_str(inner)?;
+    push_times(&mut text, close, times)?;
+    end_of(alloc, text.as_str())
+}
+
+#[test]
+fn levels(rt: HostRuntime) -> Result<(), Fail> {
+    let rows = [
+        (64, ("(", "x", ")"), Ok(132)),
+        (65, ("(", "x", ")"), Err(P5(67))),
+        (64, ("[", "", "]"), Ok(131)),
+        (65, ("[", "", "]"), Err(P5(67))),
+        (64, ("{", "", "}"), Ok(131)),
+        (65, ("{", "", "}"), Err(P5(67))),
+        (64, ("{1,", "2", "}"), Ok(260)),
+        (65, ("{1,", "2", "}"), Err(P5(195))),
+        (64, ("-", "1", ""), Ok(68)),
+        (65, ("-", "1", ""), Err(P5(67))),
+        (300, ("-", "1", ""), Err(P5(67))),
+        (64, ("-", "step", ""), Ok(68)),
+        (64, ("-", "step()", ""), Err(P5(68))),
+        (63, ("-", "step()", ""), Ok(69)),
+        (64, ("-", "1 + (x)", ""), Ok(72)),
+        (32, ("-(", "x", ")"), Ok(100)),
+        (33, ("-(", "x", ")"), Err(P5(67))),
+        (32, ("[-", "x", "]"), Ok(100)),
+        (33, ("[-", "x", "]"), Err(P5(67))),
+        (64, ("(", ",", ")"), Err(P2(67))),
+        (65, ("(", ",", ")"), Err(P5(67))),
+    ];
+    for (times, parts, wanted) in rows {
+        let found = nested(rt.alloc(), times, "in p: ", parts);
+        assert_eq!(&rt; found, wanted);
+    }
+    Ok(())
+}
+
+#[test]
+fn levels_of_other_forms(rt: HostRuntime) -> Result<(), Fail> {
+    let rows = [
+        (64, "guard ", ("!(", "x", ")"), Ok(194)),
+        (65, "guard ", ("!(", "x", ")"), Err(P5(130))),
+        (63, "x:ch(", ("(", "1", ")"), Err(P2(131))),
+        (64, "x:ch(", ("(", "1", ")"), Err(P5(67))),
+        (63, ":ch(", ("-", "1)", ""), Ok(68)),
+        (64, ":ch(", ("-", "1)", ""), Err(P5(66))),
+        (64, "x = ", ("(", "1", ")"), Ok(131)),
+        (65, "x = ", ("(", "1", ")"), Err(P5(66))),
+        (65, "in p: ,", ("(", "1", ")"), Err(P2(3))),
+        (65, "in p", ("(", "1", ")"), Ok(2)),
+    ];
+    for (times, start, parts, wanted) in rows {
+        let found = nested(rt.alloc(), times, start, parts);
+        assert_eq!(&rt; found, wanted);
+    }
+    Ok(())
+}
+
+#[test]
+fn operators(rt: HostRuntime) -> Result<(), Fail> {
+    let rows = [
+        (256, "in p: 1", ("+1", "", ""), Ok(516)),
+        (257, "in p: 1", ("+1", "", ""), Err(P5(516))),
+        (256, "in p: 1", ("+1", "+[[", ""), Err(P5(516))),
+        (255, "in p: 1", ("+1", "+", ""), Err(P2(515))),
+        (85, "in p: 1", ("*1/1%1", "-1", ""), Ok(516)),
+        (85, "in p: 1", ("*1/1%1", "-1-1", ""), Err(P5(516))),
+        (128, "in p: 1", ("--1", "", ""), Ok(388)),
+        (129, "in p: 1", ("--1", "", ""), Err(P5(388))),
+        (256, "in p: [1", (",-1", "]", ""), Ok(774)),
+        (257, "in p: [1", (",-1", "]", ""), Err(P5(774))),
+        (256, "guard x", (" && x", "", ""), Ok(514)),
+        (257, "guard x", (" && x", "", ""), Err(P5(514))),
+        (256, "guard x", (" || x", "", ""), Ok(514)),
+        (257, "guard x", (" || x", "", ""), Err(P5(514))),
+        (127, "guard x == 1", (" && x == 1", "", ""), Ok(512)),
+        (128, "guard x == 1", (" && x == 1", "", ""), Err(P5(514))),
+        (128, "guard x", (" && !(x)", "", ""), Ok(642)),
+        (129, "guard x", (" && !(x)", "", ""), Err(P5(642))),
+        (256, "x = 1", ("+1", "", ""), Ok(515)),
+        (128, "x", ("+1", " = y", "+1"), Ok(515)),
+        (129, "x", ("+1", " = y", "+1"), Err(P5(515))),
+    ];
+    for (times, start, parts, wanted) in rows {
+        let found = nested(rt.alloc(), times, start, parts);
+        assert_eq!(&rt; found, wanted);
+    }
+    Ok(())
+}
