@@ -21,6 +21,7 @@ mod worked_tests;
 
 pub use agreement::does_agree;
 pub use lookup::{child_index, child_on, node_index, node_on};
+pub use mentions::awaits_action;
 pub use node_values::NodeValues;
 pub use nodes::transition_of;
 pub use shape::has_shape;

@@ -41,7 +41,7 @@ fn is_output(kind: ArcKind) -> bool
 }
 
 /// Whether an arc is an output that holds an action variable.
-pub(crate) fn awaits_action(transition: &Transition, arc: &NetArc) -> bool
+pub fn awaits_action(transition: &Transition, arc: &NetArc) -> bool
     ensures { result ≡ awaits_action transition.now arc.now }
 {
     is_output(arc.kind) && mentions(&arc.inscription, transition.action_vars.as_slice())
