@@ -14,3 +14,5 @@ pub mod Checked
 pub mod Tables
 pub mod Sights
 pub mod Scopes
+pub mod WellFormed
+pub mod Laws

@@ -9,6 +9,7 @@ mod fault;
 mod first;
 mod inscriptions;
 mod kinds;
+pub mod laws;
 mod located;
 mod names;
 mod pattern;

@@ -1,0 +1,12 @@
+//! Laws over what the checker accepts, each the contract of a function that does nothing.
+ghost use Rattle.rn_check.specs.Laws.{CheckedExpressionsHaveKinds, CheckedSystemsAreGood};
+
+/// An expression in which nothing is broken has each kind that comes of its pattern.
+pub fn checked_expressions_have_kinds()
+    ensures { CheckedExpressionsHaveKinds }
+{}
+
+/// A plain form that is well formed, and in which nothing is broken, means a good system.
+pub fn checked_systems_are_good()
+    ensures { CheckedSystemsAreGood }
+{}
