@@ -12,6 +12,8 @@ mod laws;
 mod net_reader;
 mod part;
 mod plain;
+#[cfg(test)]
+mod prefix_tests;
 mod reading;
 mod refusal;
 mod system_reader;
