@@ -10,6 +10,8 @@ mod fault;
 mod forms;
 mod inscriptions;
 mod laws;
+#[cfg(test)]
+mod limit_tests;
 mod reading;
 #[cfg(test)]
 mod shown;

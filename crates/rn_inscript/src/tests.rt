@@ -1,11 +1,10 @@
-//! Readings, their ends and spots, refusals, and the limits of levels and operators, as tables.
-use crate::InscriptFault::{P2, P5};
+//! Readings, their ends and spots, and refusals, as tables.
+use crate::InscriptFault::P2;
 use crate::shown::{put_expr, put_form};
 use crate::{
     InscriptFault, PExpr, PInscribed, PInscription, read_expr, read_transition_inscription,
 };
 use rn_notation::lex;
-use rn_value::NoMemory;
 use std::alloc::Global;
 use std::test::Fail;
 
@@ -54,24 +53,24 @@ fn shape_of_inscription(alloc: Global, text: &str) -> Result<String, InscriptFau
     inscription_shown(alloc, &i)
 }
 
-fn with_column(e: &PExpr, end: usize) -> (u32, usize) {
+fn expression_extent(e: &PExpr, end: usize) -> (u32, usize) {
     (e.spot.column, end)
 }
 
-fn with_column_of_form(i: &PInscription, end: usize) -> (u32, usize) {
+fn inscription_extent(i: &PInscription, end: usize) -> (u32, usize) {
     (i.spot.column, end)
 }
 
 // The column of an expression's spot, and the index after the expression.
 fn extent_of_expression(alloc: Global, text: &str) -> Result<(u32, usize), InscriptFault> {
     let (e, end) = expression(alloc, text)?;
-    Ok(with_column(&e, end))
+    Ok(expression_extent(&e, end))
 }
 
 // The column of an inscription's spot, and the index after the inscription.
 fn extent_of_inscription(alloc: Global, text: &str) -> Result<(u32, usize), InscriptFault> {
     let (i, end) = inscription(alloc, text)?;
-    Ok(with_column_of_form(&i, end))
+    Ok(inscription_extent(&i, end))
 }
 
 // The column of the expression of an arc, where there is one.
@@ -91,7 +90,7 @@ fn column_in(alloc: Global, text: &str) -> Result<Option<u32>, InscriptFault> {
 }
 
 // The index after an inscription.
-fn end_of(alloc: Global, text: &str) -> Result<usize, InscriptFault> {
+pub(crate) fn end_of(alloc: Global, text: &str) -> Result<usize, InscriptFault> {
     let (_, end) = extent_of_inscription(alloc, text)?;
     Ok(end)
 }
@@ -350,112 +349,6 @@ fn no_inscriptions(rt: HostRuntime) -> Result<(), Fail> {
     for (text, k) in rows {
         let found = end_of(rt.alloc(), text);
         assert_eq!(&rt; found, Err(P2(k)), "{text}");
-    }
-    Ok(())
-}
-
-fn push_times(out: &mut String, part: &str, times: u32) -> Result<(), NoMemory> {
-    for _ in 0..times {
-        out.push_str(part)?;
-    }
-    Ok(())
-}
-
-// A text between others, with so many copies of one before it and as many of another after it.
-fn nested(
-    alloc: Global,
-    times: u32,
-    start: &str,
-    (open, inner, close): (&str, &str, &str),
-) -> Result<usize, InscriptFault> {
-    let mut text = String::from_str(alloc, start)?;
-    push_times(&mut text, open, times)?;
-    text.push_str(inner)?;
-    push_times(&mut text, close, times)?;
-    end_of(alloc, text.as_str())
-}
-
-#[test]
-fn levels(rt: HostRuntime) -> Result<(), Fail> {
-    let rows = [
-        (64, ("(", "x", ")"), Ok(132)),
-        (65, ("(", "x", ")"), Err(P5(67))),
-        (64, ("[", "", "]"), Ok(131)),
-        (65, ("[", "", "]"), Err(P5(67))),
-        (64, ("{", "", "}"), Ok(131)),
-        (65, ("{", "", "}"), Err(P5(67))),
-        (64, ("{1,", "2", "}"), Ok(260)),
-        (65, ("{1,", "2", "}"), Err(P5(195))),
-        (64, ("-", "1", ""), Ok(68)),
-        (65, ("-", "1", ""), Err(P5(67))),
-        (300, ("-", "1", ""), Err(P5(67))),
-        (64, ("-", "step", ""), Ok(68)),
-        (64, ("-", "step()", ""), Err(P5(68))),
-        (63, ("-", "step()", ""), Ok(69)),
-        (64, ("-", "1 + (x)", ""), Ok(72)),
-        (32, ("-(", "x", ")"), Ok(100)),
-        (33, ("-(", "x", ")"), Err(P5(67))),
-        (32, ("[-", "x", "]"), Ok(100)),
-        (33, ("[-", "x", "]"), Err(P5(67))),
-        (64, ("(", ",", ")"), Err(P2(67))),
-        (65, ("(", ",", ")"), Err(P5(67))),
-    ];
-    for (times, parts, wanted) in rows {
-        let found = nested(rt.alloc(), times, "in p: ", parts);
-        assert_eq!(&rt; found, wanted);
-    }
-    Ok(())
-}
-
-#[test]
-fn levels_of_other_forms(rt: HostRuntime) -> Result<(), Fail> {
-    let rows = [
-        (64, "guard ", ("!(", "x", ")"), Ok(194)),
-        (65, "guard ", ("!(", "x", ")"), Err(P5(130))),
-        (63, "x:ch(", ("(", "1", ")"), Err(P2(131))),
-        (64, "x:ch(", ("(", "1", ")"), Err(P5(67))),
-        (63, ":ch(", ("-", "1)", ""), Ok(68)),
-        (64, ":ch(", ("-", "1)", ""), Err(P5(66))),
-        (64, "x = ", ("(", "1", ")"), Ok(131)),
-        (65, "x = ", ("(", "1", ")"), Err(P5(66))),
-        (65, "in p: ,", ("(", "1", ")"), Err(P2(3))),
-        (65, "in p", ("(", "1", ")"), Ok(2)),
-    ];
-    for (times, start, parts, wanted) in rows {
-        let found = nested(rt.alloc(), times, start, parts);
-        assert_eq!(&rt; found, wanted);
-    }
-    Ok(())
-}
-
-#[test]
-fn operators(rt: HostRuntime) -> Result<(), Fail> {
-    let rows = [
-        (256, "in p: 1", ("+1", "", ""), Ok(516)),
-        (257, "in p: 1", ("+1", "", ""), Err(P5(516))),
-        (256, "in p: 1", ("+1", "+[[", ""), Err(P5(516))),
-        (255, "in p: 1", ("+1", "+", ""), Err(P2(515))),
-        (85, "in p: 1", ("*1/1%1", "-1", ""), Ok(516)),
-        (85, "in p: 1", ("*1/1%1", "-1-1", ""), Err(P5(516))),
-        (128, "in p: 1", ("--1", "", ""), Ok(388)),
-        (129, "in p: 1", ("--1", "", ""), Err(P5(388))),
-        (256, "in p: [1", (",-1", "]", ""), Ok(774)),
-        (257, "in p: [1", (",-1", "]", ""), Err(P5(774))),
-        (256, "guard x", (" && x", "", ""), Ok(514)),
-        (257, "guard x", (" && x", "", ""), Err(P5(514))),
-        (256, "guard x", (" || x", "", ""), Ok(514)),
-        (257, "guard x", (" || x", "", ""), Err(P5(514))),
-        (127, "guard x == 1", (" && x == 1", "", ""), Ok(512)),
-        (128, "guard x == 1", (" && x == 1", "", ""), Err(P5(514))),
-        (128, "guard x", (" && !(x)", "", ""), Ok(642)),
-        (129, "guard x", (" && !(x)", "", ""), Err(P5(642))),
-        (256, "x = 1", ("+1", "", ""), Ok(515)),
-        (128, "x", ("+1", " = y", "+1"), Ok(515)),
-        (129, "x", ("+1", " = y", "+1"), Err(P5(515))),
-    ];
-    for (times, start, parts, wanted) in rows {
-        let found = nested(rt.alloc(), times, start, parts);
-        assert_eq!(&rt; found, wanted);
     }
     Ok(())
 }

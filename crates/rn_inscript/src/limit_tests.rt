@@ -1,0 +1,113 @@
+//! The limits of levels and operators, as tables.
+use crate::InscriptFault;
+use crate::InscriptFault::{P2, P5};
+use crate::tests::end_of;
+use rn_value::NoMemory;
+use std::alloc::Global;
+use std::test::Fail;
+
+fn push_times(out: &mut String, part: &str, times: u32) -> Result<(), NoMemory> {
+    for _ in 0..times {
+        out.push_str(part)?;
+    }
+    Ok(())
+}
+
+// A text between others, with so many copies of one before it and as many of another after it.
+fn nested(
+    alloc: Global,
+    times: u32,
+    start: &str,
+    (open, inner, close): (&str, &str, &str),
+) -> Result<usize, InscriptFault> {
+    let mut text = String::from_str(alloc, start)?;
+    push_times(&mut text, open, times)?;
+    text.push_str(inner)?;
+    push_times(&mut text, close, times)?;
+    end_of(alloc, text.as_str())
+}
+
+#[test]
+fn levels(rt: HostRuntime) -> Result<(), Fail> {
+    let rows = [
+        (64, ("(", "x", ")"), Ok(132)),
+        (65, ("(", "x", ")"), Err(P5(67))),
+        (64, ("[", "", "]"), Ok(131)),
+        (65, ("[", "", "]"), Err(P5(67))),
+        (64, ("{", "", "}"), Ok(131)),
+        (65, ("{", "", "}"), Err(P5(67))),
+        (64, ("{1,", "2", "}"), Ok(260)),
+        (65, ("{1,", "2", "}"), Err(P5(195))),
+        (64, ("-", "1", ""), Ok(68)),
+        (65, ("-", "1", ""), Err(P5(67))),
+        (300, ("-", "1", ""), Err(P5(67))),
+        (64, ("-", "step", ""), Ok(68)),
+        (64, ("-", "step()", ""), Err(P5(68))),
+        (63, ("-", "step()", ""), Ok(69)),
+        (64, ("-", "1 + (x)", ""), Ok(72)),
+        (32, ("-(", "x", ")"), Ok(100)),
+        (33, ("-(", "x", ")"), Err(P5(67))),
+        (32, ("[-", "x", "]"), Ok(100)),
+        (33, ("[-", "x", "]"), Err(P5(67))),
+        (64, ("(", ",", ")"), Err(P2(67))),
+        (65, ("(", ",", ")"), Err(P5(67))),
+    ];
+    for (times, parts, wanted) in rows {
+        let found = nested(rt.alloc(), times, "in p: ", parts);
+        assert_eq!(&rt; found, wanted);
+    }
+    Ok(())
+}
+
+#[test]
+fn levels_of_other_forms(rt: HostRuntime) -> Result<(), Fail> {
+    let rows = [
+        (64, "guard ", ("!(", "x", ")"), Ok(194)),
+        (65, "guard ", ("!(", "x", ")"), Err(P5(130))),
+        (63, "x:ch(", ("(", "1", ")"), Err(P2(131))),
+        (64, "x:ch(", ("(", "1", ")"), Err(P5(67))),
+        (63, ":ch(", ("-", "1)", ""), Ok(68)),
+        (64, ":ch(", ("-", "1)", ""), Err(P5(66))),
+        (64, "x = ", ("(", "1", ")"), Ok(131)),
+        (65, "x = ", ("(", "1", ")"), Err(P5(66))),
+        (65, "in p: ,", ("(", "1", ")"), Err(P2(3))),
+        (65, "in p", ("(", "1", ")"), Ok(2)),
+    ];
+    for (times, start, parts, wanted) in rows {
+        let found = nested(rt.alloc(), times, start, parts);
+        assert_eq!(&rt; found, wanted);
+    }
+    Ok(())
+}
+
+#[test]
+fn operators(rt: HostRuntime) -> Result<(), Fail> {
+    let rows = [
+        (256, "in p: 1", ("+1", "", ""), Ok(516)),
+        (257, "in p: 1", ("+1", "", ""), Err(P5(516))),
+        (256, "in p: 1", ("+1", "+[[", ""), Err(P5(516))),
+        (255, "in p: 1", ("+1", "+", ""), Err(P2(515))),
+        (85, "in p: 1", ("*1/1%1", "-1", ""), Ok(516)),
+        (85, "in p: 1", ("*1/1%1", "-1-1", ""), Err(P5(516))),
+        (128, "in p: 1", ("--1", "", ""), Ok(388)),
+        (129, "in p: 1", ("--1", "", ""), Err(P5(388))),
+        (256, "in p: [1", (",-1", "]", ""), Ok(774)),
+        (257, "in p: [1", (",-1", "]", ""), Err(P5(774))),
+        (256, "guard x", (" && x", "", ""), Ok(514)),
+        (257, "guard x", (" && x", "", ""), Err(P5(514))),
+        (256, "guard x", (" || x", "", ""), Ok(514)),
+        (257, "guard x", (" || x", "", ""), Err(P5(514))),
+        (127, "guard x == 1", (" && x == 1", "", ""), Ok(512)),
+        (128, "guard x == 1", (" && x == 1", "", ""), Err(P5(514))),
+        (128, "guard x", (" && !(x)", "", ""), Ok(642)),
+        (129, "guard x", (" && !(x)", "", ""), Err(P5(642))),
+        (256, "x = 1", ("+1", "", ""), Ok(515)),
+        (128, "x", ("+1", " = y", "+1"), Ok(515)),
+        (129, "x", ("+1", " = y", "+1"), Err(P5(515))),
+    ];
+    for (times, start, parts, wanted) in rows {
+        let found = nested(rt.alloc(), times, start, parts);
+        assert_eq!(&rt; found, wanted);
+    }
+    Ok(())
+}
