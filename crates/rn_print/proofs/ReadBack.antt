@@ -6,12 +6,12 @@ use Rattle.rn_notation.specs.Reading.{Piece, gap, token, ArePieces, tokens_after
 use Rattle.rn_notation.specs.declared.token.Token.{Token}
 use Rattle.rn_notation.specs.declared.token.TokenKind.{TokenKind}
 use Rattle.rn_net.specs.declared.plain.Plain.{Plain}
-use Rattle.rn_net.specs.Texts.{IsTextOf}
+use Rattle.rn_net.specs.Texts.{IsTextOf, Spells}
 use Rattle.rn_net.specs.Laws.{OneTextOf}
 use Rattle.rn_net.specs.Laws as Net
 use Rattle.rn_print.specs.Nets.{canonical_text}
 use Rattle.rn_print.specs.SameButSpots.{SameButSpots, unplaced}
-use Rattle.rn_print.specs.Laws.{TextsAreReadBack, SpotsDoNotCount, TextsAreFixed, TextsTellApart, TextsAreRefusedForDepth}
+use Rattle.rn_print.specs.Laws.{TextsAreReadBack, SpotsDoNotCount, TextsAreFixed, TextsTellApart, WhatIsReadIsSame, TextsAreRefusedForDepth}
 use Rattle.rn_print.proofs.Trees.{tokens_in, tokens_whole}
 use Rattle.rn_print.proofs.Atoms.{Legal}
 use Rattle.rn_print.proofs.SpelledExpressions.{AllLegal}
@@ -74,6 +74,14 @@ texts_tell_apart one p q first second same fits =
     let s = texts_are_read_back q second (subst (λ text. length text ≤ longest_net_text) same fits) in
     let read : IsTextOf (canonical_text p) s.0 = subst (λ text. IsTextOf text s.0) (sym same) s.1 in
     sym r.2 ∙ ap unplaced (one (canonical_text p) r.0 s.0 r.1 read) ∙ s.2
+
+text_of : {bytes : List ℕ} {p : Plain} → Spells bytes p → IsTextOf bytes p
+text_of s = record { tokens = s.tokens; fits = s.fits; read = s.read; system = s.system }
+
+pub what_is_read : OneTextOf → WhatIsReadIsSame
+what_is_read one plain q spelled s =
+    let r = texts_are_read_back plain spelled s.fits in
+    ap unplaced (one (canonical_text plain) q r.0 (text_of s) r.1) ∙ r.2
 
 pub refused_for_depth : Net.TextsAreRefusedForDepth → TextsAreRefusedForDepth
 refused_for_depth alone plain refusal spelled fits x =

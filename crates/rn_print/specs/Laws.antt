@@ -6,7 +6,7 @@ use Rattle.rn_net.specs.declared.plain.Plain.{Plain}
 use Rattle.rn_net.specs.declared.refusal.Refusal.{Refusal}
 use Rattle.rn_net.specs.declared.refusal.Refusal.TheVariants as R
 use Rattle.rn_net.specs.Refusals.{IsRefused}
-use Rattle.rn_net.specs.Texts.{IsTextOf}
+use Rattle.rn_net.specs.Texts.{IsTextOf, Spells}
 use Rattle.rn_print.specs.Nets.{canonical_text}
 use Rattle.rn_print.specs.SameButSpots.{SameButSpots}
 use Rattle.rn_print.specs.ReadingBack.{IsSpelled, IsReadBack}
@@ -29,6 +29,11 @@ TextsAreFixed = (p q : Plain) → IsSpelled p → IsTextOf (canonical_text p) q 
 abbrev pub TextsTellApart : Type 0
 TextsTellApart = (p q : Plain) → IsSpelled p → IsSpelled q → canonical_text p ≡ canonical_text q →
     length (canonical_text p) ≤ longest_net_text → SameButSpots p q
+
+-- what the canonical text of what some text spells is read as is the same but for spots
+abbrev pub WhatIsReadIsSame : Type 0
+WhatIsReadIsSame = (plain q : Plain) → IsSpelled plain → Spells (canonical_text plain) q →
+    SameButSpots q plain
 
 -- the canonical text of what some text spells is refused for its depth alone
 abbrev pub TextsAreRefusedForDepth : Type 0

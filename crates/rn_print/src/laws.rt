@@ -1,6 +1,6 @@
 //! Laws of canonical texts.
 ghost use Rattle.rn_print.specs.Laws.{SpotsDoNotCount, TextsAreFixed, TextsAreReadBack};
-ghost use Rattle.rn_print.specs.Laws.{TextsAreRefusedForDepth, TextsTellApart};
+ghost use Rattle.rn_print.specs.Laws.{TextsAreRefusedForDepth, TextsTellApart, WhatIsReadIsSame};
 
 use rn_net::net_laws;
 
@@ -12,6 +12,7 @@ pub fn printing_laws()
     ensures spots_do_not_count { SpotsDoNotCount }
     ensures texts_are_fixed { TextsAreFixed }
     ensures texts_tell_apart { TextsTellApart }
+    ensures what_is_read { WhatIsReadIsSame }
     ensures refused_for_depth { TextsAreRefusedForDepth }
 {
     net_laws();
