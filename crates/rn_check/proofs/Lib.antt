@@ -24,3 +24,8 @@ pub mod TransitionFacts
 pub mod ActionOrder
 pub mod GoodTransitions
 pub mod GoodSystems
+pub mod ChannelLemmas
+pub mod TransitionLemmas
+pub mod PlaceLemmas
+pub mod NetLemmas
+pub mod FirstLemmas

@@ -17,7 +17,7 @@ use Rattle.rn_check.specs.Tables.{or_number, with_name, name_told}
 use Rattle.rn_check.proofs.SightLemmas.{first_from-append}
 
 -- one more name
-push : (n : ℕ) (before : List (List ℕ)) (name other : List ℕ) →
+pub push : (n : ℕ) (before : List (List ℕ)) (name other : List ℕ) →
     number_from n (before ++ name ∷ []) other
     ≡ or_number (number_from n before other) (same_name name other) (n + length before)
 push n [] name other = ap (λ m. cond (same_name name other) (Some m) None) (omega arith)

@@ -1,7 +1,7 @@
 -- What is told of the elements of a list, one after another.
 use Rattle.std.proofs.Common.{◌≡◌, ℕ, ◌+◌, ◌<◌, List, [], ◌∷◌, ◌++◌, length, map, take, get_or, sym, ap, ◌∙◌, Option}
 use Rattle.std.proofs.Common.{append-nil, refl}
-use Rattle.std.proofs.lemmas.List.{take_more}
+use Rattle.std.proofs.lemmas.List.{take_more, map-append}
 use Rattle.std.proofs.lemmas.Grind.{flat_map-append}
 use Rattle.std.specs.Prelude.{flat_map}
 use Rattle.rn_check.specs.declared.fault.Fault.{Fault}
@@ -31,6 +31,13 @@ told_more faults xs i x known h is =
     ∙ ap (first_from known) (flat_map-append faults (take i xs) (x ∷ []))
     ∙ ap (λ more. first_from known (flat_map faults (take i xs) ++ more)) (append-nil (faults x))
     ∙ first_from-append (flat_map faults (take i xs)) (faults x) known)
+
+-- one more, seen by a function
+pub map_more : {X Y : Type 0} (f : X → Y) (xs : List X) (i : ℕ) (x : X) → i < length xs →
+    x ≡ get_or xs i x → map f (take (i + 1) xs) ≡ map f (take i xs) ++ f x ∷ []
+map_more f xs i x h is =
+    ap (map f) (take_more xs i x h ∙ ap (λ y. take i xs ++ y ∷ []) (sym is))
+    ∙ map-append f (take i xs) (x ∷ [])
 
 -- what is told of the parts of a tuple, which stand at these spots
 pub parts_told : {X : Type 0} (part : X → Part) (spot : X → Spot) → ((x : X) → (part x).spot ≡ spot x) →

@@ -1,22 +1,44 @@
 -- What the code knows by name, and where it stands in a transition. It connects the code with the
 -- definitions, and states no rule.
-use Rattle.std.specs.Prelude.{ℕ, List, Option, slice_get, is_some}
+use Rattle.std.specs.Prelude.{ℕ, Bool, not, nat_le, List, ◌++◌, length, map, Option, slice_get, is_some, flat_map}
 use Rattle.std.specs.Option.{option_and_then}
 use Rattle.std.specs.Ordering.{nat_cmp}
-use Rattle.std.specs.BTreeMap.{get}
+use Rattle.std.specs.BTreeMap.{BTreeMap, get}
+use Rattle.rn_model.specs.Limits.{longest_name, most_vars, most_places, most_transitions}
+use Rattle.rn_net.specs.declared.plain.PChannel.{PChannel}
+use Rattle.rn_net.specs.declared.plain.PNet.{PNet}
+use Rattle.rn_check.specs.declared.fault.Rule.TheVariants as Rule
+use Rattle.rn_check.specs.declared.fault.Fault.{Fault}
+use Rattle.rn_check.specs.Faults.{broken_if}
+use Rattle.rn_check.specs.Patterns.{pattern_of}
+use Rattle.rn_check.specs.Names.{number_among, declared_faults}
+use Rattle.rn_check.specs.Declarations.{kind_part, parts_faults, kind_faults, place_faults}
+use Rattle.rn_check.specs.declared.table.Table.{Table}
 use Rattle.rn_check.specs.declared.pattern.Pattern.{Pattern}
 use Rattle.rn_check.specs.declared.scope.Channels.{Channels}
 use Rattle.rn_check.specs.declared.scope.Known.{Known}
 use Rattle.rn_check.specs.declared.scope.Stand.{Stand}
 use Rattle.rn_check.specs.Tables.{found_in}
 use Rattle.rn_check.specs.Sights.{pattern_in}
-use Rattle.rn_check.specs.Transitions.{Scope, Progress}
+use Rattle.rn_check.specs.Transitions.{Scope, Progress, transition_faults}
+
+-- the number that the tables find for a channel of a name with so many arguments
+abbrev pub number_in_tables : BTreeMap ℕ Table → List ℕ → ℕ → Option ℕ
+number_in_tables tables name count =
+    option_and_then (λ table. found_in table name) (get nat_cmp tables count)
+
+-- what is told where a channel is declared that was declared before or not
+abbrev pub channel_told : Bool → PChannel → List Fault
+channel_told again channel =
+    broken_if (not (nat_le (length channel.name.text) longest_name)) Rule.Limit channel.name.spot
+    ++ broken_if again Rule.Once channel.name.spot
+    ++ parts_faults (map kind_part channel.kinds)
 
 -- the patterns of the arguments of the channel that is found for a name and a number of arguments
 abbrev pub channel_in : Channels → List ℕ → ℕ → Option (List Pattern)
 channel_in channels name count =
     option_and_then (slice_get channels.patterns)
-    (option_and_then (λ table. found_in table name) (get nat_cmp channels.tables count))
+    (number_in_tables channels.tables name count)
 
 -- what is known by name
 abbrev pub scope_in : Known → Scope
@@ -35,3 +57,24 @@ progress_of stand = record {
   sets = stand.sets;
   called = stand.called;
 }
+
+-- what is known in a net by its name, where these are the nets and the channels
+abbrev pub scope_with : (List ℕ → Bool) → (List ℕ → ℕ → Option (List Pattern)) → PNet → Scope
+scope_with is_net channel net = record {
+  pattern_of_var = λ name. option_and_then (slice_get (map (λ v. pattern_of v.kind) net.vars))
+      (number_among (map (λ v. v.name.text) net.vars) name);
+  pattern_of_place = λ name. option_and_then (slice_get (map (λ p. pattern_of p.kind) net.places))
+      (number_among (map (λ p. p.name.text) net.places) name);
+  is_net = is_net;
+  channel = channel;
+}
+
+-- what is broken in a net, where these are the nets and the channels
+abbrev pub faults_in_net : (List ℕ → Bool) → (List ℕ → ℕ → Option (List Pattern)) → PNet → List Fault
+faults_in_net is_net channel net =
+    declared_faults most_vars (map (λ v. v.name) net.vars)
+    ++ flat_map (λ v. kind_faults v.kind) net.vars
+    ++ declared_faults most_places (map (λ p. p.name) net.places)
+    ++ flat_map place_faults net.places
+    ++ declared_faults most_transitions (map (λ t. t.name) net.transitions)
+    ++ flat_map (transition_faults (scope_with is_net channel net)) net.transitions

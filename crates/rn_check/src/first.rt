@@ -3,7 +3,7 @@ ghost use Rattle.std.specs.Prelude.{◌≡◌, ◌↔◌, ℕ, None, IsTrue, Lis
 ghost use Rattle.rn_check.specs.Faults.{number_of, counts_before, first_with, first_from, broken};
 ghost use Rattle.rn_check.specs.Faults.{broken_if, report_of};
 
-use crate::fault::{Fault, Rule};
+use crate::fault::{CheckFault, Fault, Rule};
 use rn_notation::Spot;
 
 impl Rule {
@@ -28,6 +28,25 @@ impl Rule {
 }
 
 impl Fault {
+    /// How the checker reports it.
+    pub fn report(self) -> CheckFault
+        ensures { result ≡ report_of self.rule self.spot }
+    {
+        match self.rule {
+            Rule::Known => CheckFault::C1(self.spot),
+            Rule::Once => CheckFault::C2(self.spot),
+            Rule::Main => CheckFault::C3(self.spot),
+            Rule::Kinds => CheckFault::C4(self.spot),
+            Rule::Uplink => CheckFault::C5(self.spot),
+            Rule::Actions => CheckFault::C6(self.spot),
+            Rule::Inscription => CheckFault::C7(self.spot),
+            Rule::Channel => CheckFault::C8(self.spot),
+            Rule::Limit => CheckFault::C9(self.spot),
+            Rule::Creation => CheckFault::C10(self.spot),
+            Rule::Comparison => CheckFault::C11(self.spot),
+        }
+    }
+
     /// Whether it counts before another: at an earlier spot, or at the same by a lower number.
     pub fn counts_before(self, other: Fault) -> bool
         ensures { result ≡ counts_before self other }

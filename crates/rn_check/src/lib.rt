@@ -3,6 +3,8 @@
 
 mod arcs;
 mod calls;
+mod channels;
+mod checked;
 mod conditions;
 mod declared;
 mod fault;
@@ -12,11 +14,15 @@ mod kinds;
 pub mod laws;
 mod located;
 mod names;
+mod nets;
 mod pattern;
+mod places;
 mod scope;
 mod seeing;
 mod sight;
 mod table;
+mod transitions;
 
+pub use checked::first_fault;
 pub use fault::{CheckFault, Fault, Rule};
 pub use pattern::{Pattern, Patterns};

@@ -5,7 +5,7 @@ ghost use Rattle.rn_check.specs.Faults.{first_from, past_limit};
 use crate::fault::Rule;
 use crate::first::First;
 use rn_inscript::PInscription;
-use rn_net::{PConst, PKind};
+use rn_net::{PChannel, PConst, PKind};
 use rn_notation::Spot;
 
 /// What stands at a spot.
@@ -31,6 +31,14 @@ impl Located for PConst {
 
     fn spot(&self) -> Spot {
         self.spot
+    }
+}
+
+impl Located for PChannel {
+    ghost spot_of = { λ channel. channel.name.spot };
+
+    fn spot(&self) -> Spot {
+        self.name.spot
     }
 }
 

@@ -1,0 +1,105 @@
+//! Variables and places: what is broken in their declarations is told.
+ghost use Rattle.std.specs.Prelude.{◌≡◌, ◌++◌, ℕ, List, OnOk, IfOk, map, flat_map};
+ghost use Rattle.std.specs.Option.{option_and_then};
+ghost use Rattle.std.specs.Prelude.{slice_get};
+ghost use Rattle.rn_model.specs.Limits.{most_vars, most_places, most_initial};
+ghost use Rattle.rn_check.specs.Faults.{first_from, past_limit};
+ghost use Rattle.rn_check.specs.Patterns.{pattern_of};
+ghost use Rattle.rn_check.specs.Names.{number_among, declared_faults};
+ghost use Rattle.rn_check.specs.Declarations.{kind_faults, place_faults, token_faults, const_part};
+ghost use Rattle.rn_check.specs.Sights.{pattern_in};
+
+use crate::fault::Rule;
+use crate::first::First;
+use crate::kinds::{fits, see_const, see_kind};
+use crate::located::{Located, tell_past};
+use crate::names::declare_all;
+use crate::pattern::{Pattern, pattern_of};
+use crate::table::Declared;
+use rn_items::Items;
+use rn_model::limits::{MOST_INITIAL, MOST_PLACES, MOST_VARS};
+use rn_net::{PConst, PPlace, PVar};
+use rn_value::NoMemory;
+use std::alloc::Global;
+
+/// The variables of a net by their names, with the patterns of their kinds. What is broken in their
+/// declarations is told.
+pub(crate) fn declare_vars(
+    alloc: Global,
+    vars: &[PVar],
+    first: &mut First,
+) -> Result<Declared, NoMemory>
+    ensures told { OnOk result (first.new.fault ≡ first_from first.old.fault
+        (declared_faults most_vars (map (λ v. v.name) vars.now)
+        ++ flat_map (λ v. kind_faults v.kind) vars.now)) }
+    ensures found { IfOk result (λ declared. (name : List ℕ) → pattern_in declared name
+        ≡ option_and_then (slice_get (map (λ v. pattern_of v.kind) vars.now))
+        (number_among (map (λ v. v.name.text) vars.now) name)) }
+{
+    let table = declare_all(alloc, vars, MOST_VARS, first)?;
+    let mut patterns = Vec::with_capacity(alloc, vars.len())?;
+    for var in vars {
+        see_kind(&var.kind, first);
+        patterns.push(pattern_of(alloc, &var.kind)?)?;
+    }
+    Ok(Declared {
+        table,
+        patterns: Items::from_vec(patterns),
+    })
+}
+
+/// Tells what is broken in an initial token of a place with a kind of this pattern.
+fn see_token(token: &PConst, pattern: &Pattern, first: &mut First)
+    ensures { first.new.fault ≡ first_from first.old.fault (token_faults pattern.now token.now) }
+{
+    see_const(token, first);
+    first.tell_if(!fits(token, pattern), Rule::Kinds, token.spot());
+}
+
+/// Tells what is broken in the initial tokens of a place with a kind of this pattern.
+fn see_tokens(tokens: &[PConst], pattern: &Pattern, first: &mut First)
+    ensures { first.new.fault ≡ first_from first.old.fault
+        (flat_map (token_faults pattern.now) tokens.now
+        ++ past_limit most_initial (map (λ token. (const_part token).spot) tokens.now)) }
+{
+    for token in tokens {
+        see_token(token, pattern, first);
+    }
+    tell_past(tokens, MOST_INITIAL, first);
+}
+
+/// Tells what is broken in the kind, which has this pattern, and the initial tokens of a place.
+fn see_place(place: &PPlace, pattern: &Pattern, first: &mut First)
+    ensures { pattern.now ≡ pattern_of place.now.kind →
+        first.new.fault ≡ first_from first.old.fault (place_faults place.now) }
+{
+    see_kind(&place.kind, first);
+    see_tokens(place.initial.as_slice(), pattern, first);
+}
+
+/// The places of a net by their names, with the patterns of their kinds. What is broken in their
+/// declarations is told.
+pub(crate) fn declare_places(
+    alloc: Global,
+    places: &[PPlace],
+    first: &mut First,
+) -> Result<Declared, NoMemory>
+    ensures told { OnOk result (first.new.fault ≡ first_from first.old.fault
+        (declared_faults most_places (map (λ p. p.name) places.now)
+        ++ flat_map place_faults places.now)) }
+    ensures found { IfOk result (λ declared. (name : List ℕ) → pattern_in declared name
+        ≡ option_and_then (slice_get (map (λ p. pattern_of p.kind) places.now))
+        (number_among (map (λ p. p.name.text) places.now) name)) }
+{
+    let table = declare_all(alloc, places, MOST_PLACES, first)?;
+    let mut patterns = Vec::with_capacity(alloc, places.len())?;
+    for place in places {
+        let pattern = pattern_of(alloc, &place.kind)?;
+        see_place(place, &pattern, first);
+        patterns.push(pattern)?;
+    }
+    Ok(Declared {
+        table,
+        patterns: Items::from_vec(patterns),
+    })
+}
