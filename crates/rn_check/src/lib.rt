@@ -21,6 +21,8 @@ mod scope;
 mod seeing;
 mod sight;
 mod table;
+#[cfg(test)]
+mod tests;
 mod transitions;
 
 pub use checked::first_fault;
