@@ -1,0 +1,7 @@
+pub mod FindLemmas
+pub mod HolderLemmas
+pub mod ListingLemmas
+pub mod LiveMarks
+pub mod StartLemmas
+pub mod TestLemmas
+pub mod TokenLemmas

@@ -1,0 +1,13 @@
+//! Which of a table's instances are live, and which may be dropped.
+#![tactic(auto)]
+
+mod found;
+mod holders;
+mod listing;
+mod marking;
+mod starting;
+#[cfg(test)]
+mod tests;
+mod visiting;
+
+pub use listing::{garbage, live};

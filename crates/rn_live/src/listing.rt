@@ -1,0 +1,71 @@
+//! The lists of the instances that are live and of those that aren't.
+ghost use Rattle.std.specs.Prelude.{◌≡◌, ◌<◌, ◌^◌, ◌↔◌, ℕ, Some, Contains, length, filter, IfOk};
+ghost use Rattle.std.specs.List.Sorted.{IsStrictlyIncreasing};
+ghost use Rattle.rn_model.specs.Markings.{Instance, IsThere, instance_at};
+ghost use Rattle.rn_model.specs.Liveness.{IsLive};
+ghost use Rattle.rn_live.specs.Marks.{is_marked, is_unmarked};
+
+use crate::marking::live_marks;
+use rn_items::NoMemory;
+use rn_model::System;
+use rn_table::Table;
+use std::alloc::Global;
+
+/// The kept instances that are live, ascending. Each has fewer than 2^32 places, as in a good system.
+pub fn live(alloc: Global, system: &System, table: &Table) -> Result<Vec<u32>, NoMemory>
+    requires { (n : ℕ) (i : Instance) → instance_at table.now.marking n ≡ Some i → length i.places < 2 ^ 32 }
+    ensures ascending { IfOk result (λ numbers. IsStrictlyIncreasing numbers.items) }
+    ensures live { IfOk result (λ numbers. (n : ℕ) → Contains numbers.items n ↔ IsLive system.now table.now.marking n) }
+{
+    let numbers = table.instances()?;
+    let marks = live_marks(alloc, system, table, numbers.as_slice())?;
+    those_marked(alloc, numbers.as_slice(), marks.as_slice())
+}
+
+/// The kept instances that aren't live, ascending: just these may be dropped. Each has fewer than
+/// 2^32 places, as in a good system.
+pub fn garbage(alloc: Global, system: &System, table: &Table) -> Result<Vec<u32>, NoMemory>
+    requires { (n : ℕ) (i : Instance) → instance_at table.now.marking n ≡ Some i → length i.places < 2 ^ 32 }
+    ensures ascending { IfOk result (λ numbers. IsStrictlyIncreasing numbers.items) }
+    ensures dead { IfOk result (λ numbers. (n : ℕ) → Contains numbers.items n ↔ (IsThere table.now.marking n × ¬ IsLive system.now table.now.marking n)) }
+{
+    let numbers = table.instances()?;
+    let marks = live_marks(alloc, system, table, numbers.as_slice())?;
+    those_unmarked(alloc, numbers.as_slice(), marks.as_slice())
+}
+
+/// Whether a number is marked.
+fn has_mark(marks: &[bool], number: u32) -> bool
+    ensures { result ≡ is_marked marks.now number }
+{
+    match marks.get(number as usize) {
+        Some(mark) => *mark,
+        None => false,
+    }
+}
+
+/// Those of the numbers that are marked.
+fn those_marked(alloc: Global, numbers: &[u32], marks: &[bool]) -> Result<Vec<u32>, NoMemory>
+    ensures { IfOk result (λ those. those.items ≡ filter (is_marked marks.now) numbers.now) }
+{
+    let mut those = Vec::new(alloc);
+    for number in numbers {
+        if has_mark(marks, *number) {
+            those.push(*number)?;
+        }
+    }
+    Ok(those)
+}
+
+/// Those of the numbers that aren't marked.
+fn those_unmarked(alloc: Global, numbers: &[u32], marks: &[bool]) -> Result<Vec<u32>, NoMemory>
+    ensures { IfOk result (λ those. those.items ≡ filter (is_unmarked marks.now) numbers.now) }
+{
+    let mut those = Vec::new(alloc);
+    for number in numbers {
+        if !has_mark(marks, *number) {
+            those.push(*number)?;
+        }
+    }
+    Ok(those)
+}
