@@ -1,21 +1,21 @@
 -- The actions of a transition in which nothing is broken: each sets a new variable, and holds only
 -- such action variables as were set before.
-use Rattle.std.proofs.Common.{◌≡◌, ℕ, ◌+◌, ◌<◌, Bool, true, false, ◌||◌, List, [], ◌∷◌, ◌++◌, map}
+use Rattle.std.proofs.Common.{◌≡◌, ℕ, ◌+◌, ◌<◌, true, false, List, [], ◌∷◌, ◌++◌, map}
 use Rattle.std.proofs.Common.{refl, sym, ap, ◌∙◌, subst, length, arith, inl, inr, append_assoc}
 use Rattle.std.proofs.Common.{length-append}
-use Rattle.std.specs.Prelude.{Option, Some, None, is_none, nat_lt, nat_eq, flat_map, Contains}
+use Rattle.std.specs.Prelude.{Some, is_none, nat_lt, nat_eq, flat_map, Contains}
 use Rattle.std.specs.Option.{option_map_or}
-use Rattle.std.specs.List.{AllByRecursion, list_any}
+use Rattle.std.specs.List.{AllByRecursion}
 use Rattle.std.proofs.lemmas.Bool.{eq-eqb}
 use Rattle.std.proofs.lemmas.Bool.Decides.{nat_tests}
 use Rattle.std.proofs.lemmas.List.{map-append}
 use Rattle.std.proofs.lemmas.List.Elements.{All-from_recursion, All-contains}
 use Rattle.std.proofs.lemmas.Grind.{flat_map-append}
-use Rattle.rn_items.proofs.Bools.{or_true, or_left, or_right}
+use Rattle.rn_items.proofs.Bools.{or_left, or_right}
 use Rattle.rn_model.specs.declared.system.Transition.{Transition}
 use Rattle.rn_model.specs.declared.system.Action.{Action}
 use Rattle.rn_model.specs.Systems.{vars_in}
-use Rattle.rn_model.specs.Good.{action_expr, set_var, InOrder}
+use Rattle.rn_model.specs.Good.{set_var, InOrder}
 use Rattle.rn_inscript.specs.declared.exprs.PExpr.{PExpr}
 use Rattle.rn_inscript.specs.declared.inscriptions.PName.{PName}
 use Rattle.rn_inscript.specs.declared.inscriptions.PInscribed.{PInscribed}
@@ -24,10 +24,9 @@ use Rattle.rn_inscript.specs.declared.inscriptions.PInscription.{PInscription}
 use Rattle.rn_net.specs.declared.plain.Plain.{Plain}
 use Rattle.rn_net.specs.declared.plain.PNet.{PNet}
 use Rattle.rn_check.specs.declared.fault.Rule.TheVariants as Rule
-use Rattle.rn_check.specs.declared.pattern.Pattern.{Pattern}
 use Rattle.rn_check.specs.Faults.{broken_if}
-use Rattle.rn_check.specs.Expressions.{Seen, seen_of, misfit}
-use Rattle.rn_check.specs.Actions.{set_name, set_names, is_set_by, set_faults, value_faults}
+use Rattle.rn_check.specs.Expressions.{seen_of, misfit}
+use Rattle.rn_check.specs.Actions.{set_name, set_names, is_set_by, value_faults}
 use Rattle.rn_check.specs.Transitions.{Progress, inscription_faults, inscriptions_faults, after}
 use Rattle.rn_check.specs.Transitions.{in_action}
 use Rattle.rn_check.specs.Names.{number_among}

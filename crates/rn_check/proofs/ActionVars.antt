@@ -1,27 +1,23 @@
 -- Names on the left of actions: each is set once, and is used only where it is set before.
-use Rattle.std.proofs.Common.{◌≡◌, ◌≢◌, ℕ, zero, suc, ◌+◌, ◌<◌, ◌≤◌, Bool, true, false, ◌||◌, not}
+use Rattle.std.proofs.Common.{◌≡◌, ◌≢◌, ℕ, suc, ◌+◌, ◌<◌, ◌≤◌, Bool, true, false, ◌||◌}
 use Rattle.std.proofs.Common.{List}
-use Rattle.std.proofs.Common.{[], ◌∷◌, ◌++◌, map, refl, sym, ap, ◌∙◌, subst, length, arith, inl}
-use Rattle.std.proofs.Common.{inr}
+use Rattle.std.proofs.Common.{[], ◌∷◌, ◌++◌, map, refl, sym, ap, ◌∙◌, subst, length, arith}
 use Rattle.std.specs.Prelude.{Option, Some, None, unwrap_or, is_none, if◌then◌else◌, AllPairs}
-use Rattle.std.specs.Prelude.{nat_lt}
 use Rattle.std.specs.Prelude.{option_and_then, slice_get}
-use Rattle.std.specs.Option.{option_map_or}
 use Rattle.std.specs.List.{AllByRecursion, list_any}
 use Rattle.std.proofs.lemmas.Option.{same_Some}
 use Rattle.std.proofs.lemmas.List.{length-map}
 use Rattle.std.proofs.lemmas.List.Elements.{All-from_recursion}
 use Rattle.std.proofs.lemmas.List.Kept.{AllPairs-cons}
-use Rattle.rn_items.proofs.Bools.{or_true, or_left, or_right}
 use Rattle.rn_items.proofs.Numbers.{numbers_themselves}
 use Rattle.rn_net.specs.declared.plain.Plain.{Plain}
 use Rattle.rn_net.specs.declared.plain.PNet.{PNet}
 use Rattle.rn_check.specs.Names.{same_name, number_from, number_among}
 use Rattle.rn_check.specs.Patterns.{pattern_of}
 use Rattle.rn_check.specs.Systems.{scope_of}
-use Rattle.rn_check.specs.Numbering.{number_in, numbers_of}
+use Rattle.rn_check.specs.Numbering.{numbers_of}
 use Rattle.rn_check.proofs.DeclaredNames.{any_left, any_last}
-use Rattle.rn_check.proofs.ScopeKinds.{same_texts, found_at, number_below}
+use Rattle.rn_check.proofs.ScopeKinds.{same_texts, number_below}
 
 -- A number that is found isn't below the first.
 pub number_after : (n m : ℕ) (names : List (List ℕ)) (name : List ℕ) →

@@ -1,7 +1,6 @@
 -- The pattern of a kind that stands in a text, beside the kind that it means.
-use Rattle.std.proofs.Common.{◌≡◌, Bool, true, false, ◌&&◌, List, [], ◌∷◌, map, refl, sym, ap, ◌∙◌}
+use Rattle.std.proofs.Common.{◌≡◌, Bool, true, ◌&&◌, List, [], ◌∷◌, map, refl, sym, ap, ◌∙◌}
 use Rattle.std.proofs.Common.{subst}
-use Rattle.std.specs.List.{AllByRecursion}
 use Rattle.rn_notation.specs.declared.token.Spot.{Spot}
 use Rattle.rn_items.proofs.Bools.{true_both}
 use Rattle.rn_value.specs.Kinds.{fit_all}
@@ -18,11 +17,10 @@ use Rattle.rn_net.specs.declared.kinds.PKindForm.{fold-PKindForm, fold-roll-PKin
 use Rattle.rn_net.specs.declared.kinds.PKindForm.TheOpen as F
 use Rattle.rn_net.specs.Kinds.{kind_at}
 use Rattle.rn_check.specs.declared.pattern.Pattern.{Pattern}
-use Rattle.rn_check.specs.declared.pattern.Pattern.TheVariants as Pattern
 use Rattle.rn_check.specs.declared.pattern.Pattern.TheOpen as P
 use Rattle.rn_check.specs.Patterns.{gives_step, gives_kind, share, pattern_of, pattern_step}
 use Rattle.rn_check.specs.Numbering.{kind_of, kind_of_form}
-use Rattle.rn_check.proofs.PatternKinds.{each_part, gives-Int, gives-Text, gives-Tuple, gives-List}
+use Rattle.rn_check.proofs.PatternKinds.{gives-Int, gives-Text, gives-Tuple, gives-List}
 use Rattle.rn_check.proofs.PatternKinds.{gives-Net, share_gives}
 
 abbrev same_at : K.Kind-F Kind → K.Kind-F Kind → Bool

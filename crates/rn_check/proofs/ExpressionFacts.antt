@@ -1,6 +1,6 @@
 -- The variables of an expression in which nothing is broken are declared and may stand there,
 -- `step()` stands only where it may, and its tuples don't have too many parts.
-use Rattle.std.proofs.Common.{◌≡◌, ℕ, ℤ, ◌≤◌, Bool, true, false, ◌&&◌, ◌||◌, not, List, [], ◌∷◌}
+use Rattle.std.proofs.Common.{◌≡◌, ℕ, ℤ, Bool, true, false, ◌&&◌, not, List, [], ◌∷◌}
 use Rattle.std.proofs.Common.{◌++◌, map}
 use Rattle.std.proofs.Common.{refl, sym, ap, ◌∙◌, subst, length, arith}
 use Rattle.std.specs.Prelude.{flat_map, is_none, nat_le}

@@ -1,5 +1,5 @@
 -- An expression in which nothing is broken has each kind that comes of its pattern.
-use Rattle.std.proofs.Common.{◌≡◌, ℕ, ℤ, Bool, true, false, ◌&&◌, List, [], ◌∷◌, ◌++◌, map, refl}
+use Rattle.std.proofs.Common.{◌≡◌, ℕ, ℤ, Bool, true, List, [], ◌∷◌, ◌++◌, map, refl}
 use Rattle.std.proofs.Common.{sym, ap, ◌∙◌, subst}
 use Rattle.std.specs.Prelude.{Option, Some, None, is_none, unwrap_or, flat_map, not}
 use Rattle.std.specs.List.{list_all}
@@ -28,11 +28,11 @@ use Rattle.rn_check.specs.Faults.{broken_if, past_limit}
 use Rattle.rn_check.specs.Patterns.{gives_step, gives_kind}
 use Rattle.rn_check.specs.Expressions.{Where, Seen, seen_of, seen_form, whole, tuple_of, listed}
 use Rattle.rn_check.specs.Expressions.{with_element, with_elements, operand_faults, operands_faults}
-use Rattle.rn_check.specs.Expressions.{apart, misfit, variable_faults}
+use Rattle.rn_check.specs.Expressions.{apart}
 use Rattle.rn_check.specs.Numbering.{expr_of, expr_of_form}
 use Rattle.rn_check.proofs.PatternKinds.{gives-Int, gives-Text, gives-Tuple, gives-List, gives-Net}
 use Rattle.rn_check.proofs.PatternKinds.{both_gives}
-use Rattle.rn_check.proofs.Faultless.{both_nil, unbroken, not_apart, operand_fits}
+use Rattle.rn_check.proofs.Faultless.{both_nil, not_apart, operand_fits}
 
 -- expressions and their forms as the rules see them, and as the model has them
 abbrev pub Parts : Type 0

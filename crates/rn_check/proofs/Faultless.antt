@@ -1,5 +1,5 @@
 -- What follows where nothing is broken.
-use Rattle.std.proofs.Common.{◌≡◌, ℕ, ◌≤◌, Bool, true, false, ◌&&◌, not, List, [], ◌∷◌, ◌++◌, map}
+use Rattle.std.proofs.Common.{◌≡◌, ℕ, ◌≤◌, Bool, true, false, not, List, [], ◌∷◌, ◌++◌}
 use Rattle.std.proofs.Common.{refl}
 use Rattle.std.proofs.Common.{sym, ap, ◌∙◌, length, inl, inr}
 use Rattle.std.specs.Prelude.{flat_map}
@@ -7,11 +7,9 @@ use Rattle.std.specs.List.{AllByRecursion}
 use Rattle.std.proofs.lemmas.Option.{slice_get_cases}
 use Rattle.rn_notation.specs.declared.token.Spot.{Spot}
 use Rattle.rn_value.specs.declared.value.Kind.{Kind, out-Kind}
-use Rattle.rn_value.specs.declared.value.Kind.TheVariants as Kind
 use Rattle.rn_model.proofs.KindsOfValues.{same_is_equal}
 use Rattle.rn_check.specs.declared.fault.Rule.{Rule}
 use Rattle.rn_check.specs.declared.pattern.Pattern.{Pattern}
-use Rattle.rn_check.specs.declared.pattern.Pattern.TheVariants as Pattern
 use Rattle.rn_check.specs.Faults.{broken_if, past_limit}
 use Rattle.rn_check.specs.Patterns.{gives_kind, share}
 use Rattle.rn_check.specs.Expressions.{Seen, apart, misfit, operand_faults, whole}

@@ -1,16 +1,16 @@
 -- A plain form that is well formed, and in which nothing is broken, means a good system.
-use Rattle.std.proofs.Common.{◌≡◌, ◌≢◌, ℕ, ◌+◌, ◌≤◌, Bool, true, false, ◌&&◌, ◌||◌, cond, not, List}
+use Rattle.std.proofs.Common.{◌≡◌, ℕ, ◌+◌, ◌≤◌, Bool, true, false, ◌||◌, cond, not, List}
 use Rattle.std.proofs.Common.{[], ◌∷◌}
 use Rattle.std.proofs.Common.{◌++◌, map, refl, sym, ap, ◌∙◌, subst, length, arith, inl, inr}
-use Rattle.std.specs.Prelude.{nat_eq, nat_le, flat_map, AllPairs, All, IsTrue, codes, count_by, ◌⊎◌}
+use Rattle.std.specs.Prelude.{nat_eq, nat_le, flat_map, AllPairs, codes, count_by}
 use Rattle.std.specs.Cmp.Lexicographic.{pointwise}
 use Rattle.std.specs.List.{AllByRecursion, list_any}
-use Rattle.std.proofs.lemmas.Bool.{eqb-true, eq-eqb}
+use Rattle.std.proofs.lemmas.Bool.{eq-eqb}
 use Rattle.std.proofs.lemmas.List.{length-map}
 use Rattle.std.proofs.lemmas.List.Elements.{All-from_recursion, recursion_from_All}
 use Rattle.std.proofs.lemmas.List.Kept.{AllPairs-cons}
 use Rattle.std.proofs.lemmas.List.Recursion.{is_count_by}
-use Rattle.rn_items.proofs.Bools.{or_true, true_both}
+use Rattle.rn_items.proofs.Bools.{true_both}
 use Rattle.rn_items.proofs.Numbers.{numbers_themselves}
 use Rattle.rn_model.specs.declared.system.Net.{Net}
 use Rattle.rn_inscript.specs.declared.inscriptions.PName.{PName}
@@ -30,7 +30,6 @@ use Rattle.rn_net.specs.declared.plain.PPlace.{PPlace}
 use Rattle.rn_net.specs.declared.plain.PTransition.{PTransition}
 use Rattle.rn_net.specs.declared.plain.PNet.{PNet}
 use Rattle.rn_check.specs.declared.fault.Rule.TheVariants as Rule
-use Rattle.rn_check.specs.declared.fault.Fault.{Fault}
 use Rattle.rn_check.specs.Faults.{broken_if, past_limit}
 use Rattle.rn_check.specs.Patterns.{pattern_of}
 use Rattle.rn_check.specs.Names.{same_name, name_faults, names_faults, declared_faults}
@@ -40,7 +39,6 @@ use Rattle.rn_check.specs.Transitions.{transition_faults}
 use Rattle.rn_check.specs.Systems.{same_channel, channel_faults, channels_faults, scope_of}
 use Rattle.rn_check.specs.Systems.{net_faults, system_faults, text_start}
 use Rattle.rn_check.specs.Numbering.{kind_of, value_of, transition_of, net_of, system_of}
-use Rattle.rn_check.specs.Checked.{Checked}
 use Rattle.rn_check.specs.WellFormed.{IsShallowKind, IsWellFormed, IsWellFormedChannel}
 use Rattle.rn_check.specs.WellFormed.{IsWellFormedNet, IsWellFormedVar, IsWellFormedPlace}
 use Rattle.rn_check.specs.WellFormed.{IsWellFormedTransition}

@@ -3,7 +3,7 @@ use Rattle.std.proofs.Common.{◌≡◌, ◌≢◌, ℕ, ◌+◌, ◌<◌, ◌�
 use Rattle.std.proofs.Common.{◌∷◌}
 use Rattle.std.proofs.Common.{◌++◌, map, refl, sym, ap, ◌∙◌, subst, length, arith, inl, inr}
 use Rattle.std.proofs.Common.{length-append}
-use Rattle.std.specs.Prelude.{Option, Some, None, nat_eq, flat_map, filter, slice_get, AllPairs}
+use Rattle.std.specs.Prelude.{nat_eq, flat_map, filter, slice_get, AllPairs}
 use Rattle.std.specs.Prelude.{All}
 use Rattle.std.specs.Prelude.{Contains, IsTrue, is_some, if◌then◌else◌}
 use Rattle.std.specs.Option.{option_map_or}
@@ -12,16 +12,15 @@ use Rattle.std.proofs.lemmas.List.{length-map}
 use Rattle.std.proofs.lemmas.Bool.{eqb-true, eq-eqb}
 use Rattle.std.proofs.lemmas.List.Elements.{All-from_recursion, recursion_from_All}
 use Rattle.rn_items.proofs.Bools.{or_true, or_left, or_right}
-use Rattle.rn_value.specs.Words.{IsName}
 use Rattle.rn_model.specs.declared.expr.Expr.{Expr}
 use Rattle.rn_model.specs.declared.system.Transition.{Transition}
 use Rattle.rn_model.specs.declared.system.Uplink.{Uplink}
 use Rattle.rn_model.specs.Limits.{most_nested, most_inscriptions, longest_name}
 use Rattle.rn_model.specs.Kinds.{expr_narrow, expr_depth, holds_step}
-use Rattle.rn_model.specs.Systems.{vars_in, is_output, uplink_args, holds_action_var}
-use Rattle.rn_model.specs.Good.{IsGoodTransition, HasItsVars, UsesActions, InOrder, occurring}
+use Rattle.rn_model.specs.Systems.{vars_in, is_output, holds_action_var}
+use Rattle.rn_model.specs.Good.{IsGoodTransition, UsesActions, occurring}
 use Rattle.rn_model.specs.Good.{all_exprs, searched_exprs, output_exprs, action_expr, set_var}
-use Rattle.rn_model.specs.Good.{guard_exprs, cond_depth, inscription_count, uplink_count}
+use Rattle.rn_model.specs.Good.{guard_exprs, cond_depth, inscription_count}
 use Rattle.rn_model.proofs.EachElement.{each_append, each_map, each_flat_map, each_weaker}
 use Rattle.rn_model.proofs.EachElement.{each_filter}
 use Rattle.rn_inscript.specs.declared.inscriptions.PInscribed.{PInscribed}
@@ -32,11 +31,10 @@ use Rattle.rn_net.specs.declared.plain.PNet.{PNet}
 use Rattle.rn_net.specs.declared.plain.PTransition.{PTransition}
 use Rattle.rn_check.specs.Faults.{past_limit}
 use Rattle.rn_check.specs.Actions.{set_names}
-use Rattle.rn_check.specs.Transitions.{Progress, inscriptions_faults, at_first, transition_faults}
-use Rattle.rn_check.specs.Names.{number_among}
+use Rattle.rn_check.specs.Transitions.{inscriptions_faults, at_first, transition_faults}
 use Rattle.rn_check.specs.Systems.{scope_of}
 use Rattle.rn_check.specs.Numbering.{Numbers, numbers_of, net_of, system_of, transition_of}
-use Rattle.rn_check.specs.Numbering.{inscribed, with_vars, is_among, equality_of, guard_of}
+use Rattle.rn_check.specs.Numbering.{inscribed, is_among, equality_of, guard_of}
 use Rattle.rn_check.specs.Numbering.{action_of, creation_of, uplink_of, downlink_of, arc_of}
 use Rattle.rn_check.specs.WellFormed.{IsWellFormedTransition, IsWellFormedInscription}
 use Rattle.rn_check.proofs.Faultless.{both_nil, within_limit}

@@ -7,6 +7,7 @@ pub mod ToldLemmas
 pub mod CallLemmas
 pub mod NameLemmas
 pub mod PatternKinds
+pub mod SharedKinds
 pub mod DeclaredKinds
 pub mod Faultless
 pub mod InscriptionParts

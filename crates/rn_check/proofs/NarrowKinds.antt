@@ -1,43 +1,28 @@
 -- Kinds and constants in which nothing is broken.
-use Rattle.std.proofs.Common.{◌≡◌, ℕ, ℤ, ◌≤◌, Bool, true, false, ◌&&◌, ◌||◌, List, [], ◌∷◌, map}
+use Rattle.std.proofs.Common.{◌≡◌, ℕ, ◌≤◌, Bool, true, List, [], ◌∷◌, map}
 use Rattle.std.proofs.Common.{refl, sym}
 use Rattle.std.proofs.Common.{ap, ◌∙◌, subst, length, arith}
 use Rattle.std.specs.Prelude.{nat_le, flat_map}
-use Rattle.std.specs.List.{list_all, list_any}
+use Rattle.std.specs.List.{list_all}
 use Rattle.std.proofs.lemmas.Bool.Decides.{nat_tests}
 use Rattle.std.proofs.lemmas.List.{length-map}
 use Rattle.rn_notation.specs.declared.token.Spot.{Spot}
-use Rattle.rn_items.proofs.Bools.{both_true, true_both}
-use Rattle.rn_value.specs.Kinds.{fit_all, kind_step, value_has_kind}
+use Rattle.rn_items.proofs.Bools.{true_both}
 use Rattle.rn_value.specs.declared.value.Kind.{Kind, out-Kind, map-Kind, fold_out-Kind}
 use Rattle.rn_value.specs.declared.value.Kind.TheVariants as Kind
 use Rattle.rn_value.specs.declared.value.Kind.TheOpen as K
-use Rattle.rn_value.specs.declared.value.Value.{Value, out-Value, map-Value, fold_out-Value}
-use Rattle.rn_value.specs.declared.value.Value.TheVariants as Value
-use Rattle.rn_value.specs.declared.value.Value.TheOpen as V
 use Rattle.rn_model.specs.Limits.{most_parts}
-use Rattle.rn_model.specs.Kinds.{kind_narrow, kind_narrow_step, value_narrow, value_narrow_step}
-use Rattle.rn_model.specs.Kinds.{holds_instance, inst_in_step}
+use Rattle.rn_model.specs.Kinds.{kind_narrow, kind_narrow_step}
 use Rattle.rn_net.specs.declared.kinds.PKind.{PKind, PKind-F, ind-PKind, fold-roll-PKind}
 use Rattle.rn_net.specs.declared.kinds.PKindForm.{PKindForm, map-PKindForm, roll-PKindForm}
 use Rattle.rn_net.specs.declared.kinds.PKindForm.{fold-PKindForm, fold-roll-PKindForm}
 use Rattle.rn_net.specs.declared.kinds.PKindForm.TheOpen as F
-use Rattle.rn_net.specs.declared.constants.PConst.{PConst, PConst-F, ind-PConst, fold-roll-PConst}
-use Rattle.rn_net.specs.declared.constants.PConstForm.{PConstForm, map-PConstForm}
-use Rattle.rn_net.specs.declared.constants.PConstForm.{roll-PConstForm, fold-PConstForm}
-use Rattle.rn_net.specs.declared.constants.PConstForm.{fold-roll-PConstForm}
-use Rattle.rn_net.specs.declared.constants.PConstForm.TheOpen as C
 use Rattle.rn_net.specs.Kinds.{kind_at}
-use Rattle.rn_net.specs.Constants.{constant_at}
 use Rattle.rn_check.specs.declared.fault.Fault.{Fault}
-use Rattle.rn_check.specs.declared.pattern.Pattern.{Pattern, out-Pattern, map-Pattern}
-use Rattle.rn_check.specs.declared.pattern.Pattern.{fold_out-Pattern}
-use Rattle.rn_check.specs.declared.pattern.Pattern.TheOpen as P
 use Rattle.rn_check.specs.Faults.{past_limit}
-use Rattle.rn_check.specs.Patterns.{gives_kind, gives_step}
-use Rattle.rn_check.specs.Declarations.{Part, kind_part, kind_form_faults, parts_faults, const_part}
-use Rattle.rn_check.specs.Declarations.{const_form_faults, fits, fits_form, all_fit, kind_faults}
-use Rattle.rn_check.specs.Numbering.{kind_of, kind_of_form, value_of, value_of_form}
+use Rattle.rn_check.specs.Declarations.{Part, kind_part, kind_form_faults}
+use Rattle.rn_check.specs.Declarations.{kind_faults}
+use Rattle.rn_check.specs.Numbering.{kind_of, kind_of_form}
 use Rattle.rn_check.proofs.DeclaredKinds.{kind-at, form_kind}
 use Rattle.rn_check.proofs.Faultless.{both_nil, within_limit}
 

@@ -1,5 +1,5 @@
 -- Which kinds come of patterns, and of what two patterns have in common.
-use Rattle.std.proofs.Common.{◌≡◌, Bool, true, false, ◌&&◌, List, [], ◌∷◌, map, refl, sym, ap, ◌∙◌}
+use Rattle.std.proofs.Common.{◌≡◌, Bool, true, List, [], ◌∷◌, map, refl, sym, ap, ◌∙◌}
 use Rattle.std.proofs.Common.{subst}
 use Rattle.std.specs.List.{AllByRecursion}
 use Rattle.rn_items.proofs.Bools.{both_true, true_both}
@@ -46,10 +46,10 @@ module _ (H : Pattern → Type 0) (f : ByPattern H) where
   by_pattern = ind-Pattern H (λ x y is. subst (λ w. H (roll-Pattern w)) is (layer y))
 
 -- one layer of a pattern at a kind, and beside another
-abbrev gives_at : P.Pattern-F Pattern → K.Kind-F Kind → Bool
+abbrev pub gives_at : P.Pattern-F Pattern → K.Kind-F Kind → Bool
 gives_at x z = gives_step (map-Pattern Pattern (Kind → Bool) gives_kind x) z
 
-gives-out : (p : Pattern) (k : Kind) → gives_kind p k ≡ gives_at (out-Pattern p) (out-Kind k)
+pub gives-out : (p : Pattern) (k : Kind) → gives_kind p k ≡ gives_at (out-Pattern p) (out-Kind k)
 gives-out p k =
     ap (λ f. f k) (fold_out-Pattern (Kind → Bool) (λ p kind. gives_step p (out-Kind kind)) p)
 
@@ -76,7 +76,7 @@ gives-Net k = gives-out Pattern.Net k ∙ rw Pattern.outs-Net
 abbrev share_at : P.Pattern-F Pattern → P.Pattern-F Pattern → Bool
 share_at x y = share_step (map-Pattern Pattern (Pattern → Bool) share x) y
 
-share-out : (p q : Pattern) → share p q ≡ share_at (out-Pattern p) (out-Pattern q)
+pub share-out : (p q : Pattern) → share p q ≡ share_at (out-Pattern p) (out-Pattern q)
 share-out p q =
     ap (λ f. f q) (fold_out-Pattern (Pattern → Bool) (λ p q. share_step p (out-Pattern q)) p)
 

@@ -1,9 +1,9 @@
 -- What is declared: the numbers of names, and the kinds at these numbers.
-use Rattle.std.proofs.Common.{◌≡◌, ℕ, zero, suc, ◌+◌, ◌<◌, Bool, true, false, ◌&&◌, List, [], ◌∷◌}
+use Rattle.std.proofs.Common.{◌≡◌, ℕ, zero, suc, ◌+◌, ◌<◌, Bool, true, false, List, [], ◌∷◌}
 use Rattle.std.proofs.Common.{map}
 use Rattle.std.proofs.Common.{refl, sym, ap, ◌∙◌, subst, length, arith}
 use Rattle.std.specs.Prelude.{Option, Some, None, unwrap_or, slice_get, option_map, option_and_then}
-use Rattle.std.specs.Prelude.{nat_eq, is_none, is_some, if◌then◌else◌}
+use Rattle.std.specs.Prelude.{nat_eq, is_some, if◌then◌else◌}
 use Rattle.std.specs.Option.{option_map_or}
 use Rattle.std.specs.Cmp.Lexicographic.{pointwise}
 use Rattle.std.proofs.lemmas.Bool.{eqb-true}
@@ -27,7 +27,6 @@ use Rattle.rn_check.specs.Names.{same_name, number_from, number_among}
 use Rattle.rn_check.specs.Systems.{scope_of, channel_from, same_channel}
 use Rattle.rn_check.specs.Numbering.{kind_of, value_of, net_of, system_of, numbers_of}
 use Rattle.rn_check.proofs.DeclaredKinds.{gives_itself}
-use Rattle.rn_check.proofs.ExpressionKinds.{AreKnown}
 
 pub same_texts : (a b : List ℕ) → pointwise nat_eq a b ≡ true → a ≡ b
 same_texts [] [] e = refl

@@ -1,14 +1,14 @@
 -- The expressions of a transition in which nothing is broken, and its action variables.
-use Rattle.std.proofs.Common.{◌≡◌, ◌≢◌, ℕ, ◌+◌, ◌<◌, ◌≤◌, Bool, true, false, ◌&&◌, ◌||◌, not, List}
+use Rattle.std.proofs.Common.{◌≡◌, ℕ, ◌<◌, ◌≤◌, Bool, true, false, ◌&&◌, not, List}
 use Rattle.std.proofs.Common.{[]}
 use Rattle.std.proofs.Common.{◌∷◌, ◌++◌, map, refl, sym, ap, ◌∙◌, subst, length, arith, inl, inr}
-use Rattle.std.proofs.Common.{append_assoc, append-nil}
-use Rattle.std.specs.Prelude.{Option, Some, None, is_none, nat_lt, nat_eq, flat_map, Contains}
+use Rattle.std.proofs.Common.{append-nil}
+use Rattle.std.specs.Prelude.{Option, Some, None, is_none, nat_lt, nat_eq, flat_map}
 use Rattle.std.specs.Prelude.{IsTrue}
-use Rattle.std.specs.Prelude.{if◌then◌else◌, unwrap_or, ◌⊎◌}
+use Rattle.std.specs.Prelude.{if◌then◌else◌, ◌⊎◌}
 use Rattle.std.specs.Option.{option_map_or}
 use Rattle.std.specs.List.{AllByRecursion, list_any}
-use Rattle.std.proofs.lemmas.Bool.{eqb-true, eq-eqb}
+use Rattle.std.proofs.lemmas.Bool.{eqb-true}
 use Rattle.std.proofs.lemmas.List.Elements.{recursion_from_All}
 use Rattle.std.proofs.lemmas.Bool.Decides.{nat_tests}
 use Rattle.rn_items.proofs.Bools.{or_true, or_left, or_right}
@@ -16,16 +16,14 @@ use Rattle.rn_items.proofs.Numbers.{numbers_themselves}
 use Rattle.rn_model.specs.declared.expr.Expr.{Expr}
 use Rattle.rn_model.specs.declared.expr.Cond.{Cond}
 use Rattle.rn_model.specs.declared.expr.CompareKind.{CompareKind}
-use Rattle.rn_model.specs.declared.expr.CompareKind.TheVariants.{Same, Differs, Less, AtMost}
-use Rattle.rn_model.specs.declared.expr.CompareKind.TheVariants.{Greater, AtLeast}
+use Rattle.rn_model.specs.declared.expr.CompareKind.TheVariants.{Same, Differs}
 use Rattle.rn_model.specs.declared.system.ArcKind.{ArcKind}
-use Rattle.rn_model.specs.declared.system.Transition.{Transition}
 use Rattle.rn_model.specs.declared.system.Action.{Action}
 use Rattle.rn_model.specs.Limits.{most_nested}
 use Rattle.rn_model.specs.Kinds.{expr_narrow, expr_depth, holds_step}
 use Rattle.rn_model.specs.Systems.{vars_in, is_output}
-use Rattle.rn_model.specs.Good.{Comparison, comparisons_in, guard_exprs, cond_depth, action_expr}
-use Rattle.rn_model.specs.Good.{set_var, InOrder}
+use Rattle.rn_model.specs.Good.{comparisons_in, guard_exprs, cond_depth, action_expr}
+use Rattle.rn_model.specs.Good.{set_var}
 use Rattle.rn_model.proofs.EachElement.{each_map, each_flat_map, each_weaker}
 use Rattle.rn_inscript.specs.declared.exprs.PExpr.{PExpr}
 use Rattle.rn_inscript.specs.declared.conds.PCond.{PCond}
@@ -37,15 +35,13 @@ use Rattle.rn_net.specs.declared.plain.Plain.{Plain}
 use Rattle.rn_net.specs.declared.plain.PNet.{PNet}
 use Rattle.rn_check.specs.declared.fault.Rule.TheVariants as Rule
 use Rattle.rn_check.specs.declared.pattern.Pattern.{Pattern}
-use Rattle.rn_check.specs.declared.pattern.Pattern.TheVariants as Pattern
 use Rattle.rn_check.specs.Faults.{broken, broken_if}
 use Rattle.rn_check.specs.Expressions.{Where, Seen, seen_of, apart, misfit, operand_faults}
 use Rattle.rn_check.specs.Expressions.{operands_faults, variable_faults}
 use Rattle.rn_check.specs.Conditions.{compared_faults, sides_faults, condition_faults}
 use Rattle.rn_check.specs.Arcs.{asked_of, is_clear, is_variable, inscribed_faults, arc_faults}
 use Rattle.rn_check.specs.Calls.{channel_call_faults, call_faults, target_faults, is_no_net}
-use Rattle.rn_check.specs.Calls.{creation_faults}
-use Rattle.rn_check.specs.Actions.{set_name, set_names, is_set_by, set_faults, value_faults}
+use Rattle.rn_check.specs.Actions.{is_set_by, value_faults}
 use Rattle.rn_check.specs.Transitions.{Progress, Scope, inscription_faults, inscriptions_faults}
 use Rattle.rn_check.specs.Transitions.{after, in_action, in_output, elsewhere}
 use Rattle.rn_check.specs.Names.{same_name, number_among}
@@ -58,11 +54,9 @@ use Rattle.rn_check.specs.WellFormed.{exprs_of, conds_of, exprs_in}
 use Rattle.rn_check.proofs.Faultless.{both_nil, unbroken, holds}
 use Rattle.rn_check.proofs.InscriptionParts.{set_parts, uplink_part, downlink_parts}
 use Rattle.rn_check.proofs.ScopeKinds.{same_texts}
-use Rattle.rn_check.proofs.DeclaredNames.{any_left, any_last}
 use Rattle.rn_check.proofs.ExpressionFacts.{Stands, is_narrow, vars_stand, without_step}
 use Rattle.rn_check.proofs.ConditionParts.{comparisons_have}
-use Rattle.rn_check.proofs.ItsVars.{among_there}
-use Rattle.rn_check.proofs.ActionVars.{IsIn, IsDeclared, NewEach, declared_below, names_same}
+use Rattle.rn_check.proofs.ActionVars.{IsIn, IsDeclared, declared_below, names_same}
 use Rattle.rn_check.proofs.ActionVars.{found_early, early_found}
 
 -- a name is among one more where it is among those before, or is that one

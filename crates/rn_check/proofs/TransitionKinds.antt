@@ -1,8 +1,8 @@
 -- A transition in which nothing is broken is well kinded.
-use Rattle.std.proofs.Common.{◌≡◌, ℕ, zero, suc, ◌<◌, Bool, true, false, ◌&&◌, List, [], ◌∷◌, ◌++◌}
+use Rattle.std.proofs.Common.{◌≡◌, ℕ, ◌<◌, Bool, true, false, ◌&&◌, List, [], ◌∷◌, ◌++◌}
 use Rattle.std.proofs.Common.{map}
 use Rattle.std.proofs.Common.{refl, sym, ap, ◌∙◌, subst, length, not, arith}
-use Rattle.std.specs.Prelude.{Option, Some, None, is_none, unwrap_or, slice_get, flat_map, nat_lt}
+use Rattle.std.specs.Prelude.{Option, Some, None, is_none, slice_get, flat_map, nat_lt}
 use Rattle.std.specs.Prelude.{if◌then◌else◌}
 use Rattle.std.specs.Option.{option_map_or}
 use Rattle.std.specs.List.{AllByRecursion, AllZip}
@@ -12,7 +12,6 @@ use Rattle.std.proofs.lemmas.Option.{same_Some}
 use Rattle.rn_value.specs.declared.value.Kind.{Kind, out-Kind, roll-Kind, roll-out-Kind}
 use Rattle.rn_value.specs.declared.value.Kind.TheVariants as Kind
 use Rattle.rn_value.specs.declared.value.Kind.TheOpen as K
-use Rattle.rn_model.specs.declared.expr.Expr.{Expr}
 use Rattle.rn_model.specs.declared.expr.Expr.TheVariants as E
 use Rattle.rn_model.specs.declared.expr.CompareKind.{CompareKind}
 use Rattle.rn_model.specs.declared.expr.CompareKind.TheVariants.{Same, Differs, Less, AtMost}
@@ -21,12 +20,11 @@ use Rattle.rn_model.specs.declared.system.ArcKind.{ArcKind}
 use Rattle.rn_model.specs.declared.system.ArcKind.TheVariants.{Input, Output, Test, Reserve}
 use Rattle.rn_model.specs.declared.system.ArcKind.TheVariants.{FlexInput, FlexOutput, Inhibit}
 use Rattle.rn_model.specs.declared.system.ArcKind.TheVariants.{Clear}
-use Rattle.rn_model.specs.declared.system.Uplink.{Uplink}
 use Rattle.rn_model.specs.Limits.{most_inscriptions}
 use Rattle.rn_model.specs.Agreement.{inscribed_kind}
-use Rattle.rn_model.specs.Kinds.{HasExprKind, ShareKind, expr_has_kind}
-use Rattle.rn_model.specs.Systems.{var_kind_in, place_kind_in, channel_kinds, is_output}
-use Rattle.rn_model.specs.Good.{Comparison, CanCompare, IsGoodAction, IsGoodCall, IsGoodArc}
+use Rattle.rn_model.specs.Kinds.{HasExprKind, ShareKind}
+use Rattle.rn_model.specs.Systems.{var_kind_in, is_output}
+use Rattle.rn_model.specs.Good.{CanCompare, IsGoodAction, IsGoodCall, IsGoodArc}
 use Rattle.rn_model.specs.Good.{IsWellKinded, comparisons_in}
 use Rattle.rn_model.proofs.EachElement.{each_map, each_flat_map, each_weaker}
 use Rattle.rn_model.proofs.KindsOfValues.{same_is_equal}
@@ -43,20 +41,19 @@ use Rattle.rn_net.specs.declared.plain.Plain.{Plain}
 use Rattle.rn_net.specs.declared.plain.PNet.{PNet}
 use Rattle.rn_net.specs.declared.plain.PTransition.{PTransition}
 use Rattle.rn_check.specs.declared.fault.Rule.TheVariants as Rule
-use Rattle.rn_check.specs.declared.fault.Fault.{Fault}
 use Rattle.rn_check.specs.declared.pattern.Pattern.{Pattern}
 use Rattle.rn_check.specs.declared.pattern.Pattern.TheVariants as Pattern
 use Rattle.rn_check.specs.declared.pattern.Pattern.TheOpen as P
 use Rattle.rn_check.specs.Faults.{broken, broken_if, past_limit}
 use Rattle.rn_check.specs.Patterns.{gives_kind, gives_step, share, pattern_of}
-use Rattle.rn_check.specs.Expressions.{Where, Seen, seen_of, apart, misfit, whole, operand_faults}
+use Rattle.rn_check.specs.Expressions.{Where, Seen, seen_of, apart, misfit, operand_faults}
 use Rattle.rn_check.specs.Expressions.{operands_faults, variable_faults}
 use Rattle.rn_check.specs.Conditions.{compared_faults, sides_faults, condition_faults}
 use Rattle.rn_check.specs.Arcs.{asked_of, is_clear, is_name, is_variable, inscribed_faults}
 use Rattle.rn_check.specs.Arcs.{arc_faults}
 use Rattle.rn_check.specs.Calls.{misfits, channel_call_faults, call_faults, target_faults}
 use Rattle.rn_check.specs.Calls.{is_no_net, creation_faults}
-use Rattle.rn_check.specs.Actions.{set_faults, value_faults}
+use Rattle.rn_check.specs.Actions.{value_faults}
 use Rattle.rn_check.specs.Transitions.{Progress, Scope, inscription_faults, inscriptions_faults}
 use Rattle.rn_check.specs.Transitions.{after, in_action, in_output, elsewhere, at_first}
 use Rattle.rn_check.specs.Transitions.{transition_faults}
@@ -67,8 +64,8 @@ use Rattle.rn_check.specs.Numbering.{creation_of, uplink_of, downlink_of, arc_of
 use Rattle.rn_check.specs.Numbering.{transition_of}
 use Rattle.rn_check.specs.WellFormed.{exprs_in}
 use Rattle.rn_check.proofs.PatternKinds.{gives-List, share_gives, gives_some}
-use Rattle.rn_check.proofs.DeclaredKinds.{gives_itself, same_as_itself}
-use Rattle.rn_check.proofs.Faultless.{both_nil, each_nil, unbroken, holds, not_apart, fits_asked}
+use Rattle.rn_check.proofs.DeclaredKinds.{gives_itself}
+use Rattle.rn_check.proofs.Faultless.{both_nil, unbroken, holds, not_apart, fits_asked}
 use Rattle.rn_check.proofs.Faultless.{only_net, net_shared, operand_fits}
 use Rattle.rn_check.proofs.InscriptionParts.{set_parts, uplink_part, downlink_parts}
 use Rattle.rn_check.proofs.ExpressionKinds.{has_its_kinds, Numbered, form_expr}

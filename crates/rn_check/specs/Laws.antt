@@ -1,5 +1,5 @@
 -- Laws over what the checker accepts. Each is the contract of a function that does nothing.
-use Rattle.std.specs.Prelude.{◌≡◌, []}
+use Rattle.std.specs.Prelude.{◌≡◌, ◌↔◌, true, []}
 use Rattle.rn_value.specs.declared.value.Kind.{Kind}
 use Rattle.rn_inscript.specs.declared.exprs.PExpr.{PExpr}
 use Rattle.rn_net.specs.declared.plain.Plain.{Plain}
@@ -8,7 +8,8 @@ use Rattle.rn_model.specs.declared.system.System.{System}
 use Rattle.rn_model.specs.Good.{Good}
 use Rattle.rn_model.specs.Systems.{var_kind_in}
 use Rattle.rn_model.specs.Kinds.{HasExprKind}
-use Rattle.rn_check.specs.Patterns.{Gives}
+use Rattle.rn_check.specs.declared.pattern.Pattern.{Pattern}
+use Rattle.rn_check.specs.Patterns.{Gives, share}
 use Rattle.rn_check.specs.Expressions.{Where, seen_of}
 use Rattle.rn_check.specs.Numbering.{net_of, numbers_of, expr_of}
 use Rattle.rn_check.specs.Systems.{scope_of}
@@ -27,3 +28,8 @@ CheckedExpressionsHaveKinds = (plain : Plain) (net : PNet) (at : Where) (e : PEx
 abbrev pub CheckedSystemsAreGood : Type 0
 CheckedSystemsAreGood = (plain : Plain) (system : System) → Checked plain system →
     IsWellFormed plain → Good system
+
+-- Patterns share a kind exactly where some kind comes of both.
+abbrev pub PatternsShareKinds : Type 0
+PatternsShareKinds = (p q : Pattern) →
+    (share p q ≡ true) ↔ ((kind : Kind) × Gives p kind × Gives q kind)

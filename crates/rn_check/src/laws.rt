@@ -1,5 +1,6 @@
 //! Laws over what the checker accepts, each the contract of a function that does nothing.
 ghost use Rattle.rn_check.specs.Laws.{CheckedExpressionsHaveKinds, CheckedSystemsAreGood};
+ghost use Rattle.rn_check.specs.Laws.{PatternsShareKinds};
 
 /// An expression in which nothing is broken has each kind that comes of its pattern.
 pub fn checked_expressions_have_kinds()
@@ -9,4 +10,9 @@ pub fn checked_expressions_have_kinds()
 /// A plain form that is well formed, and in which nothing is broken, means a good system.
 pub fn checked_systems_are_good()
     ensures { CheckedSystemsAreGood }
+{}
+
+/// Patterns share a kind exactly where some kind comes of both.
+pub fn patterns_share_kinds()
+    ensures { PatternsShareKinds }
 {}
