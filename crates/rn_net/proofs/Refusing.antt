@@ -17,7 +17,7 @@ use Rattle.rn_net.specs.Nets.{IsSystem}
 use Rattle.rn_net.specs.Refusals.{IsBeginning, IsStopped, IsDeep, AreFine, AreTokensOf, IsRefused, Answers, refusal_of}
 use Rattle.rn_net.specs.Answers.{Reason, Settles}
 use Rattle.rn_net.proofs.InscriptionReading.{append-nil, split-at}
-use Rattle.rn_net.proofs.Settling.{Ends, stopped-ends, deep-ends, not-on, ends-fine, spelled-alone, settled_read}
+use Rattle.rn_net.proofs.Settling.{Ends, stopped-ends, deep-ends, not-on, ends-fine, spelled-alone, settled_read, unless_memory}
 
 -- two tokens at which reading ends are one
 same-end : {tokens : List Token} {s t : Spot} (e : Ends tokens s) (f : Ends tokens t) → (e.before ≡ f.before) × (e.token ≡ f.token)
@@ -93,21 +93,10 @@ reason-of one only apart bytes tokens fault end q fits none some there x = by x
     by (IsRefused.faulty {tokens = ts} {fault = f} h y z) = let same = faulty fault none some ts f y in inr (inr (inl (f, same.1, refl, subst AreFine same.0 z)))
     by (IsRefused.unfinished {tokens = ts} h y z none_reads) = let same = whole fault none some ts y in inr (inr (inr (same.1, ap R.P2 (sym there), subst AreFine same.0 z, subst (λ us. (p : Plain) → IsSystem us p → ⊥) same.0 none_reads)))
 
--- a refusal but for want of memory has its reason
-told : {tokens : List Token} {fault : Option LexFault} {end : Spot} (r : Refusal) (q : Refusal) → (Reason tokens fault end r → r ≡ q) → Settles tokens fault end (Err r) → Answers (Err r) (Err q)
-told (R.P1 y) q same s = ap Err (same s)
-told (R.P2 y) q same s = ap Err (same s)
-told (R.P3 y) q same s = ap Err (same s)
-told (R.P4 y) q same s = ap Err (same s)
-told (R.P5 y) q same s = ap Err (same s)
-told (R.P6 y) q same s = ap Err (same s)
-told (R.P7 y) q same s = ap Err (same s)
-told R.NoMemory q same s = tt
-
 pub settled_refuses : OneReading → OneFault → NoFaultInTokens → (bytes : List ℕ) (tokens : List Token) (fault : Option LexFault) (end : Spot) (r : Result Plain Refusal) → length bytes ≤ longest_net_text → IfNone fault (Tokens bytes tokens) → IfSome fault (FirstFault bytes tokens) → end ≡ spot_after bytes →
     Settles tokens fault end r → (q : Refusal) → IsRefused bytes q → Answers r (Err q)
 settled_refuses one only apart bytes tokens fault end (Ok p) fits none some there s q x = absurd (spelled-alone one only apart (settled_read bytes tokens fault end (Ok p) fits none s) x)
-settled_refuses one only apart bytes tokens fault end (Err r) fits none some there s q x = told {tokens = tokens} {fault = fault} {end = end} r q (λ y. one-reason tokens fault end r q y (reason-of one only apart bytes tokens fault end q fits none some there x)) s
+settled_refuses one only apart bytes tokens fault end (Err r) fits none some there s q x = unless_memory {tokens = tokens} {fault = fault} {end = end} r (Err q) (λ y. ap Err (one-reason tokens fault end r q y (reason-of one only apart bytes tokens fault end q fits none some there x))) s
 
 pub long_refuses : (bytes : List ℕ) → longest_net_text < length bytes → (q : Refusal) → IsRefused bytes q → Answers (Err (R.P6 (record { line = 1; column = 1 }))) (Err q)
 long_refuses bytes long q x = by x

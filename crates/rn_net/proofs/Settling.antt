@@ -114,15 +114,15 @@ naturals bytes tokens all = λ at t n next is.
     let h = subst (AllByRecursion (IsSlice bytes)) next.0 (all-drop (IsSlice bytes) at tokens all) in natural n h.0.stands is
 
 -- the answer of a text from that of its tokens
-as-reason : (bytes : List ℕ) (r : Refusal) → IsRefused bytes r → IsReason bytes r
-as-reason bytes (R.P1 s) x = x
-as-reason bytes (R.P2 s) x = x
-as-reason bytes (R.P3 s) x = x
-as-reason bytes (R.P4 s) x = x
-as-reason bytes (R.P5 s) x = x
-as-reason bytes (R.P6 s) x = x
-as-reason bytes (R.P7 s) x = x
-as-reason bytes R.NoMemory x = tt
+as-reason : {tokens : List Token} {fault : Option LexFault} {end : Spot} (bytes : List ℕ) (r : Refusal) → (Reason tokens fault end r → IsRefused bytes r) → Settles tokens fault end (Err r) → IsReason bytes r
+as-reason bytes (R.P1 y) by s = by s
+as-reason bytes (R.P2 y) by s = by s
+as-reason bytes (R.P3 y) by s = by s
+as-reason bytes (R.P4 y) by s = by s
+as-reason bytes (R.P5 y) by s = by s
+as-reason bytes (R.P6 y) by s = by s
+as-reason bytes (R.P7 y) by s = by s
+as-reason bytes R.NoMemory by s = tt
 
 refused-by : (bytes : List ℕ) (tokens : List Token) (fault : Option LexFault) (end : Spot) (r : Refusal) → length bytes ≤ longest_net_text → IfNone fault (Tokens bytes tokens) → IfSome fault (FirstFault bytes tokens) → end ≡ spot_after bytes →
     Reason tokens fault end r → IsRefused bytes r
@@ -141,14 +141,7 @@ refused-by bytes tokens fault end r fits none some there reason = by fault none 
 pub settled_refused : (bytes : List ℕ) (tokens : List Token) (fault : Option LexFault) (end : Spot) (r : Result Plain Refusal) → length bytes ≤ longest_net_text → IfNone fault (Tokens bytes tokens) → IfSome fault (FirstFault bytes tokens) → end ≡ spot_after bytes →
     Settles tokens fault end r → IfErr r (λ refusal. IsReason bytes refusal)
 settled_refused bytes tokens fault end (Ok plain) fits none some there s = tt
-settled_refused bytes tokens fault end (Err (R.P1 x)) fits none some there s = as-reason bytes (R.P1 x) (refused-by bytes tokens fault end (R.P1 x) fits none some there s)
-settled_refused bytes tokens fault end (Err (R.P2 x)) fits none some there s = as-reason bytes (R.P2 x) (refused-by bytes tokens fault end (R.P2 x) fits none some there s)
-settled_refused bytes tokens fault end (Err (R.P3 x)) fits none some there s = as-reason bytes (R.P3 x) (refused-by bytes tokens fault end (R.P3 x) fits none some there s)
-settled_refused bytes tokens fault end (Err (R.P4 x)) fits none some there s = as-reason bytes (R.P4 x) (refused-by bytes tokens fault end (R.P4 x) fits none some there s)
-settled_refused bytes tokens fault end (Err (R.P5 x)) fits none some there s = as-reason bytes (R.P5 x) (refused-by bytes tokens fault end (R.P5 x) fits none some there s)
-settled_refused bytes tokens fault end (Err (R.P6 x)) fits none some there s = as-reason bytes (R.P6 x) (refused-by bytes tokens fault end (R.P6 x) fits none some there s)
-settled_refused bytes tokens fault end (Err (R.P7 x)) fits none some there s = as-reason bytes (R.P7 x) (refused-by bytes tokens fault end (R.P7 x) fits none some there s)
-settled_refused bytes tokens fault end (Err R.NoMemory) fits none some there s = tt
+settled_refused bytes tokens fault end (Err r) fits none some there s = as-reason {tokens = tokens} {fault = fault} {end = end} bytes r (refused-by bytes tokens fault end r fits none some there) s
 
 pub settled_read : (bytes : List ℕ) (tokens : List Token) (fault : Option LexFault) (end : Spot) (r : Result Plain Refusal) → length bytes ≤ longest_net_text → IfNone fault (Tokens bytes tokens) →
     Settles tokens fault end r → IfOk r (λ plain. Spells bytes plain)
@@ -222,18 +215,22 @@ spelled-alone one fault apart {bytes = bytes} {p = p} s x = by x
     by (IsRefused.faulty {tokens = tokens} {fault = f} fits y z) = apart bytes s.tokens tokens f s.read y
     by (IsRefused.unfinished {tokens = tokens} fits y z none) = none p (subst (λ us. IsSystem us p) (one bytes s.tokens tokens s.read y) s.system)
 
+-- a refusal but for want of memory has its reason
+pub unless_memory : {tokens : List Token} {fault : Option LexFault} {end : Spot} (r : Refusal) (expected : Result Plain Refusal) → (Reason tokens fault end r → Err r ≡ expected) → Settles tokens fault end (Err r) → Answers (Err r) expected
+unless_memory (R.P1 y) expected by s = by s
+unless_memory (R.P2 y) expected by s = by s
+unless_memory (R.P3 y) expected by s = by s
+unless_memory (R.P4 y) expected by s = by s
+unless_memory (R.P5 y) expected by s = by s
+unless_memory (R.P6 y) expected by s = by s
+unless_memory (R.P7 y) expected by s = by s
+unless_memory R.NoMemory expected by s = tt
+
 pub settled_reads : OneReading → OneFault → NoFaultInTokens → (bytes : List ℕ) (tokens : List Token) (fault : Option LexFault) (end : Spot) (r : Result Plain Refusal) → length bytes ≤ longest_net_text → IfNone fault (Tokens bytes tokens) → IfSome fault (FirstFault bytes tokens) → end ≡ spot_after bytes →
     Settles tokens fault end r → (plain : Plain) → Spells bytes plain → Answers r (Ok plain)
 settled_reads one only apart bytes tokens fault end (Ok q) fits none some there s plain x =
     ap Ok (sym (s.2 plain (subst (λ us. IsSystem us plain) (one bytes x.tokens tokens x.read (subst (λ o. IfNone o (Tokens bytes tokens)) s.0 none)) x.system)))
-settled_reads one only apart bytes tokens fault end (Err (R.P1 y)) fits none some there s plain x = absurd (spelled-alone one only apart x (refused-by bytes tokens fault end (R.P1 y) fits none some there s))
-settled_reads one only apart bytes tokens fault end (Err (R.P2 y)) fits none some there s plain x = absurd (spelled-alone one only apart x (refused-by bytes tokens fault end (R.P2 y) fits none some there s))
-settled_reads one only apart bytes tokens fault end (Err (R.P3 y)) fits none some there s plain x = absurd (spelled-alone one only apart x (refused-by bytes tokens fault end (R.P3 y) fits none some there s))
-settled_reads one only apart bytes tokens fault end (Err (R.P4 y)) fits none some there s plain x = absurd (spelled-alone one only apart x (refused-by bytes tokens fault end (R.P4 y) fits none some there s))
-settled_reads one only apart bytes tokens fault end (Err (R.P5 y)) fits none some there s plain x = absurd (spelled-alone one only apart x (refused-by bytes tokens fault end (R.P5 y) fits none some there s))
-settled_reads one only apart bytes tokens fault end (Err (R.P6 y)) fits none some there s plain x = absurd (spelled-alone one only apart x (refused-by bytes tokens fault end (R.P6 y) fits none some there s))
-settled_reads one only apart bytes tokens fault end (Err (R.P7 y)) fits none some there s plain x = absurd (spelled-alone one only apart x (refused-by bytes tokens fault end (R.P7 y) fits none some there s))
-settled_reads one only apart bytes tokens fault end (Err R.NoMemory) fits none some there s plain x = tt
+settled_reads one only apart bytes tokens fault end (Err r) fits none some there s plain x = unless_memory {tokens = tokens} {fault = fault} {end = end} r (Ok plain) (λ y. absurd (spelled-alone one only apart x (refused-by bytes tokens fault end r fits none some there y))) s
 
 pub long_reads : (bytes : List ℕ) (spot : Spot) → longest_net_text < length bytes → (plain : Plain) → Spells bytes plain → Answers (Err (R.P6 spot)) (Ok plain)
 long_reads bytes spot long plain x = absurd (let f = x.fits in omega (arith, long, f))
