@@ -1,4 +1,5 @@
 pub mod FindLemmas
+pub mod GoodPlaces
 pub mod HolderLemmas
 pub mod ListingLemmas
 pub mod LiveMarks

@@ -3,6 +3,7 @@
 
 mod found;
 mod holders;
+mod laws;
 mod listing;
 mod marking;
 mod starting;
@@ -10,4 +11,5 @@ mod starting;
 mod tests;
 mod visiting;
 
+pub use laws::places_are_few;
 pub use listing::{garbage, live};
