@@ -11,23 +11,29 @@ use rn_model::System;
 use rn_table::Table;
 use std::alloc::Global;
 
-/// The kept instances that are live, ascending. Each has fewer than 2^32 places, as in a good system.
+/// The kept instances that are live, ascending. Each instance has fewer than 2^32 places, as in a
+/// good system.
 pub fn live(alloc: Global, system: &System, table: &Table) -> Result<Vec<u32>, NoMemory>
-    requires { (n : ℕ) (i : Instance) → instance_at table.now.marking n ≡ Some i → length i.places < 2 ^ 32 }
+    requires { (n : ℕ) (i : Instance) →
+        instance_at table.now.marking n ≡ Some i → length i.places < 2 ^ 32 }
     ensures ascending { IfOk result (λ numbers. IsStrictlyIncreasing numbers.items) }
-    ensures live { IfOk result (λ numbers. (n : ℕ) → Contains numbers.items n ↔ IsLive system.now table.now.marking n) }
+    ensures live { IfOk result (λ numbers. (n : ℕ) →
+        Contains numbers.items n ↔ IsLive system.now table.now.marking n) }
 {
     let numbers = table.instances()?;
     let marks = live_marks(alloc, system, table, numbers.as_slice())?;
     those_marked(alloc, numbers.as_slice(), marks.as_slice())
 }
 
-/// The kept instances that aren't live, ascending: just these may be dropped. Each has fewer than
-/// 2^32 places, as in a good system.
+/// The kept instances that aren't live, ascending: just these may be dropped. Each instance
+/// has fewer than 2^32 places, as in a good system.
 pub fn garbage(alloc: Global, system: &System, table: &Table) -> Result<Vec<u32>, NoMemory>
-    requires { (n : ℕ) (i : Instance) → instance_at table.now.marking n ≡ Some i → length i.places < 2 ^ 32 }
+    requires { (n : ℕ) (i : Instance) →
+        instance_at table.now.marking n ≡ Some i → length i.places < 2 ^ 32 }
     ensures ascending { IfOk result (λ numbers. IsStrictlyIncreasing numbers.items) }
-    ensures dead { IfOk result (λ numbers. (n : ℕ) → Contains numbers.items n ↔ (IsThere table.now.marking n × ¬ IsLive system.now table.now.marking n)) }
+    ensures dead { IfOk result (λ numbers. (n : ℕ) →
+        Contains numbers.items n ↔
+        (IsThere table.now.marking n × ¬ IsLive system.now table.now.marking n)) }
 {
     let numbers = table.instances()?;
     let marks = live_marks(alloc, system, table, numbers.as_slice())?;
