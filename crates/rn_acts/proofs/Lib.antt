@@ -1,3 +1,5 @@
 mod ActLemmas
-mod RowLemmas
+mod ChangeLemmas
 mod CreationLemmas
+mod NumberingLemmas
+mod RowLemmas

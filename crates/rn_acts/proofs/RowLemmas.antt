@@ -29,7 +29,7 @@ flipped p q =
     (λ e. eq-eqb p q (sym (eqb-true q p e)))
 
 -- the same number
-same_number : (p q : ℕ) → nat_eq q p ≡ is_eq (nat_cmp p q)
+pub same_number : (p q : ℕ) → nat_eq q p ≡ is_eq (nat_cmp p q)
 same_number p q =
     both_ways (nat_eq q p) (is_eq (nat_cmp p q))
     (λ e. (Equal-is (nat_cmp p q)).1

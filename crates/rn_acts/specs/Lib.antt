@@ -1,2 +1,4 @@
 pub mod Acting
 pub mod Acted
+pub mod ChangeRows
+pub mod Laws

@@ -3,10 +3,16 @@
 
 mod acting;
 mod acts;
+#[cfg(test)]
+mod change_tests;
+mod changes;
 mod creations;
+mod laws;
 mod outputs;
 #[cfg(test)]
 mod tests;
 
 pub use acts::{Acted, act};
+pub use changes::change_of;
 pub use creations::{gives_too_many, nets_made};
+pub use laws::{numbering_keeps_creations, numbering_keeps_nodes};

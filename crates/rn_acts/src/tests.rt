@@ -63,7 +63,7 @@ fn idle_system(alloc: Global) -> Result<System, NoMemory>
 }
 
 // One node on instance 1, with these values.
-fn binding(alloc: Global, values: &[i64]) -> Result<Binding, NoMemory> {
+pub(crate) fn binding(alloc: Global, values: &[i64]) -> Result<Binding, NoMemory> {
     let mut all = Items::new(alloc);
     for value in values {
         all.push(Value::Int(*value))?;
@@ -158,7 +158,7 @@ fn tens(alloc: Global) -> Result<Transition, NoMemory> {
     Ok(tens)
 }
 
-fn next(alloc: Global) -> Result<Transition, NoMemory> {
+pub(crate) fn next(alloc: Global) -> Result<Transition, NoMemory> {
     let mut next = setting(alloc, op(alloc, OpKind::Add, Expr::Var(0), Expr::Int(1))?)?;
     next.arcs.push(arc(ArcKind::Input, 0, Expr::Var(0)))?;
     Ok(next)
@@ -207,7 +207,7 @@ fn transition(alloc: Global, text: Text) -> Result<Transition, NoMemory> {
     }
 }
 
-fn system(alloc: Global, transition: Transition) -> Result<System, NoMemory> {
+pub(crate) fn system(alloc: Global, transition: Transition) -> Result<System, NoMemory> {
     let mut transitions = Items::new(alloc);
     transitions.push(transition)?;
     let mut nets = Items::new(alloc);
@@ -269,7 +269,7 @@ fn number_of(value: &Value) -> i64 {
     }
 }
 
-fn show_row(shown: &mut Shown, row: &Row) -> Result<(), NoMemory> {
+pub(crate) fn show_row(shown: &mut Shown, row: &Row) -> Result<(), NoMemory> {
     for value in row.values.as_slice() {
         shown.push((row.inst, row.place, number_of(value)))?;
     }

@@ -1,0 +1,12 @@
+//! Laws over the numbers of new instances, each the contract of a function that does nothing.
+ghost use Rattle.rn_acts.specs.Laws.{NumberingKeepsCreations, NumberingKeepsNodes};
+
+/// With the numbers of its new instances a binding makes the same instances.
+pub fn numbering_keeps_creations()
+    ensures { NumberingKeepsCreations }
+{}
+
+/// With the numbers of its new instances the nodes of a binding are still those of the system.
+pub fn numbering_keeps_nodes()
+    ensures { NumberingKeepsNodes }
+{}
