@@ -42,7 +42,7 @@ use Rattle.rn_model.proofs.Rounds.{all_more, closed_decide}
 pub some_equal : {A : Type 0} (x y : A) → Some x ≡ Some y → x ≡ y
 some_equal x y e = cc
 
-snoc_equal : (p q : List ℕ) (i j : ℕ) → p ++ i ∷ [] ≡ q ++ j ∷ [] → (p ≡ q) × (i ≡ j)
+pub snoc_equal : (p q : List ℕ) (i j : ℕ) → p ++ i ∷ [] ≡ q ++ j ∷ [] → (p ≡ q) × (i ≡ j)
 snoc_equal p q i j e =
     let long : length p ≡ length q =
     omega (arith, ap length e, length-append p (i ∷ []), length-append q (j ∷ [])) in (
@@ -56,7 +56,7 @@ no_snoc : (p : List ℕ) (i : ℕ) → [] ≡ p ++ i ∷ [] → ⊥
 no_snoc p i e = let no : ⊥ = omega (arith, ap length e, length-append p (i ∷ [])) in no
 
 module _ (system : System) (b : Binding) where
-  abbrev On : Decision → Item → Type 0
+  abbrev pub On : Decision → Item → Type 0
   On d item = Contains (items_of system b) item × IsOn system d item
 
   item_of : (ds : List Decision) (items : List Item) → AreOn system b ds items →
@@ -97,14 +97,14 @@ module _ (system : System) (b : Binding) where
       (k : ℕ) × (slice_get xs k ≡ Some x)
   in_place xs x (k, h, e) = (k, slice_get-get_or xs k x h ∙ ap Some e)
 
-  item_in : (ds : List Decision) (items : List Item) → AreOn system b ds items → (d : Decision) →
+  pub item_in : (ds : List Decision) (items : List Item) → AreOn system b ds items → (d : Decision) →
       Contains ds d → (item : Item) × Contains items item × On d item
   item_in ds items on d there =
       let place = in_place ds d there in
       let it = item_of ds items on place.0 d place.1 in
       (it.0, at_in items place.0 it.0 it.1, it.2)
 
-  decision_in : (ds : List Decision) (items : List Item) → AreOn system b ds items →
+  pub decision_in : (ds : List Decision) (items : List Item) → AreOn system b ds items →
       (item : Item) → Contains items item → (d : Decision) × Contains ds d × On d item
   decision_in ds items on item there =
       let place = in_place items item there in
@@ -225,7 +225,7 @@ module _ (system : System) (b : Binding) where
       computed_alike a head site way v node s hole on
 
   module _ (depth : ℕ) (shape : Shape system b depth) where
-    same_node : (x y : Node) → Contains b.nodes x → Contains b.nodes y → x.path ≡ y.path → x ≡ y
+    pub same_node : (x y : Node) → Contains b.nodes x → Contains b.nodes y → x.path ≡ y.path → x ≡ y
     same_node x y here there same =
         some_equal x y (sym (node_at-path system b depth x shape here) ∙ ap (node_at b) same
         ∙ node_at-path system b depth y shape there)
@@ -270,7 +270,7 @@ module _ (system : System) (b : Binding) where
         (is_on_entry head caller d item node e f is)
         (turns.came k (Entered head caller) (at ∙ ap Some e))
 
-    equations : (ds : List Decision) (items : List Item) → AreOn system b ds items →
+    pub equations : (ds : List Decision) (items : List Item) → AreOn system b ds items →
         AreInTurn system ds → (a : Assignment) →
         Satisfies system b (Contains items) a ↔ Solves system ds a
     equations ds items on turns a = (
@@ -287,7 +287,7 @@ module _ (system : System) (b : Binding) where
     )
 
     -- what is forced by decisions is forced by the items that they decide, and the other way round
-    forced_over : (ds : List Decision) (items : List Item) → AreOn system b ds items →
+    pub forced_over : (ds : List Decision) (items : List Item) → AreOn system b ds items →
         AreInTurn system ds → (term : Assignment → Option Value) →
         IsForced system ds term ↔ Forced system b (Contains items) term
     forced_over ds items on turns term = (
@@ -378,7 +378,7 @@ module _ (system : System) (b : Binding) where
               (λ x f. (forced_over ds items on turns (λ a. Some (a.var node.path x))).0 f) forced,
         )
 
-    same_thing : (d e : Decision) (item : Item) → On d item → On e item → SameThing d e
+    pub same_thing : (d e : Decision) (item : Item) → On d item → On e item → SameThing d e
     same_thing (Entered head caller) (Entered other from) (entry node) one two =
         ap (λ h. h.path) (one.1 ∙ sym two.1)
     same_thing (Found head k v) (Found other j w) (found node i x) one two =
@@ -403,7 +403,7 @@ module _ (system : System) (b : Binding) where
     same_thing (Computed head site way v) e (found node i x) one two = absurd one.1
 
     -- what is decided of a thing is in by its item
-    closed_entry : (items : List Item) (h : Head) (c : Option Caller) (node : Node) →
+    pub closed_entry : (items : List Item) (h : Head) (c : Option Caller) (node : Node) →
         Contains b.nodes node → h ≡ head_of node → (e : Decision) (it : Item) →
         SameThing (Entered h c) e → Contains items it → On e it → Contains items (entry node)
     closed_entry items h c node there is (Entered o f) (entry n) same inside on =
@@ -416,7 +416,7 @@ module _ (system : System) (b : Binding) where
     closed_entry items h c node there is (Found o j w) it same inside on = absurd same
     closed_entry items h c node there is (Computed o at along w) it same inside on = absurd same
 
-    closed_found : (items : List Item) (k : ℕ) (v : Value) (node : Node) (x : NetArc) →
+    pub closed_found : (items : List Item) (k : ℕ) (v : Value) (node : Node) (x : NetArc) →
         Contains (items_of system b) (found node k x) → (e : Decision) (it : Item) →
         SameThing (Found (head_of node) k v) e → Contains items it → On e it →
         Contains items (found node k x)
@@ -438,7 +438,7 @@ module _ (system : System) (b : Binding) where
     closed_found items k v node x own (Entered o f) it same inside on = absurd same
     closed_found items k v node x own (Computed o at along w) it same inside on = absurd same
 
-    closed_computed : (items : List Item) (site : Site) (v : Value) (node : Node) (s : D.Site)
+    pub closed_computed : (items : List Item) (site : Site) (v : Value) (node : Node) (s : D.Site)
         (hole : Hole) → site_of site ≡ s → Contains (items_of system b) (computed node s hole) →
         (e : Decision) (it : Item) → SameThing (Computed (head_of node) site hole.way v) e →
         Contains items it → On e it → Contains items (computed node s hole)
@@ -517,7 +517,7 @@ module _ (system : System) (b : Binding) where
           (same_thing two.0 one.0 item two.2 one.2));
     }
 
-    entered_by : (ds : List Decision) (d : Decision) (node : Node) → Contains ds d →
+    pub entered_by : (ds : List Decision) (d : Decision) (node : Node) → Contains ds d →
         On d (entry node) → IsEntered ds (head_of node)
     entered_by ds (Entered head caller) node there on =
         (caller, subst (λ h. Contains ds (Entered h caller)) on.1 there)

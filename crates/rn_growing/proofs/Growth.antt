@@ -229,7 +229,7 @@ says_more system old new ds d says adds keeps laid = record {
 pub at_in : {A : Type 0} (xs : List A) (k : ℕ) (x : A) → slice_get xs k ≡ Some x → Contains xs x
 at_in xs k x at = (k, slice_get_within xs k x at, get_or_from_slice_get xs k x x at)
 
-turns_more : (system : System) (ds : List Decision) (d : Decision) → AreInTurn system ds →
+pub turns_more : (system : System) (ds : List Decision) (d : Decision) → AreInTurn system ds →
     MayCome system ds d → IsNew ds d → AreInTurn system (ds ++ d ∷ [])
 turns_more system ds d turns may new = record {
   came = λ k e at. elim (either_at ds d k e at) [

@@ -30,7 +30,7 @@ same_path (i ∷ p) (j ∷ q) e =
     let rest : p ≡ q = same_path p q both.1 in
     cc
 
-site_itself : (s : Site) → same_site s s ≡ true
+pub site_itself : (s : Site) → same_site s s ≡ true
 site_itself (Left k) = eq-eqb k k refl
 site_itself (Right k) = eq-eqb k k refl
 site_itself (UplinkArg k) = eq-eqb k k refl
@@ -38,7 +38,7 @@ site_itself (Target k) = eq-eqb k k refl
 site_itself (DownlinkArg i k) = rw (eq-eqb i i refl, eq-eqb k k refl) refl
 site_itself (Inscription k) = eq-eqb k k refl
 
-site_is : (s t : Site) → same_site s t ≡ true → s ≡ t
+pub site_is : (s t : Site) → same_site s t ≡ true → s ≡ t
 site_is (Left k) (Left j) e = ap Left (eqb-true k j e)
 site_is (Right k) (Right j) e = ap Right (eqb-true k j e)
 site_is (UplinkArg k) (UplinkArg j) e = ap UplinkArg (eqb-true k j e)

@@ -1,0 +1,130 @@
+-- The operator applications of each form of expression, and the ways to them.
+use Rattle.std.proofs.Common.{◌≡◌, ℕ, ◌+◌, ◌<◌, List, [], ◌∷◌, ◌++◌, map, length, drop, get_or, refl, sym, ap, ◌∙◌, append_assoc, append-nil, arith}
+use Rattle.std.proofs.lemmas.List.{map-append, at_drop_more}
+use Rattle.rn_model.specs.declared.expr.Expr.{Expr, map-Expr, roll-Expr, para-roll-Expr}
+use Rattle.rn_model.specs.declared.expr.Expr.TheOpen as O
+use Rattle.rn_model.specs.declared.expr.Expr.TheVariants as E
+use Rattle.rn_model.specs.declared.expr.OpKind.{OpKind}
+use Rattle.rn_model.specs.declared.binding.Node.{Node}
+use Rattle.rn_model.specs.Derivation.{Item, computed, Site, Hole, holes_in, holes_step, holes_of_parts}
+use Rattle.rn_model.specs.Derivation.{within_part, hole_itself, computed_at}
+use Rattle.rn_binding.specs.Parts.{with_holes, hole_within}
+use Rattle.rn_binding.proofs.PuttingParts.{moved}
+
+rolled : (x : O.Expr-F Expr) (e : Expr) → roll-Expr x ≡ e →
+    holes_in e ≡ holes_step (map-Expr Expr (Expr × List Hole) with_holes x)
+rolled x e is = sym (ap holes_in is) ∙ para-roll-Expr (List Hole) holes_step x
+
+pub holes-Tuple : (parts : List Expr) → holes_in (E.Tuple parts) ≡ holes_of_parts 0 (map with_holes parts)
+holes-Tuple parts = rolled (O.Tuple parts) (E.Tuple parts) (E.rolls-Tuple parts)
+
+pub holes-List : (parts : List Expr) → holes_in (E.List parts) ≡ holes_of_parts 0 (map with_holes parts)
+holes-List parts = rolled (O.List parts) (E.List parts) (E.rolls-List parts)
+
+with_last : (parts : List Expr) (tail : Expr) (i : ℕ) →
+    holes_of_parts i (map with_holes parts ++ with_holes tail ∷ [])
+    ≡ holes_of_parts i (map with_holes parts) ++ map (within_part (i + length parts)) (holes_in tail)
+with_last [] tail i =
+    let place : i ≡ i + 0 = omega arith in
+    ap (λ j. map (within_part j) (holes_in tail) ++ []) place ∙ no_more (map (within_part (i + 0)) (holes_in tail))
+  where
+    no_more : (hs : List Hole) → hs ++ [] ≡ hs
+    no_more [] = refl
+    no_more (h ∷ hs) = ap (λ xs. h ∷ xs) (no_more hs)
+with_last (part ∷ parts) tail i =
+    let place : (i + 1) + length parts ≡ i + length (part ∷ parts) = omega arith in
+    ap (λ hs. map (within_part i) (holes_in part) ++ hs) (with_last parts tail (i + 1))
+    ∙ sym (append_assoc (map (within_part i) (holes_in part)) (holes_of_parts (i + 1) (map with_holes parts)) (map (within_part ((i + 1) + length parts)) (holes_in tail)))
+    ∙ ap (λ j. (map (within_part i) (holes_in part) ++ holes_of_parts (i + 1) (map with_holes parts)) ++ map (within_part j) (holes_in tail)) place
+
+pub holes-Cons : (parts : List Expr) (tail : Expr) →
+    holes_in (E.Cons parts tail) ≡ holes_of_parts 0 (map with_holes parts) ++ map (within_part (length parts)) (holes_in tail)
+holes-Cons parts tail = rolled (O.Cons parts tail) (E.Cons parts tail) (E.rolls-Cons parts tail) ∙ with_last parts tail 0 ∙ from_zero
+  where
+    from_zero : holes_of_parts 0 (map with_holes parts) ++ map (within_part (0 + length parts)) (holes_in tail)
+        ≡ holes_of_parts 0 (map with_holes parts) ++ map (within_part (length parts)) (holes_in tail)
+    from_zero =
+        let none : 0 + length parts ≡ length parts = omega arith in
+        ap (λ n. holes_of_parts 0 (map with_holes parts) ++ map (within_part n) (holes_in tail)) none
+
+pub holes-Neg : (part : Expr) → holes_in (E.Neg part) ≡ hole_itself (E.Neg part)
+holes-Neg part = rolled (O.Neg part) (E.Neg part) (E.rolls-Neg part)
+
+pub holes-Op : (kind : OpKind) (a b : Expr) → holes_in (E.Op kind a b) ≡ hole_itself (E.Op kind a b)
+holes-Op kind a b = rolled (O.Op kind a b) (E.Op kind a b) (E.rolls-Op kind a b)
+
+pub holes-Int : (n : _) → holes_in (E.Int n) ≡ []
+holes-Int n = rolled (O.Int n) (E.Int n) (E.rolls-Int n)
+
+pub holes-Text : (s : List ℕ) → holes_in (E.Text s) ≡ []
+holes-Text s = rolled (O.Text s) (E.Text s) (E.rolls-Text s)
+
+pub holes-Var : (x : ℕ) → holes_in (E.Var x) ≡ []
+holes-Var x = rolled (O.Var x) (E.Var x) (E.rolls-Var x)
+
+pub holes-This : holes_in E.This ≡ []
+holes-This = rolled O.This E.This E.rolls-This
+
+pub holes-Step : holes_in E.Step ≡ []
+holes-Step = rolled O.Step E.Step E.rolls-Step
+
+-- the holes of a part, seen from the whole
+pub within_way : (node : Node) (site : Site) (way : List ℕ) (i : ℕ) (hs : List Hole) →
+    map (hole_within node site (way ++ i ∷ [])) hs ≡ map (hole_within node site way) (map (within_part i) hs)
+within_way node site way i [] = refl
+within_way node site way i (h ∷ hs) =
+    ap (λ w. computed node site (record { way = w; form = h.form }) ∷ map (hole_within node site (way ++ i ∷ [])) hs)
+    (append_assoc way (i ∷ []) h.way)
+    ∙ ap (λ xs. computed node site (record { way = way ++ i ∷ h.way; form = h.form }) ∷ xs) (within_way node site way i hs)
+
+-- and from the top
+pub within_top : (node : Node) (site : Site) (hs : List Hole) →
+    map (hole_within node site []) hs ≡ map (computed node site) hs
+within_top node site [] = refl
+within_top node site (h ∷ hs) = ap (λ xs. computed node site h ∷ xs) (within_top node site hs)
+
+-- what the parts of `{..: t}` put, and then `t`
+pub cons_put : (node : Node) (site : Site) (way longer : List ℕ) (e : Expr) (parts es : List Expr) (tail t : Expr) (n : ℕ)
+    (old one two : List Item) → e ≡ E.Cons parts tail → es ≡ parts → t ≡ tail → n ≡ length parts → longer ≡ way ++ n ∷ [] →
+    one ≡ old ++ map (hole_within node site way) (holes_of_parts 0 (map with_holes es)) →
+    two ≡ one ++ map (hole_within node site longer) (holes_in t) →
+    two ≡ old ++ map (hole_within node site way) (holes_in e)
+cons_put node site way longer e parts es tail t n old one two is es_is t_is n_is more first second =
+    let front = holes_of_parts 0 (map with_holes parts) in
+    let back = map (within_part (length parts)) (holes_in tail) in
+    let put = hole_within node site way in
+    let at_tail : map (hole_within node site longer) (holes_in t) ≡ map put back =
+    ap (λ w. map (hole_within node site w) (holes_in t)) (more ∙ ap (λ k. way ++ k ∷ []) n_is)
+    ∙ within_way node site way (length parts) (holes_in t)
+    ∙ ap (λ x. map put (map (within_part (length parts)) (holes_in x))) t_is in
+    second ∙ ap (λ xs. xs ++ map (hole_within node site longer) (holes_in t)) (first ∙ ap (λ xs. old ++ map put (holes_of_parts 0 (map with_holes xs))) es_is)
+    ∙ ap (λ xs. (old ++ map put front) ++ xs) at_tail
+    ∙ append_assoc old (map put front) (map put back)
+    ∙ ap (λ xs. old ++ xs) (sym (map-append put front back) ∙ ap (map put) (sym (ap holes_in is ∙ holes-Cons parts tail)))
+
+-- what one more part puts
+pub part_put : (node : Node) (site : Site) (way same longer : List ℕ) (es : List Expr) (i : ℕ) (x : Expr)
+    (one next all : List Item) → i < length es → x ≡ get_or es i x → same ≡ way → longer ≡ same ++ i ∷ [] →
+    one ++ map (hole_within node site way) (holes_of_parts i (map with_holes (drop i es))) ≡ all →
+    next ≡ one ++ map (hole_within node site longer) (holes_in x) →
+    next ++ map (hole_within node site way) (holes_of_parts (i + 1) (map with_holes (drop (i + 1) es))) ≡ all
+part_put node site way same longer es i x one next all h is same_is more kept put =
+    let on = hole_within node site way in
+    let piece = map on (map (within_part i) (holes_in x)) in
+    let others = holes_of_parts (i + 1) (map with_holes (drop (i + 1) es)) in
+    let rest : map on (holes_of_parts i (map with_holes (drop i es))) ≡ piece ++ map on others =
+    at_drop_more (λ ys. map on (holes_of_parts i (map with_holes ys))) es i x h
+    ∙ ap (λ y. map on (map (within_part i) (holes_in y) ++ others)) (sym is)
+    ∙ map-append on (map (within_part i) (holes_in x)) others in
+    moved one next piece (map on (holes_of_parts i (map with_holes (drop i es)))) (map on others) all kept rest
+    (put ∙ ap (λ xs. one ++ xs)
+    (ap (λ w. map (hole_within node site w) (holes_in x)) (more ∙ ap (λ w. w ++ i ∷ []) same_is)
+    ∙ within_way node site way i (holes_in x)))
+
+-- what puts nothing
+pub none_put : (node : Node) (site : Site) (way : List ℕ) (e : Expr) (old : List Item) →
+    holes_in e ≡ [] → old ≡ old ++ map (hole_within node site way) (holes_in e)
+none_put node site way e old none =
+    sym (append-nil old) ∙ ap (λ hs. old ++ map (hole_within node site way) hs) (sym none)
+
+pub ruleset hole_rules = (holes-Int, holes-Text, holes-Var, holes-This, holes-Step, holes-Tuple, holes-List, holes-Cons, holes-Neg, holes-Op)

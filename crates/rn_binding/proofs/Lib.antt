@@ -1,0 +1,10 @@
+pub mod Coming
+pub mod ComingCalls
+pub mod ComingValues
+pub mod Deciding
+pub mod EnteringNodes
+pub mod ForcedVariables
+pub mod HoleForms
+pub mod NodeReadings
+pub mod Passes
+pub mod PuttingParts

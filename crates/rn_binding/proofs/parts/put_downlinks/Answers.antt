@@ -1,0 +1,18 @@
+use Rattle.std.proofs.Common.{◌++◌, map, ap, sym, ◌∙◌}
+use Rattle.std.specs.Prelude.{flat_map}
+use Rattle.std.specs.List.{enumerate_from}
+use Rattle.rn_model.specs.Derivation.{computed_at, args_of}
+use Rattle.rn_binding.specs.Parts.{item_of}
+use Rattle.rn_binding.proofs.PuttingParts.{downlink_put}
+use Rattle.rn_binding.proofs.parts.put_downlinks.Goals as goal
+
+pub loop-i-preserved : goal.loop-i-preserved
+loop-i-preserved c =
+    downlink_put c.args.node.now c.args.downlinks.now c.loop-i.i c.index-downlinks-i.result
+    c.as_slice.result.now (map item_of c.loop-i.parts.items)
+    (map item_of c.put_downlink_args.new.parts.items)
+    (map item_of c.args.parts.now.items ++ flat_map (computed_at c.args.node.now)
+    (flat_map args_of (enumerate_from 0 c.args.downlinks.now)))
+    c.loop-i-test.true c.index-downlinks-i.is
+    (c.as_slice.ensures ∙ ap (λ d. d.args) (sym c.index-downlinks-i.is)) c.loop-i.invariant
+    c.in_ok-put_downlink_args.ensures

@@ -1,0 +1,40 @@
+-- The items of a binding as the code goes through them. It only connects the code to the
+-- definitions.
+use Rattle.std.specs.Prelude.{ℕ, List, [], ◌∷◌, ◌++◌, if◌then◌else◌}
+use Rattle.std.specs.Borrow.{Bor}
+use Rattle.rn_model.specs.declared.expr.Expr.{Expr}
+use Rattle.rn_model.specs.declared.system.NetArc.{NetArc}
+use Rattle.rn_model.specs.declared.binding.Node.{Node}
+use Rattle.rn_model.specs.Derivation.{Item, entry, found, computed, Site, Hole, holes_in}
+use Rattle.rn_model.specs.Derivation.{finds_values, finds_token, arc}
+use Rattle.rn_growing.specs.Decisions.{site_of}
+use Rattle.rn_binding.specs.declared.part.Part.{Part}
+use Rattle.rn_binding.specs.declared.part.Part.TheVariants.{Entry, Found, Computed}
+
+-- the item that a part is
+abbrev pub item_of : Part → Item
+item_of (Entry node) = entry node.now
+item_of (Found node k x) = found node.now k x.now
+item_of (Computed node site way form) =
+    computed node.now (site_of site) (record { way = way; form = form.now })
+
+-- the item of a part that is lent
+abbrev pub seen : Bor Part → Item
+seen part = item_of part.now
+
+-- an expression beside its operator applications
+abbrev pub with_holes : Expr → Expr × List Hole
+with_holes e = (e, holes_in e)
+
+-- an operator application of a part of an expression, to which this way leads, as an item
+abbrev pub hole_within : Node → Site → List ℕ → Hole → Item
+hole_within node site way hole =
+    computed node site (record { way = way ++ hole.way; form = hole.form })
+
+-- what an arc finds, if it finds values
+abbrev pub found_at : Node → ℕ × NetArc → List Item
+found_at node e = if finds_values e.1.kind then found node e.0 e.1 ∷ [] else []
+
+-- the inscription of an arc, if it finds a token
+abbrev pub arc_site : ℕ × NetArc → List (Site × Expr)
+arc_site e = if finds_token e.1.kind then (arc e.0, e.1.inscription) ∷ [] else []

@@ -1,0 +1,200 @@
+//! Whether an item of a binding may come in now, and bringing it in with the binding's own value.
+ghost use Rattle.std.specs.Prelude.{◌≡◌, Contains, IfOk, OnOk, []};
+ghost use Rattle.rn_model.specs.Derivation.{entry, found, computed, items_of};
+ghost use Rattle.rn_growing.specs.Decisions.{head_of, site_of};
+ghost use Rattle.rn_binding.specs.Parts.{item_of};
+ghost use Rattle.rn_binding.specs.Passing.{IsGiven, IsFollowed, BringsItem};
+
+use crate::before::{was_computed, was_entered, was_found};
+use crate::forcing::is_expr_forced;
+use crate::part::Part;
+use rn_agree::{NodeValues, node_on, transition_of};
+use rn_calc::evaluate;
+use rn_growing::{Caller, Growing, Head, Site, Way};
+use rn_model::{Binding, Expr, NetArc, Node, System};
+use rn_value::{NoMemory, Path, copy_inst};
+use std::alloc::Global;
+
+// A node without its values.
+fn head_of(alloc: Global, node: &Node) -> Result<Head, NoMemory>
+    ensures { IfOk result (λ head. head ≡ head_of node.now) }
+{
+    let path = Path::from_vec(Vec::from_slice(alloc, node.path.as_slice())?);
+    let inst = copy_inst(alloc, &node.inst)?;
+    Ok(Head {
+        path,
+        inst,
+        net: node.net,
+        transition: node.transition,
+    })
+}
+
+// A child comes in once its caller was entered and the target of its downlink is forced. The start
+// was entered first of all.
+pub(crate) fn bring_entry(
+    alloc: Global,
+    system: &System,
+    binding: &Binding,
+    growing: &mut Growing<'_>,
+    node: &Node,
+) -> Result<bool, NoMemory>
+    requires given { IsGiven system.now binding.now }
+    requires followed { IsFollowed system.now binding.now growing.old }
+    requires item { Contains binding.now.nodes node.now }
+    ensures brings { IfOk result (λ yes. BringsItem system.now binding.now growing.old
+        (entry node.now) growing.new yes) }
+    ensures followed { IfOk result (λ yes. IsFollowed system.now binding.now growing.new) }
+{
+    let path = node.path.as_slice();
+    if was_entered(growing.decisions(), path) {
+        return Ok(true);
+    }
+    let Some((i, front)) = path.split_last() else {
+        return Ok(false);
+    };
+    let Some(caller) = node_on(binding, front) else {
+        return Ok(false);
+    };
+    if !was_entered(growing.decisions(), front) {
+        return Ok(false);
+    }
+    let Some(downlink) = transition_of(system, caller).downlinks.get(*i as usize) else {
+        return Ok(false);
+    };
+    let from = head_of(alloc, caller)?;
+    let site = Site::Target(*i as usize);
+    let Some(_inst) = growing.target(alloc, &from, site, &downlink.target)? else {
+        return Ok(false);
+    };
+    let head = head_of(alloc, node)?;
+    growing.enter(
+        alloc,
+        head,
+        Some(Caller {
+            head: from,
+            downlink: *i,
+        }),
+    )
+}
+
+// What an arc finds comes in once its node was entered.
+pub(crate) fn bring_found(
+    alloc: Global,
+    system: &System,
+    binding: &Binding,
+    growing: &mut Growing<'_>,
+    node: &Node,
+    k: usize,
+    arc: &NetArc,
+) -> Result<bool, NoMemory>
+    requires given { IsGiven system.now binding.now }
+    requires followed { IsFollowed system.now binding.now growing.old }
+    requires item { Contains (items_of system.now binding.now) (found node.now k arc.now) }
+    ensures brings { IfOk result (λ yes. BringsItem system.now binding.now growing.old
+        (found node.now k arc.now) growing.new yes) }
+    ensures followed { IfOk result (λ yes. IsFollowed system.now binding.now growing.new) }
+{
+    let path = node.path.as_slice();
+    if was_found(growing.decisions(), path, k) {
+        return Ok(true);
+    }
+    if !was_entered(growing.decisions(), path) {
+        return Ok(false);
+    }
+    let values = NodeValues::new(system, node);
+    let Some(value) = evaluate(alloc, &arc.inscription, &values)? else {
+        return Ok(false);
+    };
+    let head = head_of(alloc, node)?;
+    growing.find(alloc, head, k, value)
+}
+
+// An operator application comes in once its node was entered and all its variables are forced.
+pub(crate) fn bring_computed(
+    alloc: Global,
+    system: &System,
+    binding: &Binding,
+    growing: &mut Growing<'_>,
+    node: &Node,
+    site: Site,
+    way: &[usize],
+    form: &Expr,
+) -> Result<bool, NoMemory>
+    requires given { IsGiven system.now binding.now }
+    requires followed { IsFollowed system.now binding.now growing.old }
+    requires item { Contains (items_of system.now binding.now)
+        (computed node.now (site_of site) (record { way = way.now; form = form.now })) }
+    ensures brings { IfOk result (λ yes. BringsItem system.now binding.now growing.old
+        (computed node.now (site_of site) (record { way = way.now; form = form.now })) growing.new yes) }
+    ensures followed { IfOk result (λ yes. IsFollowed system.now binding.now growing.new) }
+{
+    let path = node.path.as_slice();
+    if was_computed(growing.decisions(), path, site, way) {
+        return Ok(true);
+    }
+    if !was_entered(growing.decisions(), path) {
+        return Ok(false);
+    }
+    if !is_expr_forced(alloc, growing, path, form)? {
+        return Ok(false);
+    }
+    let values = NodeValues::new(system, node);
+    let Some(value) = evaluate(alloc, form, &values)? else {
+        return Ok(false);
+    };
+    let head = head_of(alloc, node)?;
+    let way = Way::from_vec(Vec::from_slice(alloc, way)?);
+    growing.compute(alloc, head, site, way, value)
+}
+
+/// Brings an item in, with the binding's own value, where it may come in now. True if it is in
+/// then.
+pub(crate) fn bring(
+    alloc: Global,
+    system: &System,
+    binding: &Binding,
+    growing: &mut Growing<'_>,
+    part: &Part<'_>,
+) -> Result<bool, NoMemory>
+    requires given { IsGiven system.now binding.now }
+    requires followed { IsFollowed system.now binding.now growing.old }
+    requires item { Contains (items_of system.now binding.now) (item_of part.now) }
+    ensures brings { IfOk result (λ yes. BringsItem system.now binding.now growing.old
+        (item_of part.now) growing.new yes) }
+    ensures followed { IfOk result (λ yes. IsFollowed system.now binding.now growing.new) }
+{
+    match part {
+        Part::Entry(node) => bring_entry(alloc, system, binding, growing, node),
+        Part::Found(node, k, arc) => { bring_found(alloc, system, binding, growing, node, *k, arc) }
+        Part::Computed(node, site, way, form) => {
+            bring_computed(
+                alloc,
+                system,
+                binding,
+                growing,
+                node,
+                *site,
+                way.as_slice(),
+                form,
+            )
+        }
+    }
+}
+
+/// The start is entered first of all.
+pub(crate) fn enter_start(
+    alloc: Global,
+    system: &System,
+    binding: &Binding,
+    growing: &mut Growing<'_>,
+) -> Result<(), NoMemory>
+    requires given { IsGiven system.now binding.now }
+    requires empty { growing.old ≡ record { system = system.now; decisions = [] } }
+    ensures { OnOk result (IsFollowed system.now binding.now growing.new) }
+{
+    if let Some(start) = node_on(binding, &[]) {
+        let head = head_of(alloc, start)?;
+        let _entered = growing.enter(alloc, head, None)?;
+    }
+    Ok(())
+}

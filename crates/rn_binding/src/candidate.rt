@@ -1,0 +1,49 @@
+//! Bindings that were certified.
+ghost use Rattle.std.specs.Prelude.{◌≡◌};
+
+use rn_model::Binding;
+use std::marker::Model;
+
+/// Why a binding is no candidate.
+#[derive(Clone, Copy, Debug, PartialEq, Eq)]
+pub enum NotSound {
+    /// It hasn't the shape within the depth.
+    B1,
+
+    /// It has the shape, and doesn't agree.
+    B2,
+
+    /// It has the shape and agrees, and isn't derived.
+    B3,
+
+    /// Memory is out. This says nothing of the binding.
+    NoMemory,
+}
+
+/// A binding that was certified. The clauses of the calls say for which system, and within which
+/// depth.
+#[derive(Debug, Drop)]
+pub struct Candidate {
+    pub(crate) binding: Binding,
+}
+
+impl Model for Candidate {
+    ghost use Rattle.rn_model.specs.declared.binding.Binding.{Binding};
+    ghost use Rattle.rn_value.specs.contracts.value.Value as value;
+    ghost use Rattle.std.specs.Coded.{codes};
+
+    ghost Value = { Binding };
+
+    ghost coded = { Prim.hlevel (codes, value.the_row.coded) };
+
+    ghost view = { λ c. c.binding };
+}
+
+impl Candidate {
+    /// The binding itself.
+    pub fn binding(&self) -> &Binding
+        ensures { result.now ≡ self.now }
+    {
+        &self.binding
+    }
+}
