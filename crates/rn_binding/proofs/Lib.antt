@@ -2,9 +2,12 @@ pub mod Coming
 pub mod ComingCalls
 pub mod ComingValues
 pub mod Deciding
+pub mod Ending
 pub mod EnteringNodes
 pub mod ForcedVariables
 pub mod HoleForms
 pub mod NodeReadings
+pub mod PassSteps
 pub mod Passes
+pub mod PickedParts
 pub mod PuttingParts

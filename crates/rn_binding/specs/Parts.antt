@@ -1,7 +1,7 @@
 -- The items of a binding as the code goes through them. It only connects the code to the
 -- definitions.
-use Rattle.std.specs.Prelude.{ℕ, List, [], ◌∷◌, ◌++◌, if◌then◌else◌}
-use Rattle.std.specs.Borrow.{Bor}
+use Rattle.std.specs.Prelude.{ℕ, ◌<◌, List, [], ◌∷◌, ◌++◌, if◌then◌else◌, Option, Some, None}
+use Rattle.std.specs.Prelude.{All, flat_map, length, slice_get}
 use Rattle.rn_model.specs.declared.expr.Expr.{Expr}
 use Rattle.rn_model.specs.declared.system.NetArc.{NetArc}
 use Rattle.rn_model.specs.declared.binding.Node.{Node}
@@ -18,9 +18,18 @@ item_of (Found node k x) = found node.now k x.now
 item_of (Computed node site way form) =
     computed node.now (site_of site) (record { way = way; form = form.now })
 
--- the item of a part that is lent
-abbrev pub seen : Bor Part → Item
-seen part = item_of part.now
+-- the item at an index
+abbrev pub item_at : Option Part → List Item
+item_at None = []
+item_at (Some part) = item_of part ∷ []
+
+-- the items at these indices
+abbrev pub picked : List Part → List ℕ → List Item
+picked parts ks = flat_map (λ k. item_at (slice_get parts k)) ks
+
+-- each index is one of these parts
+abbrev pub AllWithin : List Part → List ℕ → Type 0
+AllWithin parts ks = All (λ k. k < length parts) ks
 
 -- an expression beside its operator applications
 abbrev pub with_holes : Expr → Expr × List Hole

@@ -4,8 +4,11 @@
 mod before;
 mod bringing;
 mod candidate;
+mod certifying;
+mod derived;
 mod forcing;
 mod part;
 mod parts;
 
 pub use candidate::{Candidate, NotSound};
+pub use certifying::certify;

@@ -1,0 +1,83 @@
+-- Items that are told by their indices.
+use Rattle.std.proofs.Common.{◌≡◌, ℕ, zero, suc, ◌+◌, ◌<◌, ◌≤◌, true, false, List, [], ◌∷◌, ◌++◌, length, get_or, map, take, refl, sym, ap, ◌∙◌, subst, arith}
+use Rattle.std.specs.Prelude.{Some, All, Contains, slice_get, flat_map}
+use Rattle.std.proofs.lemmas.Option.{slice_get-get_or}
+use Rattle.std.proofs.lemmas.List.{map-append, take_more, get_or_default}
+use Rattle.std.proofs.lemmas.List.Elements.{Contains-append_right}
+use Rattle.std.proofs.lemmas.Grind.{flat_map-append}
+use Rattle.rn_model.specs.Derivation.{Item}
+use Rattle.rn_binding.specs.declared.part.Part.{Part}
+use Rattle.rn_binding.specs.Parts.{item_of, item_at, picked, AllWithin}
+
+-- one more item
+pub pick_more : (parts : List Part) (ks : List ℕ) (i : ℕ) (part : Part) → i < length parts →
+    part ≡ get_or parts i part → picked parts (ks ++ i ∷ []) ≡ picked parts ks ++ item_of part ∷ []
+pick_more parts ks i part h is =
+    flat_map-append (λ k. item_at (slice_get parts k)) ks (i ∷ [])
+    ∙ ap (λ o. picked parts ks ++ (item_at o ++ [])) (slice_get-get_or parts i part h)
+    ∙ ap (λ p. picked parts ks ++ item_of p ∷ []) (sym is)
+
+-- the rest of indices that are all within
+rest_within : (parts : List Part) (k : ℕ) (ks : List ℕ) → AllWithin parts (k ∷ ks) →
+    AllWithin parts ks
+rest_within parts k ks all j d h = all (suc j) d (omega (arith, h))
+
+pub as_many : (parts : List Part) (ks : List ℕ) → AllWithin parts ks →
+    length (picked parts ks) ≡ length ks
+as_many parts [] all = refl
+as_many [] (k ∷ ks) all =
+    let first : k < 0 = all 0 0 (omega arith) in absurd (let no : ⊥ = omega (arith, first) in no)
+as_many (p ∷ ps) (k ∷ ks) all =
+    let rest = as_many (p ∷ ps) ks (rest_within (p ∷ ps) k ks all) in
+    let first : k < length (p ∷ ps) = all 0 0 (omega arith) in
+    let here : length (item_of (get_or (p ∷ ps) k p) ∷ picked (p ∷ ps) ks) ≡ length (k ∷ ks) =
+    omega (arith, rest) in
+    ap (λ o. length (item_at o ++ picked (p ∷ ps) ks)) (slice_get-get_or (p ∷ ps) k p first) ∙ here
+
+pub none_within : (parts : List Part) → AllWithin parts []
+none_within parts j d h = absurd (let no : ⊥ = omega (arith, h) in no)
+
+pub more_within : (parts : List Part) (ks : List ℕ) (i : ℕ) → AllWithin parts ks →
+    i < length parts → AllWithin parts (ks ++ i ∷ [])
+more_within parts [] i all h zero d low = h
+more_within parts [] i all h (suc j) d low = absurd (let no : ⊥ = omega (arith, low) in no)
+more_within parts (k ∷ ks) i all h zero d low = all 0 d (omega arith)
+more_within parts (k ∷ ks) i all h (suc j) d low =
+    more_within parts ks i (rest_within parts k ks all) h j d (omega (arith, low))
+
+-- what is picked of one more index, and of all parts
+pub picked_next : (parts : List Part) (ks : List ℕ) (k i : ℕ) (part : Part) → k < length ks →
+    i ≡ get_or ks k 0 → i < length parts → part ≡ get_or parts i part →
+    picked parts (take (k + 1) ks) ≡ picked parts (take k ks) ++ item_of part ∷ []
+picked_next parts ks k i part h is low at =
+    ap (picked parts) (take_more ks k 0 h ∙ ap (λ j. take k ks ++ j ∷ []) (sym is))
+    ∙ pick_more parts (take k ks) i part low at
+
+pub all_next : (parts : List Part) (all : List ℕ) (i : ℕ) → i < length parts →
+    picked parts all ≡ map item_of (take i parts) →
+    picked parts (all ++ i ∷ []) ≡ map item_of (take (i + 1) parts)
+all_next [] all i h before = absurd (let no : ⊥ = omega (arith, h) in no)
+all_next (p ∷ ps) all i h before =
+    let at = get_or (p ∷ ps) i p in
+    pick_more (p ∷ ps) all i at h (get_or_default (p ∷ ps) i p at h)
+    ∙ ap (λ xs. xs ++ item_of at ∷ []) before
+    ∙ sym (ap (map item_of) (take_more (p ∷ ps) i p h) ∙ map-append item_of (take i (p ∷ ps)) (at ∷ []))
+
+-- at an index that is within
+pub within_at : (parts : List Part) (ks : List ℕ) (k i : ℕ) → AllWithin parts ks → k < length ks →
+    i ≡ get_or ks k 0 → i < length parts
+within_at parts ks k i all h is = subst (λ j. j < length parts) (sym is) (all k 0 h)
+
+-- and the item there is among those that are picked
+pub picked_there : (parts : List Part) (ks : List ℕ) (k i : ℕ) (part : Part) → k < length ks →
+    i ≡ get_or ks k 0 → i < length parts → part ≡ get_or parts i part →
+    Contains (picked parts ks) (item_of part)
+picked_there parts [] k i part h is low at = absurd (let no : ⊥ = omega (arith, h) in no)
+picked_there parts (j ∷ ks) zero i part h is low at =
+    let here : slice_get parts j ≡ Some part =
+    ap (slice_get parts) (sym is) ∙ slice_get-get_or parts i part low ∙ ap Some (sym at) in
+    subst (λ o. Contains (item_at o ++ picked parts ks) (item_of part)) (sym here)
+    (0, omega arith, refl)
+picked_there parts (j ∷ ks) (suc k) i part h is low at =
+    Contains-append_right (item_at (slice_get parts j)) (picked parts ks) (item_of part)
+    (picked_there parts ks k i part (omega (arith, h)) is low at)

@@ -1,0 +1,12 @@
+use Rattle.std.proofs.Common.{length}
+use Rattle.rn_binding.specs.Parts.{picked, AllWithin}
+use Rattle.rn_binding.specs.Passing.{AreLeft}
+use Rattle.rn_binding.proofs.derived.bring_all.Given as goal
+
+abbrev pub invariant-loop-pending : goal.invariant-loop-pending
+invariant-loop-pending l =
+    AreLeft l.system l.binding l.growing (picked l.parts l.pending.items)
+    × AllWithin l.parts l.pending.items
+
+abbrev pub decreases-loop-pending : goal.decreases-loop-pending
+decreases-loop-pending l = length l.pending.items

@@ -1,0 +1,96 @@
+//! Whether a binding that is given is derived.
+ghost use Rattle.std.specs.Prelude.{◌≡◌, ◌↔◌, Contains, IfOk, IsTrue, map};
+ghost use Rattle.rn_model.specs.Derivation.{Derived, Item, items_of};
+ghost use Rattle.rn_binding.specs.Parts.{item_of, picked, AllWithin};
+ghost use Rattle.rn_binding.specs.Passing.{IsGiven, IsFollowed, IsPassed, Ends};
+
+use crate::bringing::{bring, enter_start};
+use crate::forcing::are_all_forced;
+use crate::part::Part;
+use crate::parts::parts_of;
+use rn_growing::Growing;
+use rn_model::{Binding, System};
+use rn_value::NoMemory;
+use std::alloc::Global;
+
+// Tries items one after another, each told by its index, and gives those that are left.
+fn pass(
+    alloc: Global,
+    system: &System,
+    binding: &Binding,
+    growing: &mut Growing<'_>,
+    parts: &[Part<'_>],
+    pending: &[usize],
+) -> Result<Vec<usize>, NoMemory>
+    requires given { IsGiven system.now binding.now }
+    requires followed { IsFollowed system.now binding.now growing.old }
+    requires within { AllWithin parts.now pending.now }
+    requires items { (item : Item) → Contains (picked parts.now pending.now) item
+        → Contains (items_of system.now binding.now) item }
+    ensures passed { IfOk result (λ left. IsPassed system.now binding.now growing.old
+        (picked parts.now pending.now) growing.new (picked parts.now left.items)) }
+    ensures within { IfOk result (λ left. AllWithin parts.now left.items) }
+{
+    let mut left = Vec::new(alloc);
+    for k in 0..pending.len() {
+        let i = pending[k];
+        if !bring(alloc, system, binding, growing, &parts[i])? {
+            left.push(i)?;
+        }
+    }
+    Ok(left)
+}
+
+// The indices of all items.
+fn all_of(alloc: Global, parts: &[Part<'_>]) -> Result<Vec<usize>, NoMemory>
+    ensures picks { IfOk result (λ all. picked parts.now all.items ≡ map item_of parts.now) }
+    ensures within { IfOk result (λ all. AllWithin parts.now all.items) }
+{
+    let mut all = Vec::new(alloc);
+    for i in 0..parts.len() {
+        all.push(i)?;
+    }
+    Ok(all)
+}
+
+// Brings items in until none of those that are left may come in. True if none is left.
+fn bring_all(
+    alloc: Global,
+    system: &System,
+    binding: &Binding,
+    growing: &mut Growing<'_>,
+    parts: &[Part<'_>],
+) -> Result<bool, NoMemory>
+    requires given { IsGiven system.now binding.now }
+    requires followed { IsFollowed system.now binding.now growing.old }
+    requires items { map item_of parts.now ≡ items_of system.now binding.now }
+    ensures { IfOk result (λ all. Ends system.now binding.now growing.new all) }
+{
+    let mut pending = all_of(alloc, parts)?;
+    loop {
+        let left = pass(alloc, system, binding, growing, parts, pending.as_slice())?;
+        if left.len() == pending.len() {
+            return Ok(left.is_empty());
+        }
+        pending = left;
+    }
+}
+
+/// Whether a binding that agrees is derived. It is grown by its own values: whatever may come in
+/// comes in, and then all is in and all variables are forced, or it isn't derived.
+pub(crate) fn is_derived(
+    alloc: Global,
+    system: &System,
+    binding: &Binding,
+) -> Result<bool, NoMemory>
+    requires given { IsGiven system.now binding.now }
+    ensures { IfOk result (λ yes. IsTrue yes ↔ Derived system.now binding.now) }
+{
+    let parts = parts_of(alloc, system, binding)?;
+    let mut growing = Growing::open(alloc, system);
+    enter_start(alloc, system, binding, &mut growing)?;
+    if !bring_all(alloc, system, binding, &mut growing, parts.as_slice())? {
+        return Ok(false);
+    }
+    are_all_forced(alloc, system, &growing, binding.nodes.as_slice())
+}
