@@ -4,10 +4,12 @@ ghost use Rattle.rn_value.specs.declared.value.Value.TheVariants as Value;
 
 use crate::{Change, Row, Rows, Table};
 use rn_items::{Items, NoMemory};
-use rn_model::{Net, Nets, Place, System, Transition, Uplink};
+use rn_model::{ArcKind, Expr, Net, NetArc, Nets, Place, System, Transition, Uplink, Var};
 use rn_value::{Kind, Str, Vals, Value};
 use std::alloc::Global;
 use std::test::Fail;
+use std::thread;
+use std::thread::Threads;
 
 fn text(alloc: Global, bytes: &str) -> Result<Str, NoMemory> {
     Ok(Str::from_string(String::from_str(alloc, bytes)?))
@@ -21,24 +23,8 @@ fn ints(alloc: Global, numbers: &[i64]) -> Result<Vals, NoMemory> {
     Ok(items)
 }
 
-/// A net with one place of these tokens and one transition, with an uplink or without.
-fn net(alloc: Global, name: &str, tokens: &[i64], called: bool) -> Result<Net, NoMemory> {
-    let mut places = Items::new(alloc);
-    places.push(Place {
-        name: text(alloc, "p")?,
-        kind: Kind::Int,
-        initial: ints(alloc, tokens)?,
-    })?;
-    let uplink = if called {
-        Some(Uplink {
-            channel: 0,
-            args: Items::new(alloc),
-        })
-    } else {
-        None
-    };
-    let mut transitions = Items::new(alloc);
-    transitions.push(Transition {
+fn transition(alloc: Global, uplink: Option<Uplink>) -> Result<Transition, NoMemory> {
+    Ok(Transition {
         name: text(alloc, "t")?,
         vars: Items::new(alloc),
         action_vars: Items::new(alloc),
@@ -49,7 +35,19 @@ fn net(alloc: Global, name: &str, tokens: &[i64], called: bool) -> Result<Net, N
         uplink,
         downlinks: Items::new(alloc),
         arcs: Items::new(alloc),
+    })
+}
+
+/// A net with one place of these tokens and this transition.
+fn net(alloc: Global, name: &str, tokens: &[i64], transition: Transition) -> Result<Net, NoMemory> {
+    let mut places = Items::new(alloc);
+    places.push(Place {
+        name: text(alloc, "p")?,
+        kind: Kind::Int,
+        initial: ints(alloc, tokens)?,
     })?;
+    let mut transitions = Items::new(alloc);
+    transitions.push(transition)?;
     Ok(Net {
         name: text(alloc, name)?,
         vars: Items::new(alloc),
@@ -59,9 +57,16 @@ fn net(alloc: Global, name: &str, tokens: &[i64], called: bool) -> Result<Net, N
 }
 
 fn system(alloc: Global) -> Result<System, NoMemory> {
+    let called = transition(
+        alloc,
+        Some(Uplink {
+            channel: 0,
+            args: Items::new(alloc),
+        }),
+    )?;
     let mut nets: Nets = Items::new(alloc);
-    nets.push(net(alloc, "other", &[7], true)?)?;
-    nets.push(net(alloc, "main", &[2, 1, 2], false)?)?;
+    nets.push(net(alloc, "other", &[7], called)?)?;
+    nets.push(net(alloc, "main", &[2, 1, 2], transition(alloc, None)?)?)?;
     Ok(System {
         nets,
         channels: Items::new(alloc),
@@ -115,14 +120,14 @@ fn row(alloc: Global, inst: u32, values: Vals) -> Result<Rows, NoMemory>
     Ok(rows)
 }
 
-/// Takes one token from the first place of an instance and puts another, where that may come.
+/// Takes one token from the first place of an instance and puts others, where that may come.
 fn exchange(
     alloc: Global,
     table: &mut Table,
     system: &System,
     inst: u32,
     taken: i64,
-    put: i64,
+    put: &[i64],
 ) -> Result<bool, NoMemory> {
     let taken = one(alloc, taken)?;
     let Some(bag) = table.bag(inst, 0) else {
@@ -138,7 +143,7 @@ fn exchange(
         taken: row(alloc, inst, taken)?,
         cleared: Items::new(alloc),
         made: Items::new(alloc),
-        put: row(alloc, inst, one(alloc, put)?)?,
+        put: row(alloc, inst, ints(alloc, put)?)?,
     };
     table.apply(system, &change)?;
     Ok(true)
@@ -176,13 +181,65 @@ fn snapshots_stay(rt: HostRuntime) -> Result<(), Fail> {
     let table = Table::new(alloc, &system)?;
     let mut first = table.snapshot()?;
     let second = table.snapshot()?;
-    assert!(rt; exchange(alloc, &mut first, &system, 1, 2, 5)?);
-    assert!(rt; !exchange(alloc, &mut first, &system, 1, 7, 5)?);
+    assert!(rt; exchange(alloc, &mut first, &system, 1, 2, &[5])?);
+    assert!(rt; !exchange(alloc, &mut first, &system, 1, 7, &[5])?);
     assert!(rt; holds(alloc, &first, 1, &[1, 2, 5])?);
     assert!(rt; holds(alloc, &second, 1, &[1, 2, 2])?);
     assert!(rt; holds(alloc, &table, 1, &[1, 2, 2])?);
-    assert!(rt; exchange(alloc, &mut first, &system, 1, 2, 2)?);
+    assert!(rt; exchange(alloc, &mut first, &system, 1, 2, &[2])?);
     assert!(rt; holds(alloc, &first, 1, &[1, 2, 5])?);
+    Ok(())
+}
+
+/// `net main { var x: int; place p: int = 1, 2; trans t { in p: x; } }`
+fn taking(alloc: Global) -> Result<System, NoMemory> {
+    let mut takes = transition(alloc, None)?;
+    takes.vars.push(0)?;
+    takes.arcs.push(NetArc {
+        kind: ArcKind::Input,
+        place: 0,
+        inscription: Expr::Var(0),
+    })?;
+    let mut main = net(alloc, "main", &[1, 2], takes)?;
+    main.vars.push(Var {
+        name: text(alloc, "x")?,
+        kind: Kind::Int,
+    })?;
+    let mut nets: Nets = Items::new(alloc);
+    nets.push(main)?;
+    Ok(System {
+        nets,
+        channels: Items::new(alloc),
+    })
+}
+
+/// Two threads look whether the first place of instance 1 holds these tokens.
+fn both_find<R: Threads + Sync>(
+    rt: &R,
+    alloc: Global,
+    table: &Table,
+    tokens: &[i64],
+) -> Result<bool, NoMemory> {
+    let (left, right) = thread::join(
+        rt,
+        || holds(alloc, table, 1, tokens),
+        || holds(alloc, table, 1, tokens),
+    );
+    Ok(left? && right?)
+}
+
+#[test]
+fn threads_read_a_snapshot(rt: HostRuntime) -> Result<(), Fail> {
+    let alloc = rt.alloc();
+    let system = taking(alloc)?;
+    let table = Table::new(alloc, &system)?;
+    let mut first = table.snapshot()?;
+    let second = table.snapshot()?;
+    assert!(rt; exchange(alloc, &mut first, &system, 1, 1, &[])?);
+    assert!(rt; both_find(&rt, alloc, &second, &[1, 2])?);
+    assert!(rt; holds(alloc, &first, 1, &[2])?);
+    assert!(rt; holds(alloc, &second, 1, &[1, 2])?);
+    assert!(rt; holds(alloc, &table, 1, &[1, 2])?);
     Ok(())
 }
 
@@ -238,7 +295,7 @@ fn pages_are_given_up(rt: HostRuntime) -> Result<(), Fail> {
     assert!(rt; table.page(1).is_none());
     assert_eq!(rt; table.first_starting(2), None);
     assert_eq!(rt; held(&table, 0), 64);
-    assert!(rt; exchange(alloc, &mut table, &system, 2, 7, 8)?);
+    assert!(rt; exchange(alloc, &mut table, &system, 2, 7, &[8])?);
     assert_eq!(rt; held(&table, 0), 63);
     assert_eq!(rt; table.net_of(3), None);
     assert!(rt; holds(alloc, &table, 2, &[8])?);
