@@ -29,4 +29,10 @@ pub mod ChannelLemmas
 pub mod TransitionLemmas
 pub mod PlaceLemmas
 pub mod NetLemmas
+pub mod WithinLevels
+pub mod KindDepths
+pub mod ExpressionDepths
+pub mod ConditionDepths
+pub mod SpelledInscriptions
+pub mod WellFormedTexts
 pub mod FirstLemmas

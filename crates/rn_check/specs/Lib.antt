@@ -16,3 +16,4 @@ pub mod Sights
 pub mod Scopes
 pub mod WellFormed
 pub mod Laws
+pub mod SpelledForms

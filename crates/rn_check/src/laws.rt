@@ -1,6 +1,7 @@
 //! Laws over what the checker accepts, each the contract of a function that does nothing.
 ghost use Rattle.rn_check.specs.Laws.{CheckedExpressionsHaveKinds, CheckedSystemsAreGood};
 ghost use Rattle.rn_check.specs.Laws.{PatternsShareKinds};
+ghost use Rattle.rn_check.specs.SpelledForms.{SpelledFormsAreWellFormed, CheckedTextsAreGood};
 
 /// An expression in which nothing is broken has each kind that comes of its pattern.
 pub fn checked_expressions_have_kinds()
@@ -15,4 +16,14 @@ pub fn checked_systems_are_good()
 /// Patterns share a kind exactly where some kind comes of both.
 pub fn patterns_share_kinds()
     ensures { PatternsShareKinds }
+{}
+
+/// What a text spells is well formed.
+pub fn spelled_forms_are_well_formed()
+    ensures { SpelledFormsAreWellFormed }
+{}
+
+/// A text in which nothing is broken means a good system.
+pub fn checked_texts_are_good()
+    ensures { CheckedTextsAreGood }
 {}
