@@ -11,3 +11,4 @@ pub mod PassSteps
 pub mod Passes
 pub mod PickedParts
 pub mod PuttingParts
+pub mod TestSystem
