@@ -1,5 +1,6 @@
 -- When the entry of a node may come in.
-use Rattle.std.proofs.Common.{◌≡◌, ℕ, ◌+◌, Bool, true, false, List, [], ◌∷◌, ◌++◌, length, length-append, refl, sym, ap, ◌∙◌, subst, arith}
+use Rattle.std.proofs.Common.{◌≡◌, ℕ, ◌+◌, Bool, true, false, List, [], ◌∷◌, ◌++◌, length}
+use Rattle.std.proofs.Common.{length-append, refl, sym, ap, ◌∙◌, subst, arith}
 use Rattle.std.specs.Prelude.{Contains, Option, None, Some, slice_get, ◌↔◌}
 use Rattle.std.specs.List.{list_any}
 use Rattle.rn_value.specs.declared.value.InstRef.{InstRef}
@@ -11,7 +12,8 @@ use Rattle.rn_model.specs.declared.binding.Node.{Node}
 use Rattle.rn_model.specs.declared.binding.Binding.{Binding}
 use Rattle.rn_model.specs.Systems.{transition_of}
 use Rattle.rn_model.specs.Bindings.{Calls, node_at}
-use Rattle.rn_model.specs.Derivation.{Item, entry, items_of, target, MayEnter, Forced, term_value_at}
+use Rattle.rn_model.specs.Derivation.{Item, entry, items_of, target, MayEnter, Forced}
+use Rattle.rn_model.specs.Derivation.{term_value_at}
 use Rattle.rn_model.specs.RoundLaws.{listed}
 use Rattle.rn_model.proofs.NodesByPath.{node_at-path}
 use Rattle.rn_model.proofs.ForcedValues.{targets_are_children}

@@ -1,5 +1,6 @@
 -- When what an arc finds, and an operator application, may come in.
-use Rattle.std.proofs.Common.{◌≡◌, ℕ, ◌&&◌, Bool, true, false, List, [], ◌∷◌, refl, sym, ap, ◌∙◌, subst}
+use Rattle.std.proofs.Common.{◌≡◌, ℕ, ◌&&◌, Bool, true, false, List, [], ◌∷◌, refl, sym, ap, ◌∙◌}
+use Rattle.std.proofs.Common.{subst}
 use Rattle.std.specs.Prelude.{Contains, Option, None, Some, All, nat_eq, slice_get}
 use Rattle.std.specs.List.{list_any}
 use Rattle.std.specs.Cmp.Lexicographic.{pointwise}
@@ -30,7 +31,9 @@ use Rattle.rn_growing.proofs.Followers.{decision_in, forced_over, entered_by, ea
 use Rattle.rn_binding.specs.Before.{enters, finds, computes}
 use Rattle.rn_binding.specs.Passing.{IsGiven, IsFollowed, BringsItem, IsVarForcedOn}
 use Rattle.rn_binding.proofs.Coming.{tried}
-use Rattle.rn_binding.proofs.Deciding.{entered_is_in, not_entered, found_is_in, not_found, computed_is_in, not_computed, in_is_decided, none_passes, both_are, alike}
+use Rattle.rn_binding.proofs.Deciding.{entered_is_in, not_entered, found_is_in, not_found}
+use Rattle.rn_binding.proofs.Deciding.{computed_is_in, not_computed, in_is_decided, none_passes}
+use Rattle.rn_binding.proofs.Deciding.{both_are, alike}
 use Rattle.rn_model.proofs.ItemsOfNodes.{entry_is_item}
 
 -- the answer of a test at the same list and path

@@ -1,5 +1,6 @@
 -- What is decided is what is in.
-use Rattle.std.proofs.Common.{◌≡◌, ℕ, zero, suc, ◌<◌, ◌&&◌, ◌||◌, Bool, true, false, List, [], ◌∷◌, refl, sym, ap, ◌∙◌, subst, arith, get_or}
+use Rattle.std.proofs.Common.{◌≡◌, ℕ, zero, suc, ◌<◌, ◌&&◌, ◌||◌, Bool, true, false, List, []}
+use Rattle.std.proofs.Common.{◌∷◌, refl, sym, ap, ◌∙◌, subst, arith, get_or}
 use Rattle.std.specs.Prelude.{Contains, Option, None, Some, nat_eq}
 use Rattle.std.specs.List.{list_any}
 use Rattle.std.specs.Cmp.Lexicographic.{pointwise}
@@ -18,9 +19,11 @@ use Rattle.rn_growing.specs.declared.decision.Decision.TheVariants.{Entered, Fou
 use Rattle.rn_growing.specs.Decisions.{site_of, head_of, IsOn, AreOn}
 use Rattle.rn_growing.specs.Layouts.{same_site}
 use Rattle.rn_growing.specs.Turns.{SameThing}
-use Rattle.rn_growing.proofs.SameUnknowns.{both_true, path_itself, same_path, site_is, site_itself, as_site, site_of-is}
+use Rattle.rn_growing.proofs.SameUnknowns.{both_true, path_itself, same_path, site_is}
+use Rattle.rn_growing.proofs.SameUnknowns.{site_itself, as_site, site_of-is}
 use Rattle.rn_growing.proofs.SoundItems.{items_sound}
-use Rattle.rn_growing.proofs.Followers.{item_in, decision_in, closed_entry, closed_found, closed_computed}
+use Rattle.rn_growing.proofs.Followers.{item_in, decision_in, closed_entry, closed_found}
+use Rattle.rn_growing.proofs.Followers.{closed_computed}
 use Rattle.rn_binding.specs.Before.{enters, finds, computes}
 use Rattle.rn_binding.specs.Passing.{IsDecided}
 

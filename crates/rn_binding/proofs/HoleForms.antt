@@ -1,12 +1,14 @@
 -- The operator applications of each form of expression, and the ways to them.
-use Rattle.std.proofs.Common.{◌≡◌, ℕ, ◌+◌, ◌<◌, List, [], ◌∷◌, ◌++◌, map, length, drop, get_or, refl, sym, ap, ◌∙◌, append_assoc, append-nil, arith}
+use Rattle.std.proofs.Common.{◌≡◌, ℕ, ◌+◌, ◌<◌, List, [], ◌∷◌, ◌++◌, map, length, drop, get_or}
+use Rattle.std.proofs.Common.{refl, sym, ap, ◌∙◌, append_assoc, append-nil, arith}
 use Rattle.std.proofs.lemmas.List.{map-append, at_drop_more}
 use Rattle.rn_model.specs.declared.expr.Expr.{Expr, map-Expr, roll-Expr, para-roll-Expr}
 use Rattle.rn_model.specs.declared.expr.Expr.TheOpen as O
 use Rattle.rn_model.specs.declared.expr.Expr.TheVariants as E
 use Rattle.rn_model.specs.declared.expr.OpKind.{OpKind}
 use Rattle.rn_model.specs.declared.binding.Node.{Node}
-use Rattle.rn_model.specs.Derivation.{Item, computed, Site, Hole, holes_in, holes_step, holes_of_parts}
+use Rattle.rn_model.specs.Derivation.{Item, computed, Site, Hole, holes_in, holes_step}
+use Rattle.rn_model.specs.Derivation.{holes_of_parts}
 use Rattle.rn_model.specs.Derivation.{within_part, hole_itself, computed_at}
 use Rattle.rn_binding.specs.Parts.{with_holes, hole_within}
 use Rattle.rn_binding.proofs.PuttingParts.{moved}

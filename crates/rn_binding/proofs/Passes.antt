@@ -1,7 +1,10 @@
 -- Items that are tried one after another, until none may come in.
-use Rattle.std.proofs.Common.{◌≡◌, ℕ, ◌+◌, ◌<◌, ◌≤◌, Bool, true, false, List, [], ◌∷◌, ◌++◌, length, length-append, get_or, inl, inr, refl, sym, ap, ◌∙◌, subst, arith}
+use Rattle.std.proofs.Common.{◌≡◌, ℕ, ◌+◌, ◌<◌, ◌≤◌, Bool, true, false, List, [], ◌∷◌, ◌++◌}
+use Rattle.std.proofs.Common.{length, length-append, get_or, inl, inr, refl, sym, ap, ◌∙◌, subst}
+use Rattle.std.proofs.Common.{arith}
 use Rattle.std.specs.Prelude.{Contains, Some, ◌⊎◌, ◌↔◌, All, IsTrue}
-use Rattle.std.proofs.lemmas.List.Elements.{Contains-append_left, Contains-append_cases, All-contains, Contains-get_or}
+use Rattle.std.proofs.lemmas.List.Elements.{Contains-append_left, Contains-append_cases}
+use Rattle.std.proofs.lemmas.List.Elements.{All-contains, Contains-get_or}
 use Rattle.rn_model.specs.declared.system.System.{System}
 use Rattle.rn_model.specs.declared.binding.Node.{Node}
 use Rattle.rn_model.specs.declared.binding.Binding.{Binding}
@@ -15,7 +18,9 @@ use Rattle.rn_growing.specs.Equations.{IsForced}
 use Rattle.rn_growing.specs.Grown.{Grown}
 use Rattle.rn_growing.proofs.Growth.{contains_last, only_one}
 use Rattle.rn_growing.proofs.Followers.{followers_are_decided, forced_over}
-use Rattle.rn_binding.specs.Passing.{IsGiven, IsFollowed, IsDecided, Stay, IsOut, BringsItem, IsPassed, AreLeft, AreStuck, Ends, AreVarsForced, IsVarForcedOn}
+use Rattle.rn_binding.specs.Passing.{IsGiven, IsFollowed, IsDecided, Stay, IsOut, BringsItem}
+use Rattle.rn_binding.specs.Passing.{IsPassed, AreLeft, AreStuck, Ends, AreVarsForced}
+use Rattle.rn_binding.specs.Passing.{IsVarForcedOn}
 use Rattle.rn_binding.proofs.Deciding.{decided_is_in}
 
 none_in : {A : Type 0} (x : A) → Contains [] x → ⊥

@@ -1,5 +1,6 @@
 -- One step of a list that is put together from pieces, each of a numbered element.
-use Rattle.std.proofs.Common.{◌≡◌, ℕ, ◌+◌, ◌<◌, ◌≤◌, List, [], ◌∷◌, ◌++◌, length, get_or, drop, sym, ap, ◌∙◌, append_assoc}
+use Rattle.std.proofs.Common.{◌≡◌, ℕ, ◌+◌, ◌<◌, ◌≤◌, List, [], ◌∷◌, ◌++◌, length, get_or, drop}
+use Rattle.std.proofs.Common.{sym, ap, ◌∙◌, append_assoc}
 use Rattle.std.proofs.Common.{Bool, true, false, map, refl}
 use Rattle.std.specs.Prelude.{flat_map, filter, if◌then◌else◌}
 use Rattle.std.specs.List.{enumerate_from}
@@ -13,8 +14,10 @@ use Rattle.rn_model.specs.declared.system.Downlink.{Downlink}
 use Rattle.rn_model.specs.declared.expr.Expr.{Expr}
 use Rattle.rn_model.specs.declared.binding.Node.{Node}
 use Rattle.rn_model.specs.Systems.{transition_of, uplink_args}
-use Rattle.rn_model.specs.Derivation.{Item, entry, found, Site, sides_of, args_of, sites_of, uplink_arg}
-use Rattle.rn_model.specs.Derivation.{computed_at, downlink_arg, arc, finds_token, finds_values, node_items}
+use Rattle.rn_model.specs.Derivation.{Item, entry, found, Site, sides_of, args_of, sites_of}
+use Rattle.rn_model.specs.Derivation.{uplink_arg}
+use Rattle.rn_model.specs.Derivation.{computed_at, downlink_arg, arc, finds_token, finds_values}
+use Rattle.rn_model.specs.Derivation.{node_items}
 use Rattle.rn_binding.specs.Parts.{found_at, arc_site}
 
 -- what is put and what is left are as before where the next piece was put

@@ -1,6 +1,7 @@
 -- What the steps of the code say of a growing binding. It only connects the code to the
 -- definitions.
-use Rattle.std.specs.Prelude.{ℕ, ◌≡◌, ◌<◌, ◌≤◌, ◌⊎◌, ◌↔◌, Bool, true, false, List, [], Some, IsTrue, All, Contains, length}
+use Rattle.std.specs.Prelude.{ℕ, ◌≡◌, ◌<◌, ◌≤◌, ◌⊎◌, ◌↔◌, Bool, true, false, List, [], Some}
+use Rattle.std.specs.Prelude.{IsTrue, All, Contains, length}
 use Rattle.rn_model.specs.declared.system.System.{System}
 use Rattle.rn_model.specs.declared.binding.Node.{Node}
 use Rattle.rn_model.specs.declared.binding.Binding.{Binding}

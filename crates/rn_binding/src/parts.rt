@@ -1,10 +1,13 @@
 //! All items of a binding, in the order of its nodes.
-ghost use Rattle.std.specs.Prelude.{◌≡◌, ◌++◌, ◌∷◌, [], ◌<◌, All, OnOk, IfOk, map, flat_map, length};
+ghost use Rattle.std.specs.Prelude.{◌≡◌, ◌++◌, ◌∷◌, [], ◌<◌, All, OnOk, IfOk, map, flat_map};
+ghost use Rattle.std.specs.Prelude.{length};
 ghost use Rattle.std.specs.List.{enumerate_from};
 ghost use Rattle.rn_model.specs.Bindings.{IsNodeOf};
 ghost use Rattle.rn_model.specs.Systems.{transition_of, uplink_args};
-ghost use Rattle.rn_model.specs.Derivation.{computed_at, sites_of, node_items, items_of, finds_values};
-ghost use Rattle.rn_model.specs.Derivation.{finds_token, sides_of, args_of, uplink_arg, downlink_arg};
+ghost use Rattle.rn_model.specs.Derivation.{computed_at, sites_of, node_items, items_of};
+ghost use Rattle.rn_model.specs.Derivation.{finds_values};
+ghost use Rattle.rn_model.specs.Derivation.{finds_token, sides_of, args_of, uplink_arg};
+ghost use Rattle.rn_model.specs.Derivation.{downlink_arg};
 ghost use Rattle.rn_model.specs.Derivation.{holes_in, holes_of_parts, arcs_that, arc};
 ghost use Rattle.rn_growing.specs.Decisions.{site_of};
 ghost use Rattle.rn_binding.specs.Parts.{item_of, with_holes, hole_within, found_at, arc_site};

@@ -1,3 +1,4 @@
+-- What is left of the decisions has one that enters the node exactly where all have.
 use Rattle.std.proofs.Common.{◌≡◌, drop}
 use Rattle.std.specs.List.{list_any}
 use Rattle.rn_binding.specs.Before.{enters}

@@ -1,3 +1,4 @@
+-- By the node's entry, the variables, and the value under the node.
 use Rattle.std.proofs.Common.{◌≡◌, ◌∙◌, ap, sym, subst, rules, true, false}
 use Rattle.std.proofs.lemmas.Result.{IfOk-weaker}
 use Rattle.rn_model.specs.Evaluation.{worth}
@@ -8,7 +9,8 @@ use Rattle.rn_model.specs.Derivation.{computed}
 use Rattle.rn_growing.specs.Decisions.{site_of}
 use Rattle.rn_binding.specs.Before.{enters, computes}
 use Rattle.rn_binding.specs.Passing.{IsVarForcedOn}
-use Rattle.rn_binding.proofs.ComingValues.{tested, computed_already, computed_early, computed_unforced}
+use Rattle.rn_binding.proofs.ComingValues.{tested, computed_already, computed_early}
+use Rattle.rn_binding.proofs.ComingValues.{computed_unforced}
 use Rattle.rn_binding.proofs.ComingValues.{computed_has_value, computed_comes}
 use Rattle.rn_binding.proofs.NodeReadings.{is_node_of, vars_ascend}
 use Rattle.rn_binding.proofs.bringing.bring_computed.Goals as goal

@@ -1,10 +1,12 @@
+-- By the node's entry, and the value under the node.
 use Rattle.std.proofs.Common.{◌≡◌, ◌∙◌, ap, sym, true, false}
 use Rattle.std.proofs.lemmas.Result.{IfOk-weaker}
 use Rattle.rn_model.specs.Evaluation.{worth}
 use Rattle.rn_growing.proofs.SoundItems.{items_sound}
 use Rattle.rn_model.specs.Derivation.{found}
 use Rattle.rn_binding.specs.Before.{enters, finds}
-use Rattle.rn_binding.proofs.ComingValues.{tested, found_already, found_early, found_has_value, found_comes}
+use Rattle.rn_binding.proofs.ComingValues.{tested, found_already, found_early, found_has_value}
+use Rattle.rn_binding.proofs.ComingValues.{found_comes}
 use Rattle.rn_binding.proofs.NodeReadings.{is_node_of, vars_ascend}
 use Rattle.rn_binding.proofs.bringing.bring_found.Goals as goal
 

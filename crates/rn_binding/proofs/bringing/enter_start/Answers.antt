@@ -1,3 +1,4 @@
+-- The start is the first decision.
 use Rattle.std.proofs.Common.{◌∙◌, ap, sym}
 use Rattle.std.specs.Option.{option_copied}
 use Rattle.rn_binding.proofs.EnteringNodes.{start_comes}

@@ -1,3 +1,4 @@
+-- Index by index.
 use Rattle.std.proofs.Common.{◌≡◌, ◌++◌, ◌∷◌, [], ◌+◌, rules, subst, sym, map, take}
 use Rattle.rn_binding.specs.Parts.{item_of, picked, AllWithin}
 use Rattle.rn_binding.proofs.PickedParts.{all_next, more_within, none_within}

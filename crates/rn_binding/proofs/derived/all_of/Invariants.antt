@@ -1,3 +1,4 @@
+-- The indices so far.
 use Rattle.std.proofs.Common.{◌≡◌, map, take}
 use Rattle.rn_binding.specs.Parts.{item_of, picked, AllWithin}
 use Rattle.rn_binding.proofs.derived.all_of.Given as goal

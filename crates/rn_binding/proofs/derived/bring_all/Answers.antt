@@ -1,3 +1,4 @@
+-- By the last pass, which left as many items as it tried.
 use Rattle.std.proofs.Common.{◌≡◌, length, subst, rules}
 use Rattle.std.specs.Prelude.{◌↔◌, IsTrue}
 use Rattle.rn_binding.specs.Parts.{picked}

@@ -1,3 +1,4 @@
+-- What is left after the passes so far.
 use Rattle.std.proofs.Common.{length}
 use Rattle.rn_binding.specs.Parts.{picked, AllWithin}
 use Rattle.rn_binding.specs.Passing.{AreLeft}

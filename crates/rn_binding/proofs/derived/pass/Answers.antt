@@ -1,3 +1,4 @@
+-- Item by item: what is brought in, or left.
 use Rattle.std.proofs.Common.{◌≡◌, ◌+◌, ◌∙◌, ap, sym, refl, subst, get_or, take}
 use Rattle.rn_binding.specs.Parts.{item_of, picked, AllWithin}
 use Rattle.rn_binding.specs.Passing.{IsPassed}

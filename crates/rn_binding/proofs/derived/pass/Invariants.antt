@@ -1,3 +1,4 @@
+-- The items that were tried so far, and those of them that are left.
 use Rattle.std.proofs.Common.{take}
 use Rattle.rn_binding.specs.Parts.{picked, AllWithin}
 use Rattle.rn_binding.specs.Passing.{IsPassed}

@@ -1,3 +1,4 @@
+-- What the expressions so far put, and what is left.
 use Rattle.std.proofs.Common.{◌≡◌, ◌++◌, map, drop}
 use Rattle.std.specs.List.{concat}
 use Rattle.rn_model.specs.Systems.{vars_in}

@@ -1,3 +1,4 @@
+-- Node by node.
 use Rattle.std.proofs.Common.{◌∙◌, sym, subst}
 use Rattle.rn_binding.specs.Passing.{AreVarsForced}
 use Rattle.rn_binding.proofs.ForcedVariables.{of_node, each_more}

@@ -1,3 +1,4 @@
+-- The nodes so far.
 use Rattle.std.proofs.Common.{ℕ, ◌<◌, get_or}
 use Rattle.rn_model.specs.declared.binding.Node.{Node}
 use Rattle.rn_binding.specs.Passing.{AreVarsForced}

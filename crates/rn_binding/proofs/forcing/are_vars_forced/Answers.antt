@@ -1,3 +1,4 @@
+-- Variable by variable.
 use Rattle.std.proofs.Common.{◌∙◌, sym, get_or}
 use Rattle.std.proofs.lemmas.List.{get_or_default}
 use Rattle.rn_binding.proofs.ForcedVariables.{each_more}

@@ -1,3 +1,4 @@
+-- By the variables of the expression.
 use Rattle.std.proofs.Common.{◌≡◌, rules, subst}
 use Rattle.std.specs.Prelude.{IfOk, IsTrue, ◌↔◌, All}
 use Rattle.rn_model.specs.Systems.{vars_in}

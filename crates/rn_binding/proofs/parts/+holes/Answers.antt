@@ -1,9 +1,12 @@
-use Rattle.std.proofs.Common.{rules, ◌≡◌, ◌++◌, ◌∷◌, [], ◌<◌, map, length, vec_len, ap, sym, ◌∙◌, arith, length-append}
+-- By the form of the expression.
+use Rattle.std.proofs.Common.{rules, ◌≡◌, ◌++◌, ◌∷◌, [], ◌<◌, map, length, vec_len, ap, sym, ◌∙◌}
+use Rattle.std.proofs.Common.{arith, length-append}
 use Rattle.rn_growing.proofs.BuildingSteps.{popped_front}
 use Rattle.rn_growing.specs.Decisions.{site_of}
 use Rattle.rn_binding.specs.Parts.{item_of, with_holes, hole_within}
 use Rattle.rn_model.specs.Derivation.{holes_in, holes_of_parts}
-use Rattle.rn_binding.proofs.HoleForms.{cons_put, part_put, none_put, holes-Int, holes-Text, holes-Var, holes-This, holes-Step}
+use Rattle.rn_binding.proofs.HoleForms.{cons_put, part_put, none_put, holes-Int, holes-Text}
+use Rattle.rn_binding.proofs.HoleForms.{holes-Var, holes-This, holes-Step}
 use Rattle.rn_binding.proofs.parts.+holes.Goals as goal
 
 pub put_holes-returns-in_ok-put_holes-in-Cons-clause-put :

@@ -1,3 +1,4 @@
+-- The parts so far.
 use Rattle.std.proofs.Common.{◌≡◌, ◌++◌, map, drop}
 use Rattle.rn_model.specs.Derivation.{holes_of_parts}
 use Rattle.rn_growing.specs.Decisions.{site_of}

@@ -1,3 +1,4 @@
+-- The nodes so far.
 use Rattle.std.proofs.Common.{◌≡◌, ◌++◌, map, drop}
 use Rattle.std.specs.Prelude.{flat_map}
 use Rattle.rn_model.specs.Derivation.{node_items}
