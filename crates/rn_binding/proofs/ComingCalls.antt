@@ -1,10 +1,9 @@
 -- When the entry of a node may come in.
-use Rattle.std.proofs.Common.{◌≡◌, ℕ, ◌+◌, Bool, true, false, List, [], ◌∷◌, ◌++◌, length}
-use Rattle.std.proofs.Common.{length-append, refl, sym, ap, ◌∙◌, subst, arith}
-use Rattle.std.specs.Prelude.{Contains, Option, None, Some, slice_get, ◌↔◌}
+use Rattle.std.proofs.Common.{◌≡◌, ℕ, true, false, List, [], ◌∷◌, ◌++◌, length}
+use Rattle.std.proofs.Common.{length-append, sym, ap, ◌∙◌, subst, arith}
+use Rattle.std.specs.Prelude.{Contains, Option, None, Some, slice_get}
 use Rattle.std.specs.List.{list_any}
 use Rattle.rn_value.specs.declared.value.InstRef.{InstRef}
-use Rattle.rn_value.specs.declared.value.Value.{Value}
 use Rattle.rn_value.specs.declared.value.Value.TheVariants as Worth
 use Rattle.rn_model.specs.declared.system.System.{System}
 use Rattle.rn_model.specs.declared.system.Downlink.{Downlink}
@@ -12,19 +11,18 @@ use Rattle.rn_model.specs.declared.binding.Node.{Node}
 use Rattle.rn_model.specs.declared.binding.Binding.{Binding}
 use Rattle.rn_model.specs.Systems.{transition_of}
 use Rattle.rn_model.specs.Bindings.{Calls, node_at}
-use Rattle.rn_model.specs.Derivation.{Item, entry, items_of, target, MayEnter, Forced}
+use Rattle.rn_model.specs.Derivation.{Item, entry, items_of, target, MayEnter}
 use Rattle.rn_model.specs.Derivation.{term_value_at}
 use Rattle.rn_model.specs.RoundLaws.{listed}
 use Rattle.rn_model.proofs.NodesByPath.{node_at-path}
 use Rattle.rn_model.proofs.ForcedValues.{targets_are_children}
-use Rattle.rn_growing.specs.declared.decision.Head.{Head}
 use Rattle.rn_growing.specs.declared.decision.Caller.{Caller}
 use Rattle.rn_growing.specs.declared.decision.Decision.{Decision}
 use Rattle.rn_growing.specs.declared.decision.Decision.TheVariants.{Entered, Found, Computed}
 use Rattle.rn_growing.specs.Decisions.{head_of, AreOn}
-use Rattle.rn_growing.specs.Equations.{read_at, IsForcedTo, IsForced}
+use Rattle.rn_growing.specs.Equations.{read_at, IsForcedTo}
 use Rattle.rn_growing.specs.Grown.{IsNew}
-use Rattle.rn_growing.specs.Turns.{AreInTurn, MayCome, IsEntered, SameThing}
+use Rattle.rn_growing.specs.Turns.{AreInTurn, MayCome}
 use Rattle.rn_growing.proofs.Followers.{snoc_equal, decision_in, equations, entered_by}
 use Rattle.rn_growing.proofs.SameUnknowns.{path_itself}
 use Rattle.rn_binding.specs.Before.{enters}

@@ -1,7 +1,7 @@
 -- When what an arc finds, and an operator application, may come in.
-use Rattle.std.proofs.Common.{◌≡◌, ℕ, ◌&&◌, Bool, true, false, List, [], ◌∷◌, refl, sym, ap, ◌∙◌}
+use Rattle.std.proofs.Common.{◌≡◌, ℕ, ◌&&◌, Bool, true, false, List, refl, sym, ap, ◌∙◌}
 use Rattle.std.proofs.Common.{subst}
-use Rattle.std.specs.Prelude.{Contains, Option, None, Some, All, nat_eq, slice_get}
+use Rattle.std.specs.Prelude.{Contains, None, Some, All, nat_eq}
 use Rattle.std.specs.List.{list_any}
 use Rattle.std.specs.Cmp.Lexicographic.{pointwise}
 use Rattle.std.proofs.lemmas.Bool.{eq-eqb}
@@ -25,7 +25,7 @@ use Rattle.rn_growing.specs.Equations.{IsForced}
 use Rattle.rn_growing.specs.Grown.{Grown, IsNew, Tries}
 use Rattle.rn_growing.specs.Layouts.{same_site}
 use Rattle.rn_growing.specs.Turns.{MayCome, IsEntered, IsVarForced}
-use Rattle.rn_growing.proofs.SameUnknowns.{path_itself, site_itself, as_site, site_of-is}
+use Rattle.rn_growing.proofs.SameUnknowns.{site_itself, as_site, site_of-is}
 use Rattle.rn_growing.proofs.SoundItems.{items_sound}
 use Rattle.rn_growing.proofs.Followers.{decision_in, forced_over, entered_by, each_is_decided}
 use Rattle.rn_binding.specs.Before.{enters, finds, computes}

@@ -1,14 +1,13 @@
 -- The end of the passes.
-use Rattle.std.proofs.Common.{◌≡◌, ℕ, ◌<◌, ◌≤◌, Bool, true, false, List, [], ◌∷◌, length, refl}
+use Rattle.std.proofs.Common.{◌≡◌, ℕ, ◌<◌, ◌≤◌, Bool, List, [], ◌∷◌, length, refl}
 use Rattle.std.proofs.Common.{sym, ap, ◌∙◌, subst, arith}
-use Rattle.std.specs.Prelude.{◌↔◌, IsTrue, Contains}
+use Rattle.std.specs.Prelude.{◌↔◌, IsTrue}
 use Rattle.rn_model.specs.declared.system.System.{System}
 use Rattle.rn_model.specs.declared.binding.Binding.{Binding}
-use Rattle.rn_model.specs.Derivation.{Item, items_of}
 use Rattle.rn_growing.specs.Grown.{Grown}
 use Rattle.rn_binding.specs.declared.part.Part.{Part}
 use Rattle.rn_binding.specs.Parts.{picked, AllWithin}
-use Rattle.rn_binding.specs.Passing.{AreLeft, AreStuck, IsPassed, Ends}
+use Rattle.rn_binding.specs.Passing.{AreLeft, IsPassed, Ends}
 use Rattle.rn_binding.proofs.Passes.{left_then, stuck_then}
 use Rattle.rn_binding.proofs.PickedParts.{as_many}
 

@@ -1,7 +1,7 @@
 -- The entry of a node, by what is known of its caller; and the entry of the start.
-use Rattle.std.proofs.Common.{◌≡◌, ℕ, zero, suc, ◌<◌, Bool, true, false, List, [], ◌∷◌, ◌++◌}
+use Rattle.std.proofs.Common.{◌≡◌, ℕ, Bool, true, false, List, [], ◌∷◌, ◌++◌}
 use Rattle.std.proofs.Common.{refl, sym, ap, ◌∙◌, subst, arith}
-use Rattle.std.specs.Prelude.{Contains, Option, None, Some, find, nat_eq, slice_get}
+use Rattle.std.specs.Prelude.{Contains, None, Some, find, nat_eq, slice_get}
 use Rattle.std.specs.List.{list_any}
 use Rattle.std.specs.Cmp.Lexicographic.{pointwise}
 use Rattle.std.proofs.lemmas.Option.{same_Some}
@@ -13,7 +13,7 @@ use Rattle.rn_model.specs.declared.binding.Node.{Node}
 use Rattle.rn_model.specs.declared.binding.Binding.{Binding}
 use Rattle.rn_model.specs.Systems.{transition_of}
 use Rattle.rn_model.specs.Bindings.{node_at}
-use Rattle.rn_model.specs.Derivation.{Item, entry, items_of, target}
+use Rattle.rn_model.specs.Derivation.{entry, target}
 use Rattle.rn_model.proofs.ItemsOfNodes.{entry_is_item}
 use Rattle.rn_growing.specs.declared.decision.Head.{Head}
 use Rattle.rn_growing.specs.declared.decision.Caller.{Caller}

@@ -9,7 +9,7 @@ use Rattle.rn_model.specs.declared.expr.OpKind.{OpKind}
 use Rattle.rn_model.specs.declared.binding.Node.{Node}
 use Rattle.rn_model.specs.Derivation.{Item, computed, Site, Hole, holes_in, holes_step}
 use Rattle.rn_model.specs.Derivation.{holes_of_parts}
-use Rattle.rn_model.specs.Derivation.{within_part, hole_itself, computed_at}
+use Rattle.rn_model.specs.Derivation.{within_part, hole_itself}
 use Rattle.rn_binding.specs.Parts.{with_holes, hole_within}
 use Rattle.rn_binding.proofs.PuttingParts.{moved}
 

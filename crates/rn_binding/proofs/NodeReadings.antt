@@ -1,5 +1,5 @@
 -- The nodes of a binding that is given can be read.
-use Rattle.std.specs.Prelude.{Contains, length, All}
+use Rattle.std.specs.Prelude.{Contains}
 use Rattle.std.specs.List.Sorted.{IsStrictlyIncreasing}
 use Rattle.std.proofs.lemmas.List.Elements.{All-contains}
 use Rattle.rn_model.specs.declared.system.System.{System}

@@ -1,9 +1,8 @@
 -- One step of a pass, by indices.
 use Rattle.std.proofs.Common.{◌≡◌, ℕ, ◌+◌, ◌<◌, Bool, true, false, List, [], ◌∷◌, ◌++◌, length}
-use Rattle.std.proofs.Common.{get_or, take, sym, ap, ◌∙◌, subst}
+use Rattle.std.proofs.Common.{get_or, take, sym, subst}
 use Rattle.rn_model.specs.declared.system.System.{System}
 use Rattle.rn_model.specs.declared.binding.Binding.{Binding}
-use Rattle.rn_model.specs.Derivation.{Item}
 use Rattle.rn_growing.specs.Grown.{Grown}
 use Rattle.rn_binding.specs.declared.part.Part.{Part}
 use Rattle.rn_binding.specs.Parts.{item_of, picked, AllWithin}

@@ -1,15 +1,15 @@
 -- Items that are tried one after another, until none may come in.
-use Rattle.std.proofs.Common.{◌≡◌, ℕ, ◌+◌, ◌<◌, ◌≤◌, Bool, true, false, List, [], ◌∷◌, ◌++◌}
-use Rattle.std.proofs.Common.{length, length-append, get_or, inl, inr, refl, sym, ap, ◌∙◌, subst}
+use Rattle.std.proofs.Common.{◌≡◌, ℕ, Bool, true, false, List, [], ◌∷◌, ◌++◌}
+use Rattle.std.proofs.Common.{length, length-append, get_or, inl, inr, refl, sym, ◌∙◌, subst}
 use Rattle.std.proofs.Common.{arith}
-use Rattle.std.specs.Prelude.{Contains, Some, ◌⊎◌, ◌↔◌, All, IsTrue}
+use Rattle.std.specs.Prelude.{Contains, Some, ◌↔◌, All}
 use Rattle.std.proofs.lemmas.List.Elements.{Contains-append_left, Contains-append_cases}
 use Rattle.std.proofs.lemmas.List.Elements.{All-contains, Contains-get_or}
 use Rattle.rn_model.specs.declared.system.System.{System}
 use Rattle.rn_model.specs.declared.binding.Node.{Node}
 use Rattle.rn_model.specs.declared.binding.Binding.{Binding}
 use Rattle.rn_model.specs.Systems.{transition_of}
-use Rattle.rn_model.specs.Derivation.{Item, items_of, Derived, Forced, IsVarForced}
+use Rattle.rn_model.specs.Derivation.{Item, items_of, Derived, IsVarForced}
 use Rattle.rn_model.specs.RoundLaws.{IsClosed, AreAll, ForceAll}
 use Rattle.rn_model.proofs.Rounds.{closed_decide, all_more}
 use Rattle.rn_growing.specs.declared.decision.Decision.{Decision}

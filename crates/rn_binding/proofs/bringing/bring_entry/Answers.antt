@@ -1,5 +1,5 @@
 -- By the caller and the target, and the start apart.
-use Rattle.std.proofs.Common.{◌≡◌, ◌∙◌, ap, sym, refl, subst, length, true, false}
+use Rattle.std.proofs.Common.{◌∙◌, ap, sym, refl, length, true, false}
 use Rattle.std.specs.Prelude.{slice_get}
 use Rattle.std.specs.Option.{option_copied}
 use Rattle.std.proofs.lemmas.Result.{IfOk-weaker}

@@ -1,5 +1,5 @@
 -- By the node's entry, and the value under the node.
-use Rattle.std.proofs.Common.{◌≡◌, ◌∙◌, ap, sym, true, false}
+use Rattle.std.proofs.Common.{◌∙◌, ap, sym, true, false}
 use Rattle.std.proofs.lemmas.Result.{IfOk-weaker}
 use Rattle.rn_model.specs.Evaluation.{worth}
 use Rattle.rn_growing.proofs.SoundItems.{items_sound}

@@ -1,7 +1,7 @@
 -- Index by index.
-use Rattle.std.proofs.Common.{◌≡◌, ◌++◌, ◌∷◌, [], ◌+◌, rules, subst, sym, map, take}
+use Rattle.std.proofs.Common.{◌≡◌, ◌+◌, subst, sym, map, take}
 use Rattle.rn_binding.specs.Parts.{item_of, picked, AllWithin}
-use Rattle.rn_binding.proofs.PickedParts.{all_next, more_within, none_within}
+use Rattle.rn_binding.proofs.PickedParts.{all_next, more_within}
 use Rattle.rn_binding.proofs.derived.all_of.Goals as goal
 
 pub loop-i-preserved : goal.loop-i-preserved

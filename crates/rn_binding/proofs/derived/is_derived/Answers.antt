@@ -1,5 +1,5 @@
 -- By whether any item is left, and else by the variables.
-use Rattle.std.proofs.Common.{◌≡◌, Bool, subst}
+use Rattle.std.proofs.Common.{Bool, subst}
 use Rattle.std.specs.Prelude.{◌↔◌, All, IfOk, IsTrue}
 use Rattle.std.proofs.lemmas.Result.{IfOk-weaker}
 use Rattle.rn_model.specs.Derivation.{Derived}

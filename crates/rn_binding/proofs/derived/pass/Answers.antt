@@ -1,5 +1,5 @@
 -- Item by item: what is brought in, or left.
-use Rattle.std.proofs.Common.{◌≡◌, ◌+◌, ◌∙◌, ap, sym, refl, subst, get_or, take}
+use Rattle.std.proofs.Common.{◌+◌, ◌∙◌, ap, sym, refl, subst, get_or, take}
 use Rattle.rn_binding.specs.Parts.{item_of, picked, AllWithin}
 use Rattle.rn_binding.specs.Passing.{IsPassed}
 use Rattle.rn_binding.proofs.PassSteps.{is_in, is_left}

@@ -1,5 +1,5 @@
 -- Site by site, in the order in which the items are listed.
-use Rattle.std.proofs.Common.{◌≡◌, ◌++◌, map, subst}
+use Rattle.std.proofs.Common.{◌≡◌, map, subst}
 use Rattle.std.specs.Prelude.{OnOk}
 use Rattle.rn_binding.specs.Parts.{item_of}
 use Rattle.rn_binding.proofs.PuttingParts.{sites_put}
