@@ -1,0 +1,9 @@
+use Rattle.rn_search.proofs.Alternatives.{one_way}
+use Rattle.rn_search.proofs.Following.{fewer_lead}
+use Rattle.rn_search.proofs.laws.one_way.Goals as goal
+
+pub returns-clause-fewer : goal.returns-clause-fewer
+returns-clause-fewer c = fewer_lead
+
+pub returns-clause-one : goal.returns-clause-one
+returns-clause-one c = one_way

@@ -1,0 +1,5 @@
+pub mod Ending
+pub mod Missing
+pub mod Points
+pub mod Room
+pub mod Sought

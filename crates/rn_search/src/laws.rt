@@ -1,0 +1,51 @@
+//! Laws that a search for enabled bindings rests on, each the contract of a function that does
+//! nothing.
+ghost use Rattle.rn_search.specs.Missing.{StartIsOffered, StartsAreKept, TokensAreOffered};
+ghost use Rattle.rn_search.specs.Missing.{ListsAreOffered, KnownIsSo, ResultsAreOffered};
+ghost use Rattle.rn_search.specs.Missing.{CallsAreOffered, NodesHaveRoom, FewerLead, OneWay};
+ghost use Rattle.rn_search.specs.Ending.{StuckLeadsNowhere, LeadingForces, DoneAreClosed};
+ghost use Rattle.rn_search.specs.Ending.{ForcedAreItsValues, FoundIsSo, DoneLeadToOne};
+ghost use Rattle.rn_search.specs.Room.{RoomFalls};
+
+use rn_channel::calls_need_levels;
+
+/// Each binding that is looked for, and follows decisions, goes on with an alternative of each
+/// point at which a decision may be made.
+pub fn nothing_is_missed()
+    ensures start { StartIsOffered }
+    ensures starts { StartsAreKept }
+    ensures tokens { TokensAreOffered }
+    ensures lists { ListsAreOffered }
+    ensures known { KnownIsSo }
+    ensures results { ResultsAreOffered }
+    ensures calls { CallsAreOffered }
+    ensures room { NodesHaveRoom }
+{
+    calls_need_levels();
+}
+
+/// It goes on with one alternative of a point alone, and follows fewer decisions too.
+pub fn one_way()
+    ensures fewer { FewerLead }
+    ensures one { OneWay }
+{}
+
+/// Where nothing may come in and something is left, nothing that is looked for follows.
+pub fn stuck_means_none()
+    ensures stuck { StuckLeadsNowhere }
+    ensures unforced { LeadingForces }
+    ensures closed { DoneAreClosed }
+{}
+
+/// Where nothing is left, what follows has the values that are forced, is one binding at most, and
+/// is looked for where it has the shape, agrees and fits.
+pub fn what_is_found()
+    ensures values { ForcedAreItsValues }
+    ensures so { FoundIsSo }
+    ensures one { DoneLeadToOne }
+{}
+
+/// What may still be decided falls with each decision.
+pub fn room_falls()
+    ensures { RoomFalls }
+{}
