@@ -10,9 +10,11 @@ use Rattle.rn_model.specs.declared.system.System.{System}
 use Rattle.rn_model.specs.declared.system.NetArc.{NetArc}
 use Rattle.rn_model.specs.declared.binding.Node.{Node}
 use Rattle.rn_model.specs.declared.binding.Binding.{Binding}
-use Rattle.rn_model.specs.Systems.{transition_of}
+use Rattle.rn_model.specs.declared.system.Transition.{Transition}
+use Rattle.rn_model.specs.Systems.{transition_of, uplink_args}
 use Rattle.rn_model.specs.Derivation.{Hole, holes_in, sites_of, Item, entry, found, computed}
 use Rattle.rn_model.specs.Derivation.{finds_values, arcs_that, computed_at, node_items, items_of}
+use Rattle.rn_model.specs.Derivation.{finds_token, sides_of, args_of}
 use Rattle.rn_model.specs.Derivation as D
 use Rattle.rn_model.proofs.AskedValues.{later, contained_mapped, contained_flat}
 use Rattle.rn_model.proofs.EnablingLemmas.{not_in_nil}
@@ -76,3 +78,26 @@ module _ (system : System) (b : Binding) (node : Node) (there : Contains b.nodes
       of_node (computed node site hole)
       (later (entry node) (computed node site hole) (founds ++ holes)
       (Contains-append_right founds holes (computed node site hole) flat))
+
+-- the expressions of a transition but inscriptions
+abbrev before_arcs : Transition → List (D.Site × Expr)
+before_arcs t =
+    flat_map sides_of (enumerate_from 0 t.equalities)
+    ++ map (λ e. (D.uplink_arg e.0, e.1)) (enumerate_from 0 (uplink_args t))
+    ++ flat_map args_of (enumerate_from 0 t.downlinks)
+
+-- the inscription of an arc that finds a token stands at its site
+pub inscription_stands : (t : Transition) (k : ℕ) (x : NetArc) → slice_get t.arcs k ≡ Some x →
+    finds_token x.kind ≡ true → Contains (sites_of t) (D.arc k, x.inscription)
+inscription_stands t k x at finds =
+    let place : 0 + k ≡ k = omega arith in
+    let listed : Contains (enumerate_from 0 t.arcs) (k, x) =
+    subst (λ j. Contains (enumerate_from 0 t.arcs) (j, x)) place (in_enumerated 0 t.arcs k x at) in
+    let kept = in_filter (λ e. finds_token e.1.kind) (enumerate_from 0 t.arcs) (k, x) listed
+    finds in
+    let mapped = contained_mapped (λ e. (D.arc e.0, e.1.inscription)) (arcs_that finds_token t)
+    (k, x)
+    kept in
+    Contains-append_right (before_arcs t)
+    (map (λ e. (D.arc e.0, e.1.inscription)) (arcs_that finds_token t))
+    (D.arc k, x.inscription) mapped

@@ -1,6 +1,6 @@
 -- What is known of the variables of a node is so in each binding to which decisions lead.
 use Rattle.std.proofs.Common.{◌≡◌, ℕ, zero, suc, Bool, true, false, List, [], ◌∷◌, length, refl}
-use Rattle.std.proofs.Common.{sym, ap, ◌∙◌, inr, arith}
+use Rattle.std.proofs.Common.{◌<◌, sym, ap, ◌∙◌, inr, arith}
 use Rattle.std.specs.Prelude.{Option, Some, Contains, zip, nat_eq, if◌then◌else◌}
 use Rattle.std.proofs.lemmas.Bool.{eq-eqb}
 use Rattle.std.proofs.lemmas.List.Elements.{All-contains}
@@ -12,9 +12,17 @@ use Rattle.rn_model.specs.ExpressionLaws.{ReadSame}
 use Rattle.rn_model.proofs.EnablingLemmas.{not_in_nil}
 use Rattle.rn_model.proofs.ValuesLookUp.{values_look_up}
 use Rattle.rn_growing.proofs.Followers.{some_equal}
-use Rattle.rn_search.specs.Missing.{KnownIsSo}
+use Rattle.rn_search.specs.Missing.{IsKnown, KnownIsSo}
 use Rattle.rn_search.specs.Ending.{ForcedAreItsValues}
 use Rattle.rn_search.proofs.Following.{own_values, own_solve}
+use Rattle.rn_search.specs.Sought.{Sought, Leads}
+use Rattle.rn_model.specs.declared.expr.Expr.{Expr}
+use Rattle.rn_model.specs.declared.binding.Binding.{Binding}
+use Rattle.rn_model.specs.declared.binding.Node.{Node}
+use Rattle.rn_model.specs.Evaluation.{Env}
+use Rattle.rn_growing.specs.declared.decision.Decision.{Decision}
+use Rattle.rn_growing.specs.Decisions.{head_of}
+use Rattle.rn_growing.specs.Turns.{AreInTurn}
 
 abbrev HasValue : List ℕ → List Value → ℕ → Type 0
 HasValue xs vs x = (v : Value) × (value_beside (zip xs vs) x ≡ Some v)
@@ -45,15 +53,21 @@ forced_are_its_values sought ds b node x v leads turns some there var forced =
     some_equal (own.0.var node.path x) v (forced own.0 (own_solve sought ds b leads turns)) in
     w.1 ∙ ap Some (sym mine ∙ same)
 
+pub read_same : (sought : Sought) (ds : List Decision) (b : Binding) (node : Node) (e : Expr)
+    (env : Env) → Leads sought ds b → AreInTurn sought.system ds → 0 < length ds →
+    Contains b.nodes node → IsKnown sought.system ds (head_of node) e env →
+    ReadSame e env (env_of sought.system node)
+read_same sought ds b node e env leads turns some there known = record {
+  this = known.this;
+  vars = λ x occurs.
+      let v = known.forced x occurs in
+      v.1 ∙ sym (forced_are_its_values sought ds b node x v.0 leads turns some there
+      (All-contains (Contains (transition_of sought.system node).vars) (vars_in e) x known.vars
+      occurs) v.2);
+  step = inr known.step;
+}
+
 pub known_is_so : KnownIsSo
 known_is_so sought ds b node e env leads turns some there known =
-    let same : ReadSame e env (env_of sought.system node) = record {
-      this = known.this;
-      vars = λ x occurs.
-          let v = known.forced x occurs in
-          v.1 ∙ sym (forced_are_its_values sought ds b node x v.0 leads turns some there
-          (All-contains (Contains (transition_of sought.system node).vars) (vars_in e) x known.vars
-          occurs) v.2);
-      step = inr known.step;
-    } in
-    values_look_up e env (env_of sought.system node) same
+    values_look_up e env (env_of sought.system node)
+    (read_same sought ds b node e env leads turns some there known)

@@ -1,8 +1,10 @@
 pub mod Alternatives
+pub mod Built
 pub mod Ends
 pub mod Falling
 pub mod Following
 pub mod Items
 pub mod Known
+pub mod Made
 pub mod Offered
 pub mod OneBinding

@@ -6,7 +6,7 @@ use Rattle.std.specs.Prelude.{unwrap_or, nat_eq, find, map}
 use Rattle.std.specs.Cmp.Lexicographic.{pointwise}
 use Rattle.std.proofs.lemmas.Bool.{eq-eqb}
 use Rattle.std.proofs.lemmas.List.Elements.{All-contains}
-use Rattle.std.proofs.lemmas.Option.{slice_get-get_or, unwrap_or-slice_get}
+use Rattle.std.proofs.lemmas.Option.{slice_get-get_or, slice_get_within, unwrap_or-slice_get}
 use Rattle.rn_model.proofs.NodesByPath.{node_at-path}
 use Rattle.rn_value.specs.declared.value.InstRef.{InstRef}
 use Rattle.rn_value.specs.declared.value.InstRef.TheVariants.{Old}
@@ -25,23 +25,24 @@ use Rattle.rn_model.specs.declared.system.NetArc.{NetArc}
 use Rattle.rn_model.specs.declared.binding.Node.{Node}
 use Rattle.rn_model.specs.declared.binding.Binding.{Binding}
 use Rattle.rn_model.specs.Systems.{net_at, transition_of, empty_transition, place_kind}
-use Rattle.rn_model.specs.Evaluation.{worth}
+use Rattle.rn_model.specs.Evaluation.{worth, IsTrueUnder}
 use Rattle.rn_model.specs.Bindings.{IsNodeOf, IsOfCreation, env_of, node_at, Answers}
 use Rattle.rn_model.specs.Agreement.{ArcAgrees, NodeAgrees, inscribed_kind}
 use Rattle.rn_model.specs.Markings.{net_of, tokens}
-use Rattle.rn_model.specs.Demands.{Reading, readings, elements, clears, asked_by_arc}
-use Rattle.rn_model.specs.Demands.{asked_by_node, cleared_at}
+use Rattle.rn_model.specs.Demands.{Reading, readings, elements, clears, inhibits, asked_by_arc}
+use Rattle.rn_model.specs.Demands.{asked_by_node, asked_at}
 use Rattle.rn_model.specs.Derivation.{Hole, holes_in, sites_of, Item, entry, found, computed}
 use Rattle.rn_model.specs.Derivation.{items_of, finds_values, finds_token, target, term_value_at}
 use Rattle.rn_model.specs.Derivation as D
 use Rattle.rn_model.proofs.AskedValues.{IsFound, is_found, flat_source, map_source, got_contained}
-use Rattle.rn_model.proofs.AskedValues.{contained_flat, contained_mapped, inst_itself}
+use Rattle.rn_model.proofs.AskedValues.{contained_flat, contained_mapped, inst_itself, in_ordered}
 use Rattle.rn_model.proofs.EnablingLemmas.{not_in_nil, the_one}
 use Rattle.rn_model.proofs.EachElement.{at_place}
 use Rattle.rn_model.proofs.HoleValues.{list_of_kind}
 use Rattle.rn_model.proofs.ItemsOfNodes.{entry_is_item, item_is_of_node}
 use Rattle.rn_model.proofs.MarkingsOfRuns.{found_is_there}
 use Rattle.rn_model.proofs.OwnValues.{not_awaiting}
+use Rattle.rn_model.proofs.ReadConditions.{truths_look_up}
 use Rattle.rn_growing.specs.declared.decision.Head.{Head}
 use Rattle.rn_growing.specs.declared.decision.Decision.{Decision}
 use Rattle.rn_growing.specs.declared.decision.Decision.TheVariants.{Entered, Found, Computed}
@@ -61,12 +62,14 @@ use Rattle.rn_search.specs.Points.{node_of, tokens_of, first_token, holes_of, in
 use Rattle.rn_search.specs.Points.{net_called, child, offered, nowhere}
 use Rattle.rn_search.specs.Missing.{LeadsBy, StartIsOffered, MayStart, StartsAreKept}
 use Rattle.rn_search.specs.Missing.{TokensAreOffered, ListsAreOffered, IsKnown, ResultsAreOffered}
-use Rattle.rn_search.specs.Missing.{CallsAreOffered, NodesHaveRoom}
+use Rattle.rn_search.specs.Missing.{CallsAreOffered, NodesHaveRoom, KnownGuardsHold}
+use Rattle.rn_search.specs.Missing.{KnownInhibitorsHold, LeadingIsSolvable}
 use Rattle.rn_search.proofs.Following.{its_node, leads_on, own_values, own_solve}
 use Rattle.rn_search.proofs.Following.{entered_node}
 use Rattle.rn_search.proofs.Items.{found_is_item, computed_is_item}
 use Rattle.rn_search.proofs.Alternatives.{has_first, has_answer}
-use Rattle.rn_search.proofs.Known.{known_is_so}
+use Rattle.rn_search.proofs.Known.{known_is_so, read_same}
+use Rattle.rn_model.specs.declared.system.System.{System}
 
 -- an alternative that is a decision means it
 means : (sought : Sought) (ds : List Decision) (point : Point) (a : ℕ) (d : Decision) (b : Binding)
@@ -125,6 +128,14 @@ no_list : (kind : ArcKind) → finds_token kind ≡ true → kind ≡ Clear → 
 no_list kind finds is =
     let both : false ≡ true = ap finds_token (sym is) ∙ finds in let no : ⊥ = cc in no
 
+-- the tokens of a node's arc
+tokens_there : (sought : Sought) (node : Node) (k : ℕ) (x : NetArc) →
+    slice_get (transition_of sought.system node).arcs k ≡ Some x → (head : Head) →
+    head ≡ head_of node → tokens_of sought head k ≡ tokens sought.marking node.inst x.place
+tokens_there sought node k x at head is =
+    ap (λ h. tokens_of sought h k) is
+    ∙ ap (λ o. unwrap_or (option_map (λ y. tokens sought.marking node.inst y.place) o) []) at
+
 -- the value that an arc of a node finds
 module _ (sought : Sought) (ds : List Decision) (b : Binding) (leads : Leads sought ds b)
     (node : Node) (there : Contains b.nodes node) (k : ℕ) (x : NetArc)
@@ -155,12 +166,6 @@ module _ (sought : Sought) (ds : List Decision) (b : Binding) (leads : Leads sou
       leads_on sought ds b leads (Found head k v) (found node k x)
       (found_is_item sought.system b node there k x at finds) (is, refl, value)
 
-  its_tokens : (head : Head) → head ≡ head_of node →
-      tokens_of sought head k ≡ tokens sought.marking node.inst x.place
-  its_tokens head is =
-      ap (λ h. tokens_of sought h k) is ∙ ap (λ o. unwrap_or
-      (option_map (λ y. tokens sought.marking node.inst y.place) o) []) at
-
 pub tokens_are_offered : TokensAreOffered
 tokens_are_offered sought ds b node k x leads at finds =
     let head = node_of sought ds node in
@@ -176,7 +181,7 @@ tokens_are_offered sought ds b node k x leads at finds =
     ] in
     let listed : Contains (tokens_of sought head k) v.0 =
     subst (λ ts. Contains ts v.0)
-    (sym (its_tokens sought ds b leads n.0 n.1 k x arc values head n.2)) token in
+    (sym (tokens_there sought n.0 k x arc head n.2)) token in
     let first = has_first (tokens_of sought head k) v.0 listed in
     let place : 0 + first.0 ≡ first.0 = omega arith in
     let is : offered sought ds (P.Token node k 0) first.0 ≡ Some (Found head k v.0) =
@@ -188,6 +193,26 @@ tokens_are_offered sought ds b node k x leads at finds =
           (finding_leads sought ds b leads n.0 n.1 k x arc values head v.0 n.2 v.1.0),
     )
 
+-- what an arc asks is asked at its place
+asked_there : {A : Type 0} (pick : ArcKind → Value → List A) (system : System) (b : Binding)
+    (node : Node) (k : ℕ) (x : NetArc) (v : Value) (one : A) → Contains b.nodes node →
+    slice_get (transition_of system node).arcs k ≡ Some x →
+    worth x.inscription (env_of system node) ≡ Some v → Contains (pick x.kind v) one →
+    Contains (asked_at pick system (readings system b) node.inst x.place) one
+asked_there pick system b node k x v one there at is has =
+    let r : Reading = record { node = node; env = env_of system node } in
+    let arcs = (transition_of system node).arcs in
+    let arc = got_contained arcs k x at in
+    let place : nat_eq x.place x.place ≡ true = eq-eqb x.place x.place refl in
+    let by_arc : Contains (asked_by_arc pick r.env x.place x) one = rw (place, is) has in
+    let by_arcs = contained_flat (asked_by_arc pick r.env x.place) arcs x one arc by_arc in
+    let by_node : Contains (asked_by_node pick system node.inst x.place r) one =
+    rw (inst_itself node.inst) by_arcs in
+    contained_flat (asked_by_node pick system node.inst x.place) (readings system b) r one
+    (contained_mapped (λ node. record { node = node; env = env_of system node }) b.nodes node
+    there)
+    by_node
+
 -- the list that a clear arc finds is that of all tokens of its place
 finds_all : (sought : Sought) (ds : List Decision) (b : Binding) → Leads sought ds b →
     (node : Node) (k : ℕ) (x : NetArc) (v : Value) → Contains b.nodes node →
@@ -195,31 +220,14 @@ finds_all : (sought : Sought) (ds : List Decision) (b : Binding) → Leads sough
     worth x.inscription (env_of sought.system node) ≡ Some v → x.kind ≡ Clear →
     elements v ≡ tokens sought.marking node.inst x.place
 finds_all sought ds b leads node k x v there at is clear =
-    let system = sought.system in
-    let r : Reading = record { node = node; env = env_of system node } in
-    let arc = got_contained (transition_of system node).arcs k x at in
-    let place : nat_eq x.place x.place ≡ true = eq-eqb x.place x.place refl in
-    let has : Contains (clears x.kind v) (elements v) =
-    subst (λ kind. Contains (clears kind v) (elements v)) (sym clear) (0, omega arith, refl) in
-    let by_arc : Contains (asked_by_arc clears r.env x.place x) (elements v) =
-    rw (place, is) has in
-    let by_arcs = contained_flat (asked_by_arc clears r.env x.place) (transition_of system
-    node).arcs
-    x (elements v) arc by_arc in
-    let by_node : Contains (asked_by_node clears system node.inst x.place r) (elements v) =
-    rw (inst_itself node.inst) by_arcs in
-    let listed : Contains (cleared_at system b node.inst x.place) (elements v) =
-    contained_flat (asked_by_node clears system node.inst x.place) (readings system b) r
-    (elements v)
-    (contained_mapped (λ node. record { node = node; env = env_of system node }) b.nodes node
-    there)
-    by_node in
+    let all = elements v in
+    let has : Contains (clears x.kind v) all =
+    subst (λ kind. Contains (clears kind v) all) (sym clear) (0, omega arith, refl) in
+    let listed = asked_there clears sought.system b node k x v all there at is has in
     let held = tokens sought.marking node.inst x.place in
-    elim (leads.enabled.fits.places node.inst x.place).whole as (λ _. elements v ≡ held) [
-      | inl none ↦ absurd (not_in_nil (elements v) (subst (λ vs. Contains vs (elements v)) none
-          listed))
-      | inr one ↦ sym (the_one held (elements v) (subst (λ vs. Contains vs (elements v)) one.0
-          listed))
+    elim (leads.enabled.fits.places node.inst x.place).whole as (λ _. all ≡ held) [
+      | inl none ↦ absurd (not_in_nil all (subst (λ vs. Contains vs all) none listed))
+      | inr one ↦ sym (the_one held all (subst (λ vs. Contains vs all) one.0 listed))
     ]
 
 pub lists_are_offered : ListsAreOffered
@@ -242,7 +250,7 @@ lists_are_offered sought ds b node k x leads at clear =
     let list : elements v.0 ≡ tokens sought.marking n.0.inst x.place =
     finds_all sought ds b leads n.0 k x v.0 n.1 arc v.1.0 clear in
     let is : Value.List (tokens_of sought head k) ≡ v.0 =
-    ap (λ ts. Value.List ts) (its_tokens sought ds b leads n.0 n.1 k x arc values head n.2 ∙
+    ap (λ ts. Value.List ts) (tokens_there sought n.0 k x arc head n.2 ∙
     sym list)
     ∙ list_of_kind v.0 kind of_kind in
     means sought ds (P.List node k) 0 (Found head k v.0) b (ap (λ w. Some (Found head k w)) is)
@@ -376,7 +384,10 @@ calls_are_offered sought ds b node i downlink called leads turns some at forced 
     ∙ ap (λ j. record { path = c.path; inst = j; net = c.net; transition = c.transition }) is in
     let offered_is : offered sought ds (P.Call node i called) answer.0 ≡ Some d =
     rw (net, at, answer.1) refl in (
+      c.net,
       answer.0,
+      net,
+      slice_get_within (answering system c.net downlink.channel) answer.0 c.transition answer.1,
       means sought ds (P.Call node i called) answer.0 d b offered_is
           (leads_on sought ds b leads d (entry c) (entry_is_item system b c there) head_is),
     )
@@ -389,3 +400,42 @@ nodes_have_room needed sought ds b head good leads entered =
     subst (λ h. (length h.path ≤ sought.depth) × (suffices sought.system
     (sought.depth - length h.path) (transition_in sought.system h) ≡ true)) (sym n.2)
     (deep, needed sought.system b sought.depth n.0 good shape n.1)
+
+pub known_guards_hold : KnownGuardsHold
+known_guards_hold sought ds b head guard env leads turns some entered there known =
+    let system = sought.system in
+    let n = entered_node system b ds leads.follows.0 leads.follows.1 head entered in
+    let node = n.0 in
+    let agrees : NodeAgrees system node =
+    All-contains (NodeAgrees system) b.nodes node leads.enabled.agrees.nodes n.1 in
+    let guard_there : Contains (transition_of system node).guards guard =
+    subst (λ h. Contains (transition_in system h).guards guard) n.2 there in
+    let holds = All-contains (IsTrueUnder (env_of system node)) (transition_of system node).guards
+    guard agrees.guards guard_there in
+    truths_look_up guard env (env_of system node)
+    (λ e side. read_same sought ds b node e env leads turns some n.1
+    (subst (λ h. IsKnown system ds h e env) n.2 (known e side)))
+    ∙ holds
+
+pub known_inhibitors_hold : KnownInhibitorsHold
+known_inhibitors_hold sought ds b head k x v env leads turns some entered at inhibits_it known is
+    held =
+    let system = sought.system in
+    let n = entered_node system b ds leads.follows.0 leads.follows.1 head entered in
+    let node = n.0 in
+    let arc : slice_get (transition_of system node).arcs k ≡ Some x =
+    subst (λ h. slice_get (transition_in system h).arcs k ≡ Some x) n.2 at in
+    let same = known_is_so sought ds b node x.inscription env leads turns some n.1
+    (subst (λ h. IsKnown system ds h x.inscription env) n.2 known) in
+    let has : Contains (inhibits x.kind v) v =
+    subst (λ kind. Contains (inhibits kind v) v) (sym inhibits_it) (0, omega arith, refl) in
+    let asked = asked_there inhibits system b node k x v v n.1 arc (sym same ∙ is) has in
+    let tokens_are : tokens_of sought head k ≡ tokens sought.marking node.inst x.place =
+    tokens_there sought node k x arc head n.2 in
+    (leads.enabled.fits.places node.inst x.place).absent v
+    (in_ordered v (asked_at inhibits system (readings system b) node.inst x.place) asked)
+    (subst (λ ts. Contains ts v) tokens_are held)
+
+pub leading_is_solvable : LeadingIsSolvable
+leading_is_solvable sought ds b leads turns =
+    ((own_values sought ds b leads).0, own_solve sought ds b leads turns)

@@ -10,18 +10,21 @@ use Rattle.rn_model.specs.declared.binding.Node.{Node}
 use Rattle.rn_model.specs.declared.binding.Binding.{Binding}
 use Rattle.rn_model.specs.Lists.{value_beside}
 use Rattle.rn_model.specs.Systems.{transition_of}
+use Rattle.rn_model.specs.Evaluation.{Env, worth}
 use Rattle.rn_model.specs.Bindings.{Shape, env_of}
 use Rattle.rn_model.specs.Agreement.{Agrees}
 use Rattle.rn_model.specs.Good.{Good}
 use Rattle.rn_model.specs.Enabling.{Fits}
 use Rattle.rn_model.specs.Derivation.{Hole, finds_values}
+use Rattle.rn_growing.specs.declared.decision.Site.{Site}
 use Rattle.rn_growing.specs.declared.decision.Head.{Head}
 use Rattle.rn_growing.specs.declared.decision.Decision.{Decision}
 use Rattle.rn_growing.specs.declared.decision.Decision.TheVariants.{Entered, Found, Computed}
-use Rattle.rn_growing.specs.Decisions.{transition_in, site_of, Follows}
-use Rattle.rn_growing.specs.Equations.{IsForcedTo}
+use Rattle.rn_growing.specs.Decisions.{transition_in, head_of, site_of, Follows}
+use Rattle.rn_growing.specs.Equations.{IsForcedTo, IsSolvable}
 use Rattle.rn_growing.specs.Turns.{IsEntered, IsVarForced, IsHole, AreInTurn, AreClosed, SameThing}
 use Rattle.rn_search.specs.Sought.{Sought, StartsAt, Leads}
+use Rattle.rn_search.specs.Missing.{IsKnown}
 
 -- something was decided of the thing that a decision is on
 abbrev pub IsDecided : List Decision → Decision → Type 0
@@ -82,6 +85,31 @@ FoundIsSo = (sought : Sought) (ds : List Decision) (b : Binding) → AreInTurn s
     Shape sought.system b sought.depth → Agrees sought.system b →
     Fits sought.system sought.marking b → StartsAt b sought.start →
     Follows sought.system b ds → Leads sought ds b
+
+-- Each value that was computed is that of its operator application, by what is known of its
+-- variables.
+abbrev pub AreRight : System → List Decision → Type 0
+AreRight system ds = (head : Head) (site : Site) (way : List ℕ) (v : Value) →
+    Contains ds (Computed head site way v) → (hole : Hole) × (hole.way ≡ way)
+    × IsHole system head (site_of site) hole
+    × ((env : Env) × IsKnown system ds head hole.form env × (worth hole.form env ≡ Some v))
+
+-- A binding is made of what decisions say: each node that was entered is one of it, and each
+-- variable of its nodes has the value to which it is forced.
+pub record IsMadeOf (system : System) (ds : List Decision) (b : Binding) : Type 0 where
+  pub nodes : (head : Head) → IsEntered ds head →
+      (node : Node) × Contains b.nodes node × (head ≡ head_of node)
+  pub values : (node : Node) (x : ℕ) → Contains b.nodes node →
+      Contains (transition_of system node).vars x → (v : Value) ×
+      (value_beside (env_of system node).pairs x ≡ Some v)
+      × IsForcedTo system ds (λ a. Some (a.var node.path x)) v
+
+-- Where no item is left, such a binding follows the decisions, if it has the shape and agrees.
+abbrev pub MadeFollows : Type 0
+MadeFollows = (system : System) (ds : List Decision) (b : Binding) (depth : ℕ) → Good system →
+    AreInTurn system ds → AreDone system ds → AreRight system ds →
+    IsSolvable system ds → Shape system b depth → Agrees system b → IsMadeOf system ds b →
+    Follows system b ds
 
 -- Where no item is left, the decisions lead to one binding at most.
 abbrev pub DoneLeadToOne : Type 0

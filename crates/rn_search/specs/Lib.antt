@@ -1,4 +1,5 @@
 pub mod Ending
+pub mod Making
 pub mod Missing
 pub mod Points
 pub mod Room

@@ -7,30 +7,32 @@ use Rattle.rn_value.specs.declared.value.Value.{Value}
 use Rattle.rn_model.specs.declared.expr.Expr.{Expr}
 use Rattle.rn_model.specs.declared.system.System.{System}
 use Rattle.rn_model.specs.declared.system.NetArc.{NetArc}
-use Rattle.rn_model.specs.declared.system.ArcKind.TheVariants.{Clear}
+use Rattle.rn_model.specs.declared.system.ArcKind.TheVariants.{Clear, Inhibit}
 use Rattle.rn_model.specs.declared.system.Downlink.{Downlink}
 use Rattle.rn_model.specs.declared.binding.Node.{Node}
 use Rattle.rn_model.specs.declared.binding.Binding.{Binding}
 use Rattle.rn_model.specs.Systems.{net_at, vars_in}
 use Rattle.rn_model.specs.Lists.{value_beside}
-use Rattle.rn_model.specs.Evaluation.{Env, worth}
+use Rattle.rn_model.specs.Evaluation.{Env, worth, IsTrueUnder}
 use Rattle.rn_model.specs.Bindings.{env_of}
 use Rattle.rn_model.specs.Markings.{Marking, net_of}
 use Rattle.rn_model.specs.Enabling.{Enabled}
 use Rattle.rn_model.specs.Derivation.{Hole, finds_token, target}
 use Rattle.rn_model.specs.Derivation as D
-use Rattle.rn_model.specs.Good.{Good}
+use Rattle.rn_model.specs.declared.expr.Cond.{Cond}
+use Rattle.rn_model.specs.Good.{Good, guard_exprs}
+use Rattle.rn_channel.specs.Answering.{answering}
 use Rattle.rn_channel.specs.Heights.{suffices}
 use Rattle.rn_growing.specs.declared.decision.Head.{Head}
 use Rattle.rn_growing.specs.declared.decision.Decision.{Decision}
 use Rattle.rn_growing.specs.Decisions.{transition_in, head_of}
-use Rattle.rn_growing.specs.Equations.{IsForcedTo, read_at}
+use Rattle.rn_growing.specs.Equations.{IsForcedTo, IsSolvable, read_at}
 use Rattle.rn_growing.specs.Turns.{IsEntered, AreInTurn}
 use Rattle.rn_search.specs.declared.point.Point.{Point}
 use Rattle.rn_search.specs.declared.point.Point.TheVariants as P
 use Rattle.rn_search.specs.declared.point.Called.{Called}
 use Rattle.rn_search.specs.Sought.{Sought, StartsAt, Leads}
-use Rattle.rn_search.specs.Points.{node_of, tokens_of, holes_of, instance_of, offers}
+use Rattle.rn_search.specs.Points.{node_of, tokens_of, holes_of, instance_of, net_called, offers}
 
 -- the decisions lead to a binding with an alternative more
 abbrev pub LeadsBy : Sought → List Decision → Point → ℕ → Binding → Type 0
@@ -110,7 +112,33 @@ CallsAreOffered = (sought : Sought) (ds : List Decision) (b : Binding) (node i :
     IsForcedTo sought.system ds
     (λ a. read_at a (node_of sought ds node) (target i) downlink.target)
     (Value.Inst (instance_of sought ds called)) →
-    (a : ℕ) × LeadsBy sought ds (P.Call node i called) a b
+    (net a : ℕ) × (net_called sought ds called ≡ Some net)
+    × (a < length (answering sought.system net downlink.channel))
+    × LeadsBy sought ds (P.Call node i called) a b
+
+-- A guard of a node that was entered is true, where it is known.
+abbrev pub KnownGuardsHold : Type 0
+KnownGuardsHold = (sought : Sought) (ds : List Decision) (b : Binding) (head : Head)
+    (guard : Cond) (env : Env) → Leads sought ds b → AreInTurn sought.system ds →
+    0 < length ds → IsEntered ds head →
+    Contains (transition_in sought.system head).guards guard →
+    ((e : Expr) → Contains (guard_exprs guard) e → IsKnown sought.system ds head e env) →
+    IsTrueUnder env guard
+
+-- A place of an inhibitor arc of such a node doesn't hold the token that the inscription is known
+-- to be.
+abbrev pub KnownInhibitorsHold : Type 0
+KnownInhibitorsHold = (sought : Sought) (ds : List Decision) (b : Binding) (head : Head)
+    (k : ℕ) (x : NetArc) (v : Value) (env : Env) → Leads sought ds b →
+    AreInTurn sought.system ds → 0 < length ds → IsEntered ds head →
+    slice_get (transition_in sought.system head).arcs k ≡ Some x → x.kind ≡ Inhibit →
+    IsKnown sought.system ds head x.inscription env → worth x.inscription env ≡ Some v →
+    ¬ Contains (tokens_of sought head k) v
+
+-- What leads to something can be satisfied. So a decision that can't be leads to nothing.
+abbrev pub LeadingIsSolvable : Type 0
+LeadingIsSolvable = (sought : Sought) (ds : List Decision) (b : Binding) → Leads sought ds b →
+    AreInTurn sought.system ds → IsSolvable sought.system ds
 
 -- A node that was entered isn't too deep, and the levels that are left suffice for the calls below
 -- it.

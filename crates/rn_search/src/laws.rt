@@ -3,8 +3,11 @@
 ghost use Rattle.rn_search.specs.Missing.{StartIsOffered, StartsAreKept, TokensAreOffered};
 ghost use Rattle.rn_search.specs.Missing.{ListsAreOffered, KnownIsSo, ResultsAreOffered};
 ghost use Rattle.rn_search.specs.Missing.{CallsAreOffered, NodesHaveRoom, FewerLead, OneWay};
+ghost use Rattle.rn_search.specs.Missing.{LeadingIsSolvable, KnownGuardsHold, KnownInhibitorsHold};
 ghost use Rattle.rn_search.specs.Ending.{StuckLeadsNowhere, LeadingForces, DoneAreClosed};
-ghost use Rattle.rn_search.specs.Ending.{ForcedAreItsValues, FoundIsSo, DoneLeadToOne};
+ghost use Rattle.rn_search.specs.Ending.{ForcedAreItsValues, FoundIsSo, MadeFollows};
+ghost use Rattle.rn_search.specs.Ending.{DoneLeadToOne};
+ghost use Rattle.rn_search.specs.Making.{ForcedAreMade, MadeByMore};
 ghost use Rattle.rn_search.specs.Room.{RoomFalls};
 
 use rn_channel::calls_need_levels;
@@ -19,7 +22,15 @@ pub fn nothing_is_missed()
     ensures known { KnownIsSo }
     ensures results { ResultsAreOffered }
     ensures calls { CallsAreOffered }
+{}
+
+/// What leads to something can be satisfied, its nodes aren't too deep, and its guards and
+/// inhibitor arcs hold as soon as they are known. So a branch without one of these has nothing.
+pub fn what_may_be_cut()
+    ensures solvable { LeadingIsSolvable }
     ensures room { NodesHaveRoom }
+    ensures guards { KnownGuardsHold }
+    ensures inhibitors { KnownInhibitorsHold }
 {
     calls_need_levels();
 }
@@ -42,10 +53,18 @@ pub fn stuck_means_none()
 pub fn what_is_found()
     ensures values { ForcedAreItsValues }
     ensures so { FoundIsSo }
+    ensures follows { MadeFollows }
     ensures one { DoneLeadToOne }
 {}
 
 /// What may still be decided falls with each decision.
 pub fn room_falls()
     ensures { RoomFalls }
+{}
+
+/// An instance to which decisions force an expression exists already, or is made by a node that
+/// was entered. So the node that makes the instance of a call is known.
+pub fn forced_are_made()
+    ensures forced { ForcedAreMade }
+    ensures more { MadeByMore }
 {}

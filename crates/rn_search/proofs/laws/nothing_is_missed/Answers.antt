@@ -1,7 +1,6 @@
 use Rattle.rn_search.proofs.Known.{known_is_so}
 use Rattle.rn_search.proofs.Offered.{start_is_offered, starts_are_kept, tokens_are_offered}
 use Rattle.rn_search.proofs.Offered.{lists_are_offered, results_are_offered, calls_are_offered}
-use Rattle.rn_search.proofs.Offered.{nodes_have_room}
 use Rattle.rn_search.proofs.laws.nothing_is_missed.Goals as goal
 
 pub returns-clause-start : goal.returns-clause-start
@@ -24,6 +23,3 @@ returns-clause-results c = results_are_offered
 
 pub returns-clause-calls : goal.returns-clause-calls
 returns-clause-calls c = calls_are_offered
-
-pub returns-clause-room : goal.returns-clause-room
-returns-clause-room c = nodes_have_room c.calls_need_levels.ensures.needed

@@ -1,0 +1,15 @@
+use Rattle.rn_search.proofs.Offered.{leading_is_solvable, nodes_have_room, known_guards_hold}
+use Rattle.rn_search.proofs.Offered.{known_inhibitors_hold}
+use Rattle.rn_search.proofs.laws.what_may_be_cut.Goals as goal
+
+pub returns-clause-solvable : goal.returns-clause-solvable
+returns-clause-solvable c = leading_is_solvable
+
+pub returns-clause-room : goal.returns-clause-room
+returns-clause-room c = nodes_have_room c.calls_need_levels.ensures.needed
+
+pub returns-clause-guards : goal.returns-clause-guards
+returns-clause-guards c = known_guards_hold
+
+pub returns-clause-inhibitors : goal.returns-clause-inhibitors
+returns-clause-inhibitors c = known_inhibitors_hold
