@@ -29,7 +29,7 @@ use Rattle.rn_search.specs.declared.point.Point.TheVariants as P
 use Rattle.rn_search.specs.Sought.{Sought}
 use Rattle.rn_search.specs.Points.{node_of, first_token, tokens_of, holes_of, instance_of}
 use Rattle.rn_search.specs.Points.{net_called, child, called_at, only_at, offered, offers}
-use Rattle.rn_search.specs.Missing.{OneWay}
+use Rattle.rn_search.specs.Missing.{NoneLeadsNowhere, OneWay}
 use Rattle.rn_search.proofs.Following.{last_on, one_value, one_head, is_decision}
 
 pub from_and_then : {X Y : Type 0} (f : X → Option Y) (o : Option X) (y : Y) →
@@ -284,3 +284,12 @@ one_way sought ds point a c b leads also =
     second.1 in
     one_alternative sought ds b sought.depth shape d.0 e.0 first.0 second.0 d.2 e.2 point a c d.1
     e.1
+
+pub none_leads_nowhere : NoneLeadsNowhere
+none_leads_nowhere sought ds point a b none leads =
+    let last = last_on sought.system b ds leads.follows.0 (offers sought ds point a)
+    leads.follows.1 in
+    let d = is_decision sought.system b sought.depth leads.enabled.shape (offered sought ds
+    point a)
+    last.0 last.1 in
+    let both = sym none ∙ d.1 in let no : ⊥ = cc in no

@@ -45,9 +45,12 @@ use Rattle.rn_growing.proofs.Followers.{On, same_node, some_equal}
 use Rattle.rn_growing.proofs.SameUnknowns.{as_site, as_site-is}
 use Rattle.rn_growing.proofs.SoundItems.{one_hole}
 use Rattle.rn_search.specs.Missing.{IsKnown}
-use Rattle.rn_search.specs.Ending.{AreDone, AreRight, IsMadeOf, MadeFollows}
+use Rattle.rn_search.specs.Ending.{AreDone, IsRight, AreRight, IsMadeOf, MadeFollows, RightByMore}
 use Rattle.rn_search.proofs.Items.{found_is_item, computed_is_item, inscription_stands}
 use Rattle.rn_search.proofs.Made.{entered_later}
+use Rattle.std.proofs.Common.{◌++◌}
+use Rattle.std.proofs.lemmas.List.Elements.{Contains-append_cases, Contains-append_left}
+use Rattle.rn_growing.proofs.Growth.{only_one}
 
 -- what has a value beside it is among the numbers
 beside_or : (x y : ℕ) (w v : Value) (rest : Option Value) (xs : List ℕ) (same : Bool) →
@@ -122,7 +125,7 @@ module _ (system : System) (ds : List Decision) (b : Binding) (depth : ℕ) (goo
       worth hole.form (env_of system node) ≡ Some (a.hole node.path site hole.way)
   is_computed node site e hole there stands in_e (Computed other at along u) inside same =
       let t = transition_of system node in
-      let its = right_values other at along u inside in
+      let its = right_values (Computed other at along u) inside in
       let entered = is_entered other at along u inside in
       let n = made.nodes other entered in
       let nodes : n.0 ≡ node = same_node system b depth shape n.0 node n.1 there
@@ -218,7 +221,7 @@ module _ (system : System) (ds : List Decision) (b : Binding) (depth : ℕ) (goo
       Contains ds (Computed head site way v) → IsOnItem (Computed head site way v)
   computed_on head site way v inside =
       let n = made.nodes head (is_entered head site way v inside) in
-      let its = right_values head site way v inside in
+      let its = right_values (Computed head site way v) inside in
       let hole = its.0 in
       let is : IsHole system (head_of n.0) (site_of site) hole =
       subst (λ h. IsHole system h (site_of site) hole) n.2 its.2 in
@@ -252,3 +255,42 @@ pub made_follows : MadeFollows
 made_follows system ds b depth good turns done right_values (a, solves) shape agrees made =
     follow_all system b ds
     (on_item system ds b depth good turns done right_values a solves shape agrees made)
+
+known_by_more : (system : System) (ds : List Decision) (d : Decision) (head : Head) (e : Expr)
+    (env : Env) → IsKnown system ds head e env → IsKnown system (ds ++ d ∷ []) head e env
+known_by_more system ds d head e env known = record {
+  this = known.this;
+  step = known.step;
+  vars = known.vars;
+  forced = λ x occurs.
+      let v = known.forced x occurs in (
+        v.0,
+        v.1,
+        λ a solves. v.2 a
+            (λ e there. solves e (Contains-append_left ds (d ∷ []) e there)),
+      );
+}
+
+is_right_by_more : (system : System) (ds : List Decision) (d e : Decision) → IsRight system ds e →
+    IsRight system (ds ++ d ∷ []) e
+is_right_by_more system ds d (Computed head site way v) is =
+    let value = is.3 in (
+      is.0,
+      is.1,
+      is.2,
+      (
+        value.0,
+        known_by_more system ds d head is.0.form value.0 value.1,
+        value.2,
+      ),
+    )
+is_right_by_more system ds d (Entered head caller) is = tt
+is_right_by_more system ds d (Found head k v) is = tt
+
+pub right_by_more : RightByMore
+right_by_more system ds d all last e there =
+    elim (Contains-append_cases ds (d ∷ []) e there) as (λ _. IsRight system (ds ++ d ∷ []) e) [
+      | inl before ↦ is_right_by_more system ds d e (all e before)
+      | inr at_end ↦ is_right_by_more system ds d e
+          (subst (IsRight system ds) (only_one d e at_end) last)
+    ]

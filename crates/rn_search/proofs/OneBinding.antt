@@ -1,4 +1,4 @@
--- Where nothing is left, decisions lead to one binding at most.
+-- What is made of decisions is one binding, and what they lead to is made of them.
 use Rattle.std.proofs.Common.{◌≡◌, ℕ, zero, suc, ◌+◌, ◌<◌, ◌⊎◌, Bool, true, false, List, []}
 use Rattle.std.proofs.Common.{◌∷◌, length}
 use Rattle.std.proofs.Common.{get_or, refl, sym, ap, ◌∙◌, subst, inl, inr, arith}
@@ -26,14 +26,14 @@ use Rattle.rn_model.proofs.MarkingsStay.{Increases, from_strict}
 use Rattle.rn_growing.specs.declared.decision.Head.{Head}
 use Rattle.rn_growing.specs.declared.decision.Decision.{Decision}
 use Rattle.rn_growing.specs.Decisions.{head_of, transition_in}
-use Rattle.rn_growing.specs.Equations.{IsForcedTo}
-use Rattle.rn_growing.specs.Turns.{AreInTurn, IsVarForced}
+use Rattle.rn_growing.specs.Turns.{IsVarForced}
 use Rattle.rn_growing.proofs.Followers.{some_equal}
-use Rattle.rn_search.specs.Sought.{Sought, Leads}
-use Rattle.rn_search.specs.Ending.{AreDone, DoneLeadToOne}
+use Rattle.rn_search.specs.Ending.{IsMadeOf, LeadingIsMade, MadeIsOne}
+use Rattle.rn_growing.specs.Equations.{IsSolvable}
 use Rattle.rn_search.proofs.Ends.{leading_forces, entered_in_them}
 use Rattle.rn_search.proofs.Following.{entered_node}
 use Rattle.rn_search.proofs.Known.{forced_are_its_values}
+use Rattle.rn_model.specs.declared.system.System.{System}
 
 -- Nodes that ascend by path are told by which they are.
 abbrev Before : Node → Node → Type 0
@@ -146,37 +146,31 @@ with_values head vs = record {
   values = vs;
 }
 
-module _ (sought : Sought) (ds : List Decision) (good : Good sought.system)
-    (turns : AreInTurn sought.system ds) (some : 0 < length ds)
-    (done : AreDone sought.system ds) where
-  -- each node of one binding is a node of the other
-  node_of_other : (b c : Binding) → Leads sought ds b → Leads sought ds c → (node : Node) →
+module _ (system : System) (ds : List Decision) (good : Good system)
+    (solvable : IsSolvable system ds) where
+  -- a node of a binding that is made of decisions is one of each other that is
+  node_of_other : (b c : Binding) → IsMadeOf system ds b → IsMadeOf system ds c → (node : Node) →
       Contains b.nodes node → Contains c.nodes node
-  node_of_other b c leads also node there =
-      let system = sought.system in
-      let entered = entered_in_them system b sought.depth leads.enabled.shape ds leads.follows.0
-      leads.follows.1 turns some done node there in
-      let n = entered_node system c ds also.follows.0 also.follows.1 (head_of node) entered in
+  node_of_other b c made also node there =
+      let n = also.nodes (head_of node) (made.entered node there) in
       let vars = (transition_of system node).vars in
       let of : IsNodeOf system node =
-      All-contains (IsNodeOf system) b.nodes node leads.enabled.shape.nodes there in
+      All-contains (IsNodeOf system) b.nodes node made.sound there in
       let of_n : IsNodeOf system n.0 =
-      All-contains (IsNodeOf system) c.nodes n.0 also.enabled.shape.nodes n.1 in
+      All-contains (IsNodeOf system) c.nodes n.0 also.sound n.1 in
       let vars_are : (transition_of system n.0).vars ≡ vars =
       ap (λ h. (transition_in system h).vars) (sym n.2) in
       let t = good_transition system node.net node.transition good of.net of.transition in
       let up = from_strict vars t.its_vars.ascending in
       let each : (x : ℕ) → Contains vars x →
       value_beside (zip vars node.values) x ≡ value_beside (zip vars n.0.values) x = λ x var.
-      let forced = All-contains (IsVarForced system ds (head_of node)) vars x
-      (leading_forces sought ds b turns some done leads (head_of node) entered) var in
-      let mine = forced_are_its_values sought ds b node x forced.0 leads turns some there var
-      forced.1 in
-      let other = forced_are_its_values sought ds c n.0 x forced.0 also turns some n.1
-      (subst (λ xs. Contains xs x) (sym vars_are) var)
-      (subst (λ h. IsForcedTo system ds (λ a. Some (a.var h.path x)) forced.0) n.2 forced.1) in
-      mine ∙ sym (subst (λ xs. value_beside (zip xs n.0.values) x ≡ Some forced.0) vars_are
-      other) in
+      let mine = made.values node x there var in
+      let other = also.values n.0 x n.1 (subst (λ xs. Contains xs x) (sym vars_are) var) in
+      let beside : value_beside (zip vars n.0.values) x ≡ Some other.0 =
+      subst (λ xs. value_beside (zip xs n.0.values) x ≡ Some other.0) vars_are other.1 in
+      let told : Some (solvable.0.var node.path x) ≡ Some other.0 =
+      ap (λ h. Some (solvable.0.var h.path x)) n.2 ∙ other.2 solvable.0 solvable.1 in
+      mine.1 ∙ sym (mine.2 solvable.0 solvable.1) ∙ told ∙ sym beside in
       let values : node.values ≡ n.0.values =
       same_values vars node.values n.0.values up of.values (of_n.values ∙ ap length vars_are)
       each in
@@ -184,9 +178,28 @@ module _ (sought : Sought) (ds : List Decision) (good : Good sought.system)
       sym (ap (λ h. with_values h node.values) n.2 ∙ ap (with_values (head_of n.0)) values) in
       subst (Contains c.nodes) same n.1
 
-pub done_lead_to_one : DoneLeadToOne
-done_lead_to_one sought ds b c good turns some done leads also =
+pub made_is_one : MadeIsOne
+made_is_one system ds b c good solvable made also =
     ap (λ nodes. record { nodes = nodes })
-    (same_lists b.nodes c.nodes leads.enabled.shape.ascending also.enabled.shape.ascending
-    (node_of_other sought ds good turns some done b c leads also)
-    (node_of_other sought ds good turns some done c b also leads))
+    (same_lists b.nodes c.nodes made.ascending also.ascending
+    (node_of_other system ds good solvable b c made also)
+    (node_of_other system ds good solvable c b also made))
+
+pub leading_is_made : LeadingIsMade
+leading_is_made sought ds b turns some done leads =
+    let system = sought.system in
+    let items = leads.follows.0 in
+    let on = leads.follows.1 in
+    let shape = leads.enabled.shape in
+    let entered = entered_in_them system b sought.depth shape ds items on turns some done in
+    let forced = leading_forces sought ds b turns some done leads in
+    record {
+      ascending = shape.ascending;
+      sound = shape.nodes;
+      entered = entered;
+      nodes = entered_node system b ds items on;
+      values = λ node x there var.
+          let v = All-contains (IsVarForced system ds (head_of node))
+          (transition_of system node).vars x (forced (head_of node) (entered node there)) var in
+          (v.0, forced_are_its_values sought ds b node x v.0 leads turns some there var v.1, v.1);
+    }

@@ -1,7 +1,11 @@
 -- Laws on the end of a branch of a search: where it is stuck it leads to nothing, and what stands
 -- at its end is so. Each is the contract of a function that does nothing.
-use Rattle.std.specs.Prelude.{ℕ, ◌≡◌, ◌<◌, true, List, [], ◌∷◌, ◌++◌, Some, None}
+use Rattle.std.specs.Prelude.{ℕ, ◌≡◌, ◌<◌, ⊤, true, List, [], ◌∷◌, ◌++◌, Some, None}
 use Rattle.std.specs.Prelude.{slice_get, length, Contains, All}
+use Rattle.std.specs.List.{AllAdjacentBelow}
+use Rattle.std.specs.Ordering.{nat_cmp}
+use Rattle.std.specs.Cmp.Lexicographic.{slice_cmp}
+use Rattle.std.specs.declared.cmp.Ordering.TheVariants.{Less}
 use Rattle.rn_value.specs.declared.value.Value.{Value}
 use Rattle.rn_model.specs.declared.system.System.{System}
 use Rattle.rn_model.specs.declared.system.NetArc.{NetArc}
@@ -11,12 +15,11 @@ use Rattle.rn_model.specs.declared.binding.Binding.{Binding}
 use Rattle.rn_model.specs.Lists.{value_beside}
 use Rattle.rn_model.specs.Systems.{transition_of}
 use Rattle.rn_model.specs.Evaluation.{Env, worth}
-use Rattle.rn_model.specs.Bindings.{Shape, env_of}
+use Rattle.rn_model.specs.Bindings.{Shape, IsNodeOf, env_of}
 use Rattle.rn_model.specs.Agreement.{Agrees}
 use Rattle.rn_model.specs.Good.{Good}
 use Rattle.rn_model.specs.Enabling.{Fits}
 use Rattle.rn_model.specs.Derivation.{Hole, finds_values}
-use Rattle.rn_growing.specs.declared.decision.Site.{Site}
 use Rattle.rn_growing.specs.declared.decision.Head.{Head}
 use Rattle.rn_growing.specs.declared.decision.Decision.{Decision}
 use Rattle.rn_growing.specs.declared.decision.Decision.TheVariants.{Entered, Found, Computed}
@@ -86,17 +89,29 @@ FoundIsSo = (sought : Sought) (ds : List Decision) (b : Binding) → AreInTurn s
     Fits sought.system sought.marking b → StartsAt b sought.start →
     Follows sought.system b ds → Leads sought ds b
 
--- Each value that was computed is that of its operator application, by what is known of its
+-- A value that was computed is that of its operator application, by what is known of its
 -- variables.
-abbrev pub AreRight : System → List Decision → Type 0
-AreRight system ds = (head : Head) (site : Site) (way : List ℕ) (v : Value) →
-    Contains ds (Computed head site way v) → (hole : Hole) × (hole.way ≡ way)
+abbrev pub IsRight : System → List Decision → Decision → Type 0
+IsRight system ds (Computed head site way v) = (hole : Hole) × (hole.way ≡ way)
     × IsHole system head (site_of site) hole
     × ((env : Env) × IsKnown system ds head hole.form env × (worth hole.form env ≡ Some v))
+IsRight system ds _ = ⊤
 
--- A binding is made of what decisions say: each node that was entered is one of it, and each
--- variable of its nodes has the value to which it is forced.
+abbrev pub AreRight : System → List Decision → Type 0
+AreRight system ds = (d : Decision) → Contains ds d → IsRight system ds d
+
+-- It stays so after one more.
+abbrev pub RightByMore : Type 0
+RightByMore = (system : System) (ds : List Decision) (d : Decision) → AreRight system ds →
+    IsRight system ds d → AreRight system (ds ++ d ∷ [])
+
+-- A binding is made of what decisions say: its nodes, in ascending order of paths, are just those
+-- that were entered, and each variable has the value to which it is forced.
 pub record IsMadeOf (system : System) (ds : List Decision) (b : Binding) : Type 0 where
+  pub ascending : AllAdjacentBelow (λ x y. slice_cmp nat_cmp x.path y.path ≡ Less)
+      b.nodes (length b.nodes)
+  pub sound : All (IsNodeOf system) b.nodes
+  pub entered : (node : Node) → Contains b.nodes node → IsEntered ds (head_of node)
   pub nodes : (head : Head) → IsEntered ds head →
       (node : Node) × Contains b.nodes node × (head ≡ head_of node)
   pub values : (node : Node) (x : ℕ) → Contains b.nodes node →
@@ -111,8 +126,13 @@ MadeFollows = (system : System) (ds : List Decision) (b : Binding) (depth : ℕ)
     IsSolvable system ds → Shape system b depth → Agrees system b → IsMadeOf system ds b →
     Follows system b ds
 
--- Where no item is left, the decisions lead to one binding at most.
-abbrev pub DoneLeadToOne : Type 0
-DoneLeadToOne = (sought : Sought) (ds : List Decision) (b c : Binding) → Good sought.system →
-    AreInTurn sought.system ds → 0 < length ds → AreDone sought.system ds →
-    Leads sought ds b → Leads sought ds c → b ≡ c
+-- Where no item is left, whatever the decisions lead to is made of them.
+abbrev pub LeadingIsMade : Type 0
+LeadingIsMade = (sought : Sought) (ds : List Decision) (b : Binding) →
+    AreInTurn sought.system ds → 0 < length ds → AreDone sought.system ds → Leads sought ds b →
+    IsMadeOf sought.system ds b
+
+-- And one binding at most is made of decisions that can be satisfied.
+abbrev pub MadeIsOne : Type 0
+MadeIsOne = (system : System) (ds : List Decision) (b c : Binding) → Good system →
+    IsSolvable system ds → IsMadeOf system ds b → IsMadeOf system ds c → b ≡ c

@@ -1,6 +1,7 @@
 -- Laws that a search rests on: a choice misses nothing, and no binding is met twice. Each is the
 -- contract of a function that does nothing.
-use Rattle.std.specs.Prelude.{ℕ, ◌≡◌, ◌<◌, ◌≤◌, ◌-◌, true, List, [], ◌∷◌, ◌++◌, Option, Some, None}
+use Rattle.std.specs.Prelude.{ℕ, ℤ, ◌≡◌, ◌<◌, ◌≤◌, ◌-◌, true, List, [], ◌∷◌, ◌++◌, Some}
+use Rattle.std.specs.Prelude.{None}
 use Rattle.std.specs.Prelude.{slice_get, length, Contains, All}
 use Rattle.rn_value.specs.declared.value.InstRef.TheVariants.{Old}
 use Rattle.rn_value.specs.declared.value.Value.{Value}
@@ -32,7 +33,8 @@ use Rattle.rn_search.specs.declared.point.Point.{Point}
 use Rattle.rn_search.specs.declared.point.Point.TheVariants as P
 use Rattle.rn_search.specs.declared.point.Called.{Called}
 use Rattle.rn_search.specs.Sought.{Sought, StartsAt, Leads}
-use Rattle.rn_search.specs.Points.{node_of, tokens_of, holes_of, instance_of, net_called, offers}
+use Rattle.rn_search.specs.Points.{node_of, tokens_of, holes_of, instance_of, net_called}
+use Rattle.rn_search.specs.Points.{offered, offers}
 
 -- the decisions lead to a binding with an alternative more
 abbrev pub LeadsBy : Sought → List Decision → Point → ℕ → Binding → Type 0
@@ -98,7 +100,7 @@ ResultsAreOffered = (sought : Sought) (ds : List Decision) (b : Binding) (node k
     0 < length ds →
     slice_get (holes_of (transition_in sought.system (node_of sought ds node))) k ≡ Some hole →
     IsKnown sought.system ds (node_of sought ds node) hole.1.form env →
-    (n : Rattle.std.specs.Prelude.ℤ) × (worth hole.1.form env ≡ Some (Value.Int n))
+    (n : ℤ) × (worth hole.1.form env ≡ Some (Value.Int n))
     × LeadsBy sought ds (P.Result node k n) 0 b
 
 -- Where the target of a downlink is forced to an instance, one of the transitions of its net that
@@ -153,6 +155,11 @@ NodesHaveRoom = (sought : Sought) (ds : List Decision) (b : Binding) (head : Hea
 abbrev pub FewerLead : Type 0
 FewerLead = (sought : Sought) (ds more : List Decision) (b : Binding) →
     Leads sought (ds ++ more) b → Leads sought ds b
+
+-- An alternative that isn't a decision leads to nothing.
+abbrev pub NoneLeadsNowhere : Type 0
+NoneLeadsNowhere = (sought : Sought) (ds : List Decision) (point : Point) (a : ℕ) (b : Binding) →
+    offered sought ds point a ≡ None → ¬ LeadsBy sought ds point a b
 
 -- Different alternatives of a point lead to different bindings.
 abbrev pub OneWay : Type 0

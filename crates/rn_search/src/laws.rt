@@ -6,7 +6,9 @@ ghost use Rattle.rn_search.specs.Missing.{CallsAreOffered, NodesHaveRoom, FewerL
 ghost use Rattle.rn_search.specs.Missing.{LeadingIsSolvable, KnownGuardsHold, KnownInhibitorsHold};
 ghost use Rattle.rn_search.specs.Ending.{StuckLeadsNowhere, LeadingForces, DoneAreClosed};
 ghost use Rattle.rn_search.specs.Ending.{ForcedAreItsValues, FoundIsSo, MadeFollows};
-ghost use Rattle.rn_search.specs.Ending.{DoneLeadToOne};
+ghost use Rattle.rn_search.specs.Ending.{LeadingIsMade, MadeIsOne};
+ghost use Rattle.rn_search.specs.Missing.{NoneLeadsNowhere};
+ghost use Rattle.rn_search.specs.Ending.{RightByMore};
 ghost use Rattle.rn_search.specs.Making.{ForcedAreMade, MadeByMore};
 ghost use Rattle.rn_search.specs.Room.{RoomFalls};
 
@@ -35,9 +37,11 @@ pub fn what_may_be_cut()
     calls_need_levels();
 }
 
-/// It goes on with one alternative of a point alone, and follows fewer decisions too.
+/// It goes on with one alternative of a point alone, which is a decision, and follows fewer
+/// decisions too.
 pub fn one_way()
     ensures fewer { FewerLead }
+    ensures none { NoneLeadsNowhere }
     ensures one { OneWay }
 {}
 
@@ -48,13 +52,16 @@ pub fn stuck_means_none()
     ensures closed { DoneAreClosed }
 {}
 
-/// Where nothing is left, what follows has the values that are forced, is one binding at most, and
-/// is looked for where it has the shape, agrees and fits.
+/// Where nothing is left, what follows is made of the nodes that were entered and the values that
+/// are forced. That is one binding, which follows, and is looked for, where it has the shape,
+/// agrees and fits.
 pub fn what_is_found()
     ensures values { ForcedAreItsValues }
     ensures so { FoundIsSo }
+    ensures right { RightByMore }
     ensures follows { MadeFollows }
-    ensures one { DoneLeadToOne }
+    ensures made { LeadingIsMade }
+    ensures one { MadeIsOne }
 {}
 
 /// What may still be decided falls with each decision.

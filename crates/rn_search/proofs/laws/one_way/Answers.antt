@@ -1,4 +1,4 @@
-use Rattle.rn_search.proofs.Alternatives.{one_way}
+use Rattle.rn_search.proofs.Alternatives.{none_leads_nowhere, one_way}
 use Rattle.rn_search.proofs.Following.{fewer_lead}
 use Rattle.rn_search.proofs.laws.one_way.Goals as goal
 
@@ -7,3 +7,6 @@ returns-clause-fewer c = fewer_lead
 
 pub returns-clause-one : goal.returns-clause-one
 returns-clause-one c = one_way
+
+pub returns-clause-none : goal.returns-clause-none
+returns-clause-none c = none_leads_nowhere
