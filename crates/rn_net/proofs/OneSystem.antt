@@ -1,4 +1,4 @@
--- Tokens are one system at most, and those of a system are refused for their depth alone.
+-- Tokens are one system at most, and a text spells one at most.
 use Rattle.std.proofs.Common.{◌≡◌, ℕ, ◌⊎◌, inl, inr, List, [], ◌∷◌, ◌++◌, refl, sym, ◌∙◌, ap, subst, append_assoc, arith}
 use Rattle.rn_notation.specs.declared.token.Token.{Token}
 use Rattle.rn_notation.specs.declared.token.TokenKind.{TokenKind}
@@ -25,7 +25,7 @@ use Rattle.rn_net.specs.Parts.{IsPart, IsItem, IsInitialUpTo, AreNames, with_par
 use Rattle.rn_net.specs.declared.refusal.Refusal.{Refusal}
 use Rattle.rn_net.specs.declared.refusal.Refusal.TheVariants as R
 use Rattle.rn_net.specs.Refusals.{IsStopped, AreTokensOf, IsRefused}
-use Rattle.rn_net.specs.Laws.{OneSystem, OneTextOf, TextsAreRefusedForDepth}
+use Rattle.rn_net.specs.Laws.{OneSystem, OneSpelled}
 use Rattle.rn_net.proofs.Sorts.{tell}
 use Rattle.rn_net.proofs.Rows.{row_up_to}
 use Rattle.rn_net.proofs.DeclarationPhrases.{channel_sort, channel_open, channel_kinds, channel_end, channel-only, name_row, vars_sort, vars_names, vars_kind, vars_end, vars-only, PlaceOn, place_on, place_kind, place_end, place_sort, place-only}
@@ -203,24 +203,6 @@ one_system law tokens p q x y = by x y
     by : {ts : List Token} {a b : Plain} → IsSystem ts a → IsSystem ts b → a ≡ b
     by (IsSystem.system x) (IsSystem.system y) = one-items law x y
 
-pub one_text : OneInscription → OneReading → OneTextOf
+pub one_text : OneInscription → OneReading → OneSpelled
 one_text law one bytes p q x y =
     one_system law x.tokens p q x.system (subst (λ ts. IsSystem ts q) (one bytes y.tokens x.tokens y.read x.read) y.system)
-
--- all tokens of a system begin one
-none-stops : {tokens : List Token} {p : Plain} {spot : Spot} → IsSystem tokens p → IsStopped tokens spot → ⊥
-none-stops {p = p} x s = s.none (s.left, p, subst (λ ts. IsSystem ts p) (s.parts ∙ sym (append_assoc s.before (s.token ∷ []) s.left)) x)
-
-pub depth_alone : OneReading → NoFaultInTokens → TextsAreRefusedForDepth
-depth_alone one apart bytes p r t x = by x
-  where
-    same : {us : List Token} → AreTokensOf bytes us → us ≡ t.tokens
-    same {us = us} (inl b) = one bytes us t.tokens b t.read
-    same {us = us} (inr b) = absurd (apart bytes t.tokens us b.0 t.read b.1)
-
-    by : {r : Refusal} → IsRefused bytes r → (spot : Spot) × (r ≡ R.P5 spot)
-    by (IsRefused.too_long h) = absurd (let f = t.fits in omega (arith, h, f))
-    by (IsRefused.stopped {spot = spot} h of a) = absurd (none-stops t.system (subst (λ ts. IsStopped ts spot) (same of) a))
-    by (IsRefused.deep {spot = spot} h of a) = (spot, refl)
-    by (IsRefused.faulty {tokens = us} {fault = f} h a fine) = absurd (apart bytes t.tokens us f t.read a)
-    by (IsRefused.unfinished h a fine none) = absurd (none p (subst (λ ts. IsSystem ts p) (sym (same (inl a))) t.system))

@@ -8,14 +8,6 @@ use Rattle.rn_net.specs.Levels.{IsShallow}
 use Rattle.rn_net.specs.Levels.Region.{between}
 use Rattle.rn_net.specs.Nets.{IsSystem}
 
--- The bytes are the text of this system: they are no longer than a net text may be, and they are
--- tokens, without a fault, that are the system. How deep they nest doesn't count.
-pub record IsTextOf (bytes : List ℕ) (plain : Plain) : Type 0 where
-  pub tokens : List Token
-  pub fits : length bytes ≤ longest_net_text
-  pub read : Tokens bytes tokens
-  pub system : IsSystem tokens plain
-
 -- The bytes spell this system: they are no longer than a net text may be, and they are tokens,
 -- without a fault, that are the system. None of the tokens opens level 65 or is the 257th operator
 -- of its inscription.

@@ -1,14 +1,14 @@
 //! Laws of net texts, as the contract of a function that does nothing.
-ghost use Rattle.rn_net.specs.Laws.{OneSystem, OneTextOf, TextsAreRefusedForDepth};
+ghost use Rattle.rn_net.specs.Laws.{OneSpelled, OneSystem, SpelledIsNotRefused};
 
 use rn_inscript::reading_laws;
 use rn_notation::token_laws;
 
-/// Tokens are one system at most, and so are texts, which are refused for their depth alone.
+/// Tokens are one system at most, and a text spells one at most and is then refused for no reason.
 pub fn net_laws()
     ensures one_system { OneSystem }
-    ensures one_text { OneTextOf }
-    ensures depth_alone { TextsAreRefusedForDepth }
+    ensures one_text { OneSpelled }
+    ensures not_refused { SpelledIsNotRefused }
 {
     token_laws();
     reading_laws();

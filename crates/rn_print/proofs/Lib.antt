@@ -1,5 +1,8 @@
+pub mod LeftOut
 pub mod ConditionTexts
 pub mod Trees
+pub mod SameTokens
+pub mod Beside
 pub mod QuotedTexts
 pub mod Atoms
 pub mod Separated

@@ -2,16 +2,21 @@
 use Rattle.std.proofs.Common.{◌≡◌, ℕ, List, [], ◌∷◌, ◌++◌, map, refl, ap, ◌∙◌}
 use Rattle.std.specs.List.{flat_map, AllByRecursion}
 use Rattle.rn_notation.specs.declared.token.Token.{Token}
+use Rattle.rn_net.specs.Levels.{IsShallow}
+use Rattle.rn_net.specs.Levels.Region.{between}
 use Rattle.rn_print.proofs.Trees.{Tree, nothing, both, bytes_in, tokens_in, Stands}
 use Rattle.rn_print.proofs.Separated.{Phrases}
 
--- Pieces that read as a phrase, whatever follows them.
+-- Pieces that read as a phrase, whatever follows them, and are within the limits of levels and
+-- operators.
 pub record Line {A : Type 0} (X : Phrases A) (same : A → A) (a : A) (text : List ℕ) : Type 0 where
   pub tree : Tree
   pub spells : bytes_in tree ≡ text
   pub stands : (rest : List ℕ) → Stands tree rest
   pub means : (before : List ℕ) (rest : List Token) →
       (b : A) × X (tokens_in before tree rest) b rest × (same b ≡ same a)
+  pub shallow : (before : List ℕ) (rest : List Token) → IsShallow between rest →
+      IsShallow between (tokens_in before tree rest)
 
 -- phrases one after another
 pub data Sequence {A : Type 0} (X : Phrases A) : List Token → List A → List Token → Type 0 where
@@ -27,6 +32,7 @@ sequence X same f [] each = record {
   spells = refl;
   stands = λ rest. tt;
   means = λ before rest. ([], Sequence.done, refl);
+  shallow = λ before rest h. h;
 }
 sequence X same f (item ∷ items) (one, each) =
     let later = sequence X same f items each in record {
@@ -42,4 +48,7 @@ sequence X same f (item ∷ items) (one, each) =
             Sequence.next m.1 n.1,
             ap (λ b. b ∷ map same n.0) m.2 ∙ ap (λ bs. same item ∷ bs) n.2,
           );
+      shallow = λ before rest h.
+          let after = before ++ bytes_in one.tree in
+          one.shallow before (tokens_in after later.tree rest) (later.shallow after rest h);
     }

@@ -6,12 +6,11 @@ use Rattle.rn_notation.specs.Reading.{Piece, gap, token, ArePieces, tokens_after
 use Rattle.rn_notation.specs.declared.token.Token.{Token}
 use Rattle.rn_notation.specs.declared.token.TokenKind.{TokenKind}
 use Rattle.rn_net.specs.declared.plain.Plain.{Plain}
-use Rattle.rn_net.specs.Texts.{IsTextOf, Spells}
-use Rattle.rn_net.specs.Laws.{OneTextOf}
-use Rattle.rn_net.specs.Laws as Net
+use Rattle.rn_net.specs.Texts.{Spells}
+use Rattle.rn_net.specs.Laws.{OneSpelled, SpelledIsNotRefused}
 use Rattle.rn_print.specs.Nets.{canonical_text}
 use Rattle.rn_print.specs.SameButSpots.{SameButSpots, unplaced}
-use Rattle.rn_print.specs.Laws.{TextsAreReadBack, SpotsDoNotCount, TextsAreFixed, TextsTellApart, WhatIsReadIsSame, TextsAreRefusedForDepth}
+use Rattle.rn_print.specs.Laws.{TextsAreReadBack, SpotsDoNotCount, TextsAreFixed, TextsTellApart, WhatIsReadIsSame, TextsAreNotRefused}
 use Rattle.rn_print.proofs.Trees.{tokens_in, tokens_whole}
 use Rattle.rn_print.proofs.Atoms.{Legal}
 use Rattle.rn_print.proofs.SpelledExpressions.{AllLegal}
@@ -38,17 +37,18 @@ tokens_legal : {text : List ℕ} {tokens : List Token} → Tokens text tokens �
 tokens_legal {text = text} t =
     subst AllLegal (sym t.among) (pieces_legal [] text t.pieces [] t.stand)
 
-spelled : (bytes : List ℕ) (p : Plain) → IsTextOf bytes p →
+spelled : (bytes : List ℕ) (p : Plain) → Spells bytes p →
     length (canonical_text p) ≤ longest_net_text →
-    (q : Plain) × IsTextOf (canonical_text p) q × SameButSpots q p
+    (q : Plain) × Spells (canonical_text p) q × SameButSpots q p
 spelled bytes p is fits =
-    let r = reads_back is.system (tokens_legal is.read) in (
+    let r = reads_back is.system (tokens_legal is.read) is.within in (
       r.other,
       record {
         tokens = tokens_in [] r.tree [];
         fits = fits;
         read = tokens_whole r.tree (canonical_text p) r.spells r.stands;
         system = r.system;
+        within = r.within;
       },
       r.same,
     )
@@ -57,33 +57,30 @@ pub texts_are_read_back : TextsAreReadBack
 texts_are_read_back plain (bytes, (p, is, same)) fits =
     let e : canonical_text p ≡ canonical_text plain = same_text p plain same in
     let r = spelled bytes p is (subst (λ text. length text ≤ longest_net_text) (sym e) fits) in
-    (r.0, subst (λ text. IsTextOf text r.0) e r.1, r.2 ∙ same)
+    (r.0, subst (λ text. Spells text r.0) e r.1, r.2 ∙ same)
 
 pub spots_do_not_count : SpotsDoNotCount
 spots_do_not_count = same_text
 
-pub texts_are_fixed : OneTextOf → TextsAreFixed
+pub texts_are_fixed : OneSpelled → TextsAreFixed
 texts_are_fixed one p q spelled is =
     let r = texts_are_read_back p spelled is.fits in
     let same : q ≡ r.0 = one (canonical_text p) q r.0 is r.1 in
     same_text q p (ap unplaced same ∙ r.2)
 
-pub texts_tell_apart : OneTextOf → TextsTellApart
+pub texts_tell_apart : OneSpelled → TextsTellApart
 texts_tell_apart one p q first second same fits =
     let r = texts_are_read_back p first fits in
     let s = texts_are_read_back q second (subst (λ text. length text ≤ longest_net_text) same fits) in
-    let read : IsTextOf (canonical_text p) s.0 = subst (λ text. IsTextOf text s.0) (sym same) s.1 in
+    let read : Spells (canonical_text p) s.0 = subst (λ text. Spells text s.0) (sym same) s.1 in
     sym r.2 ∙ ap unplaced (one (canonical_text p) r.0 s.0 r.1 read) ∙ s.2
 
-text_of : {bytes : List ℕ} {p : Plain} → Spells bytes p → IsTextOf bytes p
-text_of s = record { tokens = s.tokens; fits = s.fits; read = s.read; system = s.system }
-
-pub what_is_read : OneTextOf → WhatIsReadIsSame
+pub what_is_read : OneSpelled → WhatIsReadIsSame
 what_is_read one plain q spelled s =
     let r = texts_are_read_back plain spelled s.fits in
-    ap unplaced (one (canonical_text plain) q r.0 (text_of s) r.1) ∙ r.2
+    ap unplaced (one (canonical_text plain) q r.0 s r.1) ∙ r.2
 
-pub refused_for_depth : Net.TextsAreRefusedForDepth → TextsAreRefusedForDepth
-refused_for_depth alone plain refusal spelled fits x =
+pub not_refused : SpelledIsNotRefused → TextsAreNotRefused
+not_refused none plain refusal spelled fits why =
     let r = texts_are_read_back plain spelled fits in
-    alone (canonical_text plain) r.0 refusal r.1 x
+    none (canonical_text plain) r.0 refusal r.1 why

@@ -1,12 +1,15 @@
 -- Phrases of one sort with a separator between them.
-use Rattle.std.proofs.Common.{◌≡◌, ℕ, List, [], ◌∷◌, ◌++◌, map, refl, sym, ap, ◌∙◌, subst, append_assoc}
-use Rattle.std.specs.List.{flat_map, join_by, AllByRecursion}
+use Rattle.std.proofs.Common.{◌≡◌, ℕ, true, List, [], ◌∷◌, ◌++◌, map, refl, sym, ap, ◌∙◌, subst, append_assoc}
+use Rattle.std.specs.List.{flat_map, join_by}
 use Rattle.std.proofs.lemmas.List.{append-nil}
 use Rattle.rn_notation.specs.declared.token.Token.{Token}
 use Rattle.rn_notation.specs.declared.token.TokenKind.{TokenKind}
 use Rattle.rn_notation.specs.declared.token.TokenKind.TheVariants.{Sign}
 use Rattle.rn_notation.specs.Tokens.{IsToken}
 use Rattle.rn_notation.specs.Reading.{token, token_after}
+use Rattle.rn_inscript.specs.Levels.{closes}
+use Rattle.rn_print.proofs.LeftOut.{is_plain}
+use Rattle.rn_print.proofs.Beside.{Beside, Follows}
 use Rattle.rn_print.proofs.Trees.{Tree, nothing, piece, both, bytes_in, tokens_in, Stands, Stops, Reads}
 
 -- phrases: the tokens begin with one that stands for this, and the others come after it
@@ -21,6 +24,7 @@ pub record Separator (kind : TokenKind) (text : List ℕ) : Type 0 where
   pub stops : (rest : List ℕ) → Stops (bytes_in tree ++ rest)
   pub means : (before : List ℕ) (rest : List Token) →
       (t : Token) × (tokens_in before tree rest ≡ t ∷ rest) × (t.kind ≡ kind)
+  pub plain : is_plain kind ≡ true
 
 -- items so far and those that follow them, each after a token of this kind
 pub record Rows {A : Type 0} (X : Phrases A) (More : List A → Phrases (List A)) (All : Phrases (List A))
@@ -32,11 +36,27 @@ pub record Rows {A : Type 0} (X : Phrases A) (More : List A → Phrases (List A)
   pub whole : (ts mid rest : List Token) (item : A) (all : List A) → X ts item mid →
       More (item ∷ []) mid all rest → All ts all rest
 
-module _ {A B : Type 0} (X : Phrases A) (More : List A → Phrases (List A)) (All : Phrases (List A))
+-- items of which each is so of some tokens, each after a token of this kind
+pub data Row {A : Type 0} (I : A → List Token → List Token → Type 0) (kind : TokenKind) :
+    List Token → List A → List Token → Type 0 where
+  stop : {rest : List Token} → Row I kind rest [] rest
+  go : {t : Token} {ts mid rest : List Token} {item : A} {items : List A} → t.kind ≡ kind →
+      I item ts mid → Row I kind mid items rest → Row I kind (t ∷ ts) (item ∷ items) rest
+
+-- no item or more, with the closing bracket after them
+pub data Listed {A : Type 0} (I : A → List Token → List Token → Type 0) (kind close : TokenKind) :
+    List Token → List A → List Token → Type 0 where
+  none_in : {u : Token} {ending : List Token} → u.kind ≡ close →
+      Listed I kind close (u ∷ ending) [] ending
+  some_in : {u : Token} {item : A} {items : List A} {ts mid ending : List Token} →
+      I item ts mid → Row I kind mid items (u ∷ ending) → u.kind ≡ close →
+      Listed I kind close ts (item ∷ items) ending
+
+module _ {A B Q : Type 0} (side : Beside Q) (X : Phrases A) (More : List A → Phrases (List A)) (All : Phrases (List A))
     (kind : TokenKind) (rows : Rows X More All kind) (same : A → A) (text : List ℕ)
     (sep : Separator kind text) (h : A → B) (g : B → List ℕ) where
   -- the items after the first
-  pub record Later (items : List A) : Type 0 where
+  pub record Later (items : List A) (ts ending : List Token) : Type 0 where
     pub tree : Tree
     pub spells : bytes_in tree ≡ flat_map (λ b. text ++ g b) (map h items)
     pub stands : (rest : List ℕ) → Stops rest → Stands tree rest
@@ -44,21 +64,24 @@ module _ {A B : Type 0} (X : Phrases A) (More : List A → Phrases (List A)) (Al
     pub means : (before : List ℕ) (rest : List Token) (acc : List A) →
         (others : List A) × More acc (tokens_in before tree rest) (acc ++ others) rest
         × (map same others ≡ map same items)
+    pub beside : Follows side.Last side.Last ts ending tree
 
-  abbrev pub Item : A → Type 0
-  Item a = Reads X same a (g (h a))
+  abbrev pub Item : A → List Token → List Token → Type 0
+  Item a ts ending = Reads X same a (g (h a)) (Follows side.First side.Last ts ending)
 
-  later : (items : List A) → AllByRecursion Item items → Later items
-  later [] each = record {
+  later : {items : List A} {ts ending : List Token} → Row Item kind ts items ending →
+      Later items ts ending
+  later Row.stop = record {
     tree = nothing;
     spells = refl;
     stands = λ rest s. tt;
     stops = λ rest s. s;
     means = λ before rest acc.
         ([], subst (λ all. More acc rest all rest) (sym (append-nil acc)) (rows.none acc rest), refl);
+    beside = λ before q us x. x;
   }
-  later (item ∷ items) (one, each) =
-      let next = later items each in record {
+  later (Row.go {t = t} {ts = ts} {item = item} {items = items} is one row) =
+      let next = later row in record {
         tree = both (both sep.tree one.tree) next.tree;
         spells =
             ap (λ t. t ++ bytes_in one.tree ++ bytes_in next.tree) sep.spells
@@ -91,14 +114,24 @@ module _ {A B : Type 0} (X : Phrases A) (More : List A → Phrases (List A)) (Al
                   sign.2 first.1 others.1)),
               ap (λ b. b ∷ map same others.0) first.2 ∙ ap (λ bs. same item ∷ bs) others.2,
             );
+        beside = λ before q us x.
+            let after = before ++ (bytes_in sep.tree ++ bytes_in one.tree) in
+            let mid = tokens_in after next.tree us in
+            let here = tokens_in (before ++ bytes_in sep.tree) one.tree mid in
+            let sign = sep.means before here in
+            subst (λ us. side.Last q (t ∷ ts) us) (sym sign.1)
+            (side.joins q t sign.0 ts here (sign.2 ∙ sym is) (ap is_plain is ∙ sep.plain)
+            (one.beside (before ++ bytes_in sep.tree) q mid (next.beside after q us x)));
       }
 
   -- one item or more
-  pub some : (item : A) (items : List A) → Item item → AllByRecursion Item items →
+  pub some : {item : A} {items : List A} {ts mid ending : List Token} → Item item ts mid →
+      Row Item kind mid items ending →
       Reads All (map same) (item ∷ items)
       (g (h item) ++ flat_map (λ b. text ++ g b) (map h items))
-  some item items one each =
-      let next = later items each in record {
+      (Follows side.First side.Last ts ending)
+  some {item = item} one row =
+      let next = later row in record {
         tree = both one.tree next.tree;
         spells =
             ap (λ t. t ++ bytes_in next.tree) one.spells ∙ ap (λ t. g (h item) ++ t) next.spells;
@@ -113,30 +146,41 @@ module _ {A B : Type 0} (X : Phrases A) (More : List A → Phrases (List A)) (Al
                   first.1 others.1,
               ap (λ b. b ∷ map same others.0) first.2 ∙ ap (λ bs. same item ∷ bs) others.2,
             );
+        beside = λ before q us x.
+            let after = before ++ bytes_in one.tree in
+            one.beside before q (tokens_in after next.tree us) (next.beside after q us x);
       }
 
   -- no item or more, up to and with a closing bracket
   pub closed : (k : ℕ) (close : List ℕ) → ((rest : List ℕ) → IsToken (Sign k) close rest) →
-      ((rest : List ℕ) → Stops (close ++ rest)) → (Listed : Phrases (List A)) →
-      ((u : Token) (rest : List Token) → u.kind ≡ Sign k → Listed (u ∷ rest) [] rest) →
+      ((rest : List ℕ) → Stops (close ++ rest)) → closes (Sign k) ≡ true →
+      (In : Phrases (List A)) →
+      ((u : Token) (rest : List Token) → u.kind ≡ Sign k → In (u ∷ rest) [] rest) →
       ((ts rest : List Token) (u : Token) (items : List A) → All ts items (u ∷ rest) →
-      u.kind ≡ Sign k → Listed ts items rest) →
-      (items : List A) → AllByRecursion Item items →
-      Reads Listed (map same) items (join_by g text (map h items) ++ close)
-  closed k close stands stops Listed nothing_in some_in [] each = record {
+      u.kind ≡ Sign k → In ts items rest) →
+      {items : List A} {ts ending : List Token} → Listed Item kind (Sign k) ts items ending →
+      Reads In (map same) items (join_by g text (map h items) ++ close)
+      (Follows side.Opened side.Last ts ending)
+  closed k close stands stops closing In nothing_in something_in {ending = ending} (Listed.none_in {u = u} is) = record {
     tree = piece (token (Sign k) close);
     spells = refl;
     stands = λ rest s. stands rest;
     means = λ before rest.
         ([], nothing_in (token_after before (Sign k) close) rest refl, refl);
+    beside = λ before q us x.
+        side.empty q u (token_after before (Sign k) close) ending us (sym is) (ap closes is ∙ closing) x;
   }
-  closed k close stands stops Listed nothing_in some_in (item ∷ items) (one, each) =
-      let r = some item items one each in record {
+  closed k close stands stops closing In nothing_in something_in {ts = ts} {ending = ending} (Listed.some_in {u = v} one row is) =
+      let r = some one row in record {
         tree = both r.tree (piece (token (Sign k) close));
         spells = ap (λ t. t ++ close) r.spells;
         stands = λ rest s. (r.stands (close ++ rest) (stops rest), stands rest);
         means = λ before rest.
             let u = token_after (before ++ bytes_in r.tree) (Sign k) close in
             let m = r.means before (u ∷ rest) in
-            (m.0, some_in (tokens_in before r.tree (u ∷ rest)) rest u m.0 m.1 refl, m.2);
+            (m.0, something_in (tokens_in before r.tree (u ∷ rest)) rest u m.0 m.1 refl, m.2);
+        beside = λ before q us x.
+            let u = token_after (before ++ bytes_in r.tree) (Sign k) close in
+            side.inside q ts (tokens_in before r.tree (u ∷ us)) (r.beside before (side.push q) (u ∷ us)
+            (side.closing q v u ending us (sym is) (ap closes is ∙ closing) x));
       }

@@ -1,7 +1,6 @@
 -- Where some tokens stand for a kind, its text is read back.
-use Rattle.std.proofs.Common.{◌≡◌, ℕ, List, [], ◌∷◌, ◌++◌, map, refl, sym, ap, ◌∙◌}
+use Rattle.std.proofs.Common.{◌≡◌, ℕ, true, false, List, [], ◌∷◌, ◌++◌, map, refl, sym, ap, ◌∙◌, subst}
 use Rattle.std.specs.Prelude.{codes}
-use Rattle.std.specs.List.{AllByRecursion}
 use Rattle.rn_value.specs.Words.{reserved_words}
 use Rattle.rn_notation.specs.Tokens.{IsToken}
 use Rattle.rn_notation.specs.Reading.{token, token_after}
@@ -9,7 +8,11 @@ use Rattle.rn_notation.specs.declared.token.Spot.{Spot}
 use Rattle.rn_notation.specs.declared.token.Token.{Token}
 use Rattle.rn_notation.specs.declared.token.TokenKind.{TokenKind}
 use Rattle.rn_notation.specs.declared.token.TokenKind.TheVariants.{Word, Sign}
-use Rattle.rn_inscript.specs.Signs.{comma}
+use Rattle.rn_inscript.specs.Signs.{comma, colon, open_bracket, open_brace, close_bracket, close_brace}
+use Rattle.rn_inscript.specs.Levels.{closes}
+use Rattle.rn_net.specs.Words.{int_word, text_word, net_word}
+use Rattle.rn_net.specs.Levels.{IsShallow, after, is_too_deep, is_semicolon}
+use Rattle.rn_net.specs.Levels.Region.{between, declaring}
 use Rattle.rn_net.specs.declared.kinds.PKind.{PKind, fold-roll-PKind}
 use Rattle.rn_net.specs.declared.kinds.PKindForm.{PKindForm, fold-PKindForm, fold_out-PKindForm, map-PKindForm, out-PKindForm, roll-PKindForm}
 use Rattle.rn_net.specs.declared.kinds.PKindForm.TheVariants as K
@@ -17,11 +20,13 @@ use Rattle.rn_net.specs.Kinds.{kind_at, IsKind, AreListed, AreKinds, AreMoreKind
 use Rattle.rn_print.specs.Pieces.{listed}
 use Rattle.rn_print.specs.Kinds.{kind_text, kind_form_step, kind_step}
 use Rattle.rn_print.specs.SameButSpots.{kind_unplaced, kind_moved, first_spot}
-use Rattle.rn_print.proofs.Trees.{piece, both, bytes_in, Stops, Reads, reads_text}
+use Rattle.rn_print.proofs.Trees.{Tree, piece, both, bytes_in, tokens_in, Stops, Reads, reads_text}
 use Rattle.rn_print.proofs.Atoms.{Anywhere, open_bracket_stands, close_bracket_stands, open_brace_stands, close_brace_stands}
-use Rattle.rn_print.proofs.Separated.{Rows, closed}
+use Rattle.rn_print.proofs.SameTokens.{SameTokens, shallow}
+use Rattle.rn_print.proofs.Beside.{Follows, Same, declared}
+use Rattle.rn_print.proofs.Separated.{Rows, Listed, closed}
 use Rattle.rn_print.proofs.ExpressionBack.{comma_sep, sign_tree}
-use Rattle.rn_print.proofs.SpelledExpressions.{AllLegal}
+use Rattle.rn_print.proofs.SpelledExpressions.{AllLegal, Others, no_others, one_more, Some_back, some_back, some_listed}
 
 pub form_text : PKindForm → List ℕ
 form_text = fold-PKindForm (List ℕ) (List ℕ) kind_form_step kind_step
@@ -69,42 +74,47 @@ same_form : (s t : Spot) (f g : PKindForm) → form_unplaced f ≡ form_unplaced
     kind_unplaced (kind_at s f) ≡ kind_unplaced (kind_at t g)
 same_form s t f g h = unplaced-at s f ∙ ap (kind_at first_spot) h ∙ sym (unplaced-at t g)
 
--- the text of the kind is read back
-abbrev pub KindBack : PKind → Type 0
-KindBack k = Reads IsKind kind_unplaced k (kind_text k)
+-- the text of the kind is read back, beside these tokens of another text
+abbrev pub KindBack : PKind → List Token → List Token → Type 0
+KindBack k ts ending = Reads IsKind kind_unplaced k (kind_text k) (Follows Same Same ts ending)
 
-word_back : (s : Spot) (form : PKindForm) (k : ℕ) (word : List ℕ) →
-    ((rest : List ℕ) → Stops rest → IsToken (Word k) word rest) →
+word_back : (t : Token) (ending : List Token) (form : PKindForm) (k : ℕ) (word : List ℕ) →
+    t.kind ≡ Word k → ((rest : List ℕ) → Stops rest → IsToken (Word k) word rest) →
     ((t : Token) (rest : List Token) → t.kind ≡ Word k →
     IsKind (t ∷ rest) (kind_at t.spot form) rest) →
-    form_text form ≡ word → KindBack (kind_at s form)
-word_back s form k word stands is same =
+    form_text form ≡ word → KindBack (kind_at t.spot form) (t ∷ ending) ending
+word_back t ending form k word here stands is same =
+    let s = t.spot in
     reads_text IsKind kind_unplaced (kind_at s form) word (kind_text (kind_at s form))
-    (sym (text-at s form ∙ same)) (record {
+    (Follows Same Same (t ∷ ending) ending) (sym (text-at s form ∙ same)) (record {
       tree = piece (token (Word k) word);
       spells = refl;
       stands = stands;
       means = λ before rest.
-          let t = token_after before (Word k) word in
-          (kind_at t.spot form, is t rest refl, same_form t.spot s form form refl);
+          let u = token_after before (Word k) word in
+          (kind_at u.spot form, is u rest refl, same_form u.spot s form form refl);
+      beside = λ before q us x. SameTokens.same (sym here) (ap is_semicolon here) x;
     })
 
-int_back : (s : Spot) → KindBack (kind_at s K.Int)
+int_back : (t : Token) (ending : List Token) → t.kind ≡ int_word →
+    KindBack (kind_at t.spot K.Int) (t ∷ ending) ending
 unfolding reserved_words
-int_back s =
-    word_back s K.Int 18 (codes "int") (λ rest h. IsToken.word refl h refl)
+int_back t ending here =
+    word_back t ending K.Int 18 (codes "int") here (λ rest h. IsToken.word refl h refl)
     (λ t rest h. IsKind.int h) (out K.Int ∙ rw K.outs-Int)
 
-text_back : (s : Spot) → KindBack (kind_at s K.Text)
+text_back : (t : Token) (ending : List Token) → t.kind ≡ text_word →
+    KindBack (kind_at t.spot K.Text) (t ∷ ending) ending
 unfolding reserved_words
-text_back s =
-    word_back s K.Text 19 (codes "text") (λ rest h. IsToken.word refl h refl)
+text_back t ending here =
+    word_back t ending K.Text 19 (codes "text") here (λ rest h. IsToken.word refl h refl)
     (λ t rest h. IsKind.text h) (out K.Text ∙ rw K.outs-Text)
 
-net_back : (s : Spot) → KindBack (kind_at s K.Net)
+net_back : (t : Token) (ending : List Token) → t.kind ≡ net_word →
+    KindBack (kind_at t.spot K.Net) (t ∷ ending) ending
 unfolding reserved_words
-net_back s =
-    word_back s K.Net 0 (codes "net") (λ rest h. IsToken.word refl h refl)
+net_back t ending here =
+    word_back t ending K.Net 0 (codes "net") here (λ rest h. IsToken.word refl h refl)
     (λ t rest h. IsKind.net h) (out K.Net ∙ rw K.outs-Net)
 
 kind_rows : Rows IsKind AreMoreKinds AreKinds comma
@@ -115,21 +125,25 @@ kind_rows = record {
 }
 
 pub kinds_back : (k : ℕ) (close : List ℕ) → Anywhere k close →
-    ((rest : List ℕ) → Stops (close ++ rest)) → (ks : List PKind) → AllByRecursion KindBack ks →
+    ((rest : List ℕ) → Stops (close ++ rest)) → closes (Sign k) ≡ true → (ks : List PKind)
+    (ts ending : List Token) → Listed KindBack comma (Sign k) ts ks ending →
     Reads (AreListed (Sign k)) (map kind_unplaced) ks (listed (map kind_text ks) ++ close)
-kinds_back k close stands stops ks each =
-    closed IsKind AreMoreKinds AreKinds comma kind_rows kind_unplaced (codes ",") comma_sep kind_text
-    (λ t. t) k close stands stops (AreListed (Sign k)) (λ u rest h. AreListed.nothing h)
-    (λ ts rest u items x h. AreListed.some x h) ks each
+    (Follows Same Same ts ending)
+kinds_back k close stands stops closing ks ts ending each =
+    closed declared IsKind AreMoreKinds AreKinds comma kind_rows kind_unplaced (codes ",") comma_sep
+    kind_text (λ t. t) k close stands stops closing (AreListed (Sign k))
+    (λ u rest h. AreListed.nothing h) (λ ts rest u items x h. AreListed.some x h) each
 
-pub tuple_back : (s : Spot) (ks : List PKind) → AllByRecursion KindBack ks →
-    KindBack (kind_at s (K.Tuple ks))
-tuple_back s ks each =
-    let r = kinds_back 3 (codes "]") close_bracket_stands (λ rest. refl) ks each in
+tuple_back : (t : Token) (ks : List PKind) (ts ending : List Token) → t.kind ≡ open_bracket →
+    Listed KindBack comma close_bracket ts ks ending →
+    KindBack (kind_at t.spot (K.Tuple ks)) (t ∷ ts) ending
+tuple_back t ks ts ending here each =
+    let s = t.spot in
+    let r = kinds_back 3 (codes "]") close_bracket_stands (λ rest. refl) refl ks ts ending each in
     let form = K.Tuple ks in
     let text = codes "[" ++ listed (map kind_text ks) ++ codes "]" in
     reads_text IsKind kind_unplaced (kind_at s form) text (kind_text (kind_at s form))
-    (sym (text-at s form ∙ text-Tuple ks)) (record {
+    (Follows Same Same (t ∷ ts) ending) (sym (text-at s form ∙ text-Tuple ks)) (record {
       tree = both (sign_tree 2 (codes "[")) r.tree;
       spells = ap (λ t. codes "[" ++ t) r.spells;
       stands = λ rest h. (open_bracket_stands (bytes_in r.tree ++ rest), r.stands rest h);
@@ -141,14 +155,19 @@ tuple_back s ks each =
             same_form t.spot s (K.Tuple m.0) form
                 (bare-Tuple m.0 ∙ ap (λ ks. K.Tuple ks) m.2 ∙ sym (bare-Tuple ks)),
           );
+      beside = λ before q us x.
+          SameTokens.same (sym here) (ap is_semicolon here) (r.beside (before ++ codes "[") q us x);
     })
 
-list_back : (s : Spot) (k : PKind) → KindBack k → KindBack (kind_at s (K.List k))
-list_back s k r =
+list_back : (t u : Token) (k : PKind) (ts ending : List Token) → t.kind ≡ open_brace →
+    u.kind ≡ close_brace → KindBack k ts (u ∷ ending) →
+    KindBack (kind_at t.spot (K.List k)) (t ∷ ts) ending
+list_back t u k ts ending here there r =
+    let s = t.spot in
     let form = K.List k in
     let text = codes "{" ++ kind_text k ++ codes "}" in
     reads_text IsKind kind_unplaced (kind_at s form) text (kind_text (kind_at s form))
-    (sym (text-at s form ∙ text-List k)) (record {
+    (Follows Same Same (t ∷ ts) ending) (sym (text-at s form ∙ text-List k)) (record {
       tree = both (both (sign_tree 0 (codes "{")) r.tree) (sign_tree 1 (codes "}"));
       spells = ap (λ t. codes "{" ++ t ++ codes "}") r.spells;
       stands = λ rest h. (
@@ -167,35 +186,86 @@ list_back s k r =
             same_form t.spot s (K.List m.0) form
                 (bare-List m.0 ∙ ap (λ k. K.List k) m.2 ∙ sym (bare-List k)),
           );
+      beside = λ before q us x.
+          let v = token_after (before ++ (codes "{" ++ bytes_in r.tree)) (Sign 1) (codes "}") in
+          SameTokens.same (sym here) (ap is_semicolon here)
+          (r.beside (before ++ codes "{") q (v ∷ us) (SameTokens.same (sym there) (ap is_semicolon there) x));
     })
-
-push : (xs : List PKind) (k : PKind) → AllByRecursion KindBack xs → KindBack k →
-    AllByRecursion KindBack (xs ++ k ∷ [])
-push [] k all is = (is, tt)
-push (x ∷ xs) k (here, all) is = (here, push xs k all is)
 
 mutual
   pub kind_back : {ts rest : List Token} {k : PKind} → IsKind ts k rest → AllLegal ts →
-      KindBack k × AllLegal rest
-  kind_back (IsKind.int {t = t} is) h = (int_back t.spot, h.1)
-  kind_back (IsKind.text {t = t} is) h = (text_back t.spot, h.1)
-  kind_back (IsKind.net {t = t} is) h = (net_back t.spot, h.1)
-  kind_back (IsKind.tuple {t = t} {kinds = ks} is x) h =
-      let p = listed_kinds x h.1 in (tuple_back t.spot ks p.0, p.1)
-  kind_back (IsKind.list {t = t} {kind = k} is x a) h =
-      let p = kind_back x h.1 in (list_back t.spot k p.0, p.1.1)
+      KindBack k ts rest × AllLegal rest
+  kind_back (IsKind.int {t = t} {rest = rest} is) h = (int_back t rest is, h.1)
+  kind_back (IsKind.text {t = t} {rest = rest} is) h = (text_back t rest is, h.1)
+  kind_back (IsKind.net {t = t} {rest = rest} is) h = (net_back t rest is, h.1)
+  kind_back (IsKind.tuple {t = t} {ts = ts} {rest = rest} {kinds = ks} is x) h =
+      let p = listed_kinds x h.1 in (tuple_back t ks ts rest is p.0, p.1)
+  kind_back (IsKind.list {t = t} {u = u} {ts = ts} {rest = rest} {kind = k} is x a) h =
+      let p = kind_back x h.1 in (list_back t u k ts rest is a p.0, p.1.1)
 
   pub listed_kinds : {close : TokenKind} {ts rest : List Token} {ks : List PKind} →
-      AreListed close ts ks rest → AllLegal ts → AllByRecursion KindBack ks × AllLegal rest
-  listed_kinds (AreListed.nothing is) h = (tt, h.1)
-  listed_kinds (AreListed.some x is) h = let p = are_kinds x h in (p.0, p.1.1)
+      AreListed close ts ks rest → AllLegal ts →
+      Listed KindBack comma close ts ks rest × AllLegal rest
+  listed_kinds (AreListed.nothing is) h = (Listed.none_in is, h.1)
+  listed_kinds (AreListed.some x is) h = let p = are_kinds x h in (some_listed p.0 is, p.1.1)
 
   are_kinds : {ts rest : List Token} {ks : List PKind} → AreKinds ts ks rest → AllLegal ts →
-      AllByRecursion KindBack ks × AllLegal rest
-  are_kinds (AreKinds.kinds x m) h = let p = kind_back x h in more_kinds m (p.0, tt) p.1
+      Some_back KindBack comma ks ts rest × AllLegal rest
+  are_kinds (AreKinds.kinds x m) h =
+      let p = kind_back x h in
+      let q = more_kinds m p.1 in (some_back p.0 q.0, q.1)
 
   more_kinds : {before ks : List PKind} {ts rest : List Token} → AreMoreKinds before ts ks rest →
-      AllByRecursion KindBack before → AllLegal ts → AllByRecursion KindBack ks × AllLegal rest
-  more_kinds AreMoreKinds.no_more_kinds back h = (back, h)
-  more_kinds (AreMoreKinds.more_kinds {before = before} {kind = k} is x m) back h =
-      let p = kind_back x h.1 in more_kinds m (push before k back p.0) p.1
+      AllLegal ts → Others KindBack comma before ks ts rest × AllLegal rest
+  more_kinds (AreMoreKinds.no_more_kinds {all = all} {rest = rest}) h =
+      (no_others KindBack comma all rest, h)
+  more_kinds (AreMoreKinds.more_kinds {before = before} {kind = k} is x m) h =
+      let p = kind_back x h.1 in
+      let q = more_kinds m p.1 in (one_more KindBack before k is p.0 q.0, q.1)
+
+-- The kind of a place, with its colon: where what follows it stands beside the text, and the text is
+-- within the limits, so is the whole.
+abbrev pub StaysShallow : List Token → List Token → Tree → Type 0
+StaysShallow ts mid tree =
+    (before : List ℕ) (c : Token) (ending later us : List Token) → c.kind ≡ colon →
+    SameTokens ending later mid us → IsShallow (declaring 0) ts →
+    IsShallow between ending
+    × (IsShallow between later → IsShallow (declaring 0) (c ∷ tokens_in before tree us))
+
+abbrev pub PlaceKind : PKind → List Token → List Token → Type 0
+PlaceKind k ts mid = Reads IsKind kind_unplaced k (kind_text k) (StaysShallow ts mid)
+
+pub given_kind : (t : Token) (k : PKind) (ts mid : List Token) → t.kind ≡ colon →
+    KindBack k ts mid → PlaceKind k (t ∷ ts) mid
+given_kind t k ts mid here r = record {
+  tree = r.tree;
+  spells = r.spells;
+  stands = r.stands;
+  means = r.means;
+  beside = λ before c ending later us is x h.
+      shallow (SameTokens.same {t = t} {u = c} (is ∙ sym here) (ap is_semicolon here) (r.beside before (ending, later) us x)) 0 h;
+}
+
+pub absent_kind : (s : Spot) (ts : List Token) → PlaceKind (kind_at s (K.Tuple [])) ts ts
+absent_kind s ts =
+    let form = K.Tuple [] in
+    reads_text IsKind kind_unplaced (kind_at s form) (codes "[]") (kind_text (kind_at s form))
+    (StaysShallow ts ts) (sym (text-at s form ∙ text-Tuple [])) (record {
+      tree = both (sign_tree 2 (codes "[")) (sign_tree 3 (codes "]"));
+      spells = refl;
+      stands = λ rest h. (open_bracket_stands (codes "]" ++ rest), close_bracket_stands rest);
+      means = λ before rest.
+          let t = token_after before (Sign 2) (codes "[") in (
+            kind_at t.spot form,
+            IsKind.tuple refl (AreListed.nothing refl),
+            same_form t.spot s form form refl,
+          );
+      beside = λ before c ending later us is x h.
+          let p = shallow x 0 h in
+          let tokens = tokens_in before (both (sign_tree 2 (codes "[")) (sign_tree 3 (codes "]"))) us in (
+            p.0,
+            λ y. subst
+                (λ kind. (is_too_deep (declaring 0) kind ≡ false) × IsShallow (after (declaring 0) kind) tokens)
+                (sym is) (refl, (refl, (refl, p.1 y))),
+          );
+    })

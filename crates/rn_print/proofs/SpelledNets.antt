@@ -1,18 +1,29 @@
 -- Where some tokens stand for a declaration, a net or a system, its text is read back.
-use Rattle.std.proofs.Common.{◌≡◌, ℕ, List, [], ◌∷◌, ◌++◌, map, refl, sym, ap, ◌∙◌, subst, append_assoc}
-use Rattle.std.specs.Prelude.{codes}
+use Rattle.std.proofs.Common.{◌≡◌, ℕ, ◌≤◌, Bool, true, false, ◌&&◌, ◌||◌, List, [], ◌∷◌, ◌++◌, map, refl, sym, ap, ◌∙◌, subst, append_assoc, arith}
+use Rattle.std.specs.Prelude.{codes, Some}
 use Rattle.std.specs.List.{AllByRecursion}
+use Rattle.std.proofs.lemmas.Bool.Decides.{nat_tests}
+use Rattle.std.proofs.lemmas.Grind.{common_steps}
 use Rattle.std.proofs.lemmas.List.{append-nil}
 use Rattle.rn_value.specs.Words.{reserved_words}
 use Rattle.rn_notation.specs.Tokens.{IsGap, IsToken}
 use Rattle.rn_notation.specs.Reading.{gap, token_after}
 use Rattle.rn_notation.specs.declared.token.Spot.{Spot}
 use Rattle.rn_notation.specs.declared.token.Token.{Token}
-use Rattle.rn_notation.specs.declared.token.TokenKind.TheVariants.{Name, Sign}
+use Rattle.rn_notation.specs.declared.token.TokenKind.{TokenKind}
+use Rattle.rn_model.specs.declared.system.ArcKind.{ArcKind}
+use Rattle.rn_model.specs.declared.system.ArcKind.TheVariants.{Input, Output, Test, Reserve}
+use Rattle.rn_model.specs.declared.system.ArcKind.TheVariants.{FlexInput, FlexOutput, Inhibit}
+use Rattle.rn_model.specs.declared.system.ArcKind.TheVariants.{Clear}
+use Rattle.rn_inscript.specs.declared.exprs.PForm.{PForm}
+use Rattle.rn_inscript.specs.Levels.{at_first, after_token, opens_level, is_operator}
+use Rattle.rn_net.specs.Levels.{IsShallow, after, begun_by, is_semicolon}
+use Rattle.rn_net.specs.Levels.Region.{between, inscribing, declaring}
+use Rattle.rn_notation.specs.declared.token.TokenKind.TheVariants.{Name, Word, Number, Text, Sign}
 use Rattle.rn_inscript.specs.declared.inscriptions.PName.{PName}
 use Rattle.rn_inscript.specs.declared.inscriptions.PInscribed.{PInscribed}
 use Rattle.rn_inscript.specs.declared.inscriptions.PInscription.{PInscription}
-use Rattle.rn_inscript.specs.Signs.{comma}
+use Rattle.rn_inscript.specs.Signs.{comma, colon, minus, equals, open_brace, open_bracket, open_paren, close_paren, this_word, guard_word, action_word, target_of}
 use Rattle.rn_inscript.specs.Expressions.{IsExpr, IsProduct, IsUnary, IsPrimary}
 use Rattle.rn_inscript.specs.Inscriptions.{name_at, IsInscribed}
 use Rattle.rn_net.specs.declared.kinds.PKind.{PKind}
@@ -28,14 +39,19 @@ use Rattle.rn_print.specs.Kinds.{kind_text}
 use Rattle.rn_print.specs.Constants.{constant_text}
 use Rattle.rn_print.specs.Nets.{channel_text, var_text, initial_text, place_text, inscription_line, transition_text}
 use Rattle.rn_print.specs.SameButSpots.{kind_unplaced, constant_unplaced, name_unplaced, inscription_unplaced, channel_unplaced, var_unplaced, place_unplaced, transition_unplaced, first_spot}
+use Rattle.rn_print.proofs.LeftOut.{LeftOut, Covers, Matches}
+use Rattle.rn_print.proofs.LeftOut as Left
+use Rattle.rn_print.proofs.SameTokens.{SameTokens, shallow}
+use Rattle.rn_print.proofs.Beside.{Follows, Same, declared}
 use Rattle.rn_print.proofs.Trees.{Tree, nothing, piece, both, bytes_in, tokens_in, Stands, Stops, Reads}
 use Rattle.rn_print.proofs.Atoms.{spaced, spaced_stands, name_stands, comma_stands, semicolon_stands, equals_stands, open_paren_stands, close_paren_stands, open_brace_stands, close_brace_stands}
-use Rattle.rn_print.proofs.Separated.{Phrases, Separator, some}
+use Rattle.rn_print.proofs.Separated.{Phrases, Separator, Listed, some}
 use Rattle.rn_print.proofs.Lines.{Line, Sequence, sequence}
 use Rattle.rn_print.proofs.ExpressionBack.{sign_tree}
-use Rattle.rn_print.proofs.SpelledKinds.{KindBack, kinds_back}
+use Rattle.rn_print.proofs.SpelledExpressions.{Some_back}
+use Rattle.rn_print.proofs.SpelledKinds.{KindBack, PlaceKind, kinds_back}
 use Rattle.rn_print.proofs.SpelledConstants.{ConstantBack, constant_rows}
-use Rattle.rn_print.proofs.SpelledInscriptions.{word_tree, WordSpaced, word_stands, name_tree, colon_tree, colon_space_stands, LegalName, InscribedBack}
+use Rattle.rn_print.proofs.SpelledInscriptions.{word_tree, WordSpaced, word_stands, name_tree, colon_tree, colon_space_stands, arc_number, kind_of_arc, LegalName, InscribedBack}
 
 -- blanks, and the ends of lines
 abbrev pub blanks : Tree
@@ -80,35 +96,45 @@ trans_stands rest = IsToken.word refl refl refl
 abbrev pub ChannelBack : PChannel → Type 0
 ChannelBack c = Line IsChannel channel_unplaced c (channel_text c)
 
-pub channel_back : (name : PName) (ks : List PKind) → LegalName name → AllByRecursion KindBack ks →
-    ChannelBack (channel_of name ks)
-channel_back name ks is each =
-    let r = kinds_back 5 (codes ")") close_paren_stands (λ rest. refl) ks each in
-    let head = both (word_tree 3 (codes "channel")) (name_tree name.text) in record {
-      tree = both (both head (both (sign_tree 4 (codes "(")) r.tree)) ended;
-      spells = ap (λ t. (codes "channel " ++ name.text) ++ (codes "(" ++ t) ++ codes ";\n") r.spells;
-      stands = λ rest.
-          let end = codes ";\n" ++ rest in
-          let kinds = (codes "(" ++ bytes_in r.tree) ++ end in (
-            (
+pub channel_back : (name : PName) (ks : List PKind) (w : Token) (ts ending : List Token) →
+    LegalName name → w.kind ≡ semicolon → Listed KindBack comma close_paren ts ks (w ∷ ending) →
+    IsShallow (declaring 1) ts → ChannelBack (channel_of name ks) × IsShallow between ending
+channel_back name ks w ts ending is ends each within =
+    let r = kinds_back 5 (codes ")") close_paren_stands (λ rest. refl) refl ks ts (w ∷ ending) each in
+    let stays = λ (before : List ℕ) (u : Token) (rest : List Token) (h : u.kind ≡ semicolon).
+    shallow (r.beside before (ending, rest) (u ∷ rest) (SameTokens.done ends h)) 1 within in
+    let head = both (word_tree 3 (codes "channel")) (name_tree name.text) in (
+      record {
+        tree = both (both head (both (sign_tree 4 (codes "(")) r.tree)) ended;
+        spells = ap (λ t. (codes "channel " ++ name.text) ++ (codes "(" ++ t) ++ codes ";\n") r.spells;
+        stands = λ rest.
+            let end = codes ";\n" ++ rest in
+            let kinds = (codes "(" ++ bytes_in r.tree) ++ end in (
               (
-                word_stands 3 (codes "channel") (name.text ++ kinds) channel_stands,
-                name_stands name.text kinds is refl,
+                (
+                  word_stands 3 (codes "channel") (name.text ++ kinds) channel_stands,
+                  name_stands name.text kinds is refl,
+                ),
+                (open_paren_stands (bytes_in r.tree ++ end), r.stands end refl),
               ),
-              (open_paren_stands (bytes_in r.tree ++ end), r.stands end refl),
-            ),
-            ended_stands rest,
-          );
-      means = λ before rest.
-          let u = token_after (before ++ codes "channel ") (Name name.text) name.text in
-          let front = codes "channel " ++ name.text in
-          let w = token_after (before ++ (front ++ (codes "(" ++ bytes_in r.tree))) semicolon (codes ";") in
-          let m = r.means ((before ++ front) ++ codes "(") (w ∷ rest) in (
-            channel_of (name_at u.spot name.text) m.0,
-            IsChannel.channel refl refl refl m.1 refl,
-            ap (λ ks. channel_of (name_unplaced name) ks) m.2,
-          );
-    }
+              ended_stands rest,
+            );
+        means = λ before rest.
+            let u = token_after (before ++ codes "channel ") (Name name.text) name.text in
+            let front = codes "channel " ++ name.text in
+            let w = token_after (before ++ (front ++ (codes "(" ++ bytes_in r.tree))) semicolon (codes ";") in
+            let m = r.means ((before ++ front) ++ codes "(") (w ∷ rest) in (
+              channel_of (name_at u.spot name.text) m.0,
+              IsChannel.channel refl refl refl m.1 refl,
+              ap (λ ks. channel_of (name_unplaced name) ks) m.2,
+            );
+        shallow = λ before rest h.
+            let front = codes "channel " ++ name.text in
+            let u = token_after (before ++ (front ++ (codes "(" ++ bytes_in r.tree))) semicolon (codes ";") in
+            let p = stays ((before ++ front) ++ codes "(") u rest refl in (refl, (refl, (refl, p.1 h)));
+      },
+      (stays [] w [] ends).0,
+    )
 
 -- one variable
 abbrev pub IsVar : Phrases PVar
@@ -117,8 +143,10 @@ IsVar ts v rest = AreVars ts (v ∷ []) rest
 abbrev pub VarBack : PVar → Type 0
 VarBack v = Line IsVar var_unplaced v (var_text v)
 
-pub var_back : (name : PName) (k : PKind) → LegalName name → KindBack k → VarBack (var_of k name)
-var_back name k is r =
+pub var_back : (name : PName) (k : PKind) (w : Token) (ts ending : List Token) → LegalName name →
+    w.kind ≡ semicolon → KindBack k ts (w ∷ ending) → IsShallow (declaring 0) ts →
+    VarBack (var_of k name)
+var_back name k w ts ending is ends r within =
     let word = both blanks (word_tree 4 (codes "var")) in record {
       tree = both (both (both (both word (name_tree name.text)) colon_tree) r.tree) ended;
       spells =
@@ -150,7 +178,19 @@ var_back name k is r =
             AreVars.vars refl refl AreMoreNames.no_more_names refl m.1 refl,
             ap (λ k. var_of k (name_unplaced name)) m.2,
           );
+      shallow = λ before rest h.
+          let front = (codes "  var " ++ name.text) ++ codes ": " in
+          let u = token_after (before ++ (front ++ bytes_in r.tree)) semicolon (codes ";") in
+          let p = shallow
+          (r.beside (before ++ front) (ending, rest) (u ∷ rest) (SameTokens.done ends refl)) 0 within in
+          (refl, (refl, (refl, p.1 h)));
     }
+
+-- what comes after a kind and a semicolon
+pub kind_ends : (k : PKind) (w : Token) (ts ending : List Token) → w.kind ≡ semicolon →
+    KindBack k ts (w ∷ ending) → IsShallow (declaring 0) ts → IsShallow between ending
+kind_ends k w ts ending ends r within =
+    let p = shallow (r.beside [] (ending, []) (w ∷ []) (SameTokens.done ends ends)) 0 within in p.0
 
 -- initial tokens
 comma_space : Separator comma (codes ", ")
@@ -160,26 +200,33 @@ comma_space = record {
   stands = λ rest. (comma_stands (codes " " ++ rest), IsGap.blank refl);
   stops = λ rest. refl;
   means = λ before rest. (token_after before comma (codes ","), refl, refl);
+  plain = refl;
 }
 
 -- what may follow the kind of a place
-record InitialBack (items : List PConst) : Type 0 where
+pub record InitialBack (items : List PConst) (ts ending : List Token) : Type 0 where
   pub reads : Reads AreInitial (map constant_unplaced) items (initial_text items)
+      (Follows Same Same ts ending)
   pub stops : (rest : List ℕ) → Stops rest → Stops (bytes_in reads.tree ++ rest)
 
-initial_back : (items : List PConst) → AllByRecursion ConstantBack items → InitialBack items
-initial_back [] each = record {
+pub no_initial : (ts : List Token) → InitialBack [] ts ts
+no_initial ts = record {
   reads = record {
     tree = nothing;
     spells = refl;
     stands = λ rest h. tt;
     means = λ before rest. ([], AreInitial.none, refl);
+    beside = λ before q us x. x;
   };
   stops = λ rest h. h;
 }
-initial_back (item ∷ items) (one, each) =
-    let r = some IsConstant AreMoreConstants AreConstants comma constant_rows constant_unplaced
-    (codes ", ") comma_space constant_text (λ t. t) item items one each in record {
+
+pub initial_back : (t : Token) (items : List PConst) (ts ending : List Token) → t.kind ≡ equals →
+    Some_back ConstantBack comma items ts ending → InitialBack items (t ∷ ts) ending
+initial_back t items ts ending here (item, later, mid, same, one, row) =
+    let r = some declared IsConstant AreMoreConstants AreConstants comma constant_rows constant_unplaced
+    (codes ", ") comma_space constant_text (λ t. t) one row in
+    subst (λ items. InitialBack items (t ∷ ts) ending) (sym same) (record {
       reads = record {
         tree = both (spaced 9 (codes "=")) r.tree;
         spells = ap (λ t. codes " = " ++ t) r.spells;
@@ -188,79 +235,102 @@ initial_back (item ∷ items) (one, each) =
         means = λ before rest.
             let m = r.means (before ++ codes " = ") rest in
             (m.0, AreInitial.some refl m.1, m.2);
+        beside = λ before q us x.
+            SameTokens.same (sym here) (ap is_semicolon here) (r.beside (before ++ codes " = ") q us x);
       };
       stops = λ rest h. refl;
-    }
+    })
 
 -- places
 abbrev pub PlaceBack : PPlace → Type 0
 PlaceBack p = Line IsPlace place_unplaced p (place_text p)
 
-pub place_back : (name : PName) (k : PKind) (items : List PConst) → LegalName name → KindBack k →
-    AllByRecursion ConstantBack items → PlaceBack (place_of name k items)
-place_back name k items is r each =
-    let initial = initial_back items each in
+pub place_back : (name : PName) (k : PKind) (items : List PConst) (w : Token)
+    (ts mid ending : List Token) → LegalName name → w.kind ≡ semicolon → PlaceKind k ts mid →
+    InitialBack items mid (w ∷ ending) → IsShallow (declaring 0) ts →
+    PlaceBack (place_of name k items) × IsShallow between ending
+place_back name k items w ts mid ending is ends r initial within =
     let i = initial.reads in
-    let word = both blanks (word_tree 1 (codes "place")) in record {
-      tree = both (both (both (both (both word (name_tree name.text)) colon_tree) r.tree) i.tree) ended;
-      spells =
-          ap (λ t. codes "  place " ++ name.text ++ codes ": " ++ t ++ bytes_in i.tree ++ codes ";\n")
-          r.spells
-          ∙ ap (λ t. codes "  place " ++ name.text ++ codes ": " ++ kind_text k ++ t ++ codes ";\n")
-          i.spells;
-      stands = λ rest.
-          let end = codes ";\n" ++ rest in
-          let tokens = bytes_in i.tree ++ end in
-          let kind = bytes_in r.tree ++ tokens in (
-            (
+    let stays = λ (before after : List ℕ) (c u : Token) (rest : List Token) (here : c.kind ≡ colon) (h : u.kind ≡ semicolon).
+    r.beside before c ending rest (tokens_in after i.tree (u ∷ rest)) here
+    (i.beside after (ending, rest) (u ∷ rest) (SameTokens.done ends h)) within in
+    let word = both blanks (word_tree 1 (codes "place")) in (
+      record {
+        tree = both (both (both (both (both word (name_tree name.text)) colon_tree) r.tree) i.tree) ended;
+        spells =
+            ap (λ t. codes "  place " ++ name.text ++ codes ": " ++ t ++ bytes_in i.tree ++ codes ";\n")
+            r.spells
+            ∙ ap (λ t. codes "  place " ++ name.text ++ codes ": " ++ kind_text k ++ t ++ codes ";\n")
+            i.spells;
+        stands = λ rest.
+            let end = codes ";\n" ++ rest in
+            let tokens = bytes_in i.tree ++ end in
+            let kind = bytes_in r.tree ++ tokens in (
               (
                 (
                   (
                     (
-                      blanks_stand (codes "place " ++ (name.text ++ (codes ": " ++ kind))),
-                      word_stands 1 (codes "place") (name.text ++ (codes ": " ++ kind)) place_stands,
+                      (
+                        blanks_stand (codes "place " ++ (name.text ++ (codes ": " ++ kind))),
+                        word_stands 1 (codes "place") (name.text ++ (codes ": " ++ kind)) place_stands,
+                      ),
+                      name_stands name.text (codes ": " ++ kind) is refl,
                     ),
-                    name_stands name.text (codes ": " ++ kind) is refl,
+                    colon_space_stands kind,
                   ),
-                  colon_space_stands kind,
+                  r.stands tokens (initial.stops end refl),
                 ),
-                r.stands tokens (initial.stops end refl),
+                i.stands end refl,
               ),
-              i.stands end refl,
-            ),
-            ended_stands rest,
-          );
-      means = λ before rest.
-          let u = token_after (before ++ codes "  place ") (Name name.text) name.text in
-          let front = (codes "  place " ++ name.text) ++ codes ": " in
-          let after = before ++ (front ++ bytes_in r.tree) in
-          let v = token_after (before ++ ((front ++ bytes_in r.tree) ++ bytes_in i.tree)) semicolon (codes ";") in
-          let n = i.means after (v ∷ rest) in
-          let m = r.means (before ++ front) (tokens_in after i.tree (v ∷ rest)) in (
-            place_of (name_at u.spot name.text) m.0 n.0,
-            IsPlace.place refl refl (IsKindOfPlace.given refl m.1) n.1 refl,
-            ap (λ k. place_of (name_unplaced name) k (map constant_unplaced n.0)) m.2
-                ∙ ap (λ items. place_of (name_unplaced name) (kind_unplaced k) items) n.2,
-          );
-    }
+              ended_stands rest,
+            );
+        means = λ before rest.
+            let u = token_after (before ++ codes "  place ") (Name name.text) name.text in
+            let front = (codes "  place " ++ name.text) ++ codes ": " in
+            let after = before ++ (front ++ bytes_in r.tree) in
+            let v = token_after (before ++ ((front ++ bytes_in r.tree) ++ bytes_in i.tree)) semicolon (codes ";") in
+            let n = i.means after (v ∷ rest) in
+            let m = r.means (before ++ front) (tokens_in after i.tree (v ∷ rest)) in (
+              place_of (name_at u.spot name.text) m.0 n.0,
+              IsPlace.place refl refl (IsKindOfPlace.given refl m.1) n.1 refl,
+              ap (λ k. place_of (name_unplaced name) k (map constant_unplaced n.0)) m.2
+                  ∙ ap (λ items. place_of (name_unplaced name) (kind_unplaced k) items) n.2,
+            );
+        shallow = λ before rest h.
+            let head = codes "  place " ++ name.text in
+            let front = head ++ codes ": " in
+            let c = token_after (before ++ head) colon (codes ":") in
+            let u = token_after (before ++ ((front ++ bytes_in r.tree) ++ bytes_in i.tree)) semicolon (codes ";") in
+            let p = stays (before ++ front) (before ++ (front ++ bytes_in r.tree)) c u rest refl refl in
+            (refl, (refl, p.1 h));
+      },
+      (stays [] [] (token_after [] colon []) w [] refl ends).0,
+    )
 
--- an inscription begins with a token
+-- A token begins an inscription: it is in a region of its own from there on.
+abbrev Leads : TokenKind → Type 0
+Leads kind = (begun_by kind ≡ inscribing (after_token at_first kind)) × (is_semicolon kind ≡ false)
+
 abbrev Begins : List Token → Type 0
-Begins ts = (t : Token) × (us : List Token) × (ts ≡ t ∷ us)
+Begins ts = (t : Token) × (us : List Token) × (ts ≡ t ∷ us) × Leads t.kind
+
+begins : (t : Token) (us : List Token) (kind : TokenKind) → t.kind ≡ kind → Leads kind →
+    Begins (t ∷ us)
+begins t us kind is h = (t, us, refl, subst Leads (sym is) h)
 
 primary_begins : {ts rest : List Token} {e : _} → IsPrimary ts e rest → Begins ts
-primary_begins (IsPrimary.number is) = (_, _, refl)
-primary_begins (IsPrimary.text is) = (_, _, refl)
-primary_begins (IsPrimary.name is) = (_, _, refl)
-primary_begins (IsPrimary.this is) = (_, _, refl)
-primary_begins (IsPrimary.step is a b) = (_, _, refl)
-primary_begins (IsPrimary.tuple is x) = (_, _, refl)
-primary_begins (IsPrimary.list is x) = (_, _, refl)
-primary_begins (IsPrimary.list_with_tail is x a y b) = (_, _, refl)
-primary_begins (IsPrimary.parentheses is x a) = (_, _, refl)
+primary_begins (IsPrimary.number {n = n} is) = begins _ _ (Number n) is (refl, refl)
+primary_begins (IsPrimary.text {s = s} is) = begins _ _ (Text s) is (refl, refl)
+primary_begins (IsPrimary.name {s = s} is) = begins _ _ (Name s) is (refl, refl)
+primary_begins (IsPrimary.this is) = begins _ _ this_word is (refl, refl)
+primary_begins (IsPrimary.step is a b) = begins _ _ (Name (codes "step")) is (refl, refl)
+primary_begins (IsPrimary.tuple is x) = begins _ _ open_bracket is (refl, refl)
+primary_begins (IsPrimary.list is x) = begins _ _ open_brace is (refl, refl)
+primary_begins (IsPrimary.list_with_tail is x a y b) = begins _ _ open_brace is (refl, refl)
+primary_begins (IsPrimary.parentheses is x a) = begins _ _ open_paren is (refl, refl)
 
 unary_begins : {ts rest : List Token} {e : _} → IsUnary ts e rest → Begins ts
-unary_begins (IsUnary.negative is x) = (_, _, refl)
+unary_begins (IsUnary.negative is x) = begins _ _ minus is (refl, refl)
 unary_begins (IsUnary.primary x) = primary_begins x
 
 product_begins : {ts rest : List Token} {e : _} → IsProduct ts e rest → Begins ts
@@ -269,16 +339,69 @@ product_begins (IsProduct.product x m) = unary_begins x
 expr_begins : {ts rest : List Token} {e : _} → IsExpr ts e rest → Begins ts
 expr_begins (IsExpr.sum x m) = product_begins x
 
+arc_leads : (kind : ArcKind) → Leads (Word (arc_number kind))
+arc_leads Input = (refl, refl)
+arc_leads Output = (refl, refl)
+arc_leads Test = (refl, refl)
+arc_leads Reserve = (refl, refl)
+arc_leads FlexInput = (refl, refl)
+arc_leads FlexOutput = (refl, refl)
+arc_leads Inhibit = (refl, refl)
+arc_leads Clear = (refl, refl)
+
+target_leads : (kind : TokenKind) (form : PForm) → target_of kind ≡ Some form → Leads kind
+target_leads (Name s) form h = (refl, refl)
+target_leads (Word k) form h =
+    let number : k ≡ 17 = grind (arith, nat_tests, common_steps) in
+    subst (λ k. Leads (Word k)) (sym number) (refl, refl)
+target_leads (Number n) form h = (refl, refl)
+target_leads (Text s) form h = (refl, refl)
+target_leads (Sign k) form h = absurd (let no : ⊥ = cc in no)
+
 form_begins : {ts rest : List Token} {form : PInscribed} → IsInscribed ts form rest → Begins ts
-form_begins (IsInscribed.plain_arc is a) = (_, _, refl)
-form_begins (IsInscribed.arc is a b x) = (_, _, refl)
-form_begins (IsInscribed.guard is x) = (_, _, refl)
-form_begins (IsInscribed.print is a x) = (_, _, refl)
-form_begins (IsInscribed.set is a b x) = (_, _, refl)
-form_begins (IsInscribed.uplink is x) = (_, _, refl)
-form_begins (IsInscribed.creation is a b d) = (_, _, refl)
-form_begins (IsInscribed.downlink is a x) = (_, _, refl)
+form_begins (IsInscribed.plain_arc {t = t} {kind = kind} is a) =
+    begins t _ (Word (arc_number kind)) (kind_of_arc t.kind kind is) (arc_leads kind)
+form_begins (IsInscribed.arc {t = t} {kind = kind} is a b x) =
+    begins t _ (Word (arc_number kind)) (kind_of_arc t.kind kind is) (arc_leads kind)
+form_begins (IsInscribed.guard is x) = begins _ _ guard_word is (refl, refl)
+form_begins (IsInscribed.print is a x) = begins _ _ action_word is (refl, refl)
+form_begins (IsInscribed.set is a b x) = begins _ _ action_word is (refl, refl)
+form_begins (IsInscribed.uplink is x) = begins _ _ colon is (refl, refl)
+form_begins (IsInscribed.creation {x = x} is a b d) = begins _ _ (Name x) is (refl, refl)
+form_begins (IsInscribed.downlink {t = t} {form = form} is a x) =
+    (t, _, refl, target_leads t.kind form is)
 form_begins (IsInscribed.equality x is y) = expr_begins x
+
+goes_on : (kind : TokenKind) → Leads kind → after (inscribing at_first) kind ≡ begun_by kind
+goes_on kind h =
+    let e : after (inscribing at_first) kind ≡ inscribing (after_token at_first kind) = rw h.1 refl in
+    e ∙ sym h.0
+
+none_far : (p q : Bool) → ((p && false) || (q && false)) ≡ false
+none_far true true = refl
+none_far true false = refl
+none_far false true = refl
+none_far false false = refl
+
+-- the limits of a statement that is an inscription are those of the inscription
+enters : {ts rest : List Token} {form : PInscribed} → IsInscribed ts form rest →
+    IsShallow between ts → IsShallow (inscribing at_first) ts
+enters x h =
+    let b = form_begins x in
+    let kind = b.0.kind in
+    let here = subst (IsShallow between) b.2 h in
+    subst (IsShallow (inscribing at_first)) (sym b.2) (
+      none_far (opens_level at_first kind) (is_operator kind),
+      subst (λ r. IsShallow r b.1) (sym (goes_on kind b.3)) here.1,
+    )
+
+leaves : {ts rest : List Token} {form : PInscribed} → IsInscribed ts form rest →
+    IsShallow (inscribing at_first) ts → IsShallow between ts
+leaves x h =
+    let b = form_begins x in
+    let here = subst (IsShallow (inscribing at_first)) b.2 h in
+    subst (IsShallow between) (sym b.2)
+    (refl, subst (λ r. IsShallow r b.1) (goes_on b.0.kind b.3) here.1)
 
 -- an inscription with its semicolon
 pub record IsLine (ts : List Token) (i : PInscription) (rest : List Token) : Type 0 where
@@ -293,39 +416,47 @@ pub record IsLine (ts : List Token) (i : PInscription) (rest : List Token) : Typ
 abbrev pub LineBack : PInscription → Type 0
 LineBack i = Line IsLine inscription_unplaced i (inscription_line i)
 
-inscription_of : PInscribed → Spot → PInscription
-inscription_of form spot = record { form = form; spot = spot }
-
-pub line_back : (form : PInscribed) (s : Spot) → InscribedBack form →
-    LineBack (record { form = form; spot = s })
-line_back form s r = record {
-  tree = both (both (both blanks blanks) r.tree) ended;
-  spells = ap (λ t. codes "    " ++ t ++ codes ";\n") r.spells;
-  stands = λ rest.
-      let end = codes ";\n" ++ rest in (
-        (
-          (blanks_stand (codes "  " ++ (bytes_in r.tree ++ end)), blanks_stand (bytes_in r.tree ++ end)),
-          r.stands end refl,
-        ),
-        ended_stands rest,
-      );
-  means = λ before rest.
-      let u = token_after (before ++ (codes "    " ++ bytes_in r.tree)) semicolon (codes ";") in
-      let m = r.means (before ++ codes "    ") (u ∷ rest) in
-      let b = form_begins m.1 in (
-        record { form = m.0; spot = b.0.spot },
-        record {
-          first = b.0;
-          others = b.1;
-          end = u;
-          begins = b.2;
-          form = subst (λ ts. IsInscribed ts m.0 (u ∷ rest)) b.2 m.1;
-          ends = refl;
-          spot = refl;
-        },
-        ap (λ f. record { form = f; spot = first_spot }) m.2,
-      );
-}
+pub line_back : (form : PInscribed) (s : Spot) (w : Token) (ts ending : List Token) →
+    IsInscribed ts form (w ∷ ending) → w.kind ≡ semicolon → InscribedBack form ts (w ∷ ending) →
+    IsShallow between ts → LineBack (record { form = form; spot = s }) × IsShallow between ending
+line_back form s w ts ending is ends r within =
+    let stays = λ (before : List ℕ) (u : Token) (rest : List Token) (h : u.kind ≡ semicolon).
+    Left.shallow (r.beside before (ending, rest) (u ∷ rest) (LeftOut.done ends h))
+    (Matches.operands Covers.none (let none : 0 ≤ 0 = omega arith in none)) (enters is within) in (
+      record {
+        tree = both (both (both blanks blanks) r.tree) ended;
+        spells = ap (λ t. codes "    " ++ t ++ codes ";\n") r.spells;
+        stands = λ rest.
+            let end = codes ";\n" ++ rest in (
+              (
+                (blanks_stand (codes "  " ++ (bytes_in r.tree ++ end)), blanks_stand (bytes_in r.tree ++ end)),
+                r.stands end refl,
+              ),
+              ended_stands rest,
+            );
+        means = λ before rest.
+            let u = token_after (before ++ (codes "    " ++ bytes_in r.tree)) semicolon (codes ";") in
+            let m = r.means (before ++ codes "    ") (u ∷ rest) in
+            let b = form_begins m.1 in (
+              record { form = m.0; spot = b.0.spot },
+              record {
+                first = b.0;
+                others = b.1;
+                end = u;
+                begins = b.2;
+                form = subst (λ ts. IsInscribed ts m.0 (u ∷ rest)) b.2 m.1;
+                ends = refl;
+                spot = refl;
+              },
+              ap (λ f. record { form = f; spot = first_spot }) m.2,
+            );
+        shallow = λ before rest h.
+            let u = token_after (before ++ (codes "    " ++ bytes_in r.tree)) semicolon (codes ";") in
+            let m = r.means (before ++ codes "    ") (u ∷ rest) in
+            let p = stays (before ++ codes "    ") u rest refl in leaves m.1 (p.1 h);
+      },
+      (stays [] w [] ends).0,
+    )
 
 lines_are : {ts rest : List Token} {items : List PInscription} (before : List PInscription) →
     Sequence IsLine ts items rest → AreInscriptions before ts (before ++ items) rest
@@ -384,4 +515,8 @@ transition_back name items is each =
             IsTransition.transition refl refl refl (lines_are [] m.1) refl,
             ap (λ items. transition_of (name_unplaced name) items) m.2,
           );
+      shallow = λ before rest h.
+          let front = (codes "  trans " ++ name.text) ++ codes " {\n" in
+          let w = token_after ((before ++ (front ++ bytes_in r.tree)) ++ codes "  ") (Sign 1) (codes "}") in
+          (refl, (refl, (refl, r.shallow (before ++ front) (w ∷ rest) (refl, h))));
     }

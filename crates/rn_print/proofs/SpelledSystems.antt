@@ -1,5 +1,5 @@
 -- Where some tokens stand for a net or a system, its text is read back.
-use Rattle.std.proofs.Common.{◌≡◌, List, [], ◌∷◌, ◌++◌, map, refl, sym, ap, ◌∙◌, subst, append_assoc}
+use Rattle.std.proofs.Common.{◌≡◌, ℕ, List, [], ◌∷◌, ◌++◌, map, refl, sym, ap, ◌∙◌, subst, append_assoc}
 use Rattle.std.specs.Prelude.{codes}
 use Rattle.std.specs.List.{flat_map, AllByRecursion}
 use Rattle.std.proofs.lemmas.List.{append-nil}
@@ -8,10 +8,13 @@ use Rattle.rn_notation.specs.Tokens.{IsGap, IsToken}
 use Rattle.rn_notation.specs.Reading.{token_after}
 use Rattle.rn_notation.specs.declared.token.Spot.{Spot}
 use Rattle.rn_notation.specs.declared.token.Token.{Token}
+use Rattle.rn_notation.specs.declared.token.TokenKind.{TokenKind}
 use Rattle.rn_notation.specs.declared.token.TokenKind.TheVariants.{Name, Sign}
 use Rattle.rn_inscript.specs.declared.inscriptions.PName.{PName}
 use Rattle.rn_inscript.specs.declared.inscriptions.PInscription.{PInscription}
+use Rattle.rn_inscript.specs.Signs.{comma, colon, open_paren, open_brace, close_brace}
 use Rattle.rn_inscript.specs.Inscriptions.{name_at}
+use Rattle.rn_net.specs.Words.{semicolon, net_word, place_word, trans_word, channel_word, var_word}
 use Rattle.rn_net.specs.declared.kinds.PKind.{PKind}
 use Rattle.rn_net.specs.declared.constants.PConst.{PConst}
 use Rattle.rn_net.specs.declared.plain.Plain.{Plain}
@@ -23,15 +26,17 @@ use Rattle.rn_net.specs.declared.plain.PNet.{PNet}
 use Rattle.rn_net.specs.Nets.{var_of, net_of, plain_of, IsChannel, AreMoreNames, AreVars, IsKindOfPlace, AreInitial, IsPlace, AreInscriptions, IsTransition, AreParts, IsNet, AreItems, IsSystem}
 use Rattle.rn_print.specs.Nets.{channel_text, var_text, place_text, transition_text, net_text, canonical_text}
 use Rattle.rn_print.specs.SameButSpots.{name_unplaced, channel_unplaced, var_unplaced, place_unplaced, transition_unplaced, net_unplaced, unplaced}
+use Rattle.rn_net.specs.Levels.{Region, IsShallow, after}
+use Rattle.rn_net.specs.Levels.Region.{between, declaring}
 use Rattle.rn_print.proofs.Trees.{Tree, both, bytes_in, tokens_in, Stands}
 use Rattle.rn_print.proofs.Atoms.{name_stands, close_brace_stands}
 use Rattle.rn_print.proofs.Lines.{Line, Sequence, sequence}
 use Rattle.rn_print.proofs.ExpressionBack.{sign_tree}
 use Rattle.rn_print.proofs.SpelledExpressions.{AllLegal, legal}
-use Rattle.rn_print.proofs.SpelledKinds.{KindBack, kind_back, listed_kinds, tuple_back}
-use Rattle.rn_print.proofs.SpelledConstants.{ConstantBack, constants_back}
+use Rattle.rn_print.proofs.SpelledKinds.{KindBack, PlaceKind, kind_back, listed_kinds, given_kind, absent_kind}
+use Rattle.rn_print.proofs.SpelledConstants.{constants_back}
 use Rattle.rn_print.proofs.SpelledInscriptions.{word_tree, WordSpaced, word_stands, name_tree, LegalName, form_back}
-use Rattle.rn_print.proofs.SpelledNets.{opened, opened_stands, line_end, ChannelBack, channel_back, IsVar, VarBack, var_back, PlaceBack, place_back, LineBack, line_back, TransitionBack, transition_back}
+use Rattle.rn_print.proofs.SpelledNets.{opened, opened_stands, line_end, ChannelBack, channel_back, IsVar, VarBack, var_back, kind_ends, PlaceBack, InitialBack, no_initial, initial_back, place_back, LineBack, line_back, TransitionBack, transition_back}
 
 net_stands : WordSpaced 0 (codes "net")
 unfolding reserved_words
@@ -136,6 +141,22 @@ net_back net back =
                 ∙ ap (λ ps. net_of (name_unplaced net.name) (map var_unplaced net.vars) ps (map transition_unplaced l.0)) m.2
                 ∙ ap (λ ts. net_of (name_unplaced net.name) (map var_unplaced net.vars) (map place_unplaced net.places) ts) l.2,
           );
+      shallow = λ before rest h.
+          let a = start ++ bytes_in v.tree in
+          let b = a ++ bytes_in p.tree in
+          let w = token_after (before ++ (b ++ bytes_in r.tree)) (Sign 1) (codes "}") in
+          let transitions = tokens_in (before ++ b) r.tree (w ∷ rest) in
+          let places = tokens_in (before ++ a) p.tree transitions in (
+            refl,
+            (
+              refl,
+              (
+                refl,
+                v.shallow (before ++ start) places
+                    (p.shallow (before ++ a) transitions (r.shallow (before ++ b) (w ∷ rest) (refl, h))),
+              ),
+            ),
+          );
     }
 
 -- lists of which each element is so
@@ -149,98 +170,125 @@ all_join : {A : Type 0} (P : A → Type 0) (xs ys : List A) → AllByRecursion P
 all_join P [] ys all more = more
 all_join P (x ∷ xs) ys (here, all) more = (here, all_join P xs ys all more)
 
+-- past a token of a kind
+past : (r : Region) (t : Token) (ts : List Token) (kind : TokenKind) → t.kind ≡ kind →
+    IsShallow r (t ∷ ts) → IsShallow (after r kind) ts
+past r t ts kind is h = subst (λ kind. IsShallow (after r kind) ts) is h.1
+
+-- past the word, the name and the opening bracket of a channel, a net or a transition
+past_heading : (t u v : Token) (ts : List Token) (i k : TokenKind) (name : List ℕ) → t.kind ≡ i →
+    u.kind ≡ Name name → v.kind ≡ k → IsShallow between (t ∷ u ∷ v ∷ ts) →
+    IsShallow (after (after (after between i) (Name name)) k) ts
+past_heading t u v ts i k name a b c h =
+    past (after (after between i) (Name name)) v ts k c
+    (past (after between i) u (v ∷ ts) (Name name) b (past between t (u ∷ v ∷ ts) i a h))
+
 names_legal : {before names : List PName} {ts rest : List Token} →
     AreMoreNames before ts names rest → AllByRecursion LegalName before → AllLegal ts →
-    AllByRecursion LegalName names × AllLegal rest
-names_legal AreMoreNames.no_more_names back h = (back, h)
-names_legal (AreMoreNames.more_names {u = u} {before = before} {name = name} is a m) back h =
+    IsShallow (declaring 0) ts →
+    AllByRecursion LegalName names × AllLegal rest × IsShallow (declaring 0) rest
+names_legal AreMoreNames.no_more_names back h s = (back, h, s)
+names_legal (AreMoreNames.more_names {t = t} {u = u} {ts = ts} {before = before} {name = name} is a m) back h s =
     names_legal m (all_push LegalName before (name_at u.spot name) back (legal a h.1.0)) h.1.1
+    (past (declaring 0) u ts (Name name) a (past (declaring 0) t (u ∷ ts) comma is s))
 
-each_var : (k : PKind) (names : List PName) → KindBack k → AllByRecursion LegalName names →
-    AllByRecursion VarBack (map (var_of k) names)
-each_var k [] back all = tt
-each_var k (name ∷ names) back (is, all) = (var_back name k is back, each_var k names back all)
+each_var : (k : PKind) (names : List PName) (w : Token) (ts ending : List Token) →
+    w.kind ≡ semicolon → KindBack k ts (w ∷ ending) → IsShallow (declaring 0) ts →
+    AllByRecursion LegalName names → AllByRecursion VarBack (map (var_of k) names)
+each_var k [] w ts ending e back s all = tt
+each_var k (name ∷ names) w ts ending e back s (is, all) =
+    (var_back name k w ts ending is e back s, each_var k names w ts ending e back s all)
 
 vars_back : {ts rest : List Token} {vars : List PVar} → AreVars ts vars rest → AllLegal ts →
-    AllByRecursion VarBack vars × AllLegal rest
-vars_back (AreVars.vars {u = u} {name = name} {names = names} {kind = kind} is a m c k e) h =
-    let p = names_legal m (legal a h.1.0, tt) h.1.1 in
+    IsShallow between ts → AllByRecursion VarBack vars × AllLegal rest × IsShallow between rest
+vars_back (AreVars.vars {t = t} {u = u} {v = v} {w = w} {ts = ts} {us = us} {rest = rest} {name = name} {names = names} {kind = kind} is a m c k e) h s =
+    let p = names_legal m (legal a h.1.0, tt) h.1.1
+    (past (declaring 0) u ts (Name name) a (past between t (u ∷ ts) var_word is s)) in
     let q = kind_back k p.1.1 in
-    (each_var kind names q.0 p.0, q.1.1)
+    let inside = past (declaring 0) v us colon c p.2 in
+    (each_var kind names w us rest e q.0 inside p.0, q.1.1, kind_ends kind w us rest e q.0 inside)
 
 kind_of_place : {spot : Spot} {ts rest : List Token} {k : PKind} → IsKindOfPlace spot ts k rest →
-    AllLegal ts → KindBack k × AllLegal rest
-kind_of_place (IsKindOfPlace.absent {spot = spot}) h = (tuple_back spot [] tt, h)
-kind_of_place (IsKindOfPlace.given is k) h = kind_back k h.1
+    AllLegal ts → PlaceKind k ts rest × AllLegal rest
+kind_of_place (IsKindOfPlace.absent {spot = spot} {rest = rest}) h = (absent_kind spot rest, h)
+kind_of_place (IsKindOfPlace.given {t = t} {ts = ts} {rest = rest} {kind = kind} is k) h =
+    let p = kind_back k h.1 in (given_kind t kind ts rest is p.0, p.1)
 
 initial_of_place : {ts rest : List Token} {items : List PConst} → AreInitial ts items rest →
-    AllLegal ts → AllByRecursion ConstantBack items × AllLegal rest
-initial_of_place AreInitial.none h = (tt, h)
-initial_of_place (AreInitial.some is x) h = constants_back x h.1
+    AllLegal ts → InitialBack items ts rest × AllLegal rest
+initial_of_place (AreInitial.none {rest = rest}) h = (no_initial rest, h)
+initial_of_place (AreInitial.some {t = t} {ts = ts} {rest = rest} {items = items} is x) h =
+    let p = constants_back x h.1 in (initial_back t items ts rest is p.0, p.1)
 
 one_place : {ts rest : List Token} {p : PPlace} → IsPlace ts p rest → AllLegal ts →
-    PlaceBack p × AllLegal rest
-one_place (IsPlace.place {u = u} {name = name} {kind = kind} {initial = initial} is a k i e) h =
+    IsShallow between ts → PlaceBack p × AllLegal rest × IsShallow between rest
+one_place (IsPlace.place {t = t} {u = u} {v = v} {ts = ts} {mid = mid} {rest = rest} {name = name} {kind = kind} {initial = initial} is a k i e) h s =
     let p = kind_of_place k h.1.1 in
     let q = initial_of_place i p.1 in
-    (place_back (name_at u.spot name) kind initial (legal a h.1.0) p.0 q.0, q.1.1)
+    let r = place_back (name_at u.spot name) kind initial v ts mid rest (legal a h.1.0) e p.0 q.0
+    (past (declaring 0) u ts (Name name) a (past between t (u ∷ ts) place_word is s)) in
+    (r.0, q.1.1, r.1)
 
 lines_back : {before items : List PInscription} {ts rest : List Token} →
     AreInscriptions before ts items rest → AllByRecursion LineBack before → AllLegal ts →
-    AllByRecursion LineBack items × AllLegal rest
-lines_back AreInscriptions.no_more_inscriptions back h = (back, h)
-lines_back (AreInscriptions.more_inscriptions {t = t} {before = before} {form = form} x e m) back h =
+    IsShallow between ts → AllByRecursion LineBack items × AllLegal rest × IsShallow between rest
+lines_back AreInscriptions.no_more_inscriptions back h s = (back, h, s)
+lines_back (AreInscriptions.more_inscriptions {t = t} {u = u} {ts = ts} {mid = mid} {before = before} {form = form} x e m) back h s =
     let p = form_back x h in
+    let r = line_back form t.spot u (t ∷ ts) mid x e p.0 s in
     lines_back m
-    (all_push LineBack before (record { form = form; spot = t.spot }) back (line_back form t.spot p.0))
-    p.1.1
+    (all_push LineBack before (record { form = form; spot = t.spot }) back r.0) p.1.1 r.1
 
 one_transition : {ts rest : List Token} {t : PTransition} → IsTransition ts t rest → AllLegal ts →
-    TransitionBack t × AllLegal rest
-one_transition (IsTransition.transition {u = u} {name = name} {inscriptions = items} is a b m e) h =
-    let p = lines_back m tt h.1.1.1 in
-    (transition_back (name_at u.spot name) items (legal a h.1.0) p.0, p.1.1)
+    IsShallow between ts → TransitionBack t × AllLegal rest × IsShallow between rest
+one_transition (IsTransition.transition {t = t} {u = u} {v = v} {w = w} {ts = ts} {rest = rest} {name = name} {inscriptions = items} is a b m e) h s =
+    let p = lines_back m tt h.1.1.1 (past_heading t u v ts trans_word open_brace name is a b s) in
+    (transition_back (name_at u.spot name) items (legal a h.1.0) p.0, p.1.1, past between w rest close_brace e p.2)
 
 parts_back : {start net : PNet} {ts rest : List Token} → AreParts start ts net rest →
-    PartsBack start → AllLegal ts → PartsBack net × AllLegal rest
-parts_back AreParts.no_more_parts back h = (back, h)
-parts_back (AreParts.and_vars {vars = vars} {more = more} x m) back h =
-    let p = vars_back x h in
+    PartsBack start → AllLegal ts → IsShallow between ts →
+    PartsBack net × AllLegal rest × IsShallow between rest
+parts_back AreParts.no_more_parts back h s = (back, h, s)
+parts_back (AreParts.and_vars {vars = vars} {more = more} x m) back h s =
+    let p = vars_back x h s in
     parts_back m (record {
       name = back.name;
       vars = all_join VarBack vars more back.vars p.0;
       places = back.places;
       transitions = back.transitions;
-    }) p.1
-parts_back (AreParts.and_place {places = places} {place = place} x m) back h =
-    let p = one_place x h in
+    }) p.1 p.2
+parts_back (AreParts.and_place {places = places} {place = place} x m) back h s =
+    let p = one_place x h s in
     parts_back m (record {
       name = back.name;
       vars = back.vars;
       places = all_push PlaceBack places place back.places p.0;
       transitions = back.transitions;
-    }) p.1
-parts_back (AreParts.and_transition {transitions = transitions} {transition = t} x m) back h =
-    let p = one_transition x h in
+    }) p.1 p.2
+parts_back (AreParts.and_transition {transitions = transitions} {transition = t} x m) back h s =
+    let p = one_transition x h s in
     parts_back m (record {
       name = back.name;
       vars = back.vars;
       places = back.places;
       transitions = all_push TransitionBack transitions t back.transitions p.0;
-    }) p.1
+    }) p.1 p.2
 
 one_net : {ts rest : List Token} {net : PNet} → IsNet ts net rest → AllLegal ts →
-    NetBack net × AllLegal rest
-one_net (IsNet.net {u = u} {name = name} {parts = net} is a b m e) h =
+    IsShallow between ts → NetBack net × AllLegal rest × IsShallow between rest
+one_net (IsNet.net {t = t} {u = u} {v = v} {w = w} {ts = ts} {rest = rest} {name = name} {parts = net} is a b m e) h s =
     let p = parts_back m
-    (record { name = legal a h.1.0; vars = tt; places = tt; transitions = tt }) h.1.1.1 in
-    (net_back net p.0, p.1.1)
+    (record { name = legal a h.1.0; vars = tt; places = tt; transitions = tt }) h.1.1.1
+    (past_heading t u v ts net_word open_brace name is a b s) in
+    (net_back net p.0, p.1.1, past between w rest close_brace e p.2)
 
 one_channel : {ts rest : List Token} {c : PChannel} → IsChannel ts c rest → AllLegal ts →
-    ChannelBack c × AllLegal rest
-one_channel (IsChannel.channel {u = u} {name = name} {kinds = ks} is a b x e) h =
+    IsShallow between ts → ChannelBack c × AllLegal rest × IsShallow between rest
+one_channel (IsChannel.channel {t = t} {u = u} {v = v} {w = w} {ts = ts} {rest = rest} {name = name} {kinds = ks} is a b x e) h s =
     let p = listed_kinds x h.1.1.1 in
-    (channel_back (name_at u.spot name) ks (legal a h.1.0) p.0, p.1.1)
+    let r = channel_back (name_at u.spot name) ks w ts rest (legal a h.1.0) e p.0
+    (past_heading t u v ts channel_word open_paren name is a b s) in
+    (r.0, p.1.1, r.1)
 
 -- the texts of all declarations of a system are read back
 record PlainBack (plain : Plain) : Type 0 where
@@ -248,20 +296,20 @@ record PlainBack (plain : Plain) : Type 0 where
   pub nets : AllByRecursion NetBack plain.nets
 
 items_back : {start plain : Plain} {ts : List Token} → AreItems start ts plain → PlainBack start →
-    AllLegal ts → PlainBack plain
-items_back AreItems.no_more_items back h = back
-items_back (AreItems.and_channel {channels = channels} {channel = c} x m) back h =
-    let p = one_channel x h in
+    AllLegal ts → IsShallow between ts → PlainBack plain
+items_back AreItems.no_more_items back h s = back
+items_back (AreItems.and_channel {channels = channels} {channel = c} x m) back h s =
+    let p = one_channel x h s in
     items_back m (record {
       channels = all_push ChannelBack channels c back.channels p.0;
       nets = back.nets;
-    }) p.1
-items_back (AreItems.and_net {nets = nets} {net = net} x m) back h =
-    let p = one_net x h in
+    }) p.1 p.2
+items_back (AreItems.and_net {nets = nets} {net = net} x m) back h s =
+    let p = one_net x h s in
     items_back m (record {
       channels = back.channels;
       nets = all_push NetBack nets net back.nets p.0;
-    }) p.1
+    }) p.1 p.2
 
 -- a system has a channel or a net
 abbrev HasItem : Plain → Type 0
@@ -285,8 +333,8 @@ has_item (IsSystem.system (AreItems.and_net {nets = nets} {net = net} x m)) =
     stays m (λ e f. not_nil nets net f)
 
 system_back : {tokens : List Token} {plain : Plain} → IsSystem tokens plain → AllLegal tokens →
-    PlainBack plain
-system_back (IsSystem.system m) h = items_back m (record { channels = tt; nets = tt }) h
+    IsShallow between tokens → PlainBack plain
+system_back (IsSystem.system m) h s = items_back m (record { channels = tt; nets = tt }) h s
 
 -- sequences of channels and nets are a system
 channels_are : {ts mid : List Token} {items channels : List PChannel} {nets : List PNet}
@@ -338,8 +386,8 @@ map_nil : {A B : Type 0} (f : A → B) (xs : List A) → map f xs ≡ [] → xs 
 map_nil f [] e = refl
 map_nil f (x ∷ xs) e = absurd (let no : ⊥ = cc in no)
 
--- The canonical text of a system that some tokens stand for is tokens of the same system but for
--- spots.
+-- The canonical text of a system that some tokens within the limits stand for is such tokens of the
+-- same system but for spots.
 pub record IsReadBack (plain : Plain) : Type 0 where
   pub tree : Tree
   pub spells : bytes_in tree ≡ canonical_text plain
@@ -347,11 +395,12 @@ pub record IsReadBack (plain : Plain) : Type 0 where
   pub other : Plain
   pub system : IsSystem (tokens_in [] tree []) other
   pub same : unplaced other ≡ unplaced plain
+  pub within : IsShallow between (tokens_in [] tree [])
 
 pub reads_back : {tokens : List Token} {plain : Plain} → IsSystem tokens plain → AllLegal tokens →
-    IsReadBack plain
-reads_back {plain = plain} is h =
-    let back = system_back is h in
+    IsShallow between tokens → IsReadBack plain
+reads_back {plain = plain} is h s =
+    let back = system_back is h s in
     let c = sequence IsChannel channel_unplaced channel_text plain.channels back.channels in
     let n = sequence IsNet net_unplaced net_text plain.nets back.nets in
     let o = n.means (bytes_in c.tree) [] in
@@ -371,4 +420,6 @@ reads_back {plain = plain} is h =
       same =
           ap (λ cs. plain_of cs (map net_unplaced o.0)) m.2
           ∙ ap (λ ns. plain_of (map channel_unplaced plain.channels) ns) o.2;
+      within =
+          c.shallow [] (tokens_in (bytes_in c.tree) n.tree []) (n.shallow (bytes_in c.tree) [] tt);
     }

@@ -114,28 +114,32 @@ tokens_whole tree text e s = record {
   among = sym (sym (append-nil (tokens_after [] (pieces_of tree))) ∙ tokens_flat [] tree []);
 }
 
--- Pieces that read as a phrase: what they spell, and what they stand for in the grammar, but for
--- spots.
+-- Pieces that read as a phrase: what they spell, what they stand for in the grammar, but for spots,
+-- and what else is so of them.
 pub record Reads {A : Type 0} (X : List Token → A → List Token → Type 0) (same : A → A) (a : A)
-    (text : List ℕ) : Type 0 where
+    (text : List ℕ) (F : Tree → Type 0) : Type 0 where
   pub tree : Tree
   pub spells : bytes_in tree ≡ text
   pub stands : (rest : List ℕ) → Stops rest → Stands tree rest
   pub means : (before : List ℕ) (rest : List Token) →
       (b : A) × X (tokens_in before tree rest) b rest × (same b ≡ same a)
+  pub beside : F tree
 
 -- the same pieces as another phrase, and as an equal text
 pub reads_by : {A : Type 0} (X Y : List Token → A → List Token → Type 0) (same : A → A) (a : A)
-    (text : List ℕ) → ((ts : List Token) (b : A) (rest : List Token) → X ts b rest → Y ts b rest) →
-    Reads X same a text → Reads Y same a text
-reads_by X Y same a text f r = record {
+    (text : List ℕ) (F : Tree → Type 0) →
+    ((ts : List Token) (b : A) (rest : List Token) → X ts b rest → Y ts b rest) →
+    Reads X same a text F → Reads Y same a text F
+reads_by X Y same a text F f r = record {
   tree = r.tree;
   spells = r.spells;
   stands = r.stands;
   means = λ before rest.
       let m = r.means before rest in (m.0, f (tokens_in before r.tree rest) m.0 rest m.1, m.2);
+  beside = r.beside;
 }
 
 pub reads_text : {A : Type 0} (X : List Token → A → List Token → Type 0) (same : A → A) (a : A)
-    (text other : List ℕ) → text ≡ other → Reads X same a text → Reads X same a other
-reads_text X same a text other e r = subst (Reads X same a) e r
+    (text other : List ℕ) (F : Tree → Type 0) → text ≡ other → Reads X same a text F →
+    Reads X same a other F
+reads_text X same a text other F e r = subst (λ text. Reads X same a text F) e r

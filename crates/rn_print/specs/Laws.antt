@@ -1,12 +1,10 @@
 -- Laws of canonical texts.
 use Rattle.std.specs.Prelude.{◌≡◌, ◌≤◌, length}
 use Rattle.rn_notation.specs.Limits.{longest_net_text}
-use Rattle.rn_notation.specs.declared.token.Spot.{Spot}
 use Rattle.rn_net.specs.declared.plain.Plain.{Plain}
 use Rattle.rn_net.specs.declared.refusal.Refusal.{Refusal}
-use Rattle.rn_net.specs.declared.refusal.Refusal.TheVariants as R
 use Rattle.rn_net.specs.Refusals.{IsRefused}
-use Rattle.rn_net.specs.Texts.{IsTextOf, Spells}
+use Rattle.rn_net.specs.Texts.{Spells}
 use Rattle.rn_print.specs.Nets.{canonical_text}
 use Rattle.rn_print.specs.SameButSpots.{SameButSpots}
 use Rattle.rn_print.specs.ReadingBack.{IsSpelled, IsReadBack}
@@ -22,7 +20,7 @@ SpotsDoNotCount = (p q : Plain) → SameButSpots p q → canonical_text p ≡ ca
 
 -- canonical texts are fixed points: what is read from one has that very text again
 abbrev pub TextsAreFixed : Type 0
-TextsAreFixed = (p q : Plain) → IsSpelled p → IsTextOf (canonical_text p) q →
+TextsAreFixed = (p q : Plain) → IsSpelled p → Spells (canonical_text p) q →
     canonical_text q ≡ canonical_text p
 
 -- what has one canonical text is the same but for spots
@@ -35,8 +33,8 @@ abbrev pub WhatIsReadIsSame : Type 0
 WhatIsReadIsSame = (plain q : Plain) → IsSpelled plain → Spells (canonical_text plain) q →
     SameButSpots q plain
 
--- the canonical text of what some text spells is refused for its depth alone
-abbrev pub TextsAreRefusedForDepth : Type 0
-TextsAreRefusedForDepth = (plain : Plain) (refusal : Refusal) → IsSpelled plain →
-    length (canonical_text plain) ≤ longest_net_text → IsRefused (canonical_text plain) refusal →
-    (spot : Spot) × (refusal ≡ R.P5 spot)
+-- the canonical text of what some text spells, if it is no longer than a net text may be, is refused
+-- for no reason
+abbrev pub TextsAreNotRefused : Type 0
+TextsAreNotRefused = (plain : Plain) (refusal : Refusal) → IsSpelled plain →
+    length (canonical_text plain) ≤ longest_net_text → IsRefused (canonical_text plain) refusal → ⊥

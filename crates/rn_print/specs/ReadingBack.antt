@@ -2,12 +2,12 @@
 use Rattle.std.specs.Prelude.{ℕ, ◌≤◌, List, length}
 use Rattle.rn_notation.specs.Limits.{longest_net_text}
 use Rattle.rn_net.specs.declared.plain.Plain.{Plain}
-use Rattle.rn_net.specs.Texts.{IsTextOf}
+use Rattle.rn_net.specs.Texts.{Spells}
 use Rattle.rn_print.specs.SameButSpots.{SameButSpots}
 
 -- the text spells the plain form, but for its spots
 abbrev pub SpellsButSpots : List ℕ → Plain → Type 0
-SpellsButSpots bytes plain = (p : Plain) × IsTextOf bytes p × SameButSpots p plain
+SpellsButSpots bytes plain = (p : Plain) × Spells bytes p × SameButSpots p plain
 
 -- some text does
 abbrev pub IsSpelled : Plain → Type 0

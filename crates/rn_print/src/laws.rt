@@ -1,6 +1,6 @@
 //! Laws of canonical texts.
-ghost use Rattle.rn_print.specs.Laws.{SpotsDoNotCount, TextsAreFixed, TextsAreReadBack};
-ghost use Rattle.rn_print.specs.Laws.{TextsAreRefusedForDepth, TextsTellApart, WhatIsReadIsSame};
+ghost use Rattle.rn_print.specs.Laws.{SpotsDoNotCount, TextsAreFixed, TextsAreNotRefused};
+ghost use Rattle.rn_print.specs.Laws.{TextsAreReadBack, TextsTellApart, WhatIsReadIsSame};
 
 use rn_net::net_laws;
 
@@ -13,7 +13,7 @@ pub fn printing_laws()
     ensures texts_are_fixed { TextsAreFixed }
     ensures texts_tell_apart { TextsTellApart }
     ensures what_is_read { WhatIsReadIsSame }
-    ensures refused_for_depth { TextsAreRefusedForDepth }
+    ensures not_refused { TextsAreNotRefused }
 {
     net_laws();
 }

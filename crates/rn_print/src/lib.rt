@@ -12,4 +12,5 @@ mod pieces;
 #[cfg(test)]
 mod tests;
 
+pub use laws::printing_laws;
 pub use nets::print_system;

@@ -153,7 +153,8 @@ fn put_nets(alloc: Global, nets: &[PNet], out: &mut Vec<u8>) -> Result<(), NoMem
 pub fn print_system(alloc: Global, plain: &Plain) -> Result<Vec<u8>, NoMemory>
     ensures text { IfOk result (λ bytes. bytes.items ≡ canonical_text plain.now) }
 
-    // What is returned spells the plain form again, but for its spots, where some text does.
+    // Where some text spells the plain form, but for its spots, what is returned spells it too, so
+    // that reading it gives the same plain form but for its spots.
     ensures read_back { IfOk result (λ bytes. IsReadBack bytes.items plain.now) }
 {
     let mut out = Vec::new(alloc);

@@ -261,6 +261,28 @@ const PRINTED_ORDER: &str = "net main {
 }
 ";
 
+// 64 levels of each sort, one of them that of the channel's parenthesis
+const DEEP: &str = "channel c({{{{{{{{{{{{{{{{{{{{{{{{{{{{{{{{{{{{{{{{{{{{{{{{{{{{{{{{{{{{{{{
+text}}}}}}}}}}}}}}}}}}}}}}}}}}}}}}}}}}}}}}}}}}}}}}}}}}}}}}}}}}}}}}}); net n{place p=
+[[[[[[[[[[[[[[[[[[[[[[[[[[[[[[[[[[[[[[[[[[[[[[[[[[[[[[[[[[[[[[[[
+]]]]]]]]]]]]]]]]]]]]]]]]]]]]]]]]]]]]]]]]]]]]]]]]]]]]]]]]]]]]]]]]; trans t{out p:
+((((((((((((((((((((((((((((((((((((((((((((((((((((((((((((((((
+a)))))))))))))))))))))))))))))))))))))))))))))))))))))))))))))))); out p:
+----------------------------------------------------------------a;}}";
+
+const PRINTED_DEEP: &str =
+    "channel c({{{{{{{{{{{{{{{{{{{{{{{{{{{{{{{{{{{{{{{{{{{{{{{{{{{{{{{{{{{{{{{text\
+}}}}}}}}}}}}}}}}}}}}}}}}}}}}}}}}}}}}}}}}}}}}}}}}}}}}}}}}}}}}}}});
+net n {
+  place p: [] = [[[[[[[[[[[[[[[[[[[[[[[[[[[[[[[[[[[[[[[[[[[[[[[[[[[[[[[[[[[[[[[[\
+]]]]]]]]]]]]]]]]]]]]]]]]]]]]]]]]]]]]]]]]]]]]]]]]]]]]]]]]]]]]]]]];
+  trans t {
+    out p: a;
+    out p: ----------------------------------------------------------------a;
+  }
+}
+";
+
 #[test]
 fn texts_are_printed(rt: HostRuntime) -> Result<(), Fail> {
     let rows = [
@@ -268,6 +290,8 @@ fn texts_are_printed(rt: HostRuntime) -> Result<(), Fail> {
         (PRINTED_FORMS, PRINTED_FORMS),
         (ORDER, PRINTED_ORDER),
         (PRINTED_ORDER, PRINTED_ORDER),
+        (DEEP, PRINTED_DEEP),
+        (PRINTED_DEEP, PRINTED_DEEP),
     ];
     for (text, wanted) in rows {
         let found = is_printed_as(rt.alloc(), text, wanted);

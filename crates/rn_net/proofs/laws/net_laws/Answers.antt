@@ -1,5 +1,6 @@
 -- The laws are lemmas, from those of tokens and inscriptions.
-use Rattle.rn_net.proofs.OneSystem.{one_system, one_text, depth_alone}
+use Rattle.rn_net.proofs.OneSystem.{one_system, one_text}
+use Rattle.rn_net.proofs.Settling.{spelled-alone}
 use Rattle.rn_net.proofs.laws.net_laws.Goals as goal
 
 pub returns : goal.returns
@@ -8,5 +9,6 @@ returns c =
     let one = c.reading_laws.ensures.one_inscription in record {
       one_system = one_system one;
       one_text = one_text one t.one_reading;
-      depth_alone = depth_alone t.one_reading t.no_both;
+      not_refused = λ bytes plain refusal spelled why.
+          spelled-alone t.one_reading t.one_fault t.no_both spelled why;
     }
