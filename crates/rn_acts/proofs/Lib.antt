@@ -1,5 +1,10 @@
-mod ActLemmas
-mod ChangeLemmas
-mod CreationLemmas
-mod NumberingLemmas
-mod RowLemmas
+pub mod ActLemmas
+pub mod AskedFrom
+pub mod ChangeLemmas
+pub mod CreationLemmas
+pub mod MayComeLemmas
+pub mod NewAskNothing
+pub mod NumberingLemmas
+pub mod PlacedNodes
+pub mod RowLemmas
+pub mod RowsOfArcs

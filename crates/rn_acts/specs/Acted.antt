@@ -1,6 +1,6 @@
 -- What the actions of a firing give.
 use Rattle.std.specs.Prelude.{ℕ, ◌≡◌, Bool, true, false, List, [], ◌∷◌, ◌++◌, Option}
-use Rattle.std.specs.Prelude.{option_map, flat_map}
+use Rattle.std.specs.Prelude.{option_map, flat_map, All, Contains}
 use Rattle.std.specs.List.Sorted.{IsStrictlyIncreasing}
 use Rattle.std.specs.Option.{option_map_or}
 use Rattle.rn_value.specs.declared.value.InstRef.{InstRef}
@@ -26,6 +26,19 @@ abbrev pub ArePut : System → Effects → List Row → Type 0
 ArePut system effects rows =
     (n place : ℕ) →
     values_at rows n place ≡ asked_at puts system effects.read (Old n) place
+
+-- the row stands at a place that an arc of a node on its instance names
+pub record IsOfArc (system : System) (nodes : List Node) (row : Row) : Type 0 where
+  pub node : Node
+  pub there : Contains nodes node
+  pub stands : node.inst ≡ Old row.inst
+  pub arc : NetArc
+  pub arc_there : Contains (transition_of system node).arcs arc
+  pub place : arc.place ≡ row.place
+
+-- each row does
+abbrev pub AreOfArcs : System → List Node → List Row → Type 0
+AreOfArcs system nodes rows = All (IsOfArc system nodes) rows
 
 -- What follows only connects the code to the definitions.
 

@@ -7,7 +7,7 @@ ghost use Rattle.rn_model.specs.Good.{Good};
 ghost use Rattle.rn_model.specs.Limits.{greatest_step};
 ghost use Rattle.rn_model.specs.Systems.{transition_of};
 ghost use Rattle.rn_acts.specs.Acting.{if_done};
-ghost use Rattle.rn_acts.specs.Acted.{ArePut, nothing, with_node, with_effects, IsReadable};
+ghost use Rattle.rn_acts.specs.Acted.{AreOfArcs, ArePut, nothing, with_node, with_effects, IsReadable};
 
 use crate::acting::Acting;
 use crate::outputs::put_outputs;
@@ -104,6 +104,8 @@ pub fn act(
     ensures put { IfOk result (λ acted. IfSome acted (λ a. (effects : Effects) →
         all_effects system.now step binding.now.nodes ≡ Some effects →
         ArePut system.now effects a.put)) }
+    ensures arcs { IfOk result (λ acted. IfSome acted (λ a.
+        AreOfArcs system.now binding.now.nodes a.put)) }
 {
     act_on(alloc, system, binding.nodes.as_slice(), step)
 }

@@ -7,7 +7,7 @@ ghost use Rattle.rn_model.specs.Firing.{Effects, creations_of, marking_after};
 ghost use Rattle.rn_model.specs.Markings.{Marking};
 ghost use Rattle.rn_table.specs.Changes.{changed, values_at};
 ghost use Rattle.rn_table.specs.Laws.{LeavesNew};
-ghost use Rattle.rn_acts.specs.Acted.{ArePut};
+ghost use Rattle.rn_acts.specs.Acted.{AreOfArcs, ArePut};
 ghost use Rattle.rn_acts.specs.ChangeRows.{numbered_row};
 
 use crate::creations::nets_made;
@@ -56,6 +56,8 @@ pub fn change_of(
     ensures made { IfOk result (λ change.
         change.made ≡ map (λ c. c.net) (creations_of system.now binding.now)) }
     ensures put { IfOk result (λ change. change.put ≡ put) }
+    ensures arcs { IfOk result (λ change. AreOfArcs system.now binding.now.nodes change.taken
+        × AreOfArcs system.now binding.now.nodes change.cleared) }
     ensures after { IfOk result (λ change. (effects : Effects) (m : Marking) →
         ArePut system.now effects put → LeavesNew change m.next →
         changed system.now change m
