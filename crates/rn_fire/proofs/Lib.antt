@@ -1,0 +1,5 @@
+pub mod DroppingLemmas
+pub mod EntryLemmas
+pub mod FiringLemmas
+pub mod OutcomeLemmas
+pub mod StateLemmas

@@ -1,0 +1,4 @@
+pub mod Commits
+pub mod Ends
+pub mod Outcomes
+pub mod States

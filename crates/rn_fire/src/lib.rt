@@ -1,0 +1,15 @@
+//! The state of a run: its log, which only grows by true entries, and the table at the log's end.
+#![tactic(auto)]
+
+mod committing;
+mod dropping;
+mod ending;
+mod kept;
+mod outcome;
+mod setup;
+mod state;
+
+pub use committing::Commit;
+pub use ending::NoneCommit;
+pub use setup::Setup;
+pub use state::{SimState, open_state};
