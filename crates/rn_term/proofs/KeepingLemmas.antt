@@ -13,6 +13,8 @@ use Rattle.rn_term.specs.declared.term.Term.TheVariants as T
 use Rattle.rn_term.specs.Stores.{State, link_of, IsBuiltBelow, with_term, with_note}
 use Rattle.rn_term.specs.Assignments.{HasListTail, MayBeOne, IsNote, Keeps}
 use Rattle.rn_term.specs.Kept.{KeepsAll, AreLastLists, last_cons, or_cons}
+use Rattle.rn_term.specs.Kept.{AreFloors, AreLowered, IsLowAlong, floor_of}
+use Rattle.rn_term.proofs.Floors.{floors_with_term, floors_with_note, floors_of_fewer_terms}
 use Rattle.rn_term.proofs.ListEnds.{at_end, after_prefix, none_at_end}
 use Rattle.rn_term.proofs.LinkLemmas.{set_link}
 use Rattle.rn_term.proofs.AssignmentLemmas.{new_value, satisfies_term, satisfies_note, link_within}
@@ -94,13 +96,16 @@ fewer_lists terms lists n room are id within =
     (λ k less. sym (get_or-take n terms k T.Free (omega (arith, less, small))))
 
 -- the same of how a store is kept
-pub kept_term : (terms : List Term) (links lists : List (Option ℕ)) (notes : List (ℕ × ℕ))
-    (t : Term) (last : Option ℕ) → KeepsAll terms links lists notes →
+pub kept_term : (terms : List Term) (links lists : List (Option ℕ)) (floors : List ℕ)
+    (notes : List (ℕ × ℕ)) (t : Term) (last : Option ℕ) (low : List ℕ) (top : ℕ) →
+    KeepsAll terms links lists floors notes →
     last ≡ or_cons t (length terms) (last_cons terms (length terms)) →
     IsBuiltBelow (length terms) t →
     HasListTail (record { terms = terms; notes = notes }) t →
-    KeepsAll (terms ++ t ∷ []) (links ++ None ∷ []) (lists ++ last ∷ []) notes
-kept_term terms links lists notes t last kept is built tail = record {
+    AreLowered (floors ++ top ∷ []) low → ((ids : List ℕ) (end : ℕ) → t ≡ T.Cons ids end →
+    IsLowAlong notes end (length terms) low) →
+    KeepsAll (terms ++ t ∷ []) (links ++ None ∷ []) (lists ++ last ∷ []) low notes
+kept_term terms links lists floors notes t last low top kept is built tail lowered along = record {
   sound = keeps_term (record { terms = terms; notes = notes }) t kept.sound built tail;
   each = length-append links (None ∷ []) ∙ ap (λ n. n + 1) kept.each
       ∙ sym (length-append terms (t ∷ []));
@@ -108,18 +113,27 @@ kept_term terms links lists notes t last kept is built tail = record {
   counted = length-append lists (last ∷ []) ∙ ap (λ n. n + 1) kept.counted
       ∙ sym (length-append terms (t ∷ []));
   last = one_list_more terms lists t last kept.counted kept.last is;
+  measured = lowered.each ∙ length-append floors (top ∷ []) ∙ ap (λ n. n + 1) kept.measured
+      ∙ sym (length-append terms (t ∷ []));
+  floored = floors_with_term (record { terms = terms; notes = notes }) floors low t top kept.sound
+      built kept.measured kept.floored lowered along;
 }
 
-pub kept_note : (terms : List Term) (links lists : List (Option ℕ)) (notes : List (ℕ × ℕ))
-    (var to : ℕ) → KeepsAll terms links lists notes → IsNote terms notes (var, to) →
+pub kept_note : (terms : List Term) (links lists : List (Option ℕ)) (floors : List ℕ)
+    (notes : List (ℕ × ℕ)) (var to : ℕ) (low : List ℕ) →
+    KeepsAll terms links lists floors notes → IsNote terms notes (var, to) →
     MayBeOne (record { terms = terms; notes = notes }) var to →
-    KeepsAll terms (set links var (Some to)) lists (notes ++ (var, to) ∷ [])
-kept_note terms links lists notes var to kept note one = record {
+    AreLowered floors low → IsLowAlong notes to (floor_of floors var) low →
+    KeepsAll terms (set links var (Some to)) lists low (notes ++ (var, to) ∷ [])
+kept_note terms links lists floors notes var to low kept note one lowered along = record {
   sound = keeps_note (record { terms = terms; notes = notes }) var to kept.sound note one;
   each = length-set links var (Some to) ∙ kept.each;
   linked = set_link links notes var to kept.linked (rw kept.each note.var) note.fresh;
   counted = kept.counted;
   last = kept.last;
+  measured = lowered.each ∙ kept.measured;
+  floored = floors_with_note (record { terms = terms; notes = notes }) floors low var to note.fresh
+      kept.floored lowered along;
 }
 
 -- what lies past the terms has no link
@@ -132,21 +146,25 @@ no_link s id keeps past = split (link_of s.notes id) refl where
       let none : ⊥ = omega (arith, both.0, past) in absurd none
 
 -- a store that is cut where it is sound
-pub kept_prefix : (terms : List Term) (links lists : List (Option ℕ)) (notes : List (ℕ × ℕ))
-    (n : ℕ) →
+pub kept_prefix : (terms : List Term) (links lists : List (Option ℕ)) (floors : List ℕ)
+    (notes : List (ℕ × ℕ)) (n : ℕ) →
     Keeps (record { terms = take n terms; notes = notes }) → n ≤ length terms →
     length links ≡ length terms → ((id : ℕ) → get_or links id None ≡ link_of notes id) →
-    length lists ≡ length terms → AreLastLists lists terms →
-    KeepsAll (take n terms) (take n links) (take n lists) notes
-kept_prefix terms links lists notes n keeps within each linked counted last = record {
-  sound = keeps;
-  each = length-take n links ∙ rw each refl ∙ sym (length-take n terms);
-  linked = λ id. ⊎_elim
-      (λ small. get_or-take n links id None small ∙ linked id)
-      (λ big. get_or_past (take n links) id None (omega (arith, big, length-take n links))
-      ∙ sym (no_link (record { terms = take n terms; notes = notes }) id keeps
-      (omega (arith, big, length-take n terms))))
-      (cases_lt id n);
-  counted = length-take n lists ∙ rw counted refl ∙ sym (length-take n terms);
-  last = fewer_lists terms lists n within last;
-}
+    length lists ≡ length terms → AreLastLists lists terms → length floors ≡ length terms →
+    AreFloors floors (record { terms = terms; notes = notes }) →
+    KeepsAll (take n terms) (take n links) (take n lists) (take n floors) notes
+kept_prefix terms links lists floors notes n keeps within each linked counted last measured floored =
+    record {
+      sound = keeps;
+      each = length-take n links ∙ rw each refl ∙ sym (length-take n terms);
+      linked = λ id. ⊎_elim
+          (λ small. get_or-take n links id None small ∙ linked id)
+          (λ big. get_or_past (take n links) id None (omega (arith, big, length-take n links))
+          ∙ sym (no_link (record { terms = take n terms; notes = notes }) id keeps
+          (omega (arith, big, length-take n terms))))
+          (cases_lt id n);
+      counted = length-take n lists ∙ rw counted refl ∙ sym (length-take n terms);
+      last = fewer_lists terms lists n within last;
+      measured = length-take n floors ∙ rw measured refl ∙ sym (length-take n terms);
+      floored = floors_of_fewer_terms terms notes floors n floored;
+    }

@@ -7,7 +7,7 @@ use Rattle.std.proofs.lemmas.List.{get_or_read}
 use Rattle.rn_term.specs.declared.term.Term.{Term}
 use Rattle.rn_term.specs.declared.term.Term.TheVariants as T
 use Rattle.rn_term.specs.Stores.{State, term_at}
-use Rattle.rn_term.specs.Kept.{KeepsAll, last_cons, or_cons}
+use Rattle.rn_term.specs.Kept.{HasNoListBelow, KeepsAll, last_cons, or_cons}
 use Rattle.rn_term.proofs.ReadingLemmas.{EndsElsewhere, cons_within}
 
 -- the number past an id, and 0 without one
@@ -64,10 +64,11 @@ last_is_past terms (suc n) =
     last_step terms n (get_or terms n T.Free) refl (last_is_past terms n)
 
 -- what is kept beside a term is the last list up to it
-pub kept_list : (terms : List Term) (links lists : List (Option ℕ)) (notes : List (ℕ × ℕ))
-    (end : ℕ) (read : Option ℕ) → KeepsAll terms links lists notes → end ≤ length terms →
+pub kept_list : (terms : List Term) (links lists : List (Option ℕ)) (floors : List ℕ)
+    (notes : List (ℕ × ℕ))
+    (end : ℕ) (read : Option ℕ) → KeepsAll terms links lists floors notes → end ≤ length terms →
     (end ≡ 0 → ⊥) → read ≡ get_or lists (end - 1) read → read ≡ last_cons terms end
-kept_list terms links lists notes end read kept within some is =
+kept_list terms links lists floors notes end read kept within some is =
     let small : end - 1 < length terms = omega (arith, within, some) in
     let here : suc (end - 1) ≡ end = omega (arith, some) in
     get_or_read lists (end - 1) read (rw kept.counted small) is None
@@ -146,3 +147,13 @@ all_looked_at s var next seen none k = (past_next s var next seen).1 k (low next
   low : (o : Option ℕ) → ((id : ℕ) → o ≡ Some id → ⊥) → past o ≤ k
   low None none = omega arith
   low (Some id) none = absurd (none id refl)
+
+-- where the next one is below a number below which no list ends in a variable, none does
+pub none_below : (s : State) (var id floor : ℕ) (next : Option ℕ) → IsLookedThrough s var next →
+    next ≡ Some id → HasNoListBelow s var floor → id < floor → (k : ℕ) → EndsElsewhere s var k
+none_below s var id floor next seen is none less k ids tail cons leads = ⊎_elim
+    (λ small. let no : ⊥ = omega (arith, none k ids tail cons leads, small, less) in no)
+    (λ big.
+    let here : past next ≡ suc id = ap past is in
+    (past_next s var next seen).1 k (omega (arith, big, here)) ids tail cons leads)
+    (cases_lt k (suc id))

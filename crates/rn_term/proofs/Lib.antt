@@ -6,6 +6,7 @@ pub mod Examples
 pub mod Extents
 pub mod Filling
 pub mod FillingSteps
+pub mod Floors
 pub mod Following
 pub mod ForcedTerms
 pub mod FreeOrGround

@@ -1,10 +1,10 @@
--- How a store is kept: its links beside its notes, so that each is found at once, and beside each
--- term the last list with a tail up to it.
-use Rattle.std.specs.Prelude.{ℕ, zero, suc, ◌≡◌, ◌<◌, List, Option, Some, None, length}
+-- How a store is kept: its links beside its notes, so that each is found at once, beside each
+-- term the last list with a tail up to it, and beside each id where the lists that end there begin.
+use Rattle.std.specs.Prelude.{ℕ, zero, suc, ◌≡◌, ◌<◌, ◌≤◌, List, Option, Some, None, length}
 use Rattle.std.specs.Prelude.{slice_index_or, take}
 use Rattle.rn_term.specs.declared.term.Term.{Term}
 use Rattle.rn_term.specs.declared.term.Term.TheVariants as T
-use Rattle.rn_term.specs.Stores.{link_of}
+use Rattle.rn_term.specs.Stores.{State, link_of, Leads}
 use Rattle.rn_term.specs.Assignments.{Keeps}
 
 -- the links are those of the notes, and past their end there is none
@@ -36,11 +36,36 @@ abbrev pub AreLastLists : List (Option ℕ) → List Term → Type 0
 AreLastLists lists terms = (id : ℕ) → id < length terms →
     slice_index_or lists id None ≡ last_cons terms (suc id)
 
--- the store is sound, and has one link and one last list for each term
+-- no list before a tail that has an id below this one ends in a variable
+abbrev pub HasNoListBelow : State → ℕ → ℕ → Type 0
+HasNoListBelow s var floor = (list : ℕ) (ids : List ℕ) (tail : ℕ) →
+    slice_index_or s.terms list T.Free ≡ T.Cons ids tail → Leads s.notes tail var → floor ≤ list
+
+-- the number that stands beside an id, and 0 where there is none
+abbrev pub floor_of : List ℕ → ℕ → ℕ
+floor_of floors id = slice_index_or floors id 0
+
+-- no list with an id below what stands beside a variable ends there
+abbrev pub AreFloors : List ℕ → State → Type 0
+AreFloors floors s = (id : ℕ) → HasNoListBelow s id (floor_of floors id)
+
+-- as many numbers, of which none rose
+pub record AreLowered (before after : List ℕ) : Type 0 where
+  pub each : length after ≡ length before
+  pub lower : (id : ℕ) → floor_of after id ≤ floor_of before id
+
+-- beside each id to which links lead stands no more than a number
+abbrev pub IsLowAlong : List (ℕ × ℕ) → ℕ → ℕ → List ℕ → Type 0
+IsLowAlong notes from floor floors = (id : ℕ) → Leads notes from id → floor_of floors id ≤ floor
+
+-- the store is sound, and has one link, one last list and one floor for each term
 pub record KeepsAll
-    (terms : List Term) (links lists : List (Option ℕ)) (notes : List (ℕ × ℕ)) : Type 0 where
+    (terms : List Term) (links lists : List (Option ℕ)) (floors : List ℕ) (notes : List (ℕ × ℕ)) :
+    Type 0 where
   pub sound : Keeps (record { terms = terms; notes = notes })
   pub each : length links ≡ length terms
   pub linked : AreLinks links notes
   pub counted : length lists ≡ length terms
   pub last : AreLastLists lists terms
+  pub measured : length floors ≡ length terms
+  pub floored : AreFloors floors (record { terms = terms; notes = notes })

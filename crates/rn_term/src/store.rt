@@ -8,7 +8,8 @@ ghost use Rattle.rn_value.specs.declared.value.Value.{Value};
 ghost use Rattle.rn_term.specs.Stores.{link_of, term_at, Leads, IsBuiltBelow, with_term, with_note};
 ghost use Rattle.rn_term.specs.Assignments.{Satisfies, value_at, HasListTail, MayBeOne, Keeps};
 ghost use Rattle.rn_term.specs.Occurring.{IsFree};
-ghost use Rattle.rn_term.specs.Kept.{AreFresh, AreLinks, last_cons, or_cons};
+ghost use Rattle.rn_term.specs.Kept.{AreFresh, AreLinks, floor_of, last_cons, or_cons};
+ghost use Rattle.rn_term.specs.Kept.{AreLowered, HasNoListBelow, IsLowAlong};
 ghost use Rattle.rn_term.specs.Undoing.{Rolled, mark_of, IsNotLater, LeavesEarlier};
 
 use crate::term::{Mark, Term};
@@ -16,12 +17,16 @@ use rn_value::NoMemory;
 use std::alloc::Global;
 use std::marker::Model;
 
+/// No list ends in a variable beside which this stands: it is past all ids.
+const NO_LIST: usize = usize::MAX;
+
 /// Terms with unknown parts, and which variables were bound to which terms, in order.
 #[derive(Debug, Drop)]
 pub struct Store {
     terms: Vec<Term>,
     links: Vec<Option<usize>>,
     lists: Vec<Option<usize>>,
+    floors: Vec<usize>,
     weights: Vec<usize>,
     notes: Vec<(usize, usize)>,
 }
@@ -39,7 +44,8 @@ impl Model for Store {
 
     ghost use Rattle.rn_term.specs.Kept.{KeepsAll};
 
-    ghost invariant = { λ s. KeepsAll s.terms.items s.links.items s.lists.items s.notes.items };
+    ghost invariant = { λ s. KeepsAll s.terms.items s.links.items s.lists.items s.floors.items
+        s.notes.items };
 }
 
 impl Store {
@@ -51,6 +57,7 @@ impl Store {
             terms: Vec::new(alloc),
             links: Vec::new(alloc),
             lists: Vec::new(alloc),
+            floors: Vec::new(alloc),
             weights: Vec::new(alloc),
             notes: Vec::new(alloc),
         }
@@ -103,6 +110,14 @@ impl Store {
         if end == 0 { None } else { self.lists[end - 1] }
     }
 
+    /// An id below which no list before a tail ends in this variable.
+    pub(crate) fn floor(&self, var: usize) -> usize
+        requires within { var < length self.now.terms }
+        ensures none { HasNoListBelow self.now var result }
+    {
+        self.floors[var]
+    }
+
     /// The last list before a tail where this term is added.
     fn last_with(&self, term: &Term) -> Option<usize>
         ensures { result ≡ or_cons term.now (length self.now.terms)
@@ -139,9 +154,19 @@ impl Store {
     {
         let id = self.terms.len();
         let last = self.last_with(&term);
+        self.terms.reserve(1)?;
         self.links.reserve(1)?;
         self.lists.reserve(1)?;
+        self.floors.reserve(1)?;
         self.weights.reserve(1)?;
+        self.floors.push(NO_LIST)?;
+        lower_for(
+            &self.terms,
+            &self.notes,
+            &self.links,
+            &mut self.floors,
+            &term,
+        );
         self.terms.push(term)?;
         self.links.push(None)?;
         self.lists.push(last)?;
@@ -164,6 +189,16 @@ impl Store {
         ensures err { OnErr result (self.new ≡ self.old) }
         ensures earlier { LeavesEarlier self.old self.new }
     {
+        self.notes.reserve(1)?;
+        let floor = self.floors[var];
+        lower_along(
+            &self.terms,
+            &self.notes,
+            &self.links,
+            &mut self.floors,
+            to,
+            floor,
+        );
         self.notes.push((var, to))?;
         self.links[var] = Some(to);
         add_weight(&mut self.weights, var, to);
@@ -229,7 +264,64 @@ impl Store {
         self.terms.truncate(to.size);
         self.links.truncate(to.size);
         self.lists.truncate(to.size);
+        self.floors.truncate(to.size);
         self.weights.truncate(to.size);
+    }
+}
+
+/// Lowers what stands beside the tail of a term that is added, where it has one, and beside the ids
+/// to which links lead from there.
+fn lower_for(
+    terms: &Vec<Term>,
+    notes: &Vec<(usize, usize)>,
+    links: &Vec<Option<usize>>,
+    floors: &mut Vec<usize>,
+    term: &Term,
+)
+    requires kept { Keeps (record { terms = terms.now.items; notes = notes.now.items }) }
+    requires linked { AreLinks links.now.items notes.now.items }
+    requires each { length links.now.items ≡ length terms.now.items }
+    requires built { IsBuiltBelow (length terms.now.items) term.now }
+    ensures lowered { AreLowered floors.old.items floors.new.items }
+    ensures along { (ids : List ℕ) (tail : ℕ) → term.now ≡ T.Cons ids tail →
+        IsLowAlong notes.now.items tail (length terms.now.items) floors.new.items }
+{
+    if let Term::Cons(_, tail) = term {
+        lower_along(terms, notes, links, floors, *tail, terms.len());
+    }
+}
+
+/// Lowers what stands beside an id, and beside those to which links lead from it.
+fn lower_along(
+    terms: &Vec<Term>,
+    notes: &Vec<(usize, usize)>,
+    links: &Vec<Option<usize>>,
+    floors: &mut Vec<usize>,
+    from: usize,
+    floor: usize,
+)
+    requires kept { Keeps (record { terms = terms.now.items; notes = notes.now.items }) }
+    requires linked { AreLinks links.now.items notes.now.items }
+    requires each { length links.now.items ≡ length terms.now.items }
+    requires within { from < length terms.now.items }
+    ensures lowered { AreLowered floors.old.items floors.new.items }
+    ensures along { IsLowAlong notes.now.items from floor floors.new.items }
+{
+    let mut end = from;
+    lower(floors, end, floor);
+    while let Some(to) = links[end] {
+        end = to;
+        lower(floors, end, floor);
+    }
+}
+
+/// Lowers what stands beside an id.
+fn lower(floors: &mut Vec<usize>, id: usize, floor: usize)
+    ensures lowered { AreLowered floors.old.items floors.new.items }
+    ensures low { floor_of floors.new.items id ≤ floor }
+{
+    if id < floors.len() && floor < floors[id] {
+        floors[id] = floor;
     }
 }
 

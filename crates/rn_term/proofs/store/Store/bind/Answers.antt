@@ -1,16 +1,19 @@
-use Rattle.std.proofs.Common.{◌≡◌, sym, subst}
+use Rattle.std.proofs.Common.{◌≡◌, ◌<◌, ◌++◌, ◌∷◌, [], length, sym, ◌∙◌, ap, subst}
+use Rattle.std.proofs.lemmas.List.{get_or_read}
 use Rattle.std.specs.Prelude.{None, ◌↔◌}
 use Rattle.rn_term.specs.Stores.{link_of}
 use Rattle.rn_term.specs.Assignments.{IsNote, MayBeOne, Satisfies, value_at}
+use Rattle.rn_term.specs.Kept.{IsLowAlong}
 use Rattle.rn_term.proofs.KeepingLemmas.{kept_note}
 use Rattle.rn_term.proofs.AssignmentLemmas.{note_means}
 use Rattle.rn_term.proofs.store.Store.bind.Goals as goal
 
 pub invariant_of-self-2 : goal.invariant_of-self-2
 invariant_of-self-2 c =
-    rw c.in_ok-push.ensures.items
+    rw (c.in_ok-push.ensures.items, c.in_ok-reserve.ensures.items)
     (kept_note c.self.inside.terms.items c.self.inside.links.items
-    c.self.inside.lists.items c.self.inside.notes.items c.args.var c.args.to c.self.invariant
+    c.self.inside.lists.items c.self.inside.floors.items c.self.inside.notes.items c.args.var
+    c.args.to c.lower_along.new.floors.items c.self.invariant
     (subst (λ s. IsNote s.terms s.notes (c.args.var, c.args.to)) (sym c.self.view_is)
     (record {
       var = c.requires.var_within;
@@ -19,7 +22,16 @@ invariant_of-self-2 c =
       fresh = c.requires.unbound;
       apart = c.requires.apart;
     }))
-    (subst (λ s. MayBeOne s c.args.var c.args.to) (sym c.self.view_is) c.requires.possible))
+    (subst (λ s. MayBeOne s c.args.var c.args.to) (sym c.self.view_is) c.requires.possible)
+    c.lower_along.ensures.lowered
+    (subst
+    (λ n. IsLowAlong c.self.inside.notes.items c.args.to n c.lower_along.new.floors.items)
+    (get_or_read c.self.inside.floors.items c.args.var c.index-floor.result.now
+    (rw c.self.invariant.measured
+    (subst (λ s. c.args.var < length s.terms) (sym c.self.view_is) c.requires.var_within))
+    c.index-floor.ensures 0)
+    (subst (λ ns. IsLowAlong ns c.args.to c.index-floor.result.now c.lower_along.new.floors.items)
+    c.in_ok-reserve.ensures.items c.lower_along.ensures.along)))
 
 pub returns-clause-means : goal.returns-clause-means
 returns-clause-means c = λ vs.
@@ -30,4 +42,5 @@ returns-clause-means c = λ vs.
     (note_means (record { terms = c.self.inside.terms.items; notes = c.self.inside.notes.items })
     c.args.var c.args.to vs c.push.new.self.items
     (subst (λ s. link_of s.notes c.args.var ≡ None) (sym c.self.view_is) c.requires.unbound)
-    c.in_ok-push.ensures.items)
+    (c.in_ok-push.ensures.items
+    ∙ ap (λ ns. ns ++ (c.args.var, c.args.to) ∷ []) c.in_ok-reserve.ensures.items))

@@ -2,7 +2,7 @@ use Rattle.std.proofs.Common.{arith, ◌∙◌, ap}
 use Rattle.rn_term.specs.Kept.{last_cons}
 use Rattle.rn_term.proofs.ReadingLemmas.{EndsElsewhere, other_end, no_truth}
 use Rattle.rn_term.proofs.LastLists.{none_looked_at, next_within, one_looked_at, next_smaller}
-use Rattle.rn_term.proofs.LastLists.{all_looked_at}
+use Rattle.rn_term.proofs.LastLists.{all_looked_at, none_below}
 use Rattle.rn_term.proofs.store.Store.ends_a_list.Goals as goal
 use Rattle.rn_term.proofs.store.Store.ends_a_list.Goals.{After-last_list-next-in-Some}
 
@@ -44,6 +44,17 @@ loop-next-preserved c =
     one_looked_at c.args.self.now c.args.var c.in-Some.id c.loop-next.next
     c.last_list-next-in-Some.result c.loop-next.invariant c.in-Some.is (elsewhere c)
     c.last_list-next-in-Some.ensures
+
+pub returns-then-id-floor : goal.returns-then-id-floor
+returns-then-id-floor c = record {
+  exact = (
+    λ yes. absurd (no_truth yes),
+    λ ends.
+        absurd (none_below c.args.self.now c.args.var c.in-Some.id c.floor-floor.result
+        c.loop-next.next c.loop-next.invariant c.in-Some.is c.floor-floor.ensures.none
+        c.if-id-floor.true ends.0 ends.1 ends.2 ends.4 ends.5),
+  );
+}
 
 pub returns : goal.returns
 returns c = record {
