@@ -3,7 +3,7 @@ use Rattle.std.proofs.Common.{◌≡◌, ⊎_elim, ◌<◌, ◌≤◌, ◌+◌, 
 use Rattle.std.proofs.Common.{subst}
 use Rattle.std.proofs.Common.{arith}
 use Rattle.std.proofs.Common.{length, sym, ◌∙◌, ap, get_or, set, take, length-append}
-use Rattle.std.specs.Prelude.{Option, Some, None}
+use Rattle.std.specs.Prelude.{Bool, true, Option, Some, None}
 use Rattle.std.proofs.lemmas.List.{get_or_append_left, get_or-take, length-set, length-take}
 use Rattle.std.proofs.lemmas.List.{get_or_past}
 use Rattle.std.proofs.lemmas.Bool.{cases_lt}
@@ -13,7 +13,9 @@ use Rattle.rn_term.specs.declared.term.Term.TheVariants as T
 use Rattle.rn_term.specs.Stores.{State, link_of, IsBuiltBelow, with_term, with_note}
 use Rattle.rn_term.specs.Assignments.{HasListTail, MayBeOne, IsNote, Keeps}
 use Rattle.rn_term.specs.Kept.{KeepsAll, AreLastLists, last_cons, or_cons}
+use Rattle.rn_term.specs.Kept.{AreFlags, IsBuiltOfFlagged}
 use Rattle.rn_term.specs.Kept.{AreFloors, AreLowered, IsLowAlong, floor_of}
+use Rattle.rn_term.proofs.Closed.{flags_with_term, flags_of_fewer_terms}
 use Rattle.rn_term.proofs.Floors.{floors_with_term, floors_with_note, floors_of_fewer_terms}
 use Rattle.rn_term.proofs.ListEnds.{at_end, after_prefix, none_at_end}
 use Rattle.rn_term.proofs.LinkLemmas.{set_link}
@@ -97,35 +99,41 @@ fewer_lists terms lists n room are id within =
 
 -- the same of how a store is kept
 pub kept_term : (terms : List Term) (links lists : List (Option ℕ)) (floors : List ℕ)
-    (notes : List (ℕ × ℕ)) (t : Term) (last : Option ℕ) (low : List ℕ) (top : ℕ) →
-    KeepsAll terms links lists floors notes →
+    (flags : List Bool) (notes : List (ℕ × ℕ)) (t : Term) (last : Option ℕ) (low : List ℕ) (top : ℕ)
+    (flag : Bool) →
+    KeepsAll terms links lists floors flags notes →
     last ≡ or_cons t (length terms) (last_cons terms (length terms)) →
     IsBuiltBelow (length terms) t →
     HasListTail (record { terms = terms; notes = notes }) t →
     AreLowered (floors ++ top ∷ []) low → ((ids : List ℕ) (end : ℕ) → t ≡ T.Cons ids end →
-    IsLowAlong notes end (length terms) low) →
-    KeepsAll (terms ++ t ∷ []) (links ++ None ∷ []) (lists ++ last ∷ []) low notes
-kept_term terms links lists floors notes t last low top kept is built tail lowered along = record {
-  sound = keeps_term (record { terms = terms; notes = notes }) t kept.sound built tail;
-  each = length-append links (None ∷ []) ∙ ap (λ n. n + 1) kept.each
-      ∙ sym (length-append terms (t ∷ []));
-  linked = λ id. none_at_end links id ∙ kept.linked id;
-  counted = length-append lists (last ∷ []) ∙ ap (λ n. n + 1) kept.counted
-      ∙ sym (length-append terms (t ∷ []));
-  last = one_list_more terms lists t last kept.counted kept.last is;
-  measured = lowered.each ∙ length-append floors (top ∷ []) ∙ ap (λ n. n + 1) kept.measured
-      ∙ sym (length-append terms (t ∷ []));
-  floored = floors_with_term (record { terms = terms; notes = notes }) floors low t top kept.sound
-      built kept.measured kept.floored lowered along;
-}
+    IsLowAlong notes end (length terms) low) → (flag ≡ true → IsBuiltOfFlagged flags t) →
+    KeepsAll (terms ++ t ∷ []) (links ++ None ∷ []) (lists ++ last ∷ []) low (flags ++ flag ∷ []) notes
+kept_term terms links lists floors flags notes t last low top flag kept is built tail lowered along of =
+    record {
+      sound = keeps_term (record { terms = terms; notes = notes }) t kept.sound built tail;
+      each = length-append links (None ∷ []) ∙ ap (λ n. n + 1) kept.each
+          ∙ sym (length-append terms (t ∷ []));
+      linked = λ id. none_at_end links id ∙ kept.linked id;
+      counted = length-append lists (last ∷ []) ∙ ap (λ n. n + 1) kept.counted
+          ∙ sym (length-append terms (t ∷ []));
+      last = one_list_more terms lists t last kept.counted kept.last is;
+      measured = lowered.each ∙ length-append floors (top ∷ []) ∙ ap (λ n. n + 1) kept.measured
+          ∙ sym (length-append terms (t ∷ []));
+      floored = floors_with_term (record { terms = terms; notes = notes }) floors low t top kept.sound
+          built kept.measured kept.floored lowered along;
+      marked = length-append flags (flag ∷ []) ∙ ap (λ n. n + 1) kept.marked
+          ∙ sym (length-append terms (t ∷ []));
+      flagged = flags_with_term (record { terms = terms; notes = notes }) flags t flag kept.sound built
+          kept.marked kept.flagged of;
+    }
 
 pub kept_note : (terms : List Term) (links lists : List (Option ℕ)) (floors : List ℕ)
-    (notes : List (ℕ × ℕ)) (var to : ℕ) (low : List ℕ) →
-    KeepsAll terms links lists floors notes → IsNote terms notes (var, to) →
+    (flags : List Bool) (notes : List (ℕ × ℕ)) (var to : ℕ) (low : List ℕ) →
+    KeepsAll terms links lists floors flags notes → IsNote terms notes (var, to) →
     MayBeOne (record { terms = terms; notes = notes }) var to →
     AreLowered floors low → IsLowAlong notes to (floor_of floors var) low →
-    KeepsAll terms (set links var (Some to)) lists low (notes ++ (var, to) ∷ [])
-kept_note terms links lists floors notes var to low kept note one lowered along = record {
+    KeepsAll terms (set links var (Some to)) lists low flags (notes ++ (var, to) ∷ [])
+kept_note terms links lists floors flags notes var to low kept note one lowered along = record {
   sound = keeps_note (record { terms = terms; notes = notes }) var to kept.sound note one;
   each = length-set links var (Some to) ∙ kept.each;
   linked = set_link links notes var to kept.linked (rw kept.each note.var) note.fresh;
@@ -134,6 +142,8 @@ kept_note terms links lists floors notes var to low kept note one lowered along 
   measured = lowered.each ∙ kept.measured;
   floored = floors_with_note (record { terms = terms; notes = notes }) floors low var to note.fresh
       kept.floored lowered along;
+  marked = kept.marked;
+  flagged = kept.flagged;
 }
 
 -- what lies past the terms has no link
@@ -147,13 +157,15 @@ no_link s id keeps past = split (link_of s.notes id) refl where
 
 -- a store that is cut where it is sound
 pub kept_prefix : (terms : List Term) (links lists : List (Option ℕ)) (floors : List ℕ)
-    (notes : List (ℕ × ℕ)) (n : ℕ) →
+    (flags : List Bool) (notes : List (ℕ × ℕ)) (n : ℕ) →
     Keeps (record { terms = take n terms; notes = notes }) → n ≤ length terms →
     length links ≡ length terms → ((id : ℕ) → get_or links id None ≡ link_of notes id) →
     length lists ≡ length terms → AreLastLists lists terms → length floors ≡ length terms →
-    AreFloors floors (record { terms = terms; notes = notes }) →
-    KeepsAll (take n terms) (take n links) (take n lists) (take n floors) notes
-kept_prefix terms links lists floors notes n keeps within each linked counted last measured floored =
+    AreFloors floors (record { terms = terms; notes = notes }) → length flags ≡ length terms →
+    AreFlags flags terms →
+    KeepsAll (take n terms) (take n links) (take n lists) (take n floors) (take n flags) notes
+kept_prefix terms links lists floors flags notes n keeps within each linked counted last measured
+    floored marked flagged =
     record {
       sound = keeps;
       each = length-take n links ∙ rw each refl ∙ sym (length-take n terms);
@@ -167,4 +179,6 @@ kept_prefix terms links lists floors notes n keeps within each linked counted la
       last = fewer_lists terms lists n within last;
       measured = length-take n floors ∙ rw measured refl ∙ sym (length-take n terms);
       floored = floors_of_fewer_terms terms notes floors n floored;
+      marked = length-take n flags ∙ rw marked refl ∙ sym (length-take n terms);
+      flagged = flags_of_fewer_terms terms flags n keeps.built within flagged;
     }

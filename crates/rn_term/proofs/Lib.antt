@@ -1,6 +1,7 @@
 pub mod Agreement
 pub mod AssignmentLemmas
 pub mod Bulks
+pub mod Closed
 pub mod ElementsOfTerms
 pub mod Examples
 pub mod Extents

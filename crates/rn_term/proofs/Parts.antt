@@ -29,7 +29,7 @@ whole_within s id part is = ⊎_elim
     (cases_lt id (length s.terms))
 
 -- a term that is built below an id has its parts there
-parts_below : (n : ℕ) (t : Term) → IsBuiltBelow n t → All (λ p. p < n) (parts_of t)
+pub parts_below : (n : ℕ) (t : Term) → IsBuiltBelow n t → All (λ p. p < n) (parts_of t)
 parts_below n T.Free built = All-nil (λ p. p < n)
 parts_below n (T.Atom v) built = All-nil (λ p. p < n)
 parts_below n (T.Tuple ids) built = built

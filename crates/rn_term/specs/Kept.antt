@@ -1,11 +1,14 @@
 -- How a store is kept: its links beside its notes, so that each is found at once, beside each
--- term the last list with a tail up to it, and beside each id where the lists that end there begin.
-use Rattle.std.specs.Prelude.{ℕ, zero, suc, ◌≡◌, ◌<◌, ◌≤◌, List, Option, Some, None, length}
+-- term the last list with a tail up to it, beside each id where the lists that end there begin, and
+-- beside each term whether no variable stands in it.
+use Rattle.std.specs.Prelude.{ℕ, zero, suc, ◌≡◌, ◌≢◌, ◌<◌, ◌≤◌, Bool, true, false, List, Option, Some, None, length}
 use Rattle.std.specs.Prelude.{slice_index_or, take}
+use Rattle.std.specs.List.{Contains}
 use Rattle.rn_term.specs.declared.term.Term.{Term}
 use Rattle.rn_term.specs.declared.term.Term.TheVariants as T
-use Rattle.rn_term.specs.Stores.{State, link_of, Leads}
+use Rattle.rn_term.specs.Stores.{State, link_of, term_at, Leads}
 use Rattle.rn_term.specs.Assignments.{Keeps}
+use Rattle.rn_term.specs.Occurring.{Occurs, parts_of}
 
 -- the links are those of the notes, and past their end there is none
 abbrev pub AreLinks : List (Option ℕ) → List (ℕ × ℕ) → Type 0
@@ -58,10 +61,28 @@ pub record AreLowered (before after : List ℕ) : Type 0 where
 abbrev pub IsLowAlong : List (ℕ × ℕ) → ℕ → ℕ → List ℕ → Type 0
 IsLowAlong notes from floor floors = (id : ℕ) → Leads notes from id → floor_of floors id ≤ floor
 
--- the store is sound, and has one link, one last list and one floor for each term
+-- no variable occurs in an id, free or bound
+abbrev pub IsClosed : State → ℕ → Type 0
+IsClosed s id = (part : ℕ) → Occurs s part id → term_at s part ≢ T.Free
+
+-- an id beside which it stands that no variable occurs in it
+abbrev pub IsFlagged : List Bool → ℕ → Type 0
+IsFlagged flags id = slice_index_or flags id false ≡ true
+
+-- a term is no variable, and all of its parts are flagged
+abbrev pub IsBuiltOfFlagged : List Bool → Term → Type 0
+IsBuiltOfFlagged flags t =
+    (t ≢ T.Free) × ((part : ℕ) → Contains (parts_of t) part → IsFlagged flags part)
+
+-- only such terms are flagged
+abbrev pub AreFlags : List Bool → List Term → Type 0
+AreFlags flags terms = (id : ℕ) → IsFlagged flags id →
+    IsBuiltOfFlagged flags (slice_index_or terms id T.Free)
+
+-- the store is sound, and has one link, one last list, one floor and one flag for each term
 pub record KeepsAll
-    (terms : List Term) (links lists : List (Option ℕ)) (floors : List ℕ) (notes : List (ℕ × ℕ)) :
-    Type 0 where
+    (terms : List Term) (links lists : List (Option ℕ)) (floors : List ℕ) (flags : List Bool)
+    (notes : List (ℕ × ℕ)) : Type 0 where
   pub sound : Keeps (record { terms = terms; notes = notes })
   pub each : length links ≡ length terms
   pub linked : AreLinks links notes
@@ -69,3 +90,5 @@ pub record KeepsAll
   pub last : AreLastLists lists terms
   pub measured : length floors ≡ length terms
   pub floored : AreFloors floors (record { terms = terms; notes = notes })
+  pub marked : length flags ≡ length terms
+  pub flagged : AreFlags flags terms

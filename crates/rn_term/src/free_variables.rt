@@ -10,7 +10,8 @@ use rn_value::NoMemory;
 use std::alloc::Global;
 
 impl Store {
-    /// Whether a free variable occurs in what an id names. It goes through each shared term once.
+    /// Whether a free variable occurs in what an id names. It goes through each shared term once, and
+    /// not at all where it is known that no variable stands in the term.
     pub fn occurs(&self, alloc: Global, var: usize, id: usize) -> Result<bool, NoMemory>
         requires free { IsFree self.now var }
         requires within { id < length self.now.terms }
@@ -20,9 +21,11 @@ impl Store {
         if end == var {
             return Ok(true);
         }
+        if self.is_closed(end) {
+            return Ok(false);
+        }
         match self.term(end) {
             Term::Free => Ok(false),
-            Term::Atom(_) => Ok(false),
             _ => self.has_sought(alloc, Some(var), end),
         }
     }

@@ -5,6 +5,7 @@
 //! values, one for each term, that fit its terms and its links.
 #![tactic(auto)]
 
+mod flags;
 mod free_variables;
 mod grounding;
 mod laws;

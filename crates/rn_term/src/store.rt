@@ -1,6 +1,6 @@
 //! The store: its terms, the links of its variables, and the trail by which bindings are undone.
 ghost use Rattle.std.specs.Prelude.{◌≡◌, ◌↔◌, ◌<◌, ◌≤◌, ◌++◌, ◌∷◌, [], length, IfOk, OnOk, OnErr};
-ghost use Rattle.std.specs.Prelude.{◌⊎◌, ◌≢◌};
+ghost use Rattle.std.specs.Prelude.{◌⊎◌, ◌≢◌, IsTrue};
 ghost use Rattle.std.specs.Prelude.{ℕ, List, Some, None, slice_index_or, take};
 ghost use Rattle.rn_term.specs.declared.term.Term.TheVariants as T;
 ghost use Rattle.rn_term.specs.declared.term.Mark.{Mark};
@@ -9,9 +9,10 @@ ghost use Rattle.rn_term.specs.Stores.{link_of, term_at, Leads, IsBuiltBelow, wi
 ghost use Rattle.rn_term.specs.Assignments.{Satisfies, value_at, HasListTail, MayBeOne, Keeps};
 ghost use Rattle.rn_term.specs.Occurring.{IsFree};
 ghost use Rattle.rn_term.specs.Kept.{AreFresh, AreLinks, floor_of, last_cons, or_cons};
-ghost use Rattle.rn_term.specs.Kept.{AreLowered, HasNoListBelow, IsLowAlong};
+ghost use Rattle.rn_term.specs.Kept.{AreLowered, HasNoListBelow, IsClosed, IsLowAlong};
 ghost use Rattle.rn_term.specs.Undoing.{Rolled, mark_of, IsNotLater, LeavesEarlier};
 
+use crate::flags::{is_built_of_flagged, is_flagged};
 use crate::term::{Mark, Term};
 use rn_value::NoMemory;
 use std::alloc::Global;
@@ -27,6 +28,7 @@ pub struct Store {
     links: Vec<Option<usize>>,
     lists: Vec<Option<usize>>,
     floors: Vec<usize>,
+    flags: Vec<bool>,
     weights: Vec<usize>,
     notes: Vec<(usize, usize)>,
 }
@@ -45,7 +47,7 @@ impl Model for Store {
     ghost use Rattle.rn_term.specs.Kept.{KeepsAll};
 
     ghost invariant = { λ s. KeepsAll s.terms.items s.links.items s.lists.items s.floors.items
-        s.notes.items };
+        s.flags.items s.notes.items };
 }
 
 impl Store {
@@ -58,6 +60,7 @@ impl Store {
             links: Vec::new(alloc),
             lists: Vec::new(alloc),
             floors: Vec::new(alloc),
+            flags: Vec::new(alloc),
             weights: Vec::new(alloc),
             notes: Vec::new(alloc),
         }
@@ -118,6 +121,13 @@ impl Store {
         self.floors[var]
     }
 
+    /// Whether it is known that no variable occurs in a term, free or bound.
+    pub(crate) fn is_closed(&self, id: usize) -> bool
+        ensures closed { IsTrue result → IsClosed self.now id }
+    {
+        is_flagged(&self.flags, id)
+    }
+
     /// The last list before a tail where this term is added.
     fn last_with(&self, term: &Term) -> Option<usize>
         ensures { result ≡ or_cons term.now (length self.now.terms)
@@ -154,10 +164,12 @@ impl Store {
     {
         let id = self.terms.len();
         let last = self.last_with(&term);
+        let flag = is_built_of_flagged(&self.flags, &term);
         self.terms.reserve(1)?;
         self.links.reserve(1)?;
         self.lists.reserve(1)?;
         self.floors.reserve(1)?;
+        self.flags.reserve(1)?;
         self.weights.reserve(1)?;
         self.floors.push(NO_LIST)?;
         lower_for(
@@ -170,6 +182,7 @@ impl Store {
         self.terms.push(term)?;
         self.links.push(None)?;
         self.lists.push(last)?;
+        self.flags.push(flag)?;
         self.weights.push(0)?;
         Ok(id)
     }
@@ -265,6 +278,7 @@ impl Store {
         self.links.truncate(to.size);
         self.lists.truncate(to.size);
         self.floors.truncate(to.size);
+        self.flags.truncate(to.size);
         self.weights.truncate(to.size);
     }
 }

@@ -13,13 +13,16 @@ invariant_of-self-2 c =
       c.in_ok-push-2.ensures.items,
       c.in_ok-push-3.ensures.items,
       c.in_ok-push-4.ensures.items,
+      c.in_ok-push-5.ensures.items,
       c.in_ok-reserve.ensures.items,
       c.in_ok-reserve-2.ensures.items,
       c.in_ok-reserve-3.ensures.items,
+      c.in_ok-reserve-5.ensures.items,
     )
     (kept_term c.self.inside.terms.items c.self.inside.links.items c.self.inside.lists.items
-    c.self.inside.floors.items c.self.inside.notes.items c.args.term c.last_with-last.result
-    c.lower_for.new.floors.items NO_LIST c.self.invariant
+    c.self.inside.floors.items c.self.inside.flags.items c.self.inside.notes.items c.args.term
+    c.last_with-last.result c.lower_for.new.floors.items NO_LIST
+    c.is_built_of_flagged-flag.result c.self.invariant
     (c.last_with-last.ensures ∙ ap
     (λ s. or_cons c.args.term (length s.terms) (last_cons s.terms (length s.terms)))
     (sym c.self.view_is))
@@ -30,4 +33,5 @@ invariant_of-self-2 c =
     c.lower_for.ensures.lowered)
     (subst (λ ts. (ids : List ℕ) (tail : ℕ) → c.args.term ≡ T.Cons ids tail →
     IsLowAlong c.self.inside.notes.items tail (length ts) c.lower_for.new.floors.items)
-    c.in_ok-reserve.ensures.items c.lower_for.ensures.along))
+    c.in_ok-reserve.ensures.items c.lower_for.ensures.along)
+    c.is_built_of_flagged-flag.ensures.flagged)

@@ -12,7 +12,8 @@ pub invariant_of-self-2 : goal.invariant_of-self-2
 invariant_of-self-2 c =
     rw (c.in_ok-push.ensures.items, c.in_ok-reserve.ensures.items)
     (kept_note c.self.inside.terms.items c.self.inside.links.items
-    c.self.inside.lists.items c.self.inside.floors.items c.self.inside.notes.items c.args.var
+    c.self.inside.lists.items c.self.inside.floors.items c.self.inside.flags.items
+    c.self.inside.notes.items c.args.var
     c.args.to c.lower_along.new.floors.items c.self.invariant
     (subst (λ s. IsNote s.terms s.notes (c.args.var, c.args.to)) (sym c.self.view_is)
     (record {

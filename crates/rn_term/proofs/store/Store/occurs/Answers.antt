@@ -2,7 +2,7 @@ use Rattle.std.proofs.Common.{refl, sym, ◌∙◌, ap, subst}
 use Rattle.std.specs.Prelude.{Some, IsTrue, ◌↔◌}
 use Rattle.std.proofs.lemmas.Result.{IfOk-weaker}
 use Rattle.rn_term.specs.Occurring.{Occurs, HasSought, parts_of}
-use Rattle.rn_term.proofs.Occurrences.{leads_occurs}
+use Rattle.rn_term.proofs.Occurrences.{leads_occurs, occurs_at_end}
 use Rattle.rn_term.proofs.ReadingLemmas.{no_truth}
 use Rattle.rn_term.proofs.Walks.{none_in_leaf, sought_occurs}
 use Rattle.rn_term.proofs.store.Store.occurs.Goals as goal
@@ -29,15 +29,15 @@ returns-in-Free c = record {
   );
 }
 
-pub returns-in-Atom : goal.returns-in-Atom
-returns-in-Atom c = record {
+pub returns-then-is_closed : goal.returns-then-is_closed
+returns-then-is_closed c = record {
   exact = (
     λ yes. absurd (no_truth yes),
     λ is.
-        absurd (none_in_leaf c.args.self.now c.follow-end.ensures.kept c.args.var c.args.id
-        c.follow-end.result c.requires.free.unbound c.follow-end.ensures.leads
-        c.follow-end.ensures.end c.if-end-var.false
-        (ap parts_of (sym c.term.ensures ∙ c.in-Atom.is)) is),
+        absurd (c.is_closed.ensures.closed c.if-is_closed.true c.args.var
+        (occurs_at_end c.args.self.now c.follow-end.ensures.kept c.args.var c.args.id
+        c.follow-end.result c.requires.free.unbound c.follow-end.ensures.leads is)
+        c.requires.free.variable),
   );
 }
 

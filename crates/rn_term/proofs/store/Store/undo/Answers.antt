@@ -8,9 +8,9 @@ use Rattle.rn_term.proofs.store.Store.undo.Goals as goal
 
 pub invariant_of-self : goal.invariant_of-self
 invariant_of-self c =
-    rw (c.truncate.ensures.items, c.truncate-2.ensures.items, c.truncate-3.ensures.items, c.truncate-4.ensures.items)
+    rw (c.truncate.ensures.items, c.truncate-2.ensures.items, c.truncate-3.ensures.items, c.truncate-4.ensures.items, c.truncate-5.ensures.items)
     (kept_prefix c.self.inside.terms.items c.take_back.new.links.items c.self.inside.lists.items
-    c.self.inside.floors.items c.take_back.new.notes.items
+    c.self.inside.floors.items c.self.inside.flags.items c.take_back.new.notes.items
     c.args.to.now.size
     (subst
     (λ ns. Keeps
@@ -24,4 +24,5 @@ invariant_of-self c =
     (subst (λ ns. AreFloors c.self.inside.floors.items
     (record { terms = c.self.inside.terms.items; notes = ns })) (sym c.take_back.ensures.notes)
     (floors_of_fewer_notes c.self.inside.terms.items c.self.inside.notes.items
-    c.self.inside.floors.items c.args.to.now.notes c.self.invariant.floored)))
+    c.self.inside.floors.items c.args.to.now.notes c.self.invariant.floored))
+    c.self.invariant.marked c.self.invariant.flagged)
