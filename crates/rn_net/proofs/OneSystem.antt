@@ -1,11 +1,10 @@
 -- Tokens are one system at most, and a text spells one at most.
-use Rattle.std.proofs.Common.{◌≡◌, ℕ, ◌⊎◌, inl, inr, List, [], ◌∷◌, ◌++◌, refl, sym, ◌∙◌, ap, subst, append_assoc, arith}
+use Rattle.std.proofs.Common.{◌≡◌, inl, inr, List, [], ◌∷◌, ◌++◌, refl, sym, ◌∙◌, ap, subst, arith}
 use Rattle.rn_notation.specs.declared.token.Token.{Token}
 use Rattle.rn_notation.specs.declared.token.TokenKind.{TokenKind}
-use Rattle.rn_notation.specs.declared.token.Spot.{Spot}
-use Rattle.rn_notation.specs.Laws.{OneReading, NoFaultInTokens}
+use Rattle.rn_notation.specs.Laws.{OneReading}
 use Rattle.rn_inscript.specs.Laws.{OneInscription}
-use Rattle.rn_inscript.specs.Signs.{close_brace, open_brace, open_paren, close_paren, colon, comma}
+use Rattle.rn_inscript.specs.Signs.{close_brace, open_brace, open_paren, close_paren, colon}
 use Rattle.rn_inscript.specs.Inscriptions.{name_at}
 use Rattle.rn_inscript.specs.declared.inscriptions.PName.{PName}
 use Rattle.rn_inscript.specs.declared.inscriptions.PInscription.{PInscription}
@@ -14,22 +13,18 @@ use Rattle.rn_net.specs.declared.kinds.PKind.{PKind}
 use Rattle.rn_net.specs.declared.kinds.PKindForm.TheVariants as K
 use Rattle.rn_net.specs.declared.plain.Plain.{Plain}
 use Rattle.rn_net.specs.declared.plain.PNet.{PNet}
-use Rattle.rn_net.specs.declared.plain.PPlace.{PPlace}
 use Rattle.rn_net.specs.declared.part.Part.{Part}
 use Rattle.rn_net.specs.declared.part.Item.{Item}
 use Rattle.rn_net.specs.Words.{semicolon, net_word, trans_word, var_word, place_word, channel_word}
 use Rattle.rn_net.specs.Kinds.{IsKind, AreListed, kind_at}
-use Rattle.rn_net.specs.Nets.{IsChannel, AreMoreNames, AreVars, AreInitial, IsPlace, AreInscriptions, IsTransition, AreParts, IsNet, AreItems, IsSystem, net_of, plain_of}
+use Rattle.rn_net.specs.Nets.{IsChannel, AreMoreNames, AreVars, AreInitial, IsPlace, AreInscriptions, AreParts, AreItems, IsSystem}
 use Rattle.rn_net.specs.Lists.{IsInscriptionUpTo}
 use Rattle.rn_net.specs.Parts.{IsPart, IsItem, IsInitialUpTo, AreNames, with_part, with_item}
-use Rattle.rn_net.specs.declared.refusal.Refusal.{Refusal}
-use Rattle.rn_net.specs.declared.refusal.Refusal.TheVariants as R
-use Rattle.rn_net.specs.Refusals.{IsStopped, AreTokensOf, IsRefused}
 use Rattle.rn_net.specs.Laws.{OneSystem, OneSpelled}
 use Rattle.rn_net.proofs.Sorts.{tell}
 use Rattle.rn_net.proofs.Rows.{row_up_to}
 use Rattle.rn_net.proofs.DeclarationPhrases.{channel_sort, channel_open, channel_kinds, channel_end, channel-only, name_row, vars_sort, vars_names, vars_kind, vars_end, vars-only, PlaceOn, place_on, place_kind, place_end, place_sort, place-only}
-use Rattle.rn_net.proofs.NetPhrases.{inscriptions-apart, inscriptions_sort, transition_inside, transition_open, transition_sort, transition-only, parts-split, parts-apart, part-begins, net_inside, net_open, net_sort, net-only, item-begins}
+use Rattle.rn_net.proofs.NetPhrases.{inscriptions-apart, inscriptions_sort, transition_inside, transition_open, transition_sort, transition-only, parts-split, parts-apart, net_inside, net_open, net_sort, net-only, item-begins}
 use Rattle.rn_net.proofs.Systems.{items-split}
 use Rattle.rn_net.proofs.InscriptionReading.{one_up_to_semicolon}
 use Rattle.rn_net.proofs.OnePhrase.{Same, One, differ, NoComma, OneRow, one_done, one_kind_then, one_name_then, one_then, one_up_to, one_kind, one_listed, one-constants}

@@ -101,39 +101,22 @@ compare_bytes AtMost = codes "<="
 compare_bytes Greater = codes ">"
 compare_bytes AtLeast = codes ">="
 
-compare_stands : (kind : CompareKind) → Spaced (compare_sign kind) (compare_bytes kind)
+-- the sign of a comparison: it stands, it is written so, it is the comparison's, and it is no operand
+abbrev CompareSign : CompareKind → Type 0
+CompareSign kind =
+    Spaced (compare_sign kind) (compare_bytes kind)
+    × (bytes_in (spaced (compare_sign kind) (compare_bytes kind)) ≡ comparison kind)
+    × (compare_of (Sign (compare_sign kind)) ≡ Some kind)
+    × (is_plain (Sign (compare_sign kind)) ≡ true)
+
+sign_of : (kind : CompareKind) → CompareSign kind
 unfolding signs
-compare_stands Same rest = IsToken.sign refl refl refl
-compare_stands Differs rest = IsToken.sign refl refl refl
-compare_stands Less rest = IsToken.sign refl refl refl
-compare_stands AtMost rest = IsToken.sign refl refl refl
-compare_stands Greater rest = IsToken.sign refl refl refl
-compare_stands AtLeast rest = IsToken.sign refl refl refl
-
-compare_text : (kind : CompareKind) →
-    bytes_in (spaced (compare_sign kind) (compare_bytes kind)) ≡ comparison kind
-compare_text Same = refl
-compare_text Differs = refl
-compare_text Less = refl
-compare_text AtMost = refl
-compare_text Greater = refl
-compare_text AtLeast = refl
-
-compare_is : (kind : CompareKind) → compare_of (Sign (compare_sign kind)) ≡ Some kind
-compare_is Same = refl
-compare_is Differs = refl
-compare_is Less = refl
-compare_is AtMost = refl
-compare_is Greater = refl
-compare_is AtLeast = refl
-
-compare_plain : (kind : CompareKind) → is_plain (Sign (compare_sign kind)) ≡ true
-compare_plain Same = refl
-compare_plain Differs = refl
-compare_plain Less = refl
-compare_plain AtMost = refl
-compare_plain Greater = refl
-compare_plain AtLeast = refl
+sign_of Same = (λ rest. IsToken.sign refl refl refl, refl, refl, refl)
+sign_of Differs = (λ rest. IsToken.sign refl refl refl, refl, refl, refl)
+sign_of Less = (λ rest. IsToken.sign refl refl refl, refl, refl, refl)
+sign_of AtMost = (λ rest. IsToken.sign refl refl refl, refl, refl, refl)
+sign_of Greater = (λ rest. IsToken.sign refl refl refl, refl, refl, refl)
+sign_of AtLeast = (λ rest. IsToken.sign refl refl refl, refl, refl, refl)
 
 compare_number : (k : ℕ) (kind : CompareKind) → compare_of (Sign k) ≡ Some kind →
     k ≡ compare_sign kind
@@ -165,13 +148,13 @@ compare_back v kind is a b ts us ending ra rb =
       tree = both (both ra.tree sign) rb.tree;
       spells =
           ap (λ t. t ++ bytes_in sign ++ bytes_in rb.tree) ra.spells
-          ∙ ap (λ t. expr_text a ++ t ++ bytes_in rb.tree) (compare_text kind)
+          ∙ ap (λ t. expr_text a ++ t ++ bytes_in rb.tree) (sign_of kind).1
           ∙ ap (λ t. (expr_text a ++ comparison kind) ++ t) rb.spells;
       stands = λ rest h.
           let right = bytes_in rb.tree ++ rest in (
             (
               ra.stands (bytes_in sign ++ right) refl,
-              spaced_stands (compare_sign kind) (compare_bytes kind) right (compare_stands kind),
+              spaced_stands (compare_sign kind) (compare_bytes kind) right (sign_of kind).0,
             ),
             rb.stands rest h,
           );
@@ -183,7 +166,7 @@ compare_back v kind is a b ts us ending ra rb =
           let n = rb.means after rest in
           let m = ra.means before (t ∷ right) in (
             S.Compare kind m.0 n.0,
-            IsSimple.compare m.1 (compare_is kind) n.1,
+            IsSimple.compare m.1 (sign_of kind).2 n.1,
             bare-Compare kind m.0 n.0 ∙ ap (λ a. S.Compare kind a (expr_unplaced n.0)) m.2
                 ∙ ap (λ b. S.Compare kind (expr_unplaced a) b) n.2 ∙ sym (bare-Compare kind a b),
           );
@@ -193,7 +176,7 @@ compare_back v kind is a b ts us ending ra rb =
           let t = token_after ((before ++ bytes_in ra.tree) ++ codes " ")
           (Sign (compare_sign kind)) (compare_bytes kind) in
           ra.beside before q (t ∷ right)
-          (LeftOut.joining (sym here) (ap is_plain here ∙ compare_plain kind) (rb.beside after q xs x));
+          (LeftOut.joining (sym here) (ap is_plain here ∙ (sign_of kind).3) (rb.beside after q xs x));
     })
 
 bare_back : (a : PExpr) (ts ending : List Token) → Alone a ts ending →

@@ -80,46 +80,24 @@ arc_bytes FlexOutput = codes "flexout"
 arc_bytes Inhibit = codes "inhibit"
 arc_bytes Clear = codes "clear"
 
-arc_stands : (kind : ArcKind) → WordSpaced (arc_number kind) (arc_bytes kind)
+-- the word of an arc: it stands, it is written so, it is the arc's, and it is no operand
+abbrev ArcWord : ArcKind → Type 0
+ArcWord kind =
+    WordSpaced (arc_number kind) (arc_bytes kind)
+    × (bytes_in (word_tree (arc_number kind) (arc_bytes kind)) ≡ arc_word kind)
+    × (arc_of (Word (arc_number kind)) ≡ Some kind)
+    × (is_plain (Word (arc_number kind)) ≡ true)
+
+word_of_arc : (kind : ArcKind) → ArcWord kind
 unfolding reserved_words
-arc_stands Input rest = IsToken.word refl refl refl
-arc_stands Output rest = IsToken.word refl refl refl
-arc_stands Test rest = IsToken.word refl refl refl
-arc_stands Reserve rest = IsToken.word refl refl refl
-arc_stands FlexInput rest = IsToken.word refl refl refl
-arc_stands FlexOutput rest = IsToken.word refl refl refl
-arc_stands Inhibit rest = IsToken.word refl refl refl
-arc_stands Clear rest = IsToken.word refl refl refl
-
-arc_text : (kind : ArcKind) → bytes_in (word_tree (arc_number kind) (arc_bytes kind)) ≡ arc_word kind
-arc_text Input = refl
-arc_text Output = refl
-arc_text Test = refl
-arc_text Reserve = refl
-arc_text FlexInput = refl
-arc_text FlexOutput = refl
-arc_text Inhibit = refl
-arc_text Clear = refl
-
-arc_is : (kind : ArcKind) → arc_of (Word (arc_number kind)) ≡ Some kind
-arc_is Input = refl
-arc_is Output = refl
-arc_is Test = refl
-arc_is Reserve = refl
-arc_is FlexInput = refl
-arc_is FlexOutput = refl
-arc_is Inhibit = refl
-arc_is Clear = refl
-
-arc_plain : (kind : ArcKind) → is_plain (Word (arc_number kind)) ≡ true
-arc_plain Input = refl
-arc_plain Output = refl
-arc_plain Test = refl
-arc_plain Reserve = refl
-arc_plain FlexInput = refl
-arc_plain FlexOutput = refl
-arc_plain Inhibit = refl
-arc_plain Clear = refl
+word_of_arc Input = (λ rest. IsToken.word refl refl refl, refl, refl, refl)
+word_of_arc Output = (λ rest. IsToken.word refl refl refl, refl, refl, refl)
+word_of_arc Test = (λ rest. IsToken.word refl refl refl, refl, refl, refl)
+word_of_arc Reserve = (λ rest. IsToken.word refl refl refl, refl, refl, refl)
+word_of_arc FlexInput = (λ rest. IsToken.word refl refl refl, refl, refl, refl)
+word_of_arc FlexOutput = (λ rest. IsToken.word refl refl refl, refl, refl, refl)
+word_of_arc Inhibit = (λ rest. IsToken.word refl refl refl, refl, refl, refl)
+word_of_arc Clear = (λ rest. IsToken.word refl refl refl, refl, refl, refl)
 
 number_of_arc : (k : ℕ) (kind : ArcKind) → arc_of (Word k) ≡ Some kind → k ≡ arc_number kind
 number_of_arc k Input h = let e : k ≡ 5 = grind (arith, nat_tests, common_steps) in e
@@ -203,12 +181,12 @@ arc_back t u kind p e ts ending arc here is r =
     let first = kind_of_arc t.kind kind arc in record {
       tree = both (both word (name_tree p)) (both colon_tree r.tree);
       spells =
-          ap (λ t. (t ++ p) ++ (codes ": " ++ bytes_in r.tree)) (arc_text kind)
+          ap (λ t. (t ++ p) ++ (codes ": " ++ bytes_in r.tree)) (word_of_arc kind).1
           ∙ ap (λ t. (arc_word kind ++ p) ++ (codes ": " ++ t)) r.spells;
       stands = λ rest h.
           let after = (codes ": " ++ bytes_in r.tree) ++ rest in (
             (
-              word_stands (arc_number kind) (arc_bytes kind) (p ++ after) (arc_stands kind),
+              word_stands (arc_number kind) (arc_bytes kind) (p ++ after) (word_of_arc kind).0,
               name_stands p after is refl,
             ),
             (colon_space_stands (bytes_in r.tree ++ rest), r.stands rest h),
@@ -217,11 +195,11 @@ arc_back t u kind p e ts ending arc here is r =
           let v = token_after (before ++ bytes_in word) (Name p) p in
           let m = r.means ((before ++ (bytes_in word ++ p)) ++ codes ": ") rest in (
             I.Arc kind (name_at v.spot p) (Some m.0),
-            IsInscribed.arc (arc_is kind) refl refl m.1,
+            IsInscribed.arc (word_of_arc kind).2 refl refl m.1,
             ap (λ e. I.Arc kind (name_unplaced (name_at u.spot p)) (Some e)) m.2,
           );
       beside = λ before q us x.
-          LeftOut.leading (sym first) (ap is_plain first ∙ arc_plain kind)
+          LeftOut.leading (sym first) (ap is_plain first ∙ (word_of_arc kind).3)
           (LeftOut.operand (sym here) (ap is_operand here)
           (r.beside (before ++ (bytes_in word ++ p)) q us x));
     }
@@ -233,10 +211,10 @@ bare_arc_back t u kind p ending none arc here is =
     let word = word_tree (arc_number kind) (arc_bytes kind) in
     let first = kind_of_arc t.kind kind arc in record {
       tree = both (both word (name_tree p)) nothing;
-      spells = ap (λ t. (t ++ p) ++ []) (arc_text kind);
+      spells = ap (λ t. (t ++ p) ++ []) (word_of_arc kind).1;
       stands = λ rest h. (
         (
-          word_stands (arc_number kind) (arc_bytes kind) (p ++ rest) (arc_stands kind),
+          word_stands (arc_number kind) (arc_bytes kind) (p ++ rest) (word_of_arc kind).0,
           name_stands p rest is h,
         ),
         tt,
@@ -244,11 +222,11 @@ bare_arc_back t u kind p ending none arc here is =
       means = λ before rest.
           let v = token_after (before ++ bytes_in word) (Name p) p in (
             I.Arc kind (name_at v.spot p) (absent kind v.spot),
-            IsInscribed.plain_arc (arc_is kind) refl,
+            IsInscribed.plain_arc (word_of_arc kind).2 refl,
             ap (λ e. inscribed_unplaced (I.Arc kind (name_at u.spot p) e)) (none v.spot),
           );
       beside = λ before q us x.
-          LeftOut.leading (sym first) (ap is_plain first ∙ arc_plain kind)
+          LeftOut.leading (sym first) (ap is_plain first ∙ (word_of_arc kind).3)
           (LeftOut.operand (sym here) (ap is_operand here) x);
     }
 

@@ -64,42 +64,28 @@ op_bytes Mul = codes "*"
 op_bytes Div = codes "/"
 op_bytes Rem = codes "%"
 
-op_stands : (op : OpKind) → Spaced (op_sign op) (op_bytes op)
+-- the sign of an operator: it stands, it is written so, and it is no operand
+abbrev OpSign : OpKind → Type 0
+OpSign op =
+    Spaced (op_sign op) (op_bytes op)
+    × (bytes_in (spaced (op_sign op) (op_bytes op)) ≡ operator op)
+    × (is_plain (Sign (op_sign op)) ≡ true)
+
+sign_of_op : (op : OpKind) → OpSign op
 unfolding signs
-op_stands Add rest = IsToken.sign refl refl refl
-op_stands Sub rest = IsToken.sign refl refl refl
-op_stands Mul rest = IsToken.sign refl refl refl
-op_stands Div rest = IsToken.sign refl refl refl
-op_stands Rem rest = IsToken.sign refl refl refl
+sign_of_op Add = (λ rest. IsToken.sign refl refl refl, refl, refl)
+sign_of_op Sub = (λ rest. IsToken.sign refl refl refl, refl, refl)
+sign_of_op Mul = (λ rest. IsToken.sign refl refl refl, refl, refl)
+sign_of_op Div = (λ rest. IsToken.sign refl refl refl, refl, refl)
+sign_of_op Rem = (λ rest. IsToken.sign refl refl refl, refl, refl)
 
-op_text : (op : OpKind) → bytes_in (spaced (op_sign op) (op_bytes op)) ≡ operator op
-op_text Add = refl
-op_text Sub = refl
-op_text Mul = refl
-op_text Div = refl
-op_text Rem = refl
-
-op_plain : (op : OpKind) → is_plain (Sign (op_sign op)) ≡ true
-op_plain Add = refl
-op_plain Sub = refl
-op_plain Mul = refl
-op_plain Div = refl
-op_plain Rem = refl
-
--- the token of an operator, by what it is
-record IsOp (op : OpKind) (kind : TokenKind) (k : ℕ) : Type 0 where
-  pub sign : kind ≡ Sign (op_sign op)
-  pub binds : strength op ≡ k
+-- the token of an operator, by what it is, and how tightly it binds
+abbrev IsOp : OpKind → TokenKind → ℕ → Type 0
+IsOp op kind k = (kind ≡ Sign (op_sign op)) × (strength op ≡ k)
 
 plus_number : (k : ℕ) (op : OpKind) → plus_of (Sign k) ≡ Some op → IsOp op (Sign k) 1
-plus_number k Add h = record {
-  sign = ap Sign (let e : k ≡ 16 = grind (arith, nat_tests, common_steps) in e);
-  binds = refl;
-}
-plus_number k Sub h = record {
-  sign = ap Sign (let e : k ≡ 17 = grind (arith, nat_tests, common_steps) in e);
-  binds = refl;
-}
+plus_number k Add h = (ap Sign (let e : k ≡ 16 = grind (arith, nat_tests, common_steps) in e), refl)
+plus_number k Sub h = (ap Sign (let e : k ≡ 17 = grind (arith, nat_tests, common_steps) in e), refl)
 plus_number k Mul h = absurd (let no : ⊥ = grind (arith, nat_tests, common_steps) in no)
 plus_number k Div h = absurd (let no : ⊥ = grind (arith, nat_tests, common_steps) in no)
 plus_number k Rem h = absurd (let no : ⊥ = grind (arith, nat_tests, common_steps) in no)
@@ -112,18 +98,9 @@ plus_kind (Number n) op h = absurd (let no : ⊥ = cc in no)
 plus_kind (Text s) op h = absurd (let no : ⊥ = cc in no)
 
 times_number : (k : ℕ) (op : OpKind) → times_of (Sign k) ≡ Some op → IsOp op (Sign k) 2
-times_number k Mul h = record {
-  sign = ap Sign (let e : k ≡ 18 = grind (arith, nat_tests, common_steps) in e);
-  binds = refl;
-}
-times_number k Div h = record {
-  sign = ap Sign (let e : k ≡ 19 = grind (arith, nat_tests, common_steps) in e);
-  binds = refl;
-}
-times_number k Rem h = record {
-  sign = ap Sign (let e : k ≡ 20 = grind (arith, nat_tests, common_steps) in e);
-  binds = refl;
-}
+times_number k Mul h = (ap Sign (let e : k ≡ 18 = grind (arith, nat_tests, common_steps) in e), refl)
+times_number k Div h = (ap Sign (let e : k ≡ 19 = grind (arith, nat_tests, common_steps) in e), refl)
+times_number k Rem h = (ap Sign (let e : k ≡ 20 = grind (arith, nat_tests, common_steps) in e), refl)
 times_number k Add h = absurd (let no : ⊥ = grind (arith, nat_tests, common_steps) in no)
 times_number k Sub h = absurd (let no : ⊥ = grind (arith, nat_tests, common_steps) in no)
 
@@ -146,13 +123,13 @@ joined_reads X Y v op s a b ta tb ts us ending here more ra rb =
       tree = both (both ra.tree sign) rb.tree;
       spells =
           ap (λ t. t ++ bytes_in sign ++ bytes_in rb.tree) ra.spells
-          ∙ ap (λ t. ta ++ t ++ bytes_in rb.tree) (op_text op)
+          ∙ ap (λ t. ta ++ t ++ bytes_in rb.tree) (sign_of_op op).1
           ∙ ap (λ t. (ta ++ operator op) ++ t) rb.spells;
       stands = λ rest h.
           let right = bytes_in rb.tree ++ rest in (
             (
               ra.stands (bytes_in sign ++ right) refl,
-              spaced_stands (op_sign op) (op_bytes op) right (op_stands op),
+              spaced_stands (op_sign op) (op_bytes op) right (sign_of_op op).0,
             ),
             rb.stands rest h,
           );
@@ -173,7 +150,7 @@ joined_reads X Y v op s a b ta tb ts us ending here more ra rb =
           let right = tokens_in after rb.tree xs in
           let t = token_after ((before ++ bytes_in ra.tree) ++ codes " ") (Sign (op_sign op)) (op_bytes op) in
           ra.beside before q (t ∷ right)
-          (LeftOut.joining (sym here) (ap is_plain here ∙ op_plain op) (rb.beside after q xs x));
+          (LeftOut.joining (sym here) (ap is_plain here ∙ (sign_of_op op).2) (rb.beside after q xs x));
     }
 
 -- the text of an operation at each strength, where that of its operator is known
@@ -194,10 +171,10 @@ sum_back v op plus s a b ts us ending back next =
     let is = plus_kind v.kind op plus in
     let e = at_spot s (F.Op op a b) in
     let text = operand_text a 1 ++ operator op ++ operand_text b 2 in
-    let at = at_strength op 1 is.binds s a b in
+    let at = at_strength op 1 is.1 s a b in
     let r = joined_reads IsExpr IsProduct v op s a b (operand_text a 1) (operand_text b 2) ts us ending
-    is.sign
-    (λ t ts us rest c d h x y. sum_more x (ap plus_of (h ∙ sym is.sign) ∙ plus) y) back.sum next.product in
+    is.0
+    (λ t ts us rest c d h x y. sum_more x (ap plus_of (h ∙ sym is.0) ∙ plus) y) back.sum next.product in
     record {
       alone = as_text IsExpr e text (operand_text e 0) ts ending (at 0) r;
       sum = as_text IsExpr e text (operand_text e 1) ts ending (at 1) r;
@@ -221,10 +198,10 @@ times_back v op times s a b ts us ending back next =
     let is = times_kind v.kind op times in
     let e = at_spot s (F.Op op a b) in
     let text = operand_text a 2 ++ operator op ++ operand_text b 3 in
-    let at = at_strength op 2 is.binds s a b in
+    let at = at_strength op 2 is.1 s a b in
     let r = joined_reads IsProduct IsUnary v op s a b (operand_text a 2) (operand_text b 3) ts us ending
-    is.sign
-    (λ t ts us rest c d h x y. product_more x (ap times_of (h ∙ sym is.sign) ∙ times) y) back.product next.unary in
+    is.0
+    (λ t ts us rest c d h x y. product_more x (ap times_of (h ∙ sym is.0) ∙ times) y) back.product next.unary in
     let x = expr_of e text ts ending r in
     record {
       alone = as_text IsExpr e text (operand_text e 0) ts ending (at 0) x;
