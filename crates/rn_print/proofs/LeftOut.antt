@@ -1,5 +1,6 @@
 -- Tokens of inscriptions beside those of a text that has more parentheses: they open no level more.
 use Rattle.std.proofs.Common.{◌≡◌, ℕ, ◌+◌, ◌≤◌, Bool, true, false, not, ◌&&◌, ◌||◌, List, [], ◌∷◌, length, drop, ◌⊎◌, inl, inr, refl, sym, ap, ◌∙◌, subst, arith, nat_eq, nat_le, if◌then◌else◌}
+use Rattle.std.proofs.Math.Bool.{and-false, or-false}
 use Rattle.std.proofs.lemmas.Bool.Decides.{nat_tests}
 use Rattle.std.proofs.lemmas.Grind.{common_steps}
 use Rattle.rn_notation.specs.declared.token.Token.{Token}
@@ -194,13 +195,9 @@ opening_kind (Sign k) L o h =
     let no_operator : is_operator (Sign k) ≡ false = grind (arith, nat_tests, common_steps) in
     record {
       next = rw (h, no_end, no_operator) refl;
-      far = rw (h, no_operator) (plain_or (nat_le 64 (length L)));
+      far = rw (h, no_operator) (or-false (nat_le 64 (length L)));
       goes_on = grind (arith, nat_tests, common_steps);
     }
-  where
-    plain_or : (b : Bool) → (b || false) ≡ b
-    plain_or true = refl
-    plain_or false = refl
 opening_kind (Word k) L o h = absurd (let no : ⊥ = cc in no)
 opening_kind (Name s) L o h = absurd (let no : ⊥ = cc in no)
 opening_kind (Number n) L o h = absurd (let no : ⊥ = cc in no)
@@ -277,11 +274,7 @@ prefixed L o is = rw (is.no_opening, is.no_closing, is.no_end) refl
 infixed : {kind : TokenKind} (L : List Level) (o : ℕ) → Plain kind →
     after_token (ended L o) kind ≡ ready (without_minuses L) (if is_operator kind then o + 1 else o)
 infixed {kind = kind} L o is =
-    rw (is.no_opening, is.no_closing, is.no_end, is.no_paren, none_alike (is_minus kind)) refl
-  where
-    none_alike : (b : Bool) → (b && false) ≡ false
-    none_alike true = refl
-    none_alike false = refl
+    rw (is.no_opening, is.no_closing, is.no_end, is.no_paren, and-false (is_minus kind)) refl
 
 closed_ready : (kind : TokenKind) (L : List Level) (o : ℕ) → closes kind ≡ true →
     after_token (ready (bracket ∷ L) o) kind ≡ ended L o

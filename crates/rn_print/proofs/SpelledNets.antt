@@ -1,7 +1,8 @@
 -- Where some tokens stand for a declaration, a net or a system, its text is read back.
-use Rattle.std.proofs.Common.{◌≡◌, ℕ, ◌≤◌, Bool, true, false, ◌&&◌, ◌||◌, List, [], ◌∷◌, ◌++◌, map, refl, sym, ap, ◌∙◌, subst, append_assoc, arith}
+use Rattle.std.proofs.Common.{◌≡◌, ℕ, ◌≤◌, false, List, [], ◌∷◌, ◌++◌, map, refl, sym, ap, ◌∙◌, subst, append_assoc, arith}
 use Rattle.std.specs.Prelude.{codes, Some}
 use Rattle.std.specs.List.{AllByRecursion}
+use Rattle.std.proofs.Math.Bool.{and-false}
 use Rattle.std.proofs.lemmas.Bool.Decides.{nat_tests}
 use Rattle.std.proofs.lemmas.Grind.{common_steps}
 use Rattle.std.proofs.lemmas.List.{append-nil}
@@ -377,12 +378,6 @@ goes_on kind h =
     let e : after (inscribing at_first) kind ≡ inscribing (after_token at_first kind) = rw h.1 refl in
     e ∙ sym h.0
 
-none_far : (p q : Bool) → ((p && false) || (q && false)) ≡ false
-none_far true true = refl
-none_far true false = refl
-none_far false true = refl
-none_far false false = refl
-
 -- the limits of a statement that is an inscription are those of the inscription
 enters : {ts rest : List Token} {form : PInscribed} → IsInscribed ts form rest →
     IsShallow between ts → IsShallow (inscribing at_first) ts
@@ -391,7 +386,7 @@ enters x h =
     let kind = b.0.kind in
     let here = subst (IsShallow between) b.2 h in
     subst (IsShallow (inscribing at_first)) (sym b.2) (
-      none_far (opens_level at_first kind) (is_operator kind),
+      rw (and-false (opens_level at_first kind), and-false (is_operator kind)) refl,
       subst (λ r. IsShallow r b.1) (sym (goes_on kind b.3)) here.1,
     )
 

@@ -37,4 +37,5 @@ WhatIsReadIsSame = (plain q : Plain) → IsSpelled plain → Spells (canonical_t
 -- for no reason
 abbrev pub TextsAreNotRefused : Type 0
 TextsAreNotRefused = (plain : Plain) (refusal : Refusal) → IsSpelled plain →
-    length (canonical_text plain) ≤ longest_net_text → IsRefused (canonical_text plain) refusal → ⊥
+    length (canonical_text plain) ≤ longest_net_text →
+    IsRefused (canonical_text plain) refusal → ⊥
