@@ -6,5 +6,7 @@ pub mod Following
 pub mod Items
 pub mod Known
 pub mod Made
+pub mod Narrowed
 pub mod Offered
 pub mod OneBinding
+pub mod Takes

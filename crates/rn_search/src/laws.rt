@@ -11,6 +11,8 @@ ghost use Rattle.rn_search.specs.Missing.{NoneLeadsNowhere};
 ghost use Rattle.rn_search.specs.Ending.{RightByMore};
 ghost use Rattle.rn_search.specs.Making.{ForcedAreMade, MadeByMore};
 ghost use Rattle.rn_search.specs.Room.{RoomFalls};
+ghost use Rattle.rn_search.specs.Narrowing.{KnownTokenIsIt, KnownFirstPart};
+ghost use Rattle.rn_search.specs.Taking.{TakenAreThere};
 
 use rn_channel::calls_need_levels;
 
@@ -26,16 +28,25 @@ pub fn nothing_is_missed()
     ensures calls { CallsAreOffered }
 {}
 
-/// What leads to something can be satisfied, its nodes aren't too deep, and its guards and
-/// inhibitor arcs hold as soon as they are known. So a branch without one of these has nothing.
+/// What leads to something can be satisfied, its nodes aren't too deep, its guards and inhibitor
+/// arcs hold as soon as they are known, and what it takes is there as often. So a branch without
+/// one of these has nothing.
 pub fn what_may_be_cut()
     ensures solvable { LeadingIsSolvable }
     ensures room { NodesHaveRoom }
     ensures guards { KnownGuardsHold }
     ensures inhibitors { KnownInhibitorsHold }
+    ensures taken { TakenAreThere }
 {
     calls_need_levels();
 }
+
+/// Where the inscription of an arc, or its first part, is known, just the tokens that have that
+/// value lead on.
+pub fn tokens_are_narrowed()
+    ensures whole { KnownTokenIsIt }
+    ensures first { KnownFirstPart }
+{}
 
 /// It goes on with one alternative of a point alone, which is a decision, and follows fewer
 /// decisions too.
