@@ -45,12 +45,11 @@ use Rattle.rn_growing.proofs.Followers.{On, same_node, some_equal}
 use Rattle.rn_growing.proofs.SameUnknowns.{as_site, as_site-is}
 use Rattle.rn_growing.proofs.SoundItems.{one_hole}
 use Rattle.rn_search.specs.Missing.{IsKnown}
-use Rattle.rn_search.specs.Ending.{AreDone, IsRight, AreRight, IsMadeOf, MadeFollows, RightByMore}
+use Rattle.rn_search.specs.Ending.{AreDone, IsRight, AreRight, IsMadeOf, MadeFollows}
 use Rattle.rn_search.proofs.Items.{found_is_item, computed_is_item, inscription_stands}
 use Rattle.rn_search.proofs.Made.{entered_later}
 use Rattle.std.proofs.Common.{◌++◌}
-use Rattle.std.proofs.lemmas.List.Elements.{Contains-append_cases, Contains-append_left}
-use Rattle.rn_growing.proofs.Growth.{only_one}
+use Rattle.std.proofs.lemmas.List.Elements.{Contains-append_left}
 
 -- what has a value beside it is among the numbers
 beside_or : (x y : ℕ) (w v : Value) (rest : Option Value) (xs : List ℕ) (same : Bool) →
@@ -256,41 +255,23 @@ made_follows system ds b depth good turns done right_values (a, solves) shape ag
     follow_all system b ds
     (on_item system ds b depth good turns done right_values a solves shape agrees made)
 
-known_by_more : (system : System) (ds : List Decision) (d : Decision) (head : Head) (e : Expr)
-    (env : Env) → IsKnown system ds head e env → IsKnown system (ds ++ d ∷ []) head e env
-known_by_more system ds d head e env known = record {
+known_by_more : (system : System) (ds more : List Decision) (head : Head) (e : Expr)
+    (env : Env) → IsKnown system ds head e env → IsKnown system (ds ++ more) head e env
+known_by_more system ds more head e env known = record {
   this = known.this;
   step = known.step;
   vars = known.vars;
   forced = λ x occurs.
-      let v = known.forced x occurs in (
-        v.0,
-        v.1,
-        λ a solves. v.2 a
-            (λ e there. solves e (Contains-append_left ds (d ∷ []) e there)),
-      );
+      let v = known.forced x occurs in
+      (v.0, v.1, λ a solves. v.2 a (λ e there. solves e (Contains-append_left ds more e there)));
 }
 
-is_right_by_more : (system : System) (ds : List Decision) (d e : Decision) → IsRight system ds e →
-    IsRight system (ds ++ d ∷ []) e
-is_right_by_more system ds d (Computed head site way v) is =
-    let value = is.3 in (
-      is.0,
-      is.1,
-      is.2,
-      (
-        value.0,
-        known_by_more system ds d head is.0.form value.0 value.1,
-        value.2,
-      ),
-    )
-is_right_by_more system ds d (Entered head caller) is = tt
-is_right_by_more system ds d (Found head k v) is = tt
-
-pub right_by_more : RightByMore
-right_by_more system ds d all last e there =
-    elim (Contains-append_cases ds (d ∷ []) e there) as (λ _. IsRight system (ds ++ d ∷ []) e) [
-      | inl before ↦ is_right_by_more system ds d e (all e before)
-      | inr at_end ↦ is_right_by_more system ds d e
-          (subst (IsRight system ds) (only_one d e at_end) last)
-    ]
+-- a value that is right is so by more decisions as well
+pub right_by_more : (system : System) (ds more : List Decision) (d : Decision) →
+    IsRight system ds d → IsRight system (ds ++ more) d
+right_by_more system ds more (Computed head site way v) is =
+    let value = is.3 in
+    let known = known_by_more system ds more head is.0.form value.0 value.1 in
+    (is.0, is.1, is.2, (value.0, known, value.2))
+right_by_more system ds more (Entered head caller) is = tt
+right_by_more system ds more (Found head k v) is = tt

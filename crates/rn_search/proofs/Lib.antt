@@ -1,3 +1,4 @@
+pub mod Allowed
 pub mod Alternatives
 pub mod Built
 pub mod Ends
@@ -9,4 +10,5 @@ pub mod Made
 pub mod Narrowed
 pub mod Offered
 pub mod OneBinding
+pub mod Sound
 pub mod Takes

@@ -1,11 +1,11 @@
 -- Instances to which decisions force terms are made by nodes that were entered.
-use Rattle.std.proofs.Common.{◌≡◌, ℕ, ◌<◌, ◌≤◌, Bool, true, false, List, [], ◌∷◌, ◌++◌, length}
+use Rattle.std.proofs.Common.{◌≡◌, ℕ, ◌<◌, ◌≤◌, Bool, true, false, List, ◌++◌, length}
 use Rattle.std.proofs.Common.{take}
-use Rattle.std.proofs.Common.{refl, sym, ap, ◌∙◌, subst, inl, inr, arith}
+use Rattle.std.proofs.Common.{refl, sym, ap, ◌∙◌, subst, arith}
 use Rattle.std.specs.Prelude.{Option, Some, option_map, slice_get, Contains, nat_eq, nat_lt}
 use Rattle.std.specs.Cmp.Lexicographic.{pointwise}
 use Rattle.std.proofs.lemmas.Bool.Decides.{nat_tests}
-use Rattle.std.proofs.lemmas.List.Elements.{Contains-append_cases, Contains-append_left}
+use Rattle.std.proofs.lemmas.List.Elements.{Contains-append_left}
 use Rattle.std.proofs.lemmas.Option.{slice_get-get_or, slice_get_within}
 use Rattle.rn_items.proofs.Bools.{true_both}
 use Rattle.rn_value.specs.declared.value.InstRef.{InstRef}
@@ -31,9 +31,9 @@ use Rattle.rn_growing.specs.Decisions.{transition_in}
 use Rattle.rn_growing.specs.Equations.{EntryBrings, Brings, Solves, read_at}
 use Rattle.rn_growing.specs.Turns.{IsEntered, AreInTurn}
 use Rattle.rn_growing.proofs.Followers.{some_equal}
-use Rattle.rn_growing.proofs.Growth.{front_at, at_in, only_one}
+use Rattle.rn_growing.proofs.Growth.{front_at, at_in}
 use Rattle.rn_growing.proofs.SameUnknowns.{path_itself}
-use Rattle.rn_search.specs.Making.{makes, is_made, NamesMade, NameMade, ForcedAreMade, MadeByMore}
+use Rattle.rn_search.specs.Making.{makes, is_made, NamesMade, NameMade, ForcedAreMade}
 
 -- a node that was entered before was entered
 pub entered_later : (ds : List Decision) (k : ℕ) (head : Head) → IsEntered (take k ds) head →
@@ -170,23 +170,17 @@ forced_are_made system ds head site e i turns (a, solves) made entered forced =
     ∙ kept_is_only good (Value.Inst i)
     (some_equal (replaced (kept good) (Value.Inst i)) (Value.Inst i) same)
 
-inst_by_more : (system : System) (ds : List Decision) (d : Decision) (i : InstRef) →
-    is_made system ds i ≡ true → is_made system (ds ++ d ∷ []) i ≡ true
-inst_by_more system ds d (Old n) is = refl
-inst_by_more system ds d (New path j) is =
+inst_by_more : (system : System) (ds more : List Decision) (i : InstRef) →
+    is_made system ds i ≡ true → is_made system (ds ++ more) i ≡ true
+inst_by_more system ds more (Old n) is = refl
+inst_by_more system ds more (New path j) is =
     let one = any_contained (makes system path j) ds is in
-    contained_any (makes system path j) (ds ++ d ∷ []) one.0
-    (Contains-append_left ds (d ∷ []) one.0 one.1) one.2
+    contained_any (makes system path j) (ds ++ more) one.0
+    (Contains-append_left ds more one.0 one.1) one.2
 
-names_by_more : (system : System) (ds : List Decision) (d e : Decision) → NamesMade system ds e →
-    NamesMade system (ds ++ d ∷ []) e
-names_by_more system ds d (Entered head caller) is = inst_by_more system ds d head.inst is
-names_by_more system ds d (Found head k v) is = is
-names_by_more system ds d (Computed head site way v) is = is
-
-pub made_by_more : MadeByMore
-made_by_more system ds d made last e there =
-    elim (Contains-append_cases ds (d ∷ []) e there) as (λ _. NamesMade system (ds ++ d ∷ []) e) [
-      | inl before ↦ names_by_more system ds d e (made e before)
-      | inr at_end ↦ subst (NamesMade system (ds ++ d ∷ [])) (only_one d e at_end) last
-    ]
+-- what a decision names is made by more of them as well
+pub names_by_more : (system : System) (ds more : List Decision) (d : Decision) →
+    NamesMade system ds d → NamesMade system (ds ++ more) d
+names_by_more system ds more (Entered head caller) is = inst_by_more system ds more head.inst is
+names_by_more system ds more (Found head k v) is = is
+names_by_more system ds more (Computed head site way v) is = is

@@ -257,7 +257,8 @@ lists_are_offered sought ds b node k x leads at clear =
     (finding_leads sought ds b leads n.0 n.1 k x arc values head v.0 n.2 v.1.0)
 
 -- an operator application of a transition is one at some site
-at_site : (t : Transition) (k : ℕ) (hole : D.Site × Hole) → slice_get (holes_of t) k ≡ Some hole →
+pub at_site : (t : Transition) (k : ℕ) (hole : D.Site × Hole) → slice_get (holes_of t) k ≡ Some
+    hole →
     (e : Expr) × Contains (sites_of t) (hole.0, e) × Contains (holes_in e) hole.1
 at_site t k hole at =
     let flat = flat_source (λ s. map (λ (h : Hole). (s.0, h)) (holes_in s.1)) (sites_of t) hole

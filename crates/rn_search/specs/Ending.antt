@@ -100,11 +100,6 @@ IsRight system ds _ = ⊤
 abbrev pub AreRight : System → List Decision → Type 0
 AreRight system ds = (d : Decision) → Contains ds d → IsRight system ds d
 
--- It stays so after one more.
-abbrev pub RightByMore : Type 0
-RightByMore = (system : System) (ds : List Decision) (d : Decision) → AreRight system ds →
-    IsRight system ds d → AreRight system (ds ++ d ∷ [])
-
 -- A binding is made of what decisions say: its nodes, in ascending order of paths, are just those
 -- that were entered, and each variable has the value to which it is forced.
 pub record IsMadeOf (system : System) (ds : List Decision) (b : Binding) : Type 0 where

@@ -1,3 +1,4 @@
+pub mod Allowing
 pub mod Ending
 pub mod Making
 pub mod Missing
@@ -5,4 +6,5 @@ pub mod Narrowing
 pub mod Points
 pub mod Room
 pub mod Sought
+pub mod Standing
 pub mod Taking

@@ -1,6 +1,6 @@
 -- New instances that decisions name. Which node makes the instance on which a called transition
 -- occurs is known from the decisions alone.
-use Rattle.std.specs.Prelude.{ℕ, ℤ, ◌≡◌, Bool, true, false, ◌&&◌, List, [], ◌∷◌, ◌++◌}
+use Rattle.std.specs.Prelude.{ℕ, ℤ, ◌≡◌, Bool, true, false, ◌&&◌, List}
 use Rattle.std.specs.Prelude.{length, nat_eq, nat_lt, Contains}
 use Rattle.std.specs.List.{list_any}
 use Rattle.std.specs.Cmp.Lexicographic.{pointwise}
@@ -45,8 +45,3 @@ ForcedAreMade = (system : System) (ds : List Decision) (head : Head) (site : D.S
     (i : InstRef) → AreInTurn system ds → IsSolvable system ds → NameMade system ds →
     IsEntered ds head → IsForcedTo system ds (λ a. read_at a head site e) (Value.Inst i) →
     is_made system ds i ≡ true
-
--- And it stays so after one more that names what is made.
-abbrev pub MadeByMore : Type 0
-MadeByMore = (system : System) (ds : List Decision) (d : Decision) → NameMade system ds →
-    NamesMade system (ds ++ d ∷ []) d → NameMade system (ds ++ d ∷ [])

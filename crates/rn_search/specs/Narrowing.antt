@@ -16,7 +16,8 @@ use Rattle.rn_search.specs.Sought.{Sought}
 use Rattle.rn_search.specs.Points.{node_of, tokens_of}
 use Rattle.rn_search.specs.Missing.{LeadsBy, IsKnown}
 
--- An alternative of an arc leads to something: the arc is there, and the token is one of its place.
+-- An alternative of an arc leads to something: the arc is there, and the token is one of its
+-- place.
 pub record FindsBy (sought : Sought) (ds : List Decision) (node k : ℕ) (x : NetArc) (a : ℕ)
     (b : Binding) : Type 0 where
   pub turns : AreInTurn sought.system ds

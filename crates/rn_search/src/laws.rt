@@ -8,10 +8,13 @@ ghost use Rattle.rn_search.specs.Ending.{StuckLeadsNowhere, LeadingForces, DoneA
 ghost use Rattle.rn_search.specs.Ending.{ForcedAreItsValues, FoundIsSo, MadeFollows};
 ghost use Rattle.rn_search.specs.Ending.{LeadingIsMade, MadeIsOne};
 ghost use Rattle.rn_search.specs.Missing.{NoneLeadsNowhere};
-ghost use Rattle.rn_search.specs.Ending.{RightByMore};
-ghost use Rattle.rn_search.specs.Making.{ForcedAreMade, MadeByMore};
+ghost use Rattle.rn_search.specs.Making.{ForcedAreMade};
 ghost use Rattle.rn_search.specs.Room.{RoomFalls};
+ghost use Rattle.rn_search.specs.Allowing.{StartIsAllowed, TokensAreAllowed, ListsAreAllowed};
+ghost use Rattle.rn_search.specs.Allowing.{ResultsAreAllowed, CallsAreAllowed};
 ghost use Rattle.rn_search.specs.Narrowing.{KnownTokenIsIt, KnownFirstPart};
+ghost use Rattle.rn_search.specs.Standing.{NoneAreSound, SoundByOne, SoundByFewer};
+ghost use Rattle.rn_search.specs.Standing.{SoundAreRight};
 ghost use Rattle.rn_search.specs.Taking.{TakenAreThere};
 
 use rn_channel::calls_need_levels;
@@ -69,7 +72,6 @@ pub fn stuck_means_none()
 pub fn what_is_found()
     ensures values { ForcedAreItsValues }
     ensures so { FoundIsSo }
-    ensures right { RightByMore }
     ensures follows { MadeFollows }
     ensures made { LeadingIsMade }
     ensures one { MadeIsOne }
@@ -83,6 +85,23 @@ pub fn room_falls()
 /// An instance to which decisions force an expression exists already, or is made by a node that
 /// was entered. So the node that makes the instance of a call is known.
 pub fn forced_are_made()
-    ensures forced { ForcedAreMade }
-    ensures more { MadeByMore }
+    ensures { ForcedAreMade }
+{}
+
+/// What a search keeps of its decisions holds of none, of one more that may be made, and of the
+/// first ones.
+pub fn sound_decisions()
+    ensures none { NoneAreSound }
+    ensures more { SoundByOne }
+    ensures fewer { SoundByFewer }
+    ensures right { SoundAreRight }
+{}
+
+/// Which points may be offered: each of their alternatives that is a decision may be made.
+pub fn points_are_allowed()
+    ensures start { StartIsAllowed }
+    ensures tokens { TokensAreAllowed }
+    ensures lists { ListsAreAllowed }
+    ensures results { ResultsAreAllowed }
+    ensures calls { CallsAreAllowed }
 {}

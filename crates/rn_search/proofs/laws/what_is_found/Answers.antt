@@ -1,4 +1,4 @@
-use Rattle.rn_search.proofs.Built.{made_follows, right_by_more}
+use Rattle.rn_search.proofs.Built.{made_follows}
 use Rattle.rn_search.proofs.Ends.{found_is_so}
 use Rattle.rn_search.proofs.Known.{forced_are_its_values}
 use Rattle.rn_search.proofs.OneBinding.{leading_is_made, made_is_one}
@@ -18,6 +18,3 @@ returns-clause-one c = made_is_one
 
 pub returns-clause-follows : goal.returns-clause-follows
 returns-clause-follows c = made_follows
-
-pub returns-clause-right : goal.returns-clause-right
-returns-clause-right c = right_by_more
