@@ -25,7 +25,8 @@ use Rattle.rn_growing.specs.declared.decision.Caller.{Caller}
 use Rattle.rn_growing.specs.declared.decision.Decision.{Decision}
 use Rattle.rn_growing.specs.declared.decision.Decision.TheVariants.{Entered, Found, Computed}
 use Rattle.rn_growing.specs.Decisions.{head_of, site_of, transition_in, AreOn}
-use Rattle.rn_growing.specs.Turns.{IsEntered, IsVarForced, IsHole, AreInTurn, AreClosed, SameThing}
+use Rattle.rn_growing.specs.Turns.{MayCome, IsEntered, IsVarForced, IsHole, AreInTurn}
+use Rattle.rn_growing.specs.Turns.{AreClosed, SameThing}
 use Rattle.rn_growing.proofs.Followers.{On, item_in, decision_in, forced_over, entered_by}
 use Rattle.rn_growing.proofs.Followers.{same_node, closed_entry, closed_found, closed_computed}
 use Rattle.rn_growing.proofs.Followers.{closed_decisions_decide, followers_are_decided}
@@ -139,14 +140,19 @@ pub stuck_leads_nowhere : StuckLeadsNowhere
 stuck_leads_nowhere sought ds d turns some closed asked never b leads =
     never (asked_are_decided sought ds b turns some closed leads d asked)
 
-pub done_are_closed : DoneAreClosed
-done_are_closed system ds some done (Entered head None) may =
+-- whatever may come in is asked
+pub may_is_asked : (system : System) (ds : List Decision) → 0 < length ds → (d : Decision) →
+    MayCome system ds d → IsAsked system ds d
+may_is_asked system ds some (Entered head None) may =
     absurd (let none = ap length may.0 in let no : ⊥ = omega (arith, none, some) in no)
-done_are_closed system ds some done (Entered head (Some from)) may =
-    done (Entered head (Some from)) (may.entered, (may.downlink, may.there, may.path))
-done_are_closed system ds some done (Found head k v) may = done (Found head k v) may
-done_are_closed system ds some done (Computed head site way v) may =
-    done (Computed head site way v) (may.0, (may.1.0, may.1.1, may.1.2))
+may_is_asked system ds some (Entered head (Some from)) may =
+    (may.entered, (may.downlink, may.there, may.path))
+may_is_asked system ds some (Found head k v) may = may
+may_is_asked system ds some (Computed head site way v) may =
+    (may.0, (may.1.0, may.1.1, may.1.2))
+
+pub done_are_closed : DoneAreClosed
+done_are_closed system ds some done d may = done d (may_is_asked system ds some d may)
 
 pub leading_forces : LeadingForces
 leading_forces sought ds b turns some done leads =

@@ -239,7 +239,8 @@ module _ (system : System) where
       )
 
 -- decisions on the thing of a third are on one thing
-one_thing : (t d e : Decision) → on_one_thing t d ≡ true → on_one_thing t e ≡ true → SameThing e d
+pub one_thing : (t d e : Decision) → on_one_thing t d ≡ true → on_one_thing t e ≡ true →
+    SameThing e d
 one_thing (Entered h c) (Entered o f) (Entered p g) a b =
     sym (same_path h.path p.path b) ∙ same_path h.path o.path a
 one_thing (Found h k v) (Found o j w) (Found p i x) a b =

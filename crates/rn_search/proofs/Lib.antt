@@ -6,6 +6,7 @@ pub mod Falling
 pub mod Following
 pub mod Items
 pub mod Known
+pub mod Left
 pub mod Made
 pub mod Narrowed
 pub mod Offered

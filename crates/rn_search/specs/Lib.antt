@@ -1,5 +1,6 @@
 pub mod Allowing
 pub mod Ending
+pub mod Leaving
 pub mod Making
 pub mod Missing
 pub mod Narrowing

@@ -12,6 +12,8 @@ ghost use Rattle.rn_search.specs.Making.{ForcedAreMade};
 ghost use Rattle.rn_search.specs.Room.{RoomFalls};
 ghost use Rattle.rn_search.specs.Allowing.{StartIsAllowed, TokensAreAllowed, ListsAreAllowed};
 ghost use Rattle.rn_search.specs.Allowing.{ResultsAreAllowed, CallsAreAllowed};
+ghost use Rattle.rn_search.specs.Leaving.{LeftIsAsked, AskedIsLeft, NoneLeftIsDone};
+ghost use Rattle.rn_search.specs.Leaving.{LeftOutIsClosed};
 ghost use Rattle.rn_search.specs.Narrowing.{KnownTokenIsIt, KnownFirstPart};
 ghost use Rattle.rn_search.specs.Standing.{NoneAreSound, SoundByOne, SoundByFewer};
 ghost use Rattle.rn_search.specs.Standing.{SoundAreRight};
@@ -104,4 +106,13 @@ pub fn points_are_allowed()
     ensures lists { ListsAreAllowed }
     ensures results { ResultsAreAllowed }
     ensures calls { CallsAreAllowed }
+{}
+
+/// What is left to be decided, as a list: what is asked and not decided. Where nothing of it may
+/// come in, nothing may.
+pub fn what_is_left()
+    ensures asked { LeftIsAsked }
+    ensures left { AskedIsLeft }
+    ensures done { NoneLeftIsDone }
+    ensures closed { LeftOutIsClosed }
 {}
