@@ -27,7 +27,7 @@ use Rattle.rn_growing.proofs.Growth.{contains_last, at_in}
 use Rattle.rn_growing.proofs.SoundItems.{items_sound}
 use Rattle.rn_search.specs.Sought.{Sought, Leads}
 use Rattle.rn_search.specs.Points.{node_on, node_of, nowhere}
-use Rattle.rn_search.specs.Missing.{FewerLead}
+use Rattle.rn_search.specs.Missing.{FewerLead, OneStart}
 
 -- the node of an item
 abbrev pub node_in : Item → Node
@@ -181,3 +181,7 @@ fewer_lead sought ds more b leads = record {
   starts = leads.starts;
   follows = front_on sought.system b ds more leads.follows.0 leads.follows.1;
 }
+
+pub one_start : OneStart
+one_start b start other (node, at, is) (also, there, too) =
+    sym is ∙ ap head_of (some_equal node also (sym at ∙ there)) ∙ too

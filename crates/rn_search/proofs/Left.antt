@@ -40,6 +40,7 @@ use Rattle.rn_search.proofs.Ends.{may_is_asked}
 use Rattle.rn_search.proofs.Falling.{one_thing}
 use Rattle.rn_search.proofs.Items.{in_filter}
 use Rattle.rn_search.proofs.Offered.{at_site}
+use Rattle.rn_search.specs.Leaving.{LeftIsNew}
 
 from_if : {X : Type 0} (keeps : Bool) (y x : X) (xs : List X) →
     Contains (if keeps then y ∷ xs else xs) x → ((y ≡ x) × (keeps ≡ true)) ⊎ Contains xs x
@@ -275,3 +276,16 @@ left_out_is_closed system ds some out d may =
       | inl decided ↦ decided
       | inr left ↦ absurd (out left.0 d left.1 left.2 may)
     ]
+
+-- being on one thing goes both ways, and on
+turned : (d e : Decision) → SameThing d e → SameThing e d
+turned d e same = one_thing d d e (told d d (itself d)) (told d e same)
+
+pub left_is_new : LeftIsNew
+left_is_new system ds t d left same e there again =
+    let kept = from_filter (is_undecided ds) (flat_map (asked_by system) ds) t left in
+    let on : SameThing t e =
+    one_thing d e t (told d e (turned e d again)) (told d t same) in
+    let some = contained_any (on_one_thing t) ds e there (told t e on) in
+    let both : false ≡ true = ap not (sym some) ∙ kept.1 in
+    let no : ⊥ = cc in no

@@ -15,6 +15,7 @@ use Rattle.rn_growing.proofs.SameUnknowns.{as_site}
 use Rattle.rn_search.specs.Points.{holes_of, child}
 use Rattle.rn_search.specs.Ending.{IsAsked, IsDecided, AreDone}
 use Rattle.rn_search.specs.Room.{is_undecided}
+use Rattle.rn_growing.specs.Grown.{IsNew}
 
 -- One decision on each item of a node but its entry, and on the entry of each of its children. The
 -- values, and the children's instances and transitions, don't matter.
@@ -56,3 +57,8 @@ abbrev pub LeftOutIsClosed : Type 0
 LeftOutIsClosed = (system : System) (ds : List Decision) → 0 < length ds →
     ((t d : Decision) → Contains (what_is_left system ds) t → SameThing d t →
     ¬ MayCome system ds d) → AreClosed system ds
+
+-- A decision on a thing that is left is new.
+abbrev pub LeftIsNew : Type 0
+LeftIsNew = (system : System) (ds : List Decision) (t d : Decision) →
+    Contains (what_is_left system ds) t → SameThing d t → IsNew ds d

@@ -60,7 +60,7 @@ abbrev pub StartsAreKept : Type 0
 StartsAreKept = (system : System) (m : Marking) (b : Binding) (depth : ℕ) →
     Enabled system m b depth → (start : Head) × MayStart system m start × StartsAt b start
 
--- The arc of a node that was entered finds one of the tokens of its place.
+-- An arc of a decision's node finds one of the tokens of its place.
 abbrev pub TokensAreOffered : Type 0
 TokensAreOffered = (sought : Sought) (ds : List Decision) (b : Binding) (node k : ℕ)
     (x : NetArc) → Leads sought ds b →
@@ -165,3 +165,8 @@ NoneLeadsNowhere = (sought : Sought) (ds : List Decision) (point : Point) (a : �
 abbrev pub OneWay : Type 0
 OneWay = (sought : Sought) (ds : List Decision) (point : Point) (a c : ℕ) (b : Binding) →
     LeadsBy sought ds point a b → LeadsBy sought ds point c b → a ≡ c
+
+-- No binding starts at two nodes.
+abbrev pub OneStart : Type 0
+OneStart = (b : Binding) (start other : Head) → StartsAt b start → StartsAt b other →
+    start ≡ other

@@ -7,13 +7,13 @@ ghost use Rattle.rn_search.specs.Missing.{LeadingIsSolvable, KnownGuardsHold, Kn
 ghost use Rattle.rn_search.specs.Ending.{StuckLeadsNowhere, LeadingForces, DoneAreClosed};
 ghost use Rattle.rn_search.specs.Ending.{ForcedAreItsValues, FoundIsSo, MadeFollows};
 ghost use Rattle.rn_search.specs.Ending.{LeadingIsMade, MadeIsOne};
-ghost use Rattle.rn_search.specs.Missing.{NoneLeadsNowhere};
+ghost use Rattle.rn_search.specs.Missing.{NoneLeadsNowhere, OneStart};
 ghost use Rattle.rn_search.specs.Making.{ForcedAreMade};
 ghost use Rattle.rn_search.specs.Room.{RoomFalls};
 ghost use Rattle.rn_search.specs.Allowing.{StartIsAllowed, TokensAreAllowed, ListsAreAllowed};
 ghost use Rattle.rn_search.specs.Allowing.{ResultsAreAllowed, CallsAreAllowed};
 ghost use Rattle.rn_search.specs.Leaving.{LeftIsAsked, AskedIsLeft, NoneLeftIsDone};
-ghost use Rattle.rn_search.specs.Leaving.{LeftOutIsClosed};
+ghost use Rattle.rn_search.specs.Leaving.{LeftOutIsClosed, LeftIsNew};
 ghost use Rattle.rn_search.specs.Narrowing.{KnownTokenIsIt, KnownFirstPart};
 ghost use Rattle.rn_search.specs.Standing.{NoneAreSound, SoundByOne, SoundByFewer};
 ghost use Rattle.rn_search.specs.Standing.{SoundAreRight};
@@ -59,6 +59,7 @@ pub fn one_way()
     ensures fewer { FewerLead }
     ensures none { NoneLeadsNowhere }
     ensures one { OneWay }
+    ensures start { OneStart }
 {}
 
 /// Where nothing may come in and something is left, nothing that is looked for follows.
@@ -115,4 +116,5 @@ pub fn what_is_left()
     ensures left { AskedIsLeft }
     ensures done { NoneLeftIsDone }
     ensures closed { LeftOutIsClosed }
+    ensures fresh { LeftIsNew }
 {}

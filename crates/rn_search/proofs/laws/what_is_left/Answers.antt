@@ -1,5 +1,5 @@
 use Rattle.rn_search.proofs.Left.{left_is_asked, asked_is_left, none_left_is_done}
-use Rattle.rn_search.proofs.Left.{left_out_is_closed}
+use Rattle.rn_search.proofs.Left.{left_out_is_closed, left_is_new}
 use Rattle.rn_search.proofs.laws.what_is_left.Goals as goal
 
 pub returns-clause-asked : goal.returns-clause-asked
@@ -13,3 +13,6 @@ returns-clause-done c = none_left_is_done
 
 pub returns-clause-closed : goal.returns-clause-closed
 returns-clause-closed c = left_out_is_closed
+
+pub returns-clause-fresh : goal.returns-clause-fresh
+returns-clause-fresh c = left_is_new
