@@ -1,0 +1,3 @@
+mod GivenLemmas
+mod OwnLemmas
+mod TableLemmas

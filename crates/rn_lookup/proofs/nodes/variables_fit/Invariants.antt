@@ -1,0 +1,9 @@
+use Rattle.std.proofs.Common.{◌≡◌, map, drop}
+use Rattle.rn_lines.specs.NodeSeen.{given}
+use Rattle.rn_lookup.specs.Found.{variables_fit}
+use Rattle.rn_lookup.proofs.nodes.variables_fit.Given as goal
+
+abbrev pub invariant-loop-i : goal.invariant-loop-i
+invariant-loop-i l =
+    variables_fit l.net (map given (drop l.i l.all)) (drop l.i l.vars)
+    ≡ variables_fit l.net (map given l.all) l.vars

@@ -1,0 +1,46 @@
+//! Why a line is refused.
+ghost use Rattle.std.specs.Prelude.{◌≡◌};
+ghost use Rattle.rn_lookup.specs.declared.refusal.Refusal.TheVariants.{Memory};
+
+use rn_value::NoMemory;
+use std::alloc::{AllocError, AllocFailed};
+
+/// Why a line of a record is refused, the weightiest first.
+#[derive(Clone, Copy, Debug, PartialEq, Eq)]
+pub enum Refusal {
+    /// The line isn't of the form that is due.
+    Form,
+
+    /// It names what isn't there.
+    Name,
+
+    /// It has another step than its entry.
+    Step,
+
+    /// The allocator had no memory.
+    Memory,
+}
+
+impl From<NoMemory> for Refusal {
+    ghost from_gives = { λ _ e. e ≡ Memory };
+
+    fn from(_error: NoMemory) -> Refusal {
+        Refusal::Memory
+    }
+}
+
+impl From<AllocError> for Refusal {
+    ghost from_gives = { λ _ e. e ≡ Memory };
+
+    fn from(_error: AllocError) -> Refusal {
+        Refusal::Memory
+    }
+}
+
+impl<T: Drop> From<AllocFailed<T>> for Refusal {
+    ghost from_gives = { λ _ e. e ≡ Memory };
+
+    fn from(_failed: AllocFailed<T>) -> Refusal {
+        Refusal::Memory
+    }
+}
