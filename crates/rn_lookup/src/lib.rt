@@ -10,7 +10,7 @@ mod refusal;
 mod tables;
 
 pub use directory::Directory;
-pub use instances::{are_called, is_called};
+pub use instances::{are_called, is_called, node_is_called, tokens_are_called};
 pub use marks::{FoundMark, find_mark, find_token};
 pub use nodes::{FoundNode, find_node};
 pub use refusal::Refusal;

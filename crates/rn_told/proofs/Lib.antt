@@ -1,0 +1,4 @@
+mod DueLemmas
+mod LineLemmas
+mod MakerLemmas
+mod NodeLemmas

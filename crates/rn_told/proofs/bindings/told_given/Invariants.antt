@@ -1,0 +1,10 @@
+use Rattle.std.proofs.Common.{◌≡◌, map, take}
+use Rattle.rn_model.specs.Firing.{renamed_value}
+use Rattle.rn_lines.specs.NodeSeen.{given}
+use Rattle.rn_told.specs.Bindings.{unnumbered}
+use Rattle.rn_told.proofs.bindings.told_given.Given as goal
+
+abbrev pub invariant-loop-given : goal.invariant-loop-given
+invariant-loop-given l =
+    l.told.items ≡ map (λ g. renamed_value g.value (unnumbered l.makers l.next))
+    (map given (take l.given-index l.all))

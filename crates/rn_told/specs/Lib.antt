@@ -1,0 +1,9 @@
+pub mod Bindings
+pub mod Called
+pub mod CalledAhead
+pub mod DueAhead
+pub mod Lines
+pub mod LinesAhead
+pub mod Nodes
+pub mod NodesAhead
+pub mod Paths

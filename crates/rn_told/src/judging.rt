@@ -1,0 +1,144 @@
+//! Single lines where a node is due.
+ghost use Rattle.std.specs.Prelude.{◌≡◌, ◌<◌, IsTrue, IfOk, option_map, length};
+ghost use Rattle.std.specs.Prelude.{ℕ, List};
+ghost use Rattle.rn_lines.specs.LinesSeen.{lead, line};
+ghost use Rattle.rn_lines.specs.NodeSeen.{node};
+ghost use Rattle.rn_lookup.specs.Tables.{IsDirectoryOf};
+ghost use Rattle.rn_told.specs.Lines.{lines_in};
+ghost use Rattle.rn_told.specs.Nodes.{is_step, own_node, node_due, judged_node};
+ghost use Rattle.rn_told.specs.Paths.{is_root};
+ghost use Rattle.rn_told.specs.NodesAhead.{Judges, Steps, LeavesLess};
+
+use crate::lines::{Next, next_line};
+use crate::role::Role;
+use rn_lines::{Lead, Line, ReadNode, is_numeral};
+use rn_lookup::{Directory, FoundNode, Refusal, find_node};
+use rn_model::System;
+use rn_value::NoMemory;
+use std::alloc::Global;
+
+/// What a line is where a node is due.
+#[derive(Debug, Drop)]
+pub(crate) enum NodeLine<'a> {
+    /// A node that stands there.
+    Stands(FoundNode, ReadNode<'a>),
+
+    /// A node that would, but for its step.
+    Late(ReadNode<'a>),
+
+    Refused(Refusal),
+}
+
+fn is_step(step: u64, digits: &[u8]) -> bool
+    ensures { result ≡ is_step step digits.now }
+{
+    is_numeral(step, digits)
+}
+
+fn own_node<'a>(
+    step: u64,
+    worker: u32,
+    begins: Lead<'a>,
+    read: ReadNode<'a>,
+) -> Option<(ReadNode<'a>, bool)>
+    ensures { option_map (λ x. (node x.0, x.1)) result
+        ≡ own_node step worker (lead begins.entry) (node read.entry) }
+{
+    if begins.worker == worker {
+        Some((read, is_step(step, begins.step)))
+    } else {
+        None
+    }
+}
+
+/// The node of a line, and whether its step is right.
+fn node_due<'a>(role: Role, first: bool, read: Line<'a>) -> Option<(ReadNode<'a>, bool)>
+    ensures { option_map (λ x. (node x.0, x.1)) result ≡ node_due role first (line read.entry) }
+{
+    match role {
+        Role::Firing { step, worker } => match read {
+            Line::Fires(begins, read) => {
+                if first {
+                    own_node(step, worker, begins, read)
+                } else {
+                    None
+                }
+            }
+            Line::Calls(begins, read) => {
+                if first {
+                    None
+                } else {
+                    own_node(step, worker, begins, read)
+                }
+            }
+            _ => None,
+        },
+        Role::Fault => match read {
+            Line::WouldFire(read) => {
+                if first {
+                    Some((read, true))
+                } else {
+                    None
+                }
+            }
+            Line::WouldCall(read) => {
+                if first {
+                    None
+                } else {
+                    Some((read, true))
+                }
+            }
+            _ => None,
+        },
+    }
+}
+
+/// What a line is.
+fn judge<'a>(
+    alloc: Global,
+    system: &System,
+    directory: &Directory,
+    role: Role,
+    first: bool,
+    read: Line<'a>,
+) -> Result<NodeLine<'a>, NoMemory>
+    requires { IsDirectoryOf system.now directory.now }
+    ensures { IfOk result (λ j. Judges system.now j
+        (judged_node system.now (node_due role first (line read.entry)))) }
+{
+    let Some((read, right)) = node_due(role, first, read) else {
+        return Ok(NodeLine::Refused(Refusal::Form));
+    };
+    match find_node(alloc, system, directory, &read) {
+        Ok(found) => {
+            if right {
+                Ok(NodeLine::Stands(found, read))
+            } else {
+                Ok(NodeLine::Late(read))
+            }
+        }
+        Err(Refusal::Memory) => Err(NoMemory),
+        Err(refusal) => Ok(NodeLine::Refused(refusal)),
+    }
+}
+
+/// What comes next where a node is due, and the bytes after its line where it stands there.
+pub(crate) fn judge_next<'a>(
+    alloc: Global,
+    system: &System,
+    directory: &Directory,
+    role: Role,
+    first: bool,
+    bytes: &'a [u8],
+) -> Result<(NodeLine<'a>, &'a [u8]), NoMemory>
+    requires { IsDirectoryOf system.now directory.now }
+    ensures steps { IfOk result (λ next. (path : List ℕ) (due : List (List ℕ)) →
+        is_root path ≡ first →
+        Steps system.now role path due (lines_in bytes.now) next.0 (lines_in next.1.now)) }
+    ensures less { IfOk result (λ next. LeavesLess next.0 next.1.now bytes.now) }
+{
+    match next_line(alloc, bytes)? {
+        Next::Line(read, rest) => Ok((judge(alloc, system, directory, role, first, read)?, rest)),
+        _ => Ok((NodeLine::Refused(Refusal::Form), bytes)),
+    }
+}
