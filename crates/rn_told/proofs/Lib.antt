@@ -1,4 +1,6 @@
+mod CountLemmas
 mod DueLemmas
 mod LineLemmas
 mod MakerLemmas
 mod NodeLemmas
+mod SequenceLemmas

@@ -1,6 +1,6 @@
 -- Bindings, by the nodes that their lines have. A firing's own creations are called by the numbers
 -- that it gives them, and are read as the creations that they are.
-use Rattle.std.specs.Prelude.{ℕ, ◌-◌, List, map, nat_lt, flat_map, slice_get, if◌then◌else◌}
+use Rattle.std.specs.Prelude.{ℕ, ◌-◌, List, map, nat_le, flat_map, slice_get, if◌then◌else◌}
 use Rattle.std.specs.List.{enumerate_from}
 use Rattle.std.specs.Option.{option_map_or}
 use Rattle.rn_value.specs.declared.value.InstRef.{InstRef}
@@ -23,28 +23,28 @@ makers_by system x =
 abbrev pub makers_of : System → List Placed → List Maker
 makers_of system = flat_map (makers_by system)
 
--- an instance by its number, where the firing's own instances are numbered from next
+-- an instance by its number, where so many were made before the firing, and its own come after
 abbrev pub reference : List Maker → ℕ → ℕ → InstRef
-reference makers next number =
-    if nat_lt number next then Old number
-    else option_map_or (λ m. New m.path m.index) (slice_get makers (number - next)) (Old number)
+reference makers count number =
+    if nat_le number count then Old number
+    else option_map_or (λ m. New m.path m.index) (slice_get makers (number - count - 1)) (Old number)
 
 -- an instance that a text names, which is by its number
 abbrev pub unnumbered : List Maker → ℕ → InstRef → InstRef
-unnumbered makers next (Old number) = reference makers next number
-unnumbered makers next (New path j) = New path j
+unnumbered makers count (Old number) = reference makers count number
+unnumbered makers count (New path j) = New path j
 
 -- a node of a binding
 abbrev pub told_node : List Maker → ℕ → Placed → Node
-told_node makers next x = record {
+told_node makers count x = record {
   path = x.path;
-  inst = reference makers next x.said.inst.number;
+  inst = reference makers count x.said.inst.number;
   net = x.net;
   transition = x.transition;
-  values = map (λ g. renamed_value g.value (unnumbered makers next)) x.said.given;
+  values = map (λ g. renamed_value g.value (unnumbered makers count)) x.said.given;
 }
 
--- the binding of nodes, where the next instance has this number
+-- the binding of nodes, where so many instances were made before
 abbrev pub told_binding : System → ℕ → List Placed → Binding
-told_binding system next nodes =
-    record { nodes = map (told_node (makers_of system nodes) next) nodes }
+told_binding system count nodes =
+    record { nodes = map (told_node (makers_of system nodes) count) nodes }

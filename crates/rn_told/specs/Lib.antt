@@ -2,8 +2,15 @@ pub mod Bindings
 pub mod Called
 pub mod CalledAhead
 pub mod DueAhead
+pub mod Firings
+pub mod FiringsAhead
 pub mod Lines
 pub mod LinesAhead
+pub mod Marks
+pub mod MarksAhead
 pub mod Nodes
 pub mod NodesAhead
 pub mod Paths
+pub mod Prints
+pub mod PrintsAhead
+pub mod Runs

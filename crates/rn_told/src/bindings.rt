@@ -19,12 +19,12 @@ fn unnumbered(
     alloc: Global,
     inst: &InstRef,
     makers: &[Maker],
-    next: u32,
+    count: usize,
 ) -> Result<InstRef, NoMemory>
-    ensures { IfOk result (λ i. i ≡ unnumbered makers.now next inst.now) }
+    ensures { IfOk result (λ i. i ≡ unnumbered makers.now count inst.now) }
 {
     match inst {
-        InstRef::Old(number) => reference(alloc, makers, next, *number),
+        InstRef::Old(number) => reference(alloc, makers, count, *number),
         InstRef::New(_, _) => copy_inst(alloc, inst),
     }
 }
@@ -35,16 +35,16 @@ fn told_value(
     alloc: Global,
     value: &Value,
     makers: &[Maker],
-    next: u32,
+    count: usize,
 ) -> Result<Value, NoMemory>
-    ensures { IfOk result (λ v. v ≡ renamed_value value.now (unnumbered makers.now next)) }
+    ensures { IfOk result (λ v. v ≡ renamed_value value.now (unnumbered makers.now count)) }
 {
     match value {
         Value::Int(n) => Ok(Value::Int(*n)),
         Value::Text(text) => Ok(Value::Text(copy_text(alloc, text)?)),
-        Value::Tuple(parts) => Ok(Value::Tuple(told_values(alloc, parts.as_slice(), makers, next)?)),
-        Value::List(parts) => Ok(Value::List(told_values(alloc, parts.as_slice(), makers, next)?)),
-        Value::Inst(inst) => Ok(Value::Inst(unnumbered(alloc, inst, makers, next)?)),
+        Value::Tuple(parts) => Ok(Value::Tuple(told_values(alloc, parts.as_slice(), makers, count)?)),
+        Value::List(parts) => Ok(Value::List(told_values(alloc, parts.as_slice(), makers, count)?)),
+        Value::Inst(inst) => Ok(Value::Inst(unnumbered(alloc, inst, makers, count)?)),
     }
 }
 
@@ -53,14 +53,14 @@ fn told_values(
     alloc: Global,
     values: &[Value],
     makers: &[Maker],
-    next: u32,
+    count: usize,
 ) -> Result<Vals, NoMemory>
     ensures { IfOk result (λ vs.
-        vs ≡ map (λ v. renamed_value v (unnumbered makers.now next)) values.now) }
+        vs ≡ map (λ v. renamed_value v (unnumbered makers.now count)) values.now) }
 {
     let mut told = Vec::with_capacity(alloc, values.len())?;
     for value in values {
-        told.push(told_value(alloc, value, makers, next)?)?;
+        told.push(told_value(alloc, value, makers, count)?)?;
     }
     Ok(Items::from_vec(told))
 }
@@ -69,14 +69,14 @@ fn told_given(
     alloc: Global,
     all: &[ReadGiven<'_>],
     makers: &[Maker],
-    next: u32,
+    count: usize,
 ) -> Result<Vals, NoMemory>
     ensures { IfOk result (λ vs.
-        vs ≡ map (λ g. renamed_value g.value (unnumbered makers.now next)) (map given all.now)) }
+        vs ≡ map (λ g. renamed_value g.value (unnumbered makers.now count)) (map given all.now)) }
 {
     let mut told = Vec::with_capacity(alloc, all.len())?;
     for given in all {
-        told.push(told_value(alloc, &given.value, makers, next)?)?;
+        told.push(told_value(alloc, &given.value, makers, count)?)?;
     }
     Ok(Items::from_vec(told))
 }
@@ -85,34 +85,34 @@ fn told_node(
     alloc: Global,
     x: &PlacedNode<'_>,
     makers: &[Maker],
-    next: u32,
+    count: usize,
 ) -> Result<Node, NoMemory>
-    ensures { IfOk result (λ n. n ≡ told_node makers.now next (placed x.now)) }
+    ensures { IfOk result (λ n. n ≡ told_node makers.now count (placed x.now)) }
 {
     let path = Vec::from_slice(alloc, x.path.as_slice())?;
     Ok(Node {
         path: Items::from_vec(path),
-        inst: reference(alloc, makers, next, x.node.inst.number)?,
+        inst: reference(alloc, makers, count, x.node.inst.number)?,
         net: x.found.net,
         transition: x.found.transition,
-        values: told_given(alloc, x.node.given.as_slice(), makers, next)?,
+        values: told_given(alloc, x.node.given.as_slice(), makers, count)?,
     })
 }
 
-/// The binding of nodes, where the next instance has this number.
+/// The binding of nodes, where so many instances were made before.
 pub(crate) fn told_binding(
     alloc: Global,
     system: &System,
-    next: u32,
+    count: usize,
     nodes: &[PlacedNode<'_>],
 ) -> Result<Binding, NoMemory>
     requires { Good system.now }
-    ensures { IfOk result (λ b. b ≡ told_binding system.now next (map placed nodes.now)) }
+    ensures { IfOk result (λ b. b ≡ told_binding system.now count (map placed nodes.now)) }
 {
     let makers = makers_of(alloc, system, nodes)?;
     let mut told = Vec::with_capacity(alloc, nodes.len())?;
     for x in nodes {
-        told.push(told_node(alloc, x, makers.as_slice(), next)?)?;
+        told.push(told_node(alloc, x, makers.as_slice(), count)?)?;
     }
     Ok(Binding {
         nodes: Items::from_vec(told),

@@ -29,7 +29,8 @@ pub(crate) enum NodeLine<'a> {
     Refused(Refusal),
 }
 
-fn is_step(step: u64, digits: &[u8]) -> bool
+/// Whether digits are the numeral of a step.
+pub(crate) fn is_step(step: u64, digits: &[u8]) -> bool
     ensures { result ≡ is_step step digits.now }
 {
     is_numeral(step, digits)

@@ -4,10 +4,13 @@
 mod bindings;
 mod called;
 mod due;
+mod firings;
 mod judging;
 mod level;
 mod lines;
 mod maker;
 mod makers;
+mod marks;
 mod nodes;
+mod prints;
 mod role;

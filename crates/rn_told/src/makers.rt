@@ -67,19 +67,19 @@ pub(crate) fn makers_of(
     Ok(makers)
 }
 
-/// An instance by its number, where the firing's own instances are numbered from `next`.
+/// An instance by its number, where so many were made before the firing, and its own come after.
 pub(crate) fn reference(
     alloc: Global,
     makers: &[Maker],
-    next: u32,
+    count: usize,
     number: u32,
 ) -> Result<InstRef, NoMemory>
-    ensures { IfOk result (λ inst. inst ≡ reference makers.now next number) }
+    ensures { IfOk result (λ inst. inst ≡ reference makers.now count number) }
 {
-    if number < next {
+    if number as usize <= count {
         return Ok(InstRef::Old(number));
     }
-    match makers.get((number - next) as usize) {
+    match makers.get(number as usize - count - 1) {
         Some(maker) => {
             let path = Vec::from_slice(alloc, maker.path.as_slice())?;
             Ok(InstRef::New(Items::from_vec(path), maker.index))

@@ -5,4 +5,4 @@ use Rattle.rn_told.proofs.bindings.+telling.Given as goal
 
 abbrev pub invariant-told_values-loop-value : goal.invariant-told_values-loop-value
 invariant-told_values-loop-value l =
-    l.told.items ≡ map (λ v. renamed_value v (unnumbered l.makers l.next)) (take l.value-index l.values)
+    l.told.items ≡ map (λ v. renamed_value v (unnumbered l.makers l.count)) (take l.value-index l.values)

@@ -5,4 +5,4 @@ use Rattle.rn_told.proofs.bindings.told_binding.Given as goal
 
 abbrev pub invariant-loop-x : goal.invariant-loop-x
 invariant-loop-x l =
-    l.told.items ≡ map (told_node l.makers.items l.next) (map placed (take l.x-index l.nodes))
+    l.told.items ≡ map (told_node l.makers.items l.count) (map placed (take l.x-index l.nodes))

@@ -6,5 +6,5 @@ use Rattle.rn_told.proofs.bindings.told_given.Given as goal
 
 abbrev pub invariant-loop-given : goal.invariant-loop-given
 invariant-loop-given l =
-    l.told.items ≡ map (λ g. renamed_value g.value (unnumbered l.makers l.next))
+    l.told.items ≡ map (λ g. renamed_value g.value (unnumbered l.makers l.count))
     (map given (take l.given-index l.all))
