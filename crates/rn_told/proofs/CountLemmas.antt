@@ -1,13 +1,13 @@
 -- How many lines are read.
-use Rattle.std.proofs.Common.{◌≡◌, ℕ, zero, suc, ◌+◌, ◌<◌, ◌≤◌, Bool, true, false, cond, List, [], ◌∷◌, ◌++◌, length, refl, sym, ap, ◌∙◌, subst, arith, length-append}
-use Rattle.std.specs.Prelude.{Option, Some, None, nat_eq}
+use Rattle.std.proofs.Common.{◌≡◌, ℕ, ◌+◌, ◌≤◌, Bool, true, false, cond, List, [], ◌∷◌, ◌++◌, length, sym, subst, arith, length-append}
+use Rattle.std.specs.Prelude.{Option, nat_eq}
 use Rattle.rn_value.specs.declared.value.Value.{Value}
 use Rattle.rn_model.specs.declared.system.System.{System}
 use Rattle.rn_lines.specs.NodeText.{NodeSaid}
 use Rattle.rn_lines.specs.LineText.{LineSaid}
 use Rattle.rn_lines.specs.LineReading.{line_at}
 use Rattle.rn_told.specs.declared.role.Role.{Role}
-use Rattle.rn_told.specs.Lines.{unended, lines_from, lines_in}
+use Rattle.rn_told.specs.Lines.{lines_from, lines_in}
 use Rattle.rn_told.specs.Paths.{is_root, children}
 use Rattle.rn_told.specs.Nodes.{Judged, judged, Placed, Stop, nodes_from, node_then, count_called, binding_lines}
 use Rattle.rn_told.specs.Prints.{Print, PrintsEnd, printed, judged_print, print_then, prints_from}

@@ -1,5 +1,5 @@
 -- What makes the instances of a node, one after another.
-use Rattle.std.proofs.Common.{◌≡◌, ◌<◌, ◌+◌, ℕ, suc, List, [], ◌∷◌, ◌++◌, length, map, drop, sym, ap, ◌∙◌, append_assoc, add-one, drop-cons}
+use Rattle.std.proofs.Common.{◌≡◌, ◌<◌, ◌+◌, ℕ, List, [], ◌∷◌, ◌++◌, length, map, drop, sym, ap, ◌∙◌, append_assoc, add-one, drop-cons}
 use Rattle.std.specs.List.{enumerate_from}
 use Rattle.rn_model.specs.declared.system.Creation.{Creation}
 use Rattle.rn_told.specs.declared.maker.Maker.{Maker}

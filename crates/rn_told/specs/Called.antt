@@ -1,5 +1,5 @@
 -- What the lines of a binding say of instances, and which line is the first that is bad.
-use Rattle.std.specs.Prelude.{ℕ, Bool, true, false, List, [], ◌∷◌, ◌++◌, length, map, nat_lt, flat_map}
+use Rattle.std.specs.Prelude.{ℕ, List, length, map, nat_lt, flat_map}
 use Rattle.std.specs.Prelude.{Option, Some, None, if◌then◌else◌}
 use Rattle.std.specs.List.{prefix_len}
 use Rattle.rn_model.specs.declared.system.System.{System}

@@ -13,4 +13,3 @@ pub mod NodesAhead
 pub mod Paths
 pub mod Prints
 pub mod PrintsAhead
-pub mod Runs

@@ -1,5 +1,5 @@
 -- The nodes of a binding, line by line.
-use Rattle.std.specs.Prelude.{ℕ, zero, suc, ◌+◌, Bool, true, false, List, [], ◌∷◌, ◌++◌, length}
+use Rattle.std.specs.Prelude.{ℕ, Bool, true, false, List, [], ◌∷◌, ◌++◌, length}
 use Rattle.std.specs.Prelude.{Option, Some, None, nat_eq, bytes_eq, if◌then◌else◌}
 use Rattle.rn_value.specs.Text.{numeral}
 use Rattle.rn_model.specs.declared.system.System.{System}

@@ -1,9 +1,8 @@
 -- What the code knows of the nodes that come next. It connects the code with the definitions, and
 -- states no rule.
-use Rattle.std.specs.Prelude.{◌≡◌, ◌<◌, ℕ, Bool, List, [], ◌∷◌, ◌++◌, Option, length, map, ⊤}
+use Rattle.std.specs.Prelude.{◌≡◌, ◌<◌, ℕ, List, [], ◌∷◌, ◌++◌, Option, length, ⊤}
 use Rattle.rn_model.specs.declared.system.System.{System}
 use Rattle.rn_lines.specs.NodeSeen.{node}
-use Rattle.rn_lookup.specs.declared.refusal.Refusal.{Refusal}
 use Rattle.rn_lookup.specs.Found.{net_said, transition_said}
 use Rattle.rn_lines.specs.LineText.{LineSaid}
 use Rattle.rn_told.specs.Nodes.{Judged, Placed, Stop, nodes_from, with_node, placed_at, count_called}

@@ -17,9 +17,9 @@ use std::alloc::Global;
 
 /// A bad line: how many lines of its entry are before it, and why it is refused.
 #[derive(Clone, Copy, Debug)]
-pub(crate) struct BadLine {
-    pub(crate) before: usize,
-    pub(crate) refusal: Refusal,
+pub struct BadLine {
+    pub before: usize,
+    pub refusal: Refusal,
 }
 
 fn push_nets(creations: &[Creation], made: &mut Vec<u32>) -> Result<(), NoMemory>

@@ -21,7 +21,7 @@ use std::alloc::Global;
 
 /// What is read of a firing.
 #[derive(Debug, Drop)]
-pub(crate) enum FiringRead<'a> {
+pub enum FiringRead<'a> {
     /// Its entry, how many lines it has, and the bytes after them.
     Fired(Entry, usize, &'a [u8]),
 
@@ -66,9 +66,13 @@ fn read_on<'a>(
     }
 }
 
-/// What is read of a firing with this step and worker at the start of the bytes. `made` has the nets
-/// of the instances that were made; those that it makes are added.
-pub(crate) fn read_firing<'a>(
+/// What is read of a firing with this step and worker at the start of the bytes: its nodes, each
+/// followed by those that it calls, and then what it printed. It ends before the first line that isn't
+/// one of its.
+///
+/// `made` has the nets of the instances that were made before, from number 1 on; those that the firing
+/// makes are added. Where one of its lines is bad, so are those of the nodes before it.
+pub fn read_firing<'a>(
     alloc: Global,
     system: &System,
     directory: &Directory,

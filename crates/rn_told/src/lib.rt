@@ -1,4 +1,5 @@
-//! Reading records: the run that a record tells, or the first line that is bad.
+//! Reading records: the firings that the lines of a record tell, with what they printed, and the marks,
+//! or the first line that is bad.
 #![tactic(auto)]
 
 mod bindings;
@@ -14,3 +15,7 @@ mod marks;
 mod nodes;
 mod prints;
 mod role;
+
+pub use called::BadLine;
+pub use firings::{FiringRead, read_firing};
+pub use marks::{MarksRead, read_marks};

@@ -1,9 +1,8 @@
 -- The nodes and the lines after them are no more than the bytes.
-use Rattle.std.proofs.Common.{◌≡◌, ◌+◌, ◌≤◌, length, map, ap, subst, arith}
+use Rattle.std.proofs.Common.{◌+◌, ◌≤◌, length, map, ap, subst, arith}
 use Rattle.std.proofs.lemmas.List.{length-map}
 use Rattle.rn_told.specs.declared.role.Role.TheVariants.{Firing}
 use Rattle.rn_told.specs.Lines.{lines_in}
-use Rattle.rn_told.specs.Nodes.{Stop}
 use Rattle.rn_told.specs.NodesAhead.{placed, stop}
 use Rattle.rn_told.proofs.CountLemmas.{left, lines_few, nodes_few}
 use Rattle.rn_told.proofs.firings.read_firing.Goals as goal

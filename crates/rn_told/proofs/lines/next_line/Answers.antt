@@ -1,7 +1,6 @@
 -- What follows, by what was read.
-use Rattle.std.proofs.Common.{◌≡◌, ◌∷◌, ◌∙◌, sym, ap, rules}
-use Rattle.std.specs.Prelude.{[], Some, None, drop}
-use Rattle.rn_lines.specs.LineReading.{line_at}
+use Rattle.std.proofs.Common.{◌∷◌, ◌∙◌, sym, ap, rules}
+use Rattle.std.specs.Prelude.{None, drop}
 use Rattle.rn_lines.proofs.LineForms.{line_reads}
 use Rattle.rn_told.specs.Lines.{lines_in}
 use Rattle.rn_told.proofs.LineLemmas.{first_is, unended_is, no_line}
