@@ -82,7 +82,8 @@ net_of_made made number = if nat_eq number 0 then None else slice_get made (numb
 -- whether an instance is among those made, and is called by the name of its net
 abbrev pub is_called : System → List ℕ → Said → Bool
 is_called system made m =
-    option_map_or (λ net. bytes_eq (net_at system net).name m.name) (net_of_made made m.number) false
+    option_map_or (λ net. bytes_eq (net_at system net).name m.name)
+    (net_of_made made m.number) false
 
 -- whether each of these is
 abbrev pub are_called : System → List ℕ → List Said → Bool

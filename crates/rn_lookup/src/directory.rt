@@ -48,8 +48,8 @@ fn all_own_names(alloc: Global, nets: &[Net]) -> Result<Vec<OwnNames>, NoMemory>
 }
 
 impl Directory {
-    /// The names of a system, which has fewer than 2^32 nets, each with fewer transitions and places
-    /// than that, as a good one.
+    /// The names of a system, which has fewer than 2^32 nets, each with fewer transitions and
+    /// places than that, as a good one.
     pub fn new(alloc: Global, system: &System) -> Result<Directory, NoMemory>
         requires nets { length system.now.nets < 2 ^ 32 }
         requires own { All AreFew system.now.nets }

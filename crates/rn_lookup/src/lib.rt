@@ -1,5 +1,5 @@
-//! What the lines of records name, looked up in a system: nets, transitions, places and variables by
-//! their names, values by their kinds, and instances by their numbers.
+//! What the lines of records name, looked up in a system: nets, transitions, places and variables
+//! by their names, values by their kinds, and instances by their numbers.
 #![tactic(auto)]
 
 mod directory;

@@ -48,6 +48,7 @@ nodes_few_from system role (path ∷ due) (line ∷ lines) =
   where
     more : NodeSaid → List Placed × Stop
     more n = nodes_from system role (children path (count_called system n) ++ due) lines
+
     by : (j : Judged) → ((n : NodeSaid) → AreAll (length lines) (more n)) →
         AreAll (length (line ∷ lines)) (node_then system path j more)
     by (Judged.stands n) few = let h = few n in omega (arith, h)

@@ -27,7 +27,8 @@ makers_of system = flat_map (makers_by system)
 abbrev pub reference : List Maker → ℕ → ℕ → InstRef
 reference makers count number =
     if nat_le number count then Old number
-    else option_map_or (λ m. New m.path m.index) (slice_get makers (number - count - 1)) (Old number)
+    else option_map_or (λ m. New m.path m.index)
+    (slice_get makers (number - count - 1)) (Old number)
 
 -- an instance that a text names, which is by its number
 abbrev pub unnumbered : List Maker → ℕ → InstRef → InstRef

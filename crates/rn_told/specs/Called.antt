@@ -40,9 +40,9 @@ stop_fault system made count (Stop.late n) =
 stop_fault system made count (Stop.refused refusal) =
     Some (record { before = count; refusal = refusal })
 
--- The first line of a binding that is bad, where these instances were made, its own among them: those
--- of its nodes before the first line that is bad for another reason than an instance that isn't made
--- or has another net. Each line before that one is bad where it names such an instance.
+-- The first line of a binding that is bad, where these instances were made, its own among them:
+-- those of its nodes before the first line that is bad for another reason than an instance that
+-- isn't made or has another net. Each line before that one is bad where it names such an instance.
 abbrev pub nodes_fault : System → List ℕ → List Placed × Stop → Option BadAt
 nodes_fault system made read =
     if nat_lt (count_of_called system made read.0) (length read.0)

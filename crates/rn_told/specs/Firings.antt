@@ -12,8 +12,8 @@ use Rattle.rn_told.specs.Called.{BadAt, nets_made, nodes_fault}
 use Rattle.rn_told.specs.Bindings.{told_binding}
 use Rattle.rn_told.specs.Prints.{PrintsEnd, prints_from}
 
--- what is read of a firing: its entry, the nets of the instances made by then, how many lines it has
--- and those after them; or its first bad line
+-- what is read of a firing: its entry, the nets of the instances made by then, how many lines it
+-- has and those after them; or its first bad line
 pub data FiringRead : Type 0 where
   fired : Entry → List ℕ → ℕ → List (Option LineSaid) → FiringRead
   broken : BadAt → FiringRead

@@ -8,5 +8,6 @@ use Rattle.rn_told.specs.declared.firings.FiringRead.TheVariants.{Fired, Broken}
 
 -- this is what is read of a firing, after which the instances made have these nets
 abbrev pub ReadsFiring : Read → List ℕ → FiringRead → Type 0
-ReadsFiring read made (Fired entry count rest) = read ≡ Read.fired entry made count (lines_in rest.now)
+ReadsFiring read made (Fired entry count rest) =
+    read ≡ Read.fired entry made count (lines_in rest.now)
 ReadsFiring read made (Broken b) = read ≡ Read.broken (bad_at b)

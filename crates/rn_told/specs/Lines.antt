@@ -15,7 +15,7 @@ lines_from before (c ∷ bytes) =
     if nat_eq c 10 then line_at before ∷ lines_from [] bytes
     else lines_from (before ++ c ∷ []) bytes
 
--- The lines of bytes: what each says, and nothing of one that isn't of the grammar. Each is ended by
--- a line feed.
+-- The lines of bytes: what each says, and nothing of one that isn't of the grammar. Each is ended
+-- by a line feed.
 abbrev pub lines_in : List ℕ → List (Option LineSaid)
 lines_in = lines_from []

@@ -34,7 +34,8 @@ told_mark system m = record {
 -- that is of another net
 abbrev pub uncalled_mark : System → List ℕ → Marked → Option Refusal
 uncalled_mark system made m =
-    if is_called system made m.inst && tokens_are_called system made m.tokens then None else Some Name
+    if is_called system made m.inst && tokens_are_called system made m.tokens then None
+    else Some Name
 
 -- what is wrong with a mark
 abbrev pub fault_of_mark : System → List ℕ → Marked → Option Refusal → Option Refusal
@@ -55,7 +56,8 @@ marked_then system made (Some m) more =
     mark_then (told_mark system m)
     (fault_of_mark system made m (mark_fault system m.inst m.place m.tokens)) more
 
--- The marks at the start of lines, and why the next line is refused; nothing where all lines are marks.
+-- The marks at the start of lines, and why the next line is refused; nothing where all lines are
+-- marks.
 abbrev pub marks_from : System → List ℕ → List (Option LineSaid) → List MarkLine × Option Refusal
 marks_from system made [] = ([], None)
 marks_from system made (line ∷ lines) =

@@ -95,8 +95,8 @@ node_then system path (Judged.stands n) more = with_node (placed_at system path 
 node_then system path (Judged.late n) more = ([], Stop.late n)
 node_then system path (Judged.refused refusal) more = ([], Stop.refused refusal)
 
--- The nodes that stand at the start of lines, where nodes at these paths are due, and why no more are
--- read. Each node is followed by those that it calls, each with its own.
+-- The nodes that stand at the start of lines, where nodes at these paths are due, and why no more
+-- are read. Each node is followed by those that it calls, each with its own.
 abbrev pub nodes_from : System → Role → List (List ℕ) → List (Option LineSaid) →
     List Placed × Stop
 nodes_from system role [] lines = ([], Stop.whole lines)

@@ -5,7 +5,8 @@ use Rattle.rn_model.specs.declared.system.System.{System}
 use Rattle.rn_lines.specs.NodeSeen.{node}
 use Rattle.rn_lookup.specs.Found.{net_said, transition_said}
 use Rattle.rn_lines.specs.LineText.{LineSaid}
-use Rattle.rn_told.specs.Nodes.{Judged, Placed, Stop, nodes_from, with_node, placed_at, count_called}
+use Rattle.rn_told.specs.Nodes.{Judged, Placed, Stop}
+use Rattle.rn_told.specs.Nodes.{nodes_from, with_node, placed_at, count_called}
 use Rattle.rn_told.specs.Paths.{children}
 use Rattle.rn_told.specs.declared.role.Role.{Role}
 use Rattle.rn_told.specs.declared.nodes.PlacedNode.{PlacedNode}

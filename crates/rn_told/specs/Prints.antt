@@ -14,8 +14,8 @@ abbrev pub printed : Option LineSaid → Option (LeadSaid × Token)
 printed (Some (LineSaid.prints lead t)) = Some (lead, t)
 printed _ = None
 
--- The line of a printed value has the firing's worker, which is a matter of form. It names instances
--- that are made, and it has the firing's step.
+-- The line of a printed value has the firing's worker, which is a matter of form. It names
+-- instances that are made, and it has the firing's step.
 abbrev pub print_fault : System → List ℕ → ℕ → ℕ → LeadSaid → Token → Option Refusal
 print_fault system made step worker lead t =
     if not (nat_eq lead.worker worker) then Some Form
@@ -53,7 +53,8 @@ print_then lines Print.other more = ([], PrintsEnd.over lines)
 print_then lines (Print.prints v) more = (v ∷ more.0, more.1)
 print_then lines (Print.refused refusal) more = ([], PrintsEnd.refused refusal)
 
--- The printed values at the start of lines, by the firing's step and worker, and why no more are read.
+-- The printed values at the start of lines, by the firing's step and worker, and why no more are
+-- read.
 abbrev pub prints_from : System → List ℕ → ℕ → ℕ → List (Option LineSaid) →
     List Value × PrintsEnd
 prints_from system made step worker [] = ([], PrintsEnd.over [])

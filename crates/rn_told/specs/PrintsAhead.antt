@@ -29,7 +29,10 @@ PrintSteps system made step worker lines Other rest =
     prints_from system made step worker lines ≡ ([], End.over lines)
 PrintSteps system made step worker lines (Prints v) rest =
     prints_from system made step worker lines
-    ≡ (v ∷ (prints_from system made step worker rest).0, (prints_from system made step worker rest).1)
+    ≡ (
+      v ∷ (prints_from system made step worker rest).0,
+      (prints_from system made step worker rest).1,
+    )
 PrintSteps system made step worker lines (Refused refusal) rest =
     prints_from system made step worker lines ≡ ([], End.refused refusal)
 

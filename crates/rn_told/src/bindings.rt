@@ -42,7 +42,12 @@ fn told_value(
     match value {
         Value::Int(n) => Ok(Value::Int(*n)),
         Value::Text(text) => Ok(Value::Text(copy_text(alloc, text)?)),
-        Value::Tuple(parts) => Ok(Value::Tuple(told_values(alloc, parts.as_slice(), makers, count)?)),
+        Value::Tuple(parts) => Ok(Value::Tuple(told_values(
+            alloc,
+            parts.as_slice(),
+            makers,
+            count,
+        )?)),
         Value::List(parts) => Ok(Value::List(told_values(alloc, parts.as_slice(), makers, count)?)),
         Value::Inst(inst) => Ok(Value::Inst(unnumbered(alloc, inst, makers, count)?)),
     }

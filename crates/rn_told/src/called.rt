@@ -4,13 +4,14 @@ ghost use Rattle.std.specs.List.{prefix_len};
 ghost use Rattle.rn_model.specs.Systems.{transition_at};
 ghost use Rattle.rn_lookup.specs.Found.{node_is_called};
 ghost use Rattle.rn_lines.specs.NodeSeen.{node};
-ghost use Rattle.rn_told.specs.Called.{nets_by, nets_made, count_of_called, late_refusal, stop_fault, nodes_fault};
+ghost use Rattle.rn_told.specs.Called.{nets_by, nets_made, count_of_called, late_refusal};
+ghost use Rattle.rn_told.specs.Called.{nodes_fault};
 ghost use Rattle.rn_told.specs.CalledAhead.{bad_at};
 ghost use Rattle.rn_told.specs.NodesAhead.{placed, stop};
 
 use crate::nodes::{NodesEnd, NodesRead, PlacedNode};
-use rn_lookup::{Refusal, node_is_called};
 use rn_lines::ReadNode;
+use rn_lookup::{Refusal, node_is_called};
 use rn_model::{Creation, System};
 use rn_value::NoMemory;
 use std::alloc::Global;

@@ -67,11 +67,11 @@ fn read_on<'a>(
 }
 
 /// What is read of a firing with this step and worker at the start of the bytes: its nodes, each
-/// followed by those that it calls, and then what it printed. It ends before the first line that isn't
-/// one of its.
+/// followed by those that it calls, and then what it printed. It ends before the first line that
+/// isn't one of its.
 ///
-/// `made` has the nets of the instances that were made before, from number 1 on; those that the firing
-/// makes are added. Where one of its lines is bad, so are those of the nodes before it.
+/// `made` has the nets of the instances that were made before, from number 1 on; those that the
+/// firing makes are added. Where one of its lines is bad, those of the nodes before it are.
 pub fn read_firing<'a>(
     alloc: Global,
     system: &System,
@@ -89,7 +89,13 @@ pub fn read_firing<'a>(
         made.new.items read) }
 {
     let count = made.len();
-    let read = read_nodes(alloc, system, directory, Role::Firing { step, worker }, bytes)?;
+    let read = read_nodes(
+        alloc,
+        system,
+        directory,
+        Role::Firing { step, worker },
+        bytes,
+    )?;
     push_made(system, read.nodes.as_slice(), made)?;
     if let Some(bad) = nodes_fault(system, made.as_slice(), &read) {
         return Ok(FiringRead::Broken(bad));
@@ -106,5 +112,13 @@ pub fn read_firing<'a>(
         step,
         worker,
     };
-    read_on(alloc, system, directory, count, firing, nodes.as_slice(), rest)
+    read_on(
+        alloc,
+        system,
+        directory,
+        count,
+        firing,
+        nodes.as_slice(),
+        rest,
+    )
 }

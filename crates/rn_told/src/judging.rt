@@ -75,20 +75,8 @@ fn node_due<'a>(role: Role, first: bool, read: Line<'a>) -> Option<(ReadNode<'a>
             _ => None,
         },
         Role::Fault => match read {
-            Line::WouldFire(read) => {
-                if first {
-                    Some((read, true))
-                } else {
-                    None
-                }
-            }
-            Line::WouldCall(read) => {
-                if first {
-                    None
-                } else {
-                    Some((read, true))
-                }
-            }
+            Line::WouldFire(read) => { if first { Some((read, true)) } else { None } }
+            Line::WouldCall(read) => { if first { None } else { Some((read, true)) } }
             _ => None,
         },
     }

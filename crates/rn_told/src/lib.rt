@@ -1,5 +1,5 @@
-//! Reading records: the firings that the lines of a record tell, with what they printed, and the marks,
-//! or the first line that is bad.
+//! Reading records: the firings that the lines of a record tell, with what they printed, and the
+//! marks, or the first line that is bad.
 #![tactic(auto)]
 
 mod bindings;

@@ -47,11 +47,11 @@ returns-in-loop-alloc c =
     let steps = c.in_ok-line.ensures.steps path (drop 1 before) (sym c.is_first.ensures) in
     let stops = node_stops system c.args.role (map placed c.loop-alloc.nodes.items) before path lines _ in
     elim c.match-line.branch [
-      in-Late w ↦
+      | in-Late w ↦
           stops (Stop.late (node w.in-Late.node)) (stop c.match-line.end) paths
           (subst (λ j. Steps system c.args.role path (drop 1 before) lines j rest) w.in-Late.is steps)
           (ap stop w.end-is) c.loop-alloc.invariant
-    | in-Refused w ↦
+      | in-Refused w ↦
           stops (Stop.refused w.in-Refused.refusal) (stop c.match-line.end) paths
           (subst (λ j. Steps system c.args.role path (drop 1 before) lines j rest) w.in-Refused.is steps)
           (ap stop w.end-is) c.loop-alloc.invariant

@@ -15,6 +15,8 @@ returns-then-level-gt0 c =
 
 pub loop-level-preserved : goal.loop-level-preserved
 loop-level-preserved c =
-    let was : c.loop-level.self.levels.items ≡ c.pop.new.self.items ++ c.in-Some.level ∷ [] = search rules in
-    (popped_rest c.loop-level.self.levels.items c.pop.new.self.items c.in-Some.level was c.if-level-gt0.false
-    ∙ c.loop-level.invariant.0, c.loop-level.invariant.1)
+    let was : c.loop-level.self.levels.items ≡ c.pop.new.self.items ++ c.in-Some.level ∷ [] = search rules in (
+      popped_rest c.loop-level.self.levels.items c.pop.new.self.items c.in-Some.level was c.if-level-gt0.false
+          ∙ c.loop-level.invariant.0,
+      c.loop-level.invariant.1,
+    )
