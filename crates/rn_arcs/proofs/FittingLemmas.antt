@@ -3,7 +3,7 @@
 use Rattle.std.proofs.Common.{◌≡◌, ℕ, zero, suc, ◌-◌, ◌<◌, Bool, List, [], ◌∷◌}
 use Rattle.std.proofs.Common.{refl, sym, ap, ◌∙◌, subst, inl, inr, arith}
 use Rattle.std.specs.Prelude.{◌⊎◌, ◌↔◌, IsTrue, All, Contains, Some}
-use Rattle.std.specs.List.{flat_map, AllByRecursion}
+use Rattle.std.specs.List.{flat_map}
 use Rattle.std.proofs.lemmas.List.{append-nil}
 use Rattle.std.proofs.lemmas.List.Elements.{All-contains, All-from_recursion}
 use Rattle.rn_value.specs.declared.value.InstRef.{InstRef}
@@ -17,6 +17,7 @@ use Rattle.rn_model.specs.Enabling.{PlaceFits, Fits}
 use Rattle.rn_model.specs.Markings.{Marking, net_of, tokens}
 use Rattle.rn_model.proofs.AskedValues.{counted, is_counted}
 use Rattle.rn_model.proofs.EnablingLemmas.{idle, not_in_nil}
+use Rattle.rn_model.proofs.ReadConditions.{each_in}
 use Rattle.rn_model.proofs.ValueLists.{others_are_taken}
 use Rattle.rn_arcs.specs.Groups.{place_of, AreAsked}
 use Rattle.rn_arcs.specs.Meeting.{Meets}
@@ -26,14 +27,6 @@ use Rattle.rn_arcs.proofs.RisingPlaces.{those_at, one_at, OneAt, each_one, all_m
 
 abbrev flat : List (List Value) → List Value
 flat = flat_map (λ vs. vs)
-
-all_of_those : {X : Type 0} (P : X → Type 0) (xs : List X) →
-    ((x : X) → Contains xs x → P x) → AllByRecursion P xs
-all_of_those P [] f = tt
-all_of_those P (x ∷ xs) f = (
-  f x (0, omega arith, refl),
-  all_of_those P xs (λ y there. f y (suc there.0, omega (arith, there.1), there.2)),
-)
 
 not_counted : (v : Value) (ts : List Value) (n : ℕ) → (Contains ts v → ⊥) → count_of v ts ≡ n →
     n ≡ 0
@@ -121,11 +114,11 @@ module _ (system : System) (m : Marking) (b : Binding) (inst : InstRef) (place :
       whole = own_whole;
       enough = subst (λ vs. IsWithin vs ts) (sym taken) fits.enough;
       absent = All-from_recursion (λ v. count_of v ts ≡ 0) g.inhibited
-          (all_of_those (λ v. count_of v ts ≡ 0) g.inhibited
+          (each_in (λ v. count_of v ts ≡ 0) g.inhibited
           (λ v there. not_counted v ts (count_of v ts)
           (fits.absent v (subst (λ vs. Contains vs v) inhibited there)) refl));
       left = All-from_recursion (λ v. count_of v g.taken < count_of v ts) g.tested
-          (all_of_those (λ v. count_of v g.taken < count_of v ts) g.tested
+          (each_in (λ v. count_of v g.taken < count_of v ts) g.tested
           (λ v there. let some = some_left v there in omega (arith, some)));
       nothing = apart g.tested refl;
     }

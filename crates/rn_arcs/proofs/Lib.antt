@@ -4,7 +4,6 @@ pub mod CountLemmas
 pub mod FittingLemmas
 pub mod Gathering
 pub mod MeetingLemmas
-pub mod NodeLookups
 pub mod PlaceOrder
 pub mod PlacesInOrder
 pub mod RisingPlaces

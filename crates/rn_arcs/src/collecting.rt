@@ -1,14 +1,13 @@
 //! The walk over the nodes and arcs of a binding.
-ghost use Rattle.std.specs.Prelude.{◌≡◌, ◌++◌, IfOk, OnOk, MatchOption};
-ghost use Rattle.rn_model.specs.Systems.{empty_transition, is_output, transition_of};
+ghost use Rattle.std.specs.Prelude.{◌≡◌, ◌++◌, IfOk, OnOk};
+ghost use Rattle.rn_model.specs.Systems.{is_output};
 ghost use Rattle.rn_model.specs.Bindings.{env_of};
 ghost use Rattle.rn_arcs.specs.Asks.{arc_asks, node_asks, binding_asks};
 
 use crate::ask::Ask;
-use crate::node_values::NodeValues;
-use rn_calc::{Values, evaluate};
+use rn_calc::{NodeValues, Values, evaluate, find_transition};
 use rn_items::NoMemory;
-use rn_model::{ArcKind, Binding, NetArc, Node, System, Transition};
+use rn_model::{ArcKind, Binding, NetArc, Node, System};
 use rn_value::{InstRef, copy_inst};
 use std::alloc::Global;
 
@@ -17,15 +16,6 @@ fn is_output(kind: ArcKind) -> bool
     ensures { result ≡ is_output kind }
 {
     matches!(kind, ArcKind::Output | ArcKind::FlexOutput)
-}
-
-/// The transition that occurs in a node, where the system has it.
-fn find_transition<'a>(system: &'a System, node: &Node) -> Option<&'a Transition>
-    ensures { MatchOption result (transition_of system.now node.now ≡ empty_transition)
-        (λ t. t.now ≡ transition_of system.now node.now) }
-{
-    let net = system.nets.get(node.net as usize)?;
-    net.transitions.get(node.transition as usize)
 }
 
 /// Adds what one arc asks, where its inscription has a value. Outputs are left out at will.
@@ -69,10 +59,7 @@ fn add_node(
     let Some(transition) = find_transition(system, node) else {
         return Ok(());
     };
-    let values = NodeValues {
-        node,
-        vars: transition.vars.as_slice(),
-    };
+    let values = NodeValues::new(system, node);
     for arc in transition.arcs.as_slice() {
         add_ask(alloc, asks, &values, &node.inst, arc, outputs)?;
     }

@@ -9,7 +9,6 @@ mod demands;
 mod fitting;
 mod grouping;
 mod holding;
-mod node_values;
 mod rows;
 #[cfg(test)]
 mod tests;

@@ -8,6 +8,7 @@ mod conditions;
 mod evaluation;
 mod given;
 mod integers;
+mod node_values;
 mod reading;
 #[cfg(test)]
 mod tests;
@@ -16,5 +17,6 @@ mod values;
 pub use conditions::{holds, is_true};
 pub use evaluation::{calc, evaluate};
 pub use given::{Given, VarVals};
+pub use node_values::{NodeValues, find_transition};
 pub use reading::{Reading, has_value, have_one_value, read};
 pub use values::Values;

@@ -1,6 +1,6 @@
 use Rattle.std.proofs.Common.{◌≡◌, drop}
-use Rattle.rn_arcs.proofs.NodeLookups.{beside}
-use Rattle.rn_arcs.proofs.node_values.NodeValuesValues.value.Given as goal
+use Rattle.rn_calc.proofs.NodeLookups.{beside}
+use Rattle.rn_calc.proofs.node_values.NodeValuesValues.value.Given as goal
 
 abbrev pub invariant-loop-i : goal.invariant-loop-i
 invariant-loop-i l =

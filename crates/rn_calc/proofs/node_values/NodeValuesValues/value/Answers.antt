@@ -1,6 +1,6 @@
 use Rattle.std.proofs.Common.{◌∙◌, sym}
-use Rattle.rn_arcs.proofs.NodeLookups.{found_at, later_at}
-use Rattle.rn_arcs.proofs.node_values.NodeValuesValues.value.Goals as goal
+use Rattle.rn_calc.proofs.NodeLookups.{found_at, later_at}
+use Rattle.rn_calc.proofs.node_values.NodeValuesValues.value.Goals as goal
 
 pub returns-then-var-x : goal.returns-then-var-x
 returns-then-var-x c =
