@@ -3,9 +3,7 @@ use Rattle.std.proofs.Common.{◌≡◌, ℕ, Bool, true, false, cond, List, [],
 use Rattle.std.proofs.Common.{ap, ◌∙◌, ◌&&◌}
 use Rattle.std.specs.Prelude.{nat_eq, filter}
 use Rattle.std.specs.List.{flat_map}
-use Rattle.std.specs.Ordering.{is_eq, nat_cmp, ordering_then}
-use Rattle.std.specs.declared.cmp.Ordering.{Ordering}
-use Rattle.std.specs.declared.cmp.Ordering.TheVariants.{Less, Equal, Greater}
+use Rattle.std.specs.Ordering.{is_eq, nat_cmp}
 use Rattle.std.proofs.lemmas.Grind.{flat_map-append}
 use Rattle.std.proofs.lemmas.List.{append-nil}
 use Rattle.rn_value.specs.declared.value.InstRef.{InstRef}
@@ -21,6 +19,7 @@ use Rattle.rn_arcs.specs.Demanded.{AreDemandsOf, one_row, row_place, rows_at}
 use Rattle.rn_arcs.specs.Places.{is_at}
 use Rattle.rn_arcs.specs.declared.demands.Place2.{Place2}
 use Rattle.rn_arcs.specs.declared.demands.Demands.{Demands}
+use Rattle.rn_arcs.proofs.PlaceOrder.{eq_then}
 use Rattle.rn_table.proofs.FiringLemmas.{firing_is_change}
 use Rattle.rn_table.specs.Changes.{changed, values_at}
 use Rattle.rn_table.specs.Laws.{IsChangeOf, LeavesNew}
@@ -29,11 +28,6 @@ use Rattle.rn_table.specs.declared.change.Row.{Row}
 use Rattle.rn_acts.specs.Acted.{ArePut}
 use Rattle.rn_acts.specs.ChangeRows.{row_at, numbered_row}
 use Rattle.rn_acts.proofs.RowLemmas.{same_number}
-
-eq_then : (c d : Ordering) → is_eq (ordering_then c d) ≡ is_eq c && is_eq d
-eq_then Less d = refl
-eq_then Equal d = refl
-eq_then Greater d = refl
 
 -- all values of these lists
 abbrev pub all_of : List (List Value) → List Value

@@ -1,7 +1,6 @@
 -- What the actions of a firing give.
 use Rattle.std.specs.Prelude.{ℕ, ◌≡◌, Bool, true, false, List, [], ◌∷◌, ◌++◌, Option}
 use Rattle.std.specs.Prelude.{option_map, flat_map, All, Contains}
-use Rattle.std.specs.List.Sorted.{IsStrictlyIncreasing}
 use Rattle.std.specs.Option.{option_map_or}
 use Rattle.rn_value.specs.declared.value.InstRef.{InstRef}
 use Rattle.rn_value.specs.declared.value.InstRef.TheVariants.{Old, New}
@@ -11,7 +10,6 @@ use Rattle.rn_model.specs.declared.system.ArcKind.{ArcKind}
 use Rattle.rn_model.specs.declared.system.ArcKind.TheVariants.{Output, Reserve, FlexOutput}
 use Rattle.rn_model.specs.declared.system.NetArc.{NetArc}
 use Rattle.rn_model.specs.declared.binding.Node.{Node}
-use Rattle.rn_model.specs.Bindings.{IsNodeOf}
 use Rattle.rn_model.specs.Demands.{asked_at, puts}
 use Rattle.rn_model.specs.Evaluation.{Env, worth}
 use Rattle.rn_model.specs.Firing.{Acts, Effects, node_acts}
@@ -41,11 +39,6 @@ abbrev pub AreOfArcs : System → List Node → List Row → Type 0
 AreOfArcs system nodes rows = All (IsOfArc system nodes) rows
 
 -- What follows only connects the code to the definitions.
-
--- a node whose values can be looked up
-pub record IsReadable (system : System) (node : Node) : Type 0 where
-  pub own : IsNodeOf system node
-  pub ascending : IsStrictlyIncreasing (transition_of system node).vars
 
 -- whether an arc of this kind puts something
 abbrev pub may_put : ArcKind → Bool

@@ -4,7 +4,7 @@ use Rattle.rn_model.specs.declared.system.Action.{Action}
 use Rattle.rn_model.specs.declared.system.Action.TheVariants.{Set, Print}
 use Rattle.rn_model.specs.Evaluation.{Env, worth}
 use Rattle.rn_model.specs.Firing.{Acts, with_set, with_out}
-use Rattle.rn_agree.specs.NodeValues.{lent_env}
+use Rattle.rn_calc.specs.NodeValues.{lent_env}
 use Rattle.rn_acts.specs.declared.acting.Acting.{Acting}
 
 -- the node's own values, and in front of them those that actions have set, the last one first

@@ -1,13 +1,9 @@
 //! A node after some of its actions.
 ghost use Rattle.std.specs.Prelude.{◌≡◌, ◌≤◌, IfOk};
-ghost use Rattle.std.specs.List.Sorted.{IsStrictlyIncreasing};
-ghost use Rattle.rn_model.specs.Bindings.{IsNodeOf};
 ghost use Rattle.rn_model.specs.Firing.{acts_before, after_actions};
 ghost use Rattle.rn_model.specs.Limits.{greatest_step};
-ghost use Rattle.rn_model.specs.Systems.{transition_of};
 
-use rn_agree::NodeValues;
-use rn_calc::{Values, VarVals, evaluate};
+use rn_calc::{NodeValues, Values, VarVals, evaluate};
 use rn_items::{Items, NoMemory};
 use rn_model::{Action, Node, System};
 use rn_value::{InstRef, Vals, Value};
@@ -29,9 +25,7 @@ impl<'a> Acting<'a> {
 
     /// A node before its actions, in the firing with this number.
     pub(crate) fn new(alloc: Global, system: &'a System, node: &'a Node, step: u64) -> Acting<'a>
-        requires own { IsNodeOf system.now node.now }
-        requires ascending { IsStrictlyIncreasing (transition_of system.now node.now).vars }
-        requires small { step ≤ greatest_step }
+        requires { step ≤ greatest_step }
         ensures { acts_of result ≡ acts_before system.now step node.now }
     {
         Acting {

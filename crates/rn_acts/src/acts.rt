@@ -1,13 +1,10 @@
 //! What the actions of a firing give.
 ghost use Rattle.std.specs.Prelude.{◌≡◌, ◌++◌, ◌≤◌, All, IfOk, IfSome, OnOk, Some, option_map};
-ghost use Rattle.std.specs.List.Sorted.{IsStrictlyIncreasing};
 ghost use Rattle.rn_model.specs.Bindings.{IsNodeOf};
 ghost use Rattle.rn_model.specs.Firing.{Effects, all_effects};
-ghost use Rattle.rn_model.specs.Good.{Good};
 ghost use Rattle.rn_model.specs.Limits.{greatest_step};
-ghost use Rattle.rn_model.specs.Systems.{transition_of};
 ghost use Rattle.rn_acts.specs.Acting.{if_done};
-ghost use Rattle.rn_acts.specs.Acted.{AreOfArcs, ArePut, nothing, with_node, with_effects, IsReadable};
+ghost use Rattle.rn_acts.specs.Acted.{AreOfArcs, ArePut, nothing, with_node, with_effects};
 
 use crate::acting::Acting;
 use crate::outputs::put_outputs;
@@ -45,7 +42,7 @@ fn add_node(
     node: &Node,
     step: u64,
 ) -> Result<bool, NoMemory>
-    requires readable { IsReadable system.now node.now }
+    requires own { IsNodeOf system.now node.now }
     requires step { step ≤ greatest_step }
     ensures { IfOk result (λ done. with_node system.now step acted.old node.now
         ≡ if_done done acted.new) }
@@ -69,7 +66,7 @@ pub(crate) fn act_on(
     nodes: &[Node],
     step: u64,
 ) -> Result<Option<Acted>, NoMemory>
-    requires readable { All (IsReadable system.now) nodes.now }
+    requires nodes { All (IsNodeOf system.now) nodes.now }
     requires step { step ≤ greatest_step }
     ensures { IfOk result (λ acted. acted
         ≡ option_map (with_effects system.now nothing) (all_effects system.now step nodes.now)) }
@@ -96,7 +93,6 @@ pub fn act(
     binding: &Binding,
     step: u64,
 ) -> Result<Option<Acted>, NoMemory>
-    requires good { Good system.now }
     requires nodes { All (IsNodeOf system.now) binding.now.nodes }
     requires step { step ≤ greatest_step }
     ensures outs { IfOk result (λ acted. option_map (λ a. a.outs) acted

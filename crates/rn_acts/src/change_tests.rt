@@ -1,16 +1,17 @@
 //! What a firing changes.
 use crate::change_of;
-use crate::tests::{binding, next, show_row, system};
+use crate::tests::{Text, show_row, system};
 use rn_agree::has_shape;
 use rn_items::Items;
+use rn_samples::{ints, one_node};
 use rn_value::NoMemory;
 use std::alloc::Global;
 use std::test::Fail;
 
 // `in 0: x;` where x is 5, on instance 1.
 fn takes(alloc: Global) -> Result<bool, NoMemory> {
-    let system = system(alloc, next(alloc)?)?;
-    let binding = binding(alloc, &[5])?;
+    let system = system(alloc, Text::Next)?;
+    let binding = one_node(alloc, ints(alloc, &[5])?)?;
     if !has_shape(&system, 0, &binding) {
         return Ok(false);
     }

@@ -1,105 +1,16 @@
 //! What actions print and what is put after them.
-ghost use Rattle.std.specs.Prelude.{◌≡◌, ◌≤◌, All, IfOk, IsTrue, codes};
-ghost use Rattle.rn_model.specs.Bindings.{IsNodeOf};
-ghost use Rattle.rn_model.specs.Good.{Good};
+ghost use Rattle.std.specs.Prelude.{◌≤◌};
 ghost use Rattle.rn_model.specs.Limits.{greatest_step};
-ghost use Rattle.rn_model.specs.Systems.{empty_transition};
-ghost use Rattle.rn_acts.specs.Acted.{IsReadable};
 
-use crate::acts::act_on;
 use crate::{Acted, act, gives_too_many, nets_made};
-use rn_agree::{has_shape, transition_of};
-use rn_items::{Boxed, Items};
-use rn_model::{
-    Action, ArcKind, Binding, Creation, Expr, Net, NetArc, Node, OpKind, System, Transition,
-};
+use rn_agree::has_shape;
+use rn_items::Items;
+use rn_model::{Action, ArcKind, Binding, Creation, Creations, Expr, OpKind, System, Transition};
+use rn_samples::{arc, idle, idle_system, ints, one_node, one_transition, op, text};
 use rn_table::Row;
-use rn_value::{InstRef, NoMemory, Str, Value, same};
+use rn_value::{NoMemory, Value, same};
 use std::alloc::Global;
 use std::test::Fail;
-
-fn name(alloc: Global, text: &str) -> Result<Str, NoMemory>
-    ensures { IfOk result (λ name. name ≡ text.now) }
-{
-    Ok(Str::from_string(String::from_str(alloc, text)?))
-}
-
-// `trans t { }`
-fn idle(alloc: Global) -> Result<Transition, NoMemory>
-    ensures { IfOk result (λ transition. transition ≡ record empty_transition { name = codes "t" }) }
-{
-    Ok(Transition {
-        name: name(alloc, "t")?,
-        vars: Items::new(alloc),
-        action_vars: Items::new(alloc),
-        equalities: Items::new(alloc),
-        guards: Items::new(alloc),
-        actions: Items::new(alloc),
-        creations: Items::new(alloc),
-        uplink: None,
-        downlinks: Items::new(alloc),
-        arcs: Items::new(alloc),
-    })
-}
-
-// `net main { trans t { } }`
-#[tactic(auto, using(rn_agree::proofs::TestSystem::good))]
-fn idle_system(alloc: Global) -> Result<System, NoMemory>
-    ensures { IfOk result (λ system. Good system) }
-{
-    let mut transitions = Items::new(alloc);
-    transitions.push(idle(alloc)?)?;
-    let mut nets = Items::new(alloc);
-    nets.push(Net {
-        name: name(alloc, "main")?,
-        vars: Items::new(alloc),
-        places: Items::new(alloc),
-        transitions,
-    })?;
-    Ok(System {
-        nets,
-        channels: Items::new(alloc),
-    })
-}
-
-// One node on instance 1, with these values.
-pub(crate) fn binding(alloc: Global, values: &[i64]) -> Result<Binding, NoMemory> {
-    let mut all = Items::new(alloc);
-    for value in values {
-        all.push(Value::Int(*value))?;
-    }
-    let mut nodes = Items::new(alloc);
-    nodes.push(Node {
-        path: Items::new(alloc),
-        inst: InstRef::Old(1),
-        net: 0,
-        transition: 0,
-        values: all,
-    })?;
-    Ok(Binding { nodes })
-}
-
-fn idles(alloc: Global) -> Result<bool, NoMemory> {
-    let system = idle_system(alloc)?;
-    let binding = binding(alloc, &[])?;
-    if !has_shape(&system, 0, &binding) {
-        return Ok(false);
-    }
-    match act(alloc, &system, &binding, 1)? {
-        Some(acted) => Ok(acted.outs.is_empty() && acted.put.is_empty()),
-        None => Ok(false),
-    }
-}
-
-#[test]
-fn nothing_of_no_actions(rt: HostRuntime) -> Result<(), Fail> {
-    assert!(rt; idles(rt.alloc())?);
-    Ok(())
-}
-
-fn op(alloc: Global, kind: OpKind, a: Expr, b: Expr) -> Result<Expr, NoMemory> {
-    Ok(Expr::Op(kind, Boxed::new(alloc, a)?, Boxed::new(alloc, b)?))
-}
 
 // `{y,x}`
 fn both(alloc: Global) -> Result<Expr, NoMemory> {
@@ -113,29 +24,20 @@ fn both(alloc: Global) -> Result<Expr, NoMemory> {
 fn labelled(alloc: Global) -> Result<Expr, NoMemory> {
     let mut parts = Items::new(alloc);
     parts.push(Expr::Var(1))?;
-    parts.push(Expr::Text(name(alloc, "a")?))?;
+    parts.push(Expr::Text(text(alloc, "a")?))?;
     Ok(Expr::Tuple(parts))
 }
 
-fn arc(kind: ArcKind, place: u32, inscription: Expr) -> NetArc {
-    NetArc {
-        kind,
-        place,
-        inscription,
-    }
-}
-
 // `action y = value;`, where x is variable 0, and y is variable 1.
-fn setting(alloc: Global, value: Expr) -> Result<Transition, NoMemory> {
-    let mut transition = idle(alloc)?;
-    transition.vars.push(0)?;
-    transition.action_vars.push(1)?;
-    transition.actions.push(Action::Set { var: 1, value })?;
-    Ok(transition)
+fn put_setting(setting: &mut Transition, value: Expr) -> Result<(), NoMemory> {
+    setting.vars.push(0)?;
+    setting.action_vars.push(1)?;
+    setting.actions.push(Action::Set { var: 1, value })?;
+    Ok(())
 }
 
 #[derive(Clone, Copy)]
-enum Text {
+pub(crate) enum Text {
     // `action y = step() * 10; action print y; action print x; out 0: y;`
     Tens,
     // `in 0: x; action y = x + 1;`
@@ -148,101 +50,94 @@ enum Text {
     Plain,
     // `action y = x; action y = y + 1; out 0: y;`
     Twice,
+    // `action y = step() * 10; action print [y,"a"];`
+    Labelled,
+    // `x: new 1; y: new 0;`
+    Making,
 }
 
-fn tens(alloc: Global) -> Result<Transition, NoMemory> {
-    let mut tens = setting(alloc, op(alloc, OpKind::Mul, Expr::Step, Expr::Int(10))?)?;
+fn put_tens(alloc: Global, tens: &mut Transition) -> Result<(), NoMemory> {
+    put_setting(tens, op(alloc, OpKind::Mul, Expr::Step, Expr::Int(10))?)?;
     tens.actions.push(Action::Print(Expr::Var(1)))?;
     tens.actions.push(Action::Print(Expr::Var(0)))?;
     tens.arcs.push(arc(ArcKind::Output, 0, Expr::Var(1)))?;
-    Ok(tens)
+    Ok(())
 }
 
-pub(crate) fn next(alloc: Global) -> Result<Transition, NoMemory> {
-    let mut next = setting(alloc, op(alloc, OpKind::Add, Expr::Var(0), Expr::Int(1))?)?;
+fn put_next(alloc: Global, next: &mut Transition) -> Result<(), NoMemory> {
+    put_setting(next, op(alloc, OpKind::Add, Expr::Var(0), Expr::Int(1))?)?;
     next.arcs.push(arc(ArcKind::Input, 0, Expr::Var(0)))?;
-    Ok(next)
+    Ok(())
 }
 
-fn flexible(alloc: Global) -> Result<Transition, NoMemory> {
-    let mut flexible = setting(alloc, op(alloc, OpKind::Add, Expr::Var(0), Expr::Int(1))?)?;
+fn put_flexible(alloc: Global, flexible: &mut Transition) -> Result<(), NoMemory> {
+    put_setting(
+        flexible,
+        op(alloc, OpKind::Add, Expr::Var(0), Expr::Int(1))?,
+    )?;
     flexible
         .arcs
         .push(arc(ArcKind::FlexOutput, 3, both(alloc)?))?;
-    Ok(flexible)
+    Ok(())
 }
 
-fn quotient(alloc: Global) -> Result<Transition, NoMemory> {
-    let mut quotient = setting(alloc, Expr::Var(0))?;
+fn put_quotient(alloc: Global, quotient: &mut Transition) -> Result<(), NoMemory> {
+    put_setting(quotient, Expr::Var(0))?;
     let value = op(alloc, OpKind::Div, Expr::Int(6), Expr::Var(1))?;
     quotient.arcs.push(arc(ArcKind::Output, 0, value))?;
-    Ok(quotient)
+    Ok(())
 }
 
-fn plain(alloc: Global) -> Result<Transition, NoMemory> {
-    let mut plain = setting(alloc, Expr::Int(1))?;
+fn put_plain(alloc: Global, plain: &mut Transition) -> Result<(), NoMemory> {
+    put_setting(plain, Expr::Int(1))?;
     let value = op(alloc, OpKind::Div, Expr::Int(6), Expr::Var(0))?;
     plain.arcs.push(arc(ArcKind::Output, 0, value))?;
     plain.arcs.push(arc(ArcKind::Reserve, 2, Expr::Var(0)))?;
     plain.arcs.push(arc(ArcKind::Test, 0, Expr::Var(0)))?;
-    Ok(plain)
+    Ok(())
 }
 
-fn twice(alloc: Global) -> Result<Transition, NoMemory> {
-    let mut twice = setting(alloc, Expr::Var(0))?;
+fn put_twice(alloc: Global, twice: &mut Transition) -> Result<(), NoMemory> {
+    put_setting(twice, Expr::Var(0))?;
     let value = op(alloc, OpKind::Add, Expr::Var(1), Expr::Int(1))?;
     twice.actions.push(Action::Set { var: 1, value })?;
     twice.arcs.push(arc(ArcKind::Output, 0, Expr::Var(1)))?;
-    Ok(twice)
+    Ok(())
 }
 
-fn transition(alloc: Global, text: Text) -> Result<Transition, NoMemory> {
+fn put_labelled(alloc: Global, labels: &mut Transition) -> Result<(), NoMemory> {
+    put_setting(labels, op(alloc, OpKind::Mul, Expr::Step, Expr::Int(10))?)?;
+    labels.actions.push(Action::Print(labelled(alloc)?))?;
+    Ok(())
+}
+
+fn put_creations(creations: &mut Creations) -> Result<(), NoMemory> {
+    creations.push(Creation { var: 0, net: 1 })?;
+    creations.push(Creation { var: 1, net: 0 })?;
+    Ok(())
+}
+
+fn put(alloc: Global, transition: &mut Transition, text: Text) -> Result<(), NoMemory> {
     match text {
-        Text::Tens => tens(alloc),
-        Text::Next => next(alloc),
-        Text::Flexible => flexible(alloc),
-        Text::Quotient => quotient(alloc),
-        Text::Plain => plain(alloc),
-        Text::Twice => twice(alloc),
+        Text::Tens => put_tens(alloc, transition),
+        Text::Next => put_next(alloc, transition),
+        Text::Flexible => put_flexible(alloc, transition),
+        Text::Quotient => put_quotient(alloc, transition),
+        Text::Plain => put_plain(alloc, transition),
+        Text::Twice => put_twice(alloc, transition),
+        Text::Labelled => put_labelled(alloc, transition),
+        Text::Making => put_creations(&mut transition.creations),
     }
 }
 
-pub(crate) fn system(alloc: Global, transition: Transition) -> Result<System, NoMemory> {
-    let mut transitions = Items::new(alloc);
-    transitions.push(transition)?;
-    let mut nets = Items::new(alloc);
-    nets.push(Net {
-        name: name(alloc, "main")?,
-        vars: Items::new(alloc),
-        places: Items::new(alloc),
-        transitions,
-    })?;
-    Ok(System {
-        nets,
-        channels: Items::new(alloc),
-    })
+// The system of one net with this transition.
+pub(crate) fn system(alloc: Global, text: Text) -> Result<System, NoMemory> {
+    let mut transition = idle(alloc)?;
+    put(alloc, &mut transition, text)?;
+    one_transition(alloc, transition)
 }
 
-fn is_readable(system: &System, node: &Node) -> bool
-    requires { IsNodeOf system.now node.now }
-    ensures { IsTrue result → IsReadable system.now node.now }
-{
-    transition_of(system, node).vars.len() <= 1
-}
-
-fn are_readable(system: &System, nodes: &[Node]) -> bool
-    requires { All (IsNodeOf system.now) nodes.now }
-    ensures { IsTrue result → All (IsReadable system.now) nodes.now }
-{
-    for node in nodes {
-        if !is_readable(system, node) {
-            return false;
-        }
-    }
-    true
-}
-
-// What such a node gives.
+// What a binding of the shape gives.
 fn given(
     alloc: Global,
     system: &System,
@@ -254,10 +149,23 @@ fn given(
     if !has_shape(system, 0, binding) {
         return Ok(None);
     }
-    if !are_readable(system, binding.nodes.as_slice()) {
-        return Ok(None);
+    act(alloc, system, binding, step)
+}
+
+// Whether nothing comes of `trans t { }`.
+fn idles(alloc: Global) -> Result<bool, NoMemory> {
+    let system = idle_system(alloc)?;
+    let binding = one_node(alloc, Items::new(alloc))?;
+    match given(alloc, &system, &binding, 1)? {
+        Some(acted) => Ok(acted.outs.is_empty() && acted.put.is_empty()),
+        None => Ok(false),
     }
-    act_on(alloc, system, binding.nodes.as_slice(), step)
+}
+
+#[test]
+fn nothing_of_no_actions(rt: HostRuntime) -> Result<(), Fail> {
+    assert!(rt; idles(rt.alloc())?);
+    Ok(())
 }
 
 type Shown = Vec<(u32, u32, i64)>;
@@ -305,8 +213,8 @@ static CASES: [Case; 10] = [
 ];
 
 fn acted(alloc: Global, text: Text, x: i64, step: u8) -> Result<Option<Acted>, NoMemory> {
-    let system = system(alloc, transition(alloc, text)?)?;
-    let binding = binding(alloc, &[x])?;
+    let system = system(alloc, text)?;
+    let binding = one_node(alloc, ints(alloc, &[x])?)?;
     given(alloc, &system, &binding, u64::from(step))
 }
 
@@ -325,24 +233,17 @@ fn actions_and_outputs(rt: HostRuntime) -> Result<(), Fail> {
     Ok(())
 }
 
-// `action y = step() * 10; action print [y,"a"]; out 0: y;`
-fn row_system(alloc: Global) -> Result<System, NoMemory> {
-    let mut transition = setting(alloc, op(alloc, OpKind::Mul, Expr::Step, Expr::Int(10))?)?;
-    transition.actions.push(Action::Print(labelled(alloc)?))?;
-    system(alloc, transition)
-}
-
 // `[10,"a"]`
 fn printed(alloc: Global) -> Result<Value, NoMemory> {
     let mut parts = Items::new(alloc);
     parts.push(Value::Int(10))?;
-    parts.push(Value::Text(name(alloc, "a")?))?;
+    parts.push(Value::Text(text(alloc, "a")?))?;
     Ok(Value::Tuple(parts))
 }
 
 fn prints_pair(alloc: Global) -> Result<bool, NoMemory> {
-    let system = row_system(alloc)?;
-    let binding = binding(alloc, &[0])?;
+    let system = system(alloc, Text::Labelled)?;
+    let binding = one_node(alloc, ints(alloc, &[0])?)?;
     let Some(acted) = given(alloc, &system, &binding, 1)? else {
         return Ok(false);
     };
@@ -375,13 +276,9 @@ fn numbers_of_new_instances(rt: HostRuntime) -> Result<(), Fail> {
     Ok(())
 }
 
-// `x: new 1; y: new 0;`
 fn makes(alloc: Global) -> Result<bool, NoMemory> {
-    let mut transition = idle(alloc)?;
-    transition.creations.push(Creation { var: 0, net: 1 })?;
-    transition.creations.push(Creation { var: 1, net: 0 })?;
-    let system = system(alloc, transition)?;
-    let binding = binding(alloc, &[])?;
+    let system = system(alloc, Text::Making)?;
+    let binding = one_node(alloc, Items::new(alloc))?;
     if !has_shape(&system, 0, &binding) {
         return Ok(false);
     }

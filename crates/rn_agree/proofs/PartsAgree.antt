@@ -99,7 +99,6 @@ module _ (system : System) (b : Binding) (depth : ℕ) (good : Good system)
       let many = shape.many in
       record {
         own = shape.nodes k d h;
-        ascending = t.its_vars.ascending;
         in_range = λ j e low.
             All-contains (λ x. x < length (net_at system node.net).vars)
             (occurring (transition_of system node)) _ t.in_range

@@ -3,7 +3,6 @@
 use Rattle.std.specs.Prelude.{ℕ, ◌≡◌, ◌<◌, ◌≤◌, false, List, [], ◌∷◌, ◌++◌, length, Some, slice_get}
 use Rattle.std.specs.Prelude.{All}
 use Rattle.std.specs.List.{AllZip}
-use Rattle.std.specs.List.Sorted.{IsStrictlyIncreasing}
 use Rattle.rn_value.specs.Kinds.{HasKind}
 use Rattle.rn_value.specs.declared.value.InstRef.TheVariants.{New}
 use Rattle.rn_value.specs.declared.value.Value.{Value}
@@ -22,10 +21,9 @@ use Rattle.rn_model.specs.Evaluation.{Env, worth, IsTrueUnder}
 use Rattle.rn_model.specs.Bindings.{IsNodeOf, node_at, env_of}
 use Rattle.rn_model.specs.Agreement.{CallAgrees}
 
--- a node whose values can be looked up: its variables ascend and are of its net
+-- a node of the system, with variables of its net
 pub record IsReadable (system : System) (node : Node) : Type 0 where
   pub own : IsNodeOf system node
-  pub ascending : IsStrictlyIncreasing (transition_of system node).vars
   pub in_range : All (λ x. x < length (net_at system node.net).vars)
       (transition_of system node).vars
   pub few : length (transition_of system node).downlinks ≤ most_nodes

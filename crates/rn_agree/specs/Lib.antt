@@ -1,4 +1,3 @@
 pub mod Agreeing
-pub mod NodeValues
 pub mod Parts
 pub mod Paths

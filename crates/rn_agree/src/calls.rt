@@ -6,14 +6,13 @@ ghost use Rattle.rn_model.specs.Lists.{HaveOneValue};
 ghost use Rattle.rn_model.specs.Systems.{uplink_args};
 ghost use Rattle.rn_model.specs.Evaluation.{worth};
 ghost use Rattle.rn_model.specs.Agreement.{CallAgrees};
+ghost use Rattle.rn_calc.specs.NodeValues.{lent_env};
 ghost use Rattle.rn_agree.specs.Agreeing.{CallAgreesAt, CallsAgree, IsReadable};
-ghost use Rattle.rn_agree.specs.NodeValues.{lent_env};
 ghost use Rattle.rn_agree.specs.Paths.{AscendByPath};
 
 use crate::lookup::child_on;
-use crate::node_values::NodeValues;
 use crate::nodes::transition_of;
-use rn_calc::{have_one_value, read};
+use rn_calc::{NodeValues, have_one_value, read};
 use rn_model::{Binding, Downlink, Expr, Node, System, Transition};
 use rn_value::{InstRef, NoMemory, Value};
 use std::alloc::Global;

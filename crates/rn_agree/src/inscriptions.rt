@@ -7,15 +7,14 @@ ghost use Rattle.rn_value.specs.declared.value.Value.TheVariants as Of;
 ghost use Rattle.rn_model.specs.Lists.{value_beside};
 ghost use Rattle.rn_model.specs.Systems.{var_kind_in};
 ghost use Rattle.rn_model.specs.Evaluation.{IsTrueUnder};
+ghost use Rattle.rn_calc.specs.NodeValues.{lent_env};
 ghost use Rattle.rn_agree.specs.Agreeing.{AreCreated, ArcHasValue, HaveOwnKinds, HoldUnder};
 ghost use Rattle.rn_agree.specs.Agreeing.{IsEqual};
 ghost use Rattle.rn_agree.specs.Agreeing.{IsReadable, NodeHolds};
-ghost use Rattle.rn_agree.specs.NodeValues.{lent_env};
 
 use crate::mentions::awaits_action;
-use crate::node_values::NodeValues;
 use crate::nodes::{net_of, transition_of};
-use rn_calc::{Values, have_one_value, is_true, read};
+use rn_calc::{NodeValues, Values, have_one_value, is_true, read};
 use rn_model::{Cond, Creation, Expr, Net, NetArc, Node, System, Transition};
 use rn_value::{InstRef, NoMemory, Value, has_kind};
 use std::alloc::Global;

@@ -9,7 +9,6 @@ mod inscriptions;
 mod links;
 mod lookup;
 mod mentions;
-mod node_values;
 mod nodes;
 mod shape;
 #[cfg(test)]
@@ -22,6 +21,5 @@ mod worked_tests;
 pub use agreement::does_agree;
 pub use lookup::{child_index, child_on, node_index, node_on};
 pub use mentions::awaits_action;
-pub use node_values::NodeValues;
 pub use nodes::transition_of;
 pub use shape::has_shape;

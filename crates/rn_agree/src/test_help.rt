@@ -1,30 +1,19 @@
 //! What the tests of agreement build systems with, and ask of bindings.
 ghost use Rattle.std.specs.Prelude.{◌<◌, All, IsTrue, length};
-ghost use Rattle.std.specs.List.Sorted.{IsStrictlyIncreasing};
 ghost use Rattle.rn_agree.specs.Agreeing.{IsReadable};
 
 use crate::agreement::agrees_in_parts;
 use crate::has_shape;
 use crate::nodes::{is_node_of, net_of, transition_of};
-use rn_items::{Boxed, Items};
+use rn_items::Items;
 use rn_model::limits::MOST_NODES;
 use rn_model::{
-    ArcKind, Binding, CompareKind, Cond, Expr, Exprs, Net, NetArc, Node, OpKind, Simple, System,
-    Transition, Transitions, Var,
+    Binding, CompareKind, Cond, Expr, Exprs, Net, Node, Simple, System, Transition, Uplink, Var,
+    Vars,
 };
+use rn_samples::idle;
 use rn_value::{Kind, NoMemory, Str};
 use std::alloc::Global;
-
-fn ascend(vars: &[u32]) -> bool
-    ensures { IsTrue result → IsStrictlyIncreasing vars.now }
-{
-    for k in 1..vars.len() {
-        if vars[k - 1] >= vars[k] {
-            return false;
-        }
-    }
-    true
-}
 
 fn are_below(vars: &[u32], count: usize) -> bool
     ensures { IsTrue result → All (λ x. x < count) vars.now }
@@ -45,9 +34,7 @@ fn is_readable(system: &System, node: &Node) -> bool
     }
     let transition = transition_of(system, node);
     let count = net_of(system, node).vars.len();
-    ascend(transition.vars.as_slice())
-        && are_below(transition.vars.as_slice(), count)
-        && transition.downlinks.len() <= MOST_NODES
+    are_below(transition.vars.as_slice(), count) && transition.downlinks.len() <= MOST_NODES
 }
 
 fn are_readable(system: &System, nodes: &[Node]) -> bool
@@ -76,41 +63,26 @@ pub(crate) fn agrees(
     Ok(Some(agrees_in_parts(alloc, system, binding)?))
 }
 
-pub(crate) fn no_name(alloc: Global) -> Str {
-    Str::from_string(String::new(alloc))
-}
-
 pub(crate) fn exprs(alloc: Global, expr: Expr) -> Result<Exprs, NoMemory> {
     let mut exprs = Items::new(alloc);
     exprs.push(expr)?;
     Ok(exprs)
 }
 
-pub(crate) fn op(alloc: Global, kind: OpKind, a: Expr, b: Expr) -> Result<Expr, NoMemory> {
-    Ok(Expr::Op(kind, Boxed::new(alloc, a)?, Boxed::new(alloc, b)?))
-}
-
-pub(crate) fn arc(kind: ArcKind, place: u32, inscription: Expr) -> NetArc {
-    NetArc {
-        kind,
-        place,
-        inscription,
-    }
-}
-
+// A transition with these variables.
 pub(crate) fn bare(alloc: Global, vars: &[u32]) -> Result<Transition, NoMemory> {
-    Ok(Transition {
-        name: no_name(alloc),
-        vars: Items::from_vec(Vec::from_slice(alloc, vars)?),
-        action_vars: Items::new(alloc),
-        equalities: Items::new(alloc),
-        guards: Items::new(alloc),
-        actions: Items::new(alloc),
-        creations: Items::new(alloc),
-        uplink: None,
-        downlinks: Items::new(alloc),
-        arcs: Items::new(alloc),
-    })
+    let vars = Items::from_vec(Vec::from_slice(alloc, vars)?);
+    let mut bare = idle(alloc)?;
+    bare.vars = vars;
+    Ok(bare)
+}
+
+// A transition with these variables that answers channel 0 with this argument.
+pub(crate) fn answering(alloc: Global, vars: &[u32], arg: Expr) -> Result<Transition, NoMemory> {
+    let args = exprs(alloc, arg)?;
+    let mut answering = bare(alloc, vars)?;
+    answering.uplink = Some(Uplink { channel: 0, args });
+    Ok(answering)
 }
 
 // `guard x > 0;`
@@ -122,23 +94,25 @@ pub(crate) fn positive(alloc: Global, x: u32) -> Result<Cond, NoMemory> {
     Ok(Cond { any })
 }
 
-/// A net of these transitions, with variables of these kinds. Its places don't matter here.
-pub(crate) fn net(
-    alloc: Global,
-    kinds: Vec<Kind>,
-    transitions: Transitions,
-) -> Result<Net, NoMemory> {
-    let mut vars = Items::new(alloc);
-    for kind in kinds {
-        vars.push(Var {
-            name: no_name(alloc),
-            kind,
-        })?;
-    }
-    Ok(Net {
+fn no_name(alloc: Global) -> Str {
+    Str::from_string(String::new(alloc))
+}
+
+// One more variable, of this kind.
+pub(crate) fn add_var(alloc: Global, vars: &mut Vars, kind: Kind) -> Result<(), NoMemory> {
+    vars.push(Var {
         name: no_name(alloc),
-        vars,
+        kind,
+    })?;
+    Ok(())
+}
+
+// A net without variables and transitions. Its places don't matter here.
+pub(crate) fn net(alloc: Global) -> Net {
+    Net {
+        name: no_name(alloc),
+        vars: Items::new(alloc),
         places: Items::new(alloc),
-        transitions,
-    })
+        transitions: Items::new(alloc),
+    }
 }

@@ -23,14 +23,11 @@ use Rattle.rn_growing.specs.Decisions.{head_of, AreOn}
 use Rattle.rn_growing.specs.Equations.{read_at, IsForcedTo}
 use Rattle.rn_growing.specs.Grown.{IsNew}
 use Rattle.rn_growing.specs.Turns.{AreInTurn, MayCome}
-use Rattle.rn_growing.proofs.Followers.{snoc_equal, decision_in, equations, entered_by}
+use Rattle.rn_growing.proofs.Followers.{snoc_equal, some_equal, decision_in, equations, entered_by}
 use Rattle.rn_growing.proofs.SameUnknowns.{path_itself}
 use Rattle.rn_binding.specs.Before.{enters}
 use Rattle.rn_binding.specs.Passing.{IsGiven, IsOut}
 use Rattle.rn_binding.proofs.Deciding.{not_entered, entered_is_in, none_passes}
-
-some_equal : {A : Type 0} (x y : A) → Some x ≡ Some y → x ≡ y
-some_equal x y e = cc
 
 module _ (system : System) (b : Binding) (given : IsGiven system b) (ds : List Decision)
     (turns : AreInTurn system ds) (node : Node)

@@ -1,27 +1,19 @@
--- The operator applications of each form of expression, and the ways to them.
+-- The operator applications of lists with a tail, and the ways to operator applications.
 use Rattle.std.proofs.Common.{◌≡◌, ℕ, ◌+◌, ◌<◌, List, [], ◌∷◌, ◌++◌, map, length, drop, get_or}
 use Rattle.std.proofs.Common.{refl, sym, ap, ◌∙◌, append_assoc, append-nil, arith}
 use Rattle.std.proofs.lemmas.List.{map-append, at_drop_more}
-use Rattle.rn_model.specs.declared.expr.Expr.{Expr, map-Expr, roll-Expr, para-roll-Expr}
+use Rattle.rn_model.specs.declared.expr.Expr.{Expr, para-roll-Expr}
 use Rattle.rn_model.specs.declared.expr.Expr.TheOpen as O
 use Rattle.rn_model.specs.declared.expr.Expr.TheVariants as E
-use Rattle.rn_model.specs.declared.expr.OpKind.{OpKind}
 use Rattle.rn_model.specs.declared.binding.Node.{Node}
 use Rattle.rn_model.specs.Derivation.{Item, computed, Site, Hole, holes_in, holes_step}
 use Rattle.rn_model.specs.Derivation.{holes_of_parts}
-use Rattle.rn_model.specs.Derivation.{within_part, hole_itself}
+use Rattle.rn_model.specs.Derivation.{within_part}
+use Rattle.rn_model.proofs.DerivationLemmas.{holes_in-Int, holes_in-Text, holes_in-Var, holes_in-This}
+use Rattle.rn_model.proofs.DerivationLemmas.{holes_in-Tuple, holes_in-List, holes_in-Cons, holes_in-Neg}
+use Rattle.rn_model.proofs.DerivationLemmas.{holes_in-Op}
 use Rattle.rn_binding.specs.Parts.{with_holes, hole_within}
 use Rattle.rn_binding.proofs.PuttingParts.{moved}
-
-rolled : (x : O.Expr-F Expr) (e : Expr) → roll-Expr x ≡ e →
-    holes_in e ≡ holes_step (map-Expr Expr (Expr × List Hole) with_holes x)
-rolled x e is = sym (ap holes_in is) ∙ para-roll-Expr (List Hole) holes_step x
-
-pub holes-Tuple : (parts : List Expr) → holes_in (E.Tuple parts) ≡ holes_of_parts 0 (map with_holes parts)
-holes-Tuple parts = rolled (O.Tuple parts) (E.Tuple parts) (E.rolls-Tuple parts)
-
-pub holes-List : (parts : List Expr) → holes_in (E.List parts) ≡ holes_of_parts 0 (map with_holes parts)
-holes-List parts = rolled (O.List parts) (E.List parts) (E.rolls-List parts)
 
 with_last : (parts : List Expr) (tail : Expr) (i : ℕ) →
     holes_of_parts i (map with_holes parts ++ with_holes tail ∷ [])
@@ -41,7 +33,7 @@ with_last (part ∷ parts) tail i =
 
 pub holes-Cons : (parts : List Expr) (tail : Expr) →
     holes_in (E.Cons parts tail) ≡ holes_of_parts 0 (map with_holes parts) ++ map (within_part (length parts)) (holes_in tail)
-holes-Cons parts tail = rolled (O.Cons parts tail) (E.Cons parts tail) (E.rolls-Cons parts tail) ∙ with_last parts tail 0 ∙ from_zero
+holes-Cons parts tail = holes_in-Cons parts tail ∙ with_last parts tail 0 ∙ from_zero
   where
     from_zero : holes_of_parts 0 (map with_holes parts) ++ map (within_part (0 + length parts)) (holes_in tail)
         ≡ holes_of_parts 0 (map with_holes parts) ++ map (within_part (length parts)) (holes_in tail)
@@ -49,26 +41,8 @@ holes-Cons parts tail = rolled (O.Cons parts tail) (E.Cons parts tail) (E.rolls-
         let none : 0 + length parts ≡ length parts = omega arith in
         ap (λ n. holes_of_parts 0 (map with_holes parts) ++ map (within_part n) (holes_in tail)) none
 
-pub holes-Neg : (part : Expr) → holes_in (E.Neg part) ≡ hole_itself (E.Neg part)
-holes-Neg part = rolled (O.Neg part) (E.Neg part) (E.rolls-Neg part)
-
-pub holes-Op : (kind : OpKind) (a b : Expr) → holes_in (E.Op kind a b) ≡ hole_itself (E.Op kind a b)
-holes-Op kind a b = rolled (O.Op kind a b) (E.Op kind a b) (E.rolls-Op kind a b)
-
-pub holes-Int : (n : _) → holes_in (E.Int n) ≡ []
-holes-Int n = rolled (O.Int n) (E.Int n) (E.rolls-Int n)
-
-pub holes-Text : (s : List ℕ) → holes_in (E.Text s) ≡ []
-holes-Text s = rolled (O.Text s) (E.Text s) (E.rolls-Text s)
-
-pub holes-Var : (x : ℕ) → holes_in (E.Var x) ≡ []
-holes-Var x = rolled (O.Var x) (E.Var x) (E.rolls-Var x)
-
-pub holes-This : holes_in E.This ≡ []
-holes-This = rolled O.This E.This E.rolls-This
-
 pub holes-Step : holes_in E.Step ≡ []
-holes-Step = rolled O.Step E.Step E.rolls-Step
+holes-Step = ap holes_in (sym E.rolls-Step) ∙ para-roll-Expr (List Hole) holes_step O.Step
 
 -- the holes of a part, seen from the whole
 pub within_way : (node : Node) (site : Site) (way : List ℕ) (i : ℕ) (hs : List Hole) →
@@ -129,4 +103,15 @@ pub none_put : (node : Node) (site : Site) (way : List ℕ) (e : Expr) (old : Li
 none_put node site way e old none =
     sym (append-nil old) ∙ ap (λ hs. old ++ map (hole_within node site way) hs) (sym none)
 
-pub ruleset hole_rules = (holes-Int, holes-Text, holes-Var, holes-This, holes-Step, holes-Tuple, holes-List, holes-Cons, holes-Neg, holes-Op)
+pub ruleset hole_rules = (
+  holes_in-Int,
+  holes_in-Text,
+  holes_in-Var,
+  holes_in-This,
+  holes-Step,
+  holes_in-Tuple,
+  holes_in-List,
+  holes-Cons,
+  holes_in-Neg,
+  holes_in-Op,
+)

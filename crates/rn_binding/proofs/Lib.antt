@@ -6,9 +6,7 @@ pub mod Ending
 pub mod EnteringNodes
 pub mod ForcedVariables
 pub mod HoleForms
-pub mod NodeReadings
 pub mod PassSteps
 pub mod Passes
 pub mod PickedParts
 pub mod PuttingParts
-pub mod TestSystem

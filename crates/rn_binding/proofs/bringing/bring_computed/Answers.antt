@@ -2,17 +2,13 @@
 use Rattle.std.proofs.Common.{◌≡◌, ◌∙◌, ap, sym, subst, rules, true, false}
 use Rattle.std.proofs.lemmas.Result.{IfOk-weaker}
 use Rattle.rn_model.specs.Evaluation.{worth}
-use Rattle.rn_growing.proofs.SoundItems.{items_sound}
 use Rattle.std.specs.Prelude.{All}
 use Rattle.rn_model.specs.Systems.{vars_in}
-use Rattle.rn_model.specs.Derivation.{computed}
-use Rattle.rn_growing.specs.Decisions.{site_of}
 use Rattle.rn_binding.specs.Before.{enters, computes}
 use Rattle.rn_binding.specs.Passing.{IsVarForcedOn}
 use Rattle.rn_binding.proofs.ComingValues.{tested, computed_already, computed_early}
 use Rattle.rn_binding.proofs.ComingValues.{computed_unforced}
 use Rattle.rn_binding.proofs.ComingValues.{computed_has_value, computed_comes}
-use Rattle.rn_binding.proofs.NodeReadings.{is_node_of, vars_ascend}
 use Rattle.rn_binding.proofs.bringing.bring_computed.Goals as goal
 
 pub returns-then-was_computed-clause-brings : goal.returns-then-was_computed-clause-brings
@@ -47,18 +43,6 @@ returns-then-not-branch-clause-brings c =
     (λ all. let yes = c.in_ok-is_expr_forced.ensures.1
     (subst (λ p. All (IsVarForcedOn c.args.growing.now p) (vars_in c.args.form.now)) (sym c.as_slice-path.ensures) all) in
     let no : ⊥ = cc in no)
-
-pub new-values-requires-clause-own : goal.new-values-requires-clause-own
-new-values-requires-clause-own c =
-    is_node_of c.args.system.now c.args.binding.now c.args.node.now c.requires.given
-    (items_sound c.args.system.now c.args.binding.now
-    (computed c.args.node.now (site_of c.args.site) (record { way = c.args.way.now; form = c.args.form.now })) c.requires.item).0
-
-pub new-values-requires-clause-ascending : goal.new-values-requires-clause-ascending
-new-values-requires-clause-ascending c =
-    vars_ascend c.args.system.now c.args.binding.now c.args.node.now c.requires.given
-    (items_sound c.args.system.now c.args.binding.now
-    (computed c.args.node.now (site_of c.args.site) (record { way = c.args.way.now; form = c.args.form.now })) c.requires.item).0
 
 pub returns-in_default-clause-brings : goal.returns-in_default-clause-brings
 returns-in_default-clause-brings c =

@@ -2,12 +2,9 @@
 use Rattle.std.proofs.Common.{◌∙◌, ap, sym, true, false}
 use Rattle.std.proofs.lemmas.Result.{IfOk-weaker}
 use Rattle.rn_model.specs.Evaluation.{worth}
-use Rattle.rn_growing.proofs.SoundItems.{items_sound}
-use Rattle.rn_model.specs.Derivation.{found}
 use Rattle.rn_binding.specs.Before.{enters, finds}
 use Rattle.rn_binding.proofs.ComingValues.{tested, found_already, found_early, found_has_value}
 use Rattle.rn_binding.proofs.ComingValues.{found_comes}
-use Rattle.rn_binding.proofs.NodeReadings.{is_node_of, vars_ascend}
 use Rattle.rn_binding.proofs.bringing.bring_found.Goals as goal
 
 pub returns-then-was_found-clause-brings : goal.returns-then-was_found-clause-brings
@@ -28,18 +25,6 @@ returns-then-not-was_entered-clause-brings c =
     (tested (enters) c.was_entered.result false c.decisions-2.result.now
     c.args.growing.now.decisions c.as_slice-path.result.now c.args.node.now.path
     c.was_entered.ensures c.decisions-2.ensures c.as_slice-path.ensures c.if-not-was_entered.true)
-
-pub new-values-requires-clause-own : goal.new-values-requires-clause-own
-new-values-requires-clause-own c =
-    is_node_of c.args.system.now c.args.binding.now c.args.node.now c.requires.given
-    (items_sound c.args.system.now c.args.binding.now
-    (found c.args.node.now c.args.k c.args.arc.now) c.requires.item).0
-
-pub new-values-requires-clause-ascending : goal.new-values-requires-clause-ascending
-new-values-requires-clause-ascending c =
-    vars_ascend c.args.system.now c.args.binding.now c.args.node.now c.requires.given
-    (items_sound c.args.system.now c.args.binding.now
-    (found c.args.node.now c.args.k c.args.arc.now) c.requires.item).0
 
 pub returns-in_default-clause-brings : goal.returns-in_default-clause-brings
 returns-in_default-clause-brings c =

@@ -5,8 +5,8 @@ use Rattle.rn_growing.proofs.BuildingSteps.{popped_front}
 use Rattle.rn_growing.specs.Decisions.{site_of}
 use Rattle.rn_binding.specs.Parts.{item_of, with_holes, hole_within}
 use Rattle.rn_model.specs.Derivation.{holes_in, holes_of_parts}
-use Rattle.rn_binding.proofs.HoleForms.{cons_put, part_put, none_put, holes-Int, holes-Text}
-use Rattle.rn_binding.proofs.HoleForms.{holes-Var, holes-This, holes-Step}
+use Rattle.rn_model.proofs.DerivationLemmas.{holes_in-Int, holes_in-Text, holes_in-Var, holes_in-This}
+use Rattle.rn_binding.proofs.HoleForms.{cons_put, part_put, none_put, holes-Step}
 use Rattle.rn_binding.proofs.parts.+holes.Goals as goal
 
 pub put_holes-returns-in_ok-put_holes-in-Cons-clause-put :
@@ -42,22 +42,22 @@ put_holes_of-loop-i-preserved t c =
 pub put_holes-returns-in-Int-clause-put : goal.put_holes-returns-in-Int-clause-put
 put_holes-returns-in-Int-clause-put t c =
     none_put c.args.node.now (site_of c.args.site) c.args.way.now.items c.args.expr.now
-    (map item_of c.args.parts.now.items) (ap holes_in c.in-Int.is ∙ holes-Int c.in-Int.field-0)
+    (map item_of c.args.parts.now.items) (ap holes_in c.in-Int.is ∙ holes_in-Int c.in-Int.field-0)
 
 pub put_holes-returns-in-Text-clause-put : goal.put_holes-returns-in-Text-clause-put
 put_holes-returns-in-Text-clause-put t c =
     none_put c.args.node.now (site_of c.args.site) c.args.way.now.items c.args.expr.now
-    (map item_of c.args.parts.now.items) (ap holes_in c.in-Text.is ∙ holes-Text c.in-Text.field-0)
+    (map item_of c.args.parts.now.items) (ap holes_in c.in-Text.is ∙ holes_in-Text c.in-Text.field-0)
 
 pub put_holes-returns-in-Var-clause-put : goal.put_holes-returns-in-Var-clause-put
 put_holes-returns-in-Var-clause-put t c =
     none_put c.args.node.now (site_of c.args.site) c.args.way.now.items c.args.expr.now
-    (map item_of c.args.parts.now.items) (ap holes_in c.in-Var.is ∙ holes-Var c.in-Var.field-0)
+    (map item_of c.args.parts.now.items) (ap holes_in c.in-Var.is ∙ holes_in-Var c.in-Var.field-0)
 
 pub put_holes-returns-in-This-clause-put : goal.put_holes-returns-in-This-clause-put
 put_holes-returns-in-This-clause-put t c =
     none_put c.args.node.now (site_of c.args.site) c.args.way.now.items c.args.expr.now
-    (map item_of c.args.parts.now.items) (ap holes_in c.in-This.is ∙ holes-This)
+    (map item_of c.args.parts.now.items) (ap holes_in c.in-This.is ∙ holes_in-This)
 
 pub put_holes-returns-in-Step-clause-put : goal.put_holes-returns-in-Step-clause-put
 put_holes-returns-in-Step-clause-put t c =
