@@ -1,55 +1,21 @@
 -- No line of a record holds a line feed.
-use Rattle.std.proofs.Common.{◌≡◌, ◌≢◌, ℕ, ◌+◌, true, not, nat_eq, List, [], ◌∷◌, ◌++◌, refl, sym, ap, ◌∙◌, arith}
+use Rattle.std.proofs.Common.{◌≡◌, ◌≢◌, ℕ, true, not, nat_eq, List, [], ◌∷◌, ◌++◌, refl, sym, ap, ◌∙◌, arith}
 use Rattle.std.proofs.lemmas.Bool.{false≢true}
 use Rattle.std.proofs.lemmas.List.Elements.{All-from_recursion}
-use Rattle.std.specs.List.{list_all, AllByRecursion}
-use Rattle.rn_value.specs.Grammar.{IsNumeral, IsWholeNumber, IsEscaped, IsInside}
+use Rattle.std.specs.List.{list_all}
+use Rattle.rn_value.specs.Grammar.{IsNumeral, IsWholeNumber}
 use Rattle.rn_value.specs.Characters.{is_letter, is_name_byte}
 use Rattle.rn_value.specs.Words.{begins_with, is_identifier, is_reserved, IsName}
 use Rattle.rn_value.specs.declared.value.Value.{Value}
 use Rattle.rn_items.proofs.Bools.{and_left, and_right}
+use Rattle.rn_value.proofs.OneLine.{OneLine, joined, numeral_line, bracketed, inside_line}
+use Rattle.rn_value.proofs.OneLine.{name_line as bytes_line}
 use Rattle.rn_lines.specs.Laws.{LinesHoldNoLineFeed}
 use Rattle.rn_lines.specs.LineText.{LeadSaid, Token, LineSaid, IsLead, AreTokens, IsLine, ending_text}
 use Rattle.rn_lines.specs.NodeText.{Given, NodeSaid, IsInstance, AreGiven, IsNode}
 use Rattle.rn_lines.specs.ValueText.{Said, IsValue, IsRow, IsTail}
 use Rattle.rn_lines.specs.declared.lines.Ending.{Ending}
 use Rattle.rn_lines.specs.declared.lines.Ending.TheVariants.{Dead, Steps, Memory, ActionFault, InstancesFault}
-
--- none of these bytes is a line feed
-abbrev OneLine : List ℕ → Type 0
-OneLine = AllByRecursion (λ c. c ≢ 10)
-
-joined : (a b : List ℕ) → OneLine a → OneLine b → OneLine (a ++ b)
-joined [] b p q = q
-joined (c ∷ a) b p q = (p.0, joined a b p.1 q)
-
-digit_line : (d : ℕ) → OneLine ((48 + d) ∷ [])
-digit_line d = ((λ e. omega arith), tt)
-
-numeral_line : {n : ℕ} {a : List ℕ} → IsNumeral n a → OneLine a
-numeral_line (IsNumeral.digit {d = d} small) = digit_line d
-numeral_line (IsNumeral.more {d = d} {prefix = prefix} low before small) = joined prefix ((48 + d) ∷ []) (numeral_line before) (digit_line d)
-
-bracketed : (before after : ℕ) (a : List ℕ) → before ≢ 10 → after ≢ 10 → OneLine a → OneLine (before ∷ a ++ after ∷ [])
-bracketed before after a first last line = (first, joined a (after ∷ []) line (last, tt))
-
-escaped_line : {c : ℕ} {written : List ℕ} → IsEscaped c written → OneLine written
-escaped_line IsEscaped.quote = ((λ e. omega arith), ((λ e. omega arith), tt))
-escaped_line IsEscaped.backslash = ((λ e. omega arith), ((λ e. omega arith), tt))
-escaped_line IsEscaped.newline = ((λ e. omega arith), ((λ e. omega arith), tt))
-escaped_line IsEscaped.tab = ((λ e. omega arith), ((λ e. omega arith), tt))
-escaped_line (IsEscaped.itself q b n t) = (n, tt)
-
-inside_line : {s a : List ℕ} → IsInside s a → OneLine a
-inside_line IsInside.empty = tt
-inside_line (IsInside.byte {written = written} {rest = rest} first others) = joined written rest (escaped_line first) (inside_line others)
-
-bytes_line : (name : List ℕ) → list_all is_name_byte name ≡ true → OneLine name
-bytes_line [] all = tt
-bytes_line (c ∷ name) all = (
-  (λ e. false≢true (sym (ap is_name_byte e) ∙ and_left (is_name_byte c) (list_all is_name_byte name) all)),
-  bytes_line name (and_right (is_name_byte c) (list_all is_name_byte name) all),
-)
 
 name_line : (name : List ℕ) → IsName name → OneLine name
 name_line name is = bytes_line name (and_right (begins_with is_letter name) (list_all is_name_byte name) (and_left (is_identifier name) (not (is_reserved name)) is))

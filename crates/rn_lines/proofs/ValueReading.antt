@@ -19,6 +19,7 @@ use Rattle.rn_value.specs.declared.value.Value.{Value}
 use Rattle.rn_value.specs.declared.value.Value.TheVariants as Value
 use Rattle.rn_value.proofs.Numerals.{IsNumeral-first}
 use Rattle.rn_value.proofs.Spans.{Stops}
+use Rattle.rn_value.proofs.Spelling.{stops_digits}
 use Rattle.rn_lines.specs.ValueText.{Said, HasSixtyFourBits, IsValue, IsRow, IsTail}
 use Rattle.rn_lines.specs.Reading.{◌>>=◌, inside_at, text_at, inst_at, whole_at, with_front, tail_at, row_at, value_by, rows_at, value_at}
 use Rattle.rn_lines.proofs.Inside.{inside_reads, inside_read, InsideAt}
@@ -31,13 +32,6 @@ Row = List Value × List Said × List ℕ
 
 abbrev pub Read : Type 0
 Read = Value × List Said × List ℕ
-
-delimiter_no_digit : (c : ℕ) → is_delimiter c ≡ true → is_digit c ≡ false
-delimiter_no_digit c d = grind (arith, nat_tests)
-
-stops_digits : (x : List ℕ) → IsDelimited x → Stops is_digit x
-stops_digits [] d = tt
-stops_digits (c ∷ rest) d = delimiter_no_digit c d
 
 letter_apart : (c : ℕ) → is_letter c ≡ true → (nat_eq c 91 ≡ false) × (nat_eq c 123 ≡ false) × (nat_eq c 34 ≡ false)
 letter_apart c d = (grind (arith, nat_tests), grind (arith, nat_tests), grind (arith, nat_tests))

@@ -11,21 +11,21 @@ use Rattle.rn_items.proofs.Bools.{and_left, and_right}
 use Rattle.rn_value.proofs.Spelling.{name_bytes, named_is}
 
 -- none of these bytes is a newline
-abbrev OneLine : List ℕ → Type 0
+abbrev pub OneLine : List ℕ → Type 0
 OneLine = AllByRecursion (λ c. c ≢ 10)
 
-joined : (a b : List ℕ) → OneLine a → OneLine b → OneLine (a ++ b)
+pub joined : (a b : List ℕ) → OneLine a → OneLine b → OneLine (a ++ b)
 joined [] b p q = q
 joined (c ∷ a) b p q = (p.0, joined a b p.1 q)
 
 digit_line : (d : ℕ) → OneLine ((48 + d) ∷ [])
 digit_line d = ((λ e. omega arith), tt)
 
-numeral_line : {n : ℕ} {a : List ℕ} → IsNumeral n a → OneLine a
+pub numeral_line : {n : ℕ} {a : List ℕ} → IsNumeral n a → OneLine a
 numeral_line (IsNumeral.digit {d = d} small) = digit_line d
 numeral_line (IsNumeral.more {d = d} {prefix = prefix} low before small) = joined prefix ((48 + d) ∷ []) (numeral_line before) (digit_line d)
 
-bracketed : (before after : ℕ) (a : List ℕ) → before ≢ 10 → after ≢ 10 → OneLine a → OneLine (before ∷ a ++ after ∷ [])
+pub bracketed : (before after : ℕ) (a : List ℕ) → before ≢ 10 → after ≢ 10 → OneLine a → OneLine (before ∷ a ++ after ∷ [])
 bracketed before after a first last line = (first, joined a (after ∷ []) line (last, tt))
 
 escaped_line : {c : ℕ} {written : List ℕ} → IsEscaped c written → OneLine written
@@ -35,11 +35,11 @@ escaped_line IsEscaped.newline = ((λ e. omega arith), ((λ e. omega arith), tt)
 escaped_line IsEscaped.tab = ((λ e. omega arith), ((λ e. omega arith), tt))
 escaped_line (IsEscaped.itself q b n t) = (n, tt)
 
-inside_line : {s a : List ℕ} → IsInside s a → OneLine a
+pub inside_line : {s a : List ℕ} → IsInside s a → OneLine a
 inside_line IsInside.empty = tt
 inside_line (IsInside.byte {written = written} {rest = rest} first others) = joined written rest (escaped_line first) (inside_line others)
 
-name_line : (name : List ℕ) → list_all is_name_byte name ≡ true → OneLine name
+pub name_line : (name : List ℕ) → list_all is_name_byte name ≡ true → OneLine name
 name_line [] all = tt
 name_line (c ∷ name) all = (
   (λ e. false≢true (sym (ap is_name_byte e) ∙ and_left (is_name_byte c) (list_all is_name_byte name) all)),

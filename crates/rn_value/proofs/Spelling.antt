@@ -21,7 +21,7 @@ delimiter_no_digit : (c : ℕ) → is_delimiter c ≡ true → is_digit c ≡ fa
 delimiter_no_digit c d = grind (arith, nat_tests)
 
 -- what delimits a value is no digit
-stops_digits : (x : List ℕ) → IsDelimited x → Stops is_digit x
+pub stops_digits : (x : List ℕ) → IsDelimited x → Stops is_digit x
 stops_digits [] d = tt
 stops_digits (c ∷ rest) d = delimiter_no_digit c d
 
