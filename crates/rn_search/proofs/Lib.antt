@@ -11,5 +11,6 @@ pub mod Made
 pub mod Narrowed
 pub mod Offered
 pub mod OneBinding
+pub mod Solved
 pub mod Sound
 pub mod Takes

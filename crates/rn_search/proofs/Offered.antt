@@ -129,7 +129,7 @@ no_list kind finds is =
     let both : false ≡ true = ap finds_token (sym is) ∙ finds in let no : ⊥ = cc in no
 
 -- the tokens of a node's arc
-tokens_there : (sought : Sought) (node : Node) (k : ℕ) (x : NetArc) →
+pub tokens_there : (sought : Sought) (node : Node) (k : ℕ) (x : NetArc) →
     slice_get (transition_of sought.system node).arcs k ≡ Some x → (head : Head) →
     head ≡ head_of node → tokens_of sought head k ≡ tokens sought.marking node.inst x.place
 tokens_there sought node k x at head is =

@@ -32,6 +32,16 @@ use Rattle.rn_growing.specs.Decisions.{transition_in, AreOn}
 use Rattle.rn_growing.proofs.Followers.{On, followers_are_decided}
 use Rattle.rn_growing.proofs.SoundItems.{items_sound}
 use Rattle.rn_search.specs.Taking.{takes_here, taken_by, taken_so_far, TakenAreThere}
+use Rattle.std.proofs.lemmas.Bool.{eq-eqb}
+use Rattle.std.proofs.lemmas.Option.{slice_get_within}
+use Rattle.rn_model.specs.Demands.{elements}
+use Rattle.rn_model.proofs.AskedValues.{inst_itself, contained_mapped}
+use Rattle.rn_growing.proofs.Growth.{at_in, only_one}
+use Rattle.rn_search.specs.Missing.{IsKnown}
+use Rattle.rn_search.specs.Taking.{KnownListsAreThere}
+use Rattle.rn_search.proofs.Following.{entered_node}
+use Rattle.rn_search.proofs.Known.{known_is_so}
+use Rattle.rn_search.proofs.Offered.{tokens_there}
 
 count_append : (w : Value) (xs ys : List Value) →
     count_of w (xs ++ ys) ≡ count_of w xs + count_of w ys
@@ -238,3 +248,47 @@ taken_are_there sought ds b inst place leads turns some w =
     let same = ordered_values_stay (asked_at takes system (readings system b) inst place) w in
     let enough = (leads.enabled.fits.places inst place).enough w in
     omega (arith, taken, within, asked, same, enough)
+
+-- what one gives is no more than what all do
+one_within : {X : Type 0} (f : X → List Value) (w : Value) (xs : List X) (x : X) → Contains xs x →
+    count_of w (f x) ≤ count_of w (flat_map f xs)
+one_within f w xs x there =
+    let part = count_append w (f x) [] in
+    let single : total f w (x ∷ []) ≤ total f w xs = total_within f w (x ∷ []) xs
+    (λ k z at. subst (Contains xs) (only_one x z (at_in (x ∷ []) k z at)) there)
+    (λ j k z at also.
+    let one = slice_get_within (x ∷ []) j z at in
+    let two = slice_get_within (x ∷ []) k z also in omega (arith, one, two)) in
+    omega (arith, part, single)
+
+pub known_lists_are_there : KnownListsAreThere
+known_lists_are_there sought ds b head k x v env leads turns some entered at flex known is w =
+    let system = sought.system in
+    let n = entered_node system b ds leads.follows.0 leads.follows.1 head entered in
+    let node = n.0 in
+    let arcs = (transition_of system node).arcs in
+    let there : slice_get arcs k ≡ Some x =
+    subst (λ h. slice_get (transition_in system h).arcs k ≡ Some x) n.2 at in
+    let same = known_is_so sought ds b node x.inscription env leads turns some n.1
+    (subst (λ h. IsKnown system ds h x.inscription env) n.2 known) in
+    let value = sym same ∙ is in
+    let r = reading system node.inst x.place w node in
+    let place : nat_eq x.place x.place ≡ true = eq-eqb x.place x.place refl in
+    let asked : asked_by_arc takes (env_of system node) x.place x ≡ elements v =
+    rw (place, value, flex) refl in
+    let here : asked_by_node takes system node.inst x.place r
+    ≡ flat_map (asked_by_arc takes (env_of system node) x.place) arcs =
+    rw (inst_itself node.inst) refl in
+    let one = one_within (asked_by_arc takes (env_of system node) x.place) w arcs x
+    (at_in arcs k x there) in
+    let mine = ap (count_of w) asked in
+    let by_node = ap (count_of w) here in
+    let all = one_within (asked_by_node takes system node.inst x.place) w (readings system b) r
+    (contained_mapped (λ node. record { node = node; env = env_of system node }) b.nodes node
+    n.1) in
+    let ordered = ordered_values_stay (asked_at takes system (readings system b) node.inst
+    x.place) w
+    in
+    let enough = (leads.enabled.fits.places node.inst x.place).enough w in
+    let held = ap (count_of w) (tokens_there sought node k x there head n.2) in
+    omega (arith, one, mine, by_node, all, ordered, enough, held)

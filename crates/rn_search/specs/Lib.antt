@@ -6,6 +6,7 @@ pub mod Missing
 pub mod Narrowing
 pub mod Points
 pub mod Room
+pub mod Solving
 pub mod Sought
 pub mod Standing
 pub mod Taking

@@ -17,6 +17,14 @@ use Rattle.rn_growing.specs.declared.decision.Decision.TheVariants.{Found}
 use Rattle.rn_growing.specs.Decisions.{transition_in}
 use Rattle.rn_growing.specs.Turns.{AreInTurn}
 use Rattle.rn_search.specs.Sought.{Sought, Leads}
+use Rattle.std.specs.Prelude.{◌≡◌, Some}
+use Rattle.rn_model.specs.declared.system.ArcKind.TheVariants.{FlexInput}
+use Rattle.rn_model.specs.Demands.{elements}
+use Rattle.rn_model.specs.Evaluation.{Env, worth}
+use Rattle.rn_growing.specs.Turns.{IsEntered}
+use Rattle.rn_search.specs.Points.{tokens_of}
+use Rattle.rn_search.specs.Missing.{IsKnown}
+use Rattle.rn_growing.specs.declared.decision.Head.{Head}
 
 module _ (system : System) (inst : InstRef) (place : ℕ) where
   -- what an arc takes that found this value, if it is an arc of this place
@@ -40,3 +48,13 @@ abbrev pub TakenAreThere : Type 0
 TakenAreThere = (sought : Sought) (ds : List Decision) (b : Binding) (inst : InstRef)
     (place : ℕ) → Leads sought ds b → AreInTurn sought.system ds → 0 < length ds →
     IsWithin (taken_so_far sought.system inst place ds) (tokens sought.marking inst place)
+
+-- Of a flexible arc of a node that was entered, whose list is known, it holds each element as often
+-- as the list.
+abbrev pub KnownListsAreThere : Type 0
+KnownListsAreThere = (sought : Sought) (ds : List Decision) (b : Binding) (head : Head) (k : ℕ)
+    (x : NetArc) (v : Value) (env : Env) → Leads sought ds b → AreInTurn sought.system ds →
+    0 < length ds → IsEntered ds head →
+    slice_get (transition_in sought.system head).arcs k ≡ Some x → x.kind ≡ FlexInput →
+    IsKnown sought.system ds head x.inscription env → worth x.inscription env ≡ Some v →
+    IsWithin (elements v) (tokens_of sought head k)

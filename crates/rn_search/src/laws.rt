@@ -15,9 +15,10 @@ ghost use Rattle.rn_search.specs.Allowing.{ResultsAreAllowed, CallsAreAllowed};
 ghost use Rattle.rn_search.specs.Leaving.{LeftIsAsked, AskedIsLeft, NoneLeftIsDone};
 ghost use Rattle.rn_search.specs.Leaving.{LeftOutIsClosed, LeftIsNew};
 ghost use Rattle.rn_search.specs.Narrowing.{KnownTokenIsIt, KnownFirstPart};
+ghost use Rattle.rn_search.specs.Solving.{WholeIsOnly};
 ghost use Rattle.rn_search.specs.Standing.{NoneAreSound, SoundByOne, SoundByFewer};
 ghost use Rattle.rn_search.specs.Standing.{SoundAreRight};
-ghost use Rattle.rn_search.specs.Taking.{TakenAreThere};
+ghost use Rattle.rn_search.specs.Taking.{TakenAreThere, KnownListsAreThere};
 
 use rn_channel::calls_need_levels;
 
@@ -42,6 +43,7 @@ pub fn what_may_be_cut()
     ensures guards { KnownGuardsHold }
     ensures inhibitors { KnownInhibitorsHold }
     ensures taken { TakenAreThere }
+    ensures lists { KnownListsAreThere }
 {
     calls_need_levels();
 }
@@ -78,6 +80,7 @@ pub fn what_is_found()
     ensures follows { MadeFollows }
     ensures made { LeadingIsMade }
     ensures one { MadeIsOne }
+    ensures only { WholeIsOnly }
 {}
 
 /// What may still be decided falls with each decision.

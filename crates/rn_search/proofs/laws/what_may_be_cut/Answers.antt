@@ -1,6 +1,6 @@
 use Rattle.rn_search.proofs.Offered.{leading_is_solvable, nodes_have_room, known_guards_hold}
 use Rattle.rn_search.proofs.Offered.{known_inhibitors_hold}
-use Rattle.rn_search.proofs.Takes.{taken_are_there}
+use Rattle.rn_search.proofs.Takes.{taken_are_there, known_lists_are_there}
 use Rattle.rn_search.proofs.laws.what_may_be_cut.Goals as goal
 
 pub returns-clause-solvable : goal.returns-clause-solvable
@@ -17,3 +17,6 @@ returns-clause-inhibitors c = known_inhibitors_hold
 
 pub returns-clause-taken : goal.returns-clause-taken
 returns-clause-taken c = taken_are_there
+
+pub returns-clause-lists : goal.returns-clause-lists
+returns-clause-lists c = known_lists_are_there
