@@ -28,8 +28,8 @@ pub record Passes (sought : Sought) (b : Binding) : Type 0 where
   pub agrees : Agrees sought.system b
   pub fits : Fits sought.system sought.marking b
 
--- Such a binding is the only one to which the decisions lead, if it has the shape, agrees and fits.
--- Else they lead to none.
+-- Such a binding is the only one to which the decisions lead, if it has the shape, agrees and
+-- fits. Else they lead to none.
 abbrev pub WholeIsOnly : Type 0
 WholeIsOnly = (sought : Sought) (ds : List Decision) (b : Binding) → IsWhole sought ds b →
     (Passes sought b → IsOnly (Leads sought ds) (Some b))

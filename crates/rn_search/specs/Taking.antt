@@ -49,8 +49,8 @@ TakenAreThere = (sought : Sought) (ds : List Decision) (b : Binding) (inst : Ins
     (place : ℕ) → Leads sought ds b → AreInTurn sought.system ds → 0 < length ds →
     IsWithin (taken_so_far sought.system inst place ds) (tokens sought.marking inst place)
 
--- Of a flexible arc of a node that was entered, whose list is known, it holds each element as often
--- as the list.
+-- The place of a flexible arc of a node that was entered, whose list is known, holds each element
+-- as often as the list.
 abbrev pub KnownListsAreThere : Type 0
 KnownListsAreThere = (sought : Sought) (ds : List Decision) (b : Binding) (head : Head) (k : ℕ)
     (x : NetArc) (v : Value) (env : Env) → Leads sought ds b → AreInTurn sought.system ds →
