@@ -77,7 +77,7 @@ front_at xs n k x at room =
     )
 
 -- an element of a list with one more
-either_at : {A : Type 0} (xs : List A) (y : A) (k : ℕ) (x : A) →
+pub either_at : {A : Type 0} (xs : List A) (y : A) (k : ℕ) (x : A) →
     slice_get (xs ++ y ∷ []) k ≡ Some x →
     ((k < length xs) × (slice_get xs k ≡ Some x)) ⊎ ((k ≡ length xs) × (x ≡ y))
 either_at [] y zero x at = inr (refl, let e : x ≡ y = cc in e)

@@ -1,13 +1,17 @@
 pub mod BringingSteps
 pub mod BuildingLists
 pub mod BuildingSteps
+pub mod ChainSteps
 pub mod Followers
 pub mod ForcedInstances
 pub mod GoodSystems
 pub mod Growth
+pub mod KeySteps
 pub mod LaidSteps
 pub mod MoreDecisions
+pub mod NewThings
 pub mod PuttingBefore
 pub mod SameUnknowns
 pub mod SoundItems
 pub mod Telling
+pub mod ThingKeys

@@ -1,5 +1,7 @@
 -- Laws on bindings that follow decisions.
-use Rattle.std.specs.Prelude.{ℕ, ◌<◌, ◌↔◌, List, [], ◌∷◌, ◌++◌, Option, length, Contains}
+use Rattle.std.specs.Prelude.{ℕ, ◌≡◌, ◌<◌, ◌↔◌, List, [], ◌∷◌, ◌++◌, Option, length, Contains}
+use Rattle.std.specs.Prelude.{false}
+use Rattle.std.specs.List.{list_any}
 use Rattle.rn_model.specs.declared.system.System.{System}
 use Rattle.rn_model.specs.declared.binding.Binding.{Binding}
 use Rattle.rn_model.specs.Bindings.{Shape}
@@ -9,6 +11,10 @@ use Rattle.rn_model.specs.Good.{Good}
 use Rattle.rn_model.specs.Derivation.{Item, Assignment, Satisfies, Forced, Derived, items_of}
 use Rattle.rn_growing.specs.declared.decision.Head.{Head}
 use Rattle.rn_growing.specs.declared.decision.Decision.{Decision}
+use Rattle.rn_growing.specs.declared.decision.Decision.TheVariants.{Entered, Found, Computed}
+use Rattle.rn_growing.specs.declared.decision.Caller.{Caller}
+use Rattle.rn_growing.specs.declared.decision.Site.{Site}
+use Rattle.rn_growing.specs.Decided.{enters, finds, computes}
 use Rattle.rn_growing.specs.Decisions.{IsOn, AreOn}
 use Rattle.rn_growing.specs.Equations.{Solves, IsForced, IsForcedTo}
 use Rattle.rn_growing.specs.Grown.{HasFewCreations, IsNew}
@@ -76,3 +82,17 @@ ForcedByMore = (system : System) (decisions more : List Decision)
 abbrev pub MayComeByMore : Type 0
 MayComeByMore = (system : System) (decisions more : List Decision) (d : Decision) →
     0 < length decisions → MayCome system decisions d → MayCome system (decisions ++ more) d
+
+-- What is new to decisions is just what was not decided.
+abbrev pub NewEntries : Type 0
+NewEntries = (decisions : List Decision) (head : Head) (caller : Option Caller) →
+    IsNew decisions (Entered head caller) ↔ (list_any (enters head.path) decisions ≡ false)
+
+abbrev pub NewFinds : Type 0
+NewFinds = (decisions : List Decision) (head : Head) (k : ℕ) (v : Value) →
+    IsNew decisions (Found head k v) ↔ (list_any (finds head.path k) decisions ≡ false)
+
+abbrev pub NewValues : Type 0
+NewValues = (decisions : List Decision) (head : Head) (site : Site) (way : List ℕ) (v : Value) →
+    IsNew decisions (Computed head site way v)
+    ↔ (list_any (computes head.path site way) decisions ≡ false)

@@ -1,20 +1,25 @@
 //! Bindings that grow: what is decided of them, and what that forces.
 ghost use Rattle.std.specs.Prelude.{◌≡◌, ◌↔◌, ◌≤◌, [], ◌∷◌, ◌++◌, length};
-ghost use Rattle.std.specs.Prelude.{IfOk, IsTrue, OnErr, Some};
+ghost use Rattle.std.specs.Prelude.{IfOk, IsTrue, OnErr, Some, true, false};
 ghost use Rattle.rn_value.specs.declared.value.InstRef.{InstRef};
 ghost use Rattle.rn_value.specs.declared.value.Value.{Value};
 ghost use Rattle.rn_value.specs.declared.value.Value.TheVariants as Worth;
+ghost use Rattle.std.specs.List.{list_any};
+ghost use Rattle.rn_growing.specs.Decided.{computes, decision_key, enters, finds};
 ghost use Rattle.rn_growing.specs.Decisions.{site_of};
-ghost use Rattle.rn_growing.specs.Equations.{IsForced, IsForcedTo, IsSolvable, read_at};
-ghost use Rattle.rn_growing.specs.Grown.{HasFewCreations, IsNew, Tries, first_decisions};
+ghost use Rattle.rn_growing.specs.Equations.{Brings, IsForced, IsForcedTo, IsSolvable, read_at};
+ghost use Rattle.rn_growing.specs.Grown.{HasFewCreations, IsNew, Tries, TriesIn, first_decisions};
+ghost use Rattle.rn_growing.specs.Laid.{Grows};
 ghost use Rattle.rn_growing.specs.Layouts.{asked};
 ghost use Rattle.rn_growing.specs.Turns.{MayCome};
 ghost use Rattle.rn_growing.specs.declared.decision.Decision.TheVariants as D;
 
 use crate::bringing::try_bring;
+use crate::chains::Chains;
 use crate::decision::{Caller, Decision, Head, Site, Way};
 use crate::laid::Laid;
 use crate::slot::{Frame, Unknown};
+use crate::thing::{Thing, is_decided, key_of};
 use rn_model::{Expr, System};
 use rn_value::{InstRef, NoMemory, Value, copy_inst};
 use std::alloc::Global;
@@ -27,9 +32,14 @@ pub struct Growing<'a> {
     laid: Laid,
     decisions: Vec<Decision>,
     frames: Vec<Frame>,
+
+    /// The keys of what the decisions are on.
+    keys: Chains,
 }
 
 impl<'a> Model for Growing<'a> {
+    ghost use Rattle.std.specs.Prelude.{◌≡◌, map};
+    ghost use Rattle.rn_growing.specs.Decided.{decision_key};
     ghost use Rattle.rn_growing.specs.Grown.{Grown, KeepsGrowing};
     ghost use Rattle.rn_value.specs.contracts.value.Value as value;
     ghost use Rattle.rn_value.specs.contracts.value.Kind as kind;
@@ -49,7 +59,8 @@ impl<'a> Model for Growing<'a> {
 
     ghost view = { λ g. record { system = g.system.now; decisions = g.decisions.items } };
 
-    ghost invariant = { λ g. KeepsGrowing g.system.now g.laid g.decisions.items g.frames.items };
+    ghost invariant = { λ g. KeepsGrowing g.system.now g.laid g.decisions.items g.frames.items
+        × (g.keys ≡ map decision_key g.decisions.items) };
 }
 
 impl<'a> Growing<'a> {
@@ -65,6 +76,7 @@ impl<'a> Growing<'a> {
             laid,
             decisions: Vec::new(alloc),
             frames: Vec::new(alloc),
+            keys: Chains::new(alloc),
         }
     }
 
@@ -92,6 +104,7 @@ impl<'a> Growing<'a> {
             self.laid.undo(&frame);
             self.decisions.truncate(to);
             self.frames.truncate(to);
+            self.keys.truncate(to);
         }
     }
 
@@ -165,13 +178,43 @@ impl<'a> Growing<'a> {
         self.decisions.reserve(1)?;
         self.frames.reserve(1)?;
         let frame = self.laid.frame();
-        if !try_bring(alloc, self.system, &mut self.laid, &decision)? {
+        if !try_keyed(
+            alloc,
+            self.system,
+            &mut self.laid,
+            &mut self.keys,
+            &decision,
+        )? {
             return Ok(false);
         }
         let _kept = self.laid.frame();
         self.decisions.push(decision)?;
         self.frames.push(frame)?;
         Ok(true)
+    }
+
+    /// Whether the node on a path was entered.
+    pub fn was_entered(&self, path: &[u32]) -> bool
+        ensures { result ≡ list_any (enters path.now) self.now.decisions }
+    {
+        let thing = Thing::Entry(path);
+        is_decided(self.decisions.as_slice(), &self.keys, &thing)
+    }
+
+    /// Whether an arc of the node on a path found its value.
+    pub fn was_found(&self, path: &[u32], arc: usize) -> bool
+        ensures { result ≡ list_any (finds path.now arc) self.now.decisions }
+    {
+        let thing = Thing::Found(path, arc);
+        is_decided(self.decisions.as_slice(), &self.keys, &thing)
+    }
+
+    /// Whether an operator application of the node on a path was computed.
+    pub fn was_computed(&self, path: &[u32], site: Site, way: &[usize]) -> bool
+        ensures { result ≡ list_any (computes path.now site way.now) self.now.decisions }
+    {
+        let thing = Thing::Computed(path, site, way);
+        is_decided(self.decisions.as_slice(), &self.keys, &thing)
     }
 
     /// The value of a variable of a node, where it is forced.
@@ -236,6 +279,39 @@ impl<'a> Growing<'a> {
         match self.laid.value(alloc, head.path.as_slice(), unknown)? {
             Some(value) => Ok(instance_in(value)),
             None => Ok(None),
+        }
+    }
+}
+
+/// Brings in what a decision brings and puts its key behind, or leaves all as it was.
+fn try_keyed(
+    alloc: Global,
+    system: &System,
+    laid: &mut Laid,
+    keys: &mut Chains,
+    decision: &Decision,
+) -> Result<bool, NoMemory>
+    requires { HasFewCreations system.now }
+    ensures tried { IfOk result
+        (λ yes. TriesIn laid.old (λ a. Brings system.now a decision.now) laid.new yes) }
+    ensures grows { IfOk result (λ yes. Grows laid.old laid.new) }
+    ensures err { OnErr result (laid.new ≡ laid.old) }
+    ensures put { IfOk result
+        (λ yes. yes ≡ true → keys.new ≡ keys.old ++ decision_key decision.now ∷ []) }
+    ensures kept { IfOk result (λ yes. yes ≡ false → keys.new ≡ keys.old) }
+    ensures keys_err { OnErr result (keys.new ≡ keys.old) }
+{
+    let count = keys.len();
+    keys.push(alloc, key_of(decision))?;
+    match try_bring(alloc, system, laid, decision) {
+        Ok(true) => Ok(true),
+        Ok(false) => {
+            keys.truncate(count);
+            Ok(false)
+        }
+        Err(error) => {
+            keys.truncate(count);
+            Err(error)
         }
     }
 }

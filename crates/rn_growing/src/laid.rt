@@ -8,7 +8,8 @@ ghost use Rattle.rn_growing.specs.Grown.{IsEarlier, laid_at};
 ghost use Rattle.rn_growing.specs.Laid.{Builds, Equates, Grows, IsGiven};
 ghost use Rattle.rn_growing.specs.Layouts.{IsLaidIn, asked, id_of};
 
-use crate::slot::{Frame, Slot, Unknown, id_of_unknown};
+use crate::slot::{Frame, Slot, Unknown};
+use crate::slots::Slots;
 use rn_items::Items;
 use rn_term::{Ids, Store, Term};
 use rn_unify::unify;
@@ -20,7 +21,7 @@ use std::marker::Model;
 #[derive(Drop)]
 pub(crate) struct Laid {
     store: Store,
-    slots: Vec<Slot>,
+    slots: Slots,
 }
 
 impl Model for Laid {
@@ -33,9 +34,9 @@ impl Model for Laid {
 
     ghost coded = { Prim.hlevel (codes, value.the_row.coded) };
 
-    ghost view = { λ l. record { store = l.store; slots = l.slots.items } };
+    ghost view = { λ l. record { store = l.store; slots = l.slots } };
 
-    ghost invariant = { λ l. IsLaidIn (id_of l.slots.items) l.store };
+    ghost invariant = { λ l. IsLaidIn (id_of l.slots) l.store };
 }
 
 impl Laid {
@@ -44,7 +45,7 @@ impl Laid {
     {
         Laid {
             store: Store::new(alloc),
-            slots: Vec::new(alloc),
+            slots: Slots::new(alloc),
         }
     }
 
@@ -84,14 +85,13 @@ impl Laid {
             (λ id. Builds self.old (λ a. Some (asked a path.now unknown)) self.new id) }
         ensures grows { Grows self.old self.new }
     {
-        match id_of_unknown(self.slots.as_slice(), path, &unknown) {
+        match self.slots.id(path, &unknown) {
             Some(id) => Ok(id),
             None => {
                 let path = Items::from_vec(Vec::from_slice(alloc, path)?);
-                self.slots.reserve(1)?;
                 let _kept = self.store.mark();
                 let id = self.store.new_var()?;
-                self.slots.push(Slot { path, unknown, id })?;
+                self.slots.push(alloc, Slot { path, unknown, id })?;
                 Ok(id)
             }
         }
@@ -108,7 +108,7 @@ impl Laid {
             ↔ IsGiven self.now path.now unknown.now v) }
     {
         let _kept = self.store.mark();
-        match id_of_unknown(self.slots.as_slice(), path, unknown) {
+        match self.slots.id(path, unknown) {
             Some(id) => self.store.ground(alloc, id),
             None => Ok(None),
         }
@@ -125,7 +125,7 @@ impl Laid {
             ↔ ((v : Value) × IsGiven self.now path.now unknown.now v)) }
     {
         let _kept = self.store.mark();
-        let id = match id_of_unknown(self.slots.as_slice(), path, unknown) {
+        let id = match self.slots.id(path, unknown) {
             Some(id) => id,
             None => return Ok(false),
         };

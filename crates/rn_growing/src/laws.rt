@@ -3,7 +3,7 @@
 ghost use Rattle.rn_growing.specs.Following.{FollowersAreDecided, ClosedDecisionsDecide};
 ghost use Rattle.rn_growing.specs.Following.{FollowsOn, EachIsDecided, GoodHaveFewCreations};
 ghost use Rattle.rn_growing.specs.Following.{NewAfterOne, EnteredByMore, ForcedByMore};
-ghost use Rattle.rn_growing.specs.Following.{MayComeByMore};
+ghost use Rattle.rn_growing.specs.Following.{MayComeByMore, NewEntries, NewFinds, NewValues};
 
 /// What decisions in turn say of each binding that follows them; and where no further one may come
 /// in, it is derived exactly where they decide all of its items and force its variables.
@@ -21,6 +21,13 @@ pub fn more_decisions()
     ensures entered { EnteredByMore }
     ensures forced { ForcedByMore }
     ensures may_come { MayComeByMore }
+{}
+
+/// What is new to decisions is just what `was_entered`, `was_found` and `was_computed` deny.
+pub fn new_is_undecided()
+    ensures entry { NewEntries }
+    ensures found { NewFinds }
+    ensures computed { NewValues }
 {}
 
 /// A binding may be opened for each good system.

@@ -3,14 +3,18 @@
 
 mod bringing;
 mod building;
+mod chains;
 mod decision;
 mod growing;
+mod keys;
 mod laid;
 mod laws;
 mod slot;
+mod slots;
 #[cfg(test)]
 mod tests;
+mod thing;
 
 pub use decision::{Caller, Decision, Decisions, Head, Site, Way};
 pub use growing::Growing;
-pub use laws::{followers_are_decided, good_systems_open, more_decisions};
+pub use laws::{followers_are_decided, good_systems_open, more_decisions, new_is_undecided};

@@ -1,6 +1,6 @@
 //! The unknowns of nodes, and which ids of a store stand for them.
 ghost use Rattle.std.specs.Prelude.{◌≡◌};
-ghost use Rattle.rn_growing.specs.Layouts.{id_of, same_site, same_unknown};
+ghost use Rattle.rn_growing.specs.Layouts.{same_site, same_unknown};
 
 use crate::decision::{Site, Way};
 use rn_term::Mark;
@@ -29,7 +29,8 @@ pub(crate) struct Frame {
     pub(crate) slots: usize,
 }
 
-fn are_same_site(a: Site, b: Site) -> bool
+/// Whether two sites are the same.
+pub(crate) fn are_same_site(a: Site, b: Site) -> bool
     ensures { result ≡ same_site a b }
 {
     match (a, b) {
@@ -43,7 +44,8 @@ fn are_same_site(a: Site, b: Site) -> bool
     }
 }
 
-fn are_same(a: &Unknown, b: &Unknown) -> bool
+/// Whether two unknowns of a node are the same.
+pub(crate) fn are_same(a: &Unknown, b: &Unknown) -> bool
     ensures { result ≡ same_unknown a.now b.now }
 {
     match (a, b) {
@@ -53,16 +55,4 @@ fn are_same(a: &Unknown, b: &Unknown) -> bool
         }
         _ => false,
     }
-}
-
-/// The id of an unknown: that of its first slot.
-pub(crate) fn id_of_unknown(slots: &[Slot], path: &[u32], unknown: &Unknown) -> Option<usize>
-    ensures { result ≡ id_of slots.now path.now unknown.now }
-{
-    for slot in slots {
-        if are_same(&slot.unknown, unknown) && slot.path.as_slice() == path {
-            return Some(slot.id);
-        }
-    }
-    None
 }

@@ -2,7 +2,9 @@
 ghost use Rattle.std.specs.Prelude.{◌≡◌, ◌↔◌, ◌≤◌, [], All, IsTrue, length};
 ghost use Rattle.rn_growing.specs.Grown.{HasFewCreations};
 
-use crate::{Growing, Head, Site, followers_are_decided, good_systems_open, more_decisions};
+use crate::{
+    Growing, Head, Site, followers_are_decided, good_systems_open, more_decisions, new_is_undecided,
+};
 use rn_items::{Boxed, Items};
 use rn_model::{Creation, Creations, Expr, Exprs, Net, OpKind, Pairs, System, Transition};
 use rn_value::{InstRef, NoMemory, Str, Vals, Value, same};
@@ -168,8 +170,11 @@ fn is_so(
     let mut growing = Growing::open(alloc, system);
     let before = growing.mark();
     if !growing.enter(alloc, start(alloc), None)? {
-        return Ok(expected.is_none());
+        return Ok(expected.is_none() && !growing.was_entered(&[]));
     }
+    assert!(rt; growing.was_entered(&[]) && !growing.was_entered(&[0]));
+    assert!(rt; !growing.was_found(&[], 0));
+    assert!(rt; !growing.was_computed(&[], Site::Left(0), &[]));
     let values = match expected {
         Some(values) => values.as_slice(),
         None => return Ok(false),
@@ -184,7 +189,7 @@ fn is_so(
     }
     growing.undo(before);
     let is_forced = growing.is_forced(alloc, &[], 0)?;
-    Ok(growing.decisions().is_empty() && !is_forced)
+    Ok(growing.decisions().is_empty() && !is_forced && !growing.was_entered(&[]))
 }
 
 #[test]
@@ -246,5 +251,6 @@ fn laws_hold(_rt: HostRuntime) -> Result<(), Fail> {
     followers_are_decided();
     good_systems_open();
     more_decisions();
+    new_is_undecided();
     Ok(())
 }

@@ -27,7 +27,7 @@ returns-in-Some c =
     (λ a. Some (asked a c.args.head.now.path c.args.unknown.now)) (Worth.Inst i))
     c.self.view_is
     (told_instance c.self.inside.system.now c.self.inside.laid c.self.inside.decisions.items
-    c.self.invariant.says c.args.head.now.path c.args.unknown.now (Some c.in-Some.value)
+    c.self.invariant.0.says c.args.head.now.path c.args.unknown.now (Some c.in-Some.value)
     c.instance_in.result given names)
 
 pub returns-in-None : goal.returns-in-None
@@ -40,5 +40,5 @@ returns-in-None c =
     (λ a. Some (asked a c.args.head.now.path c.args.unknown.now)) (Worth.Inst i))
     c.self.view_is
     (told_instance c.self.inside.system.now c.self.inside.laid c.self.inside.decisions.items
-    c.self.invariant.says c.args.head.now.path c.args.unknown.now None None given
+    c.self.invariant.0.says c.args.head.now.path c.args.unknown.now None None given
     (λ i. (λ e. absurd (let no : ⊥ = cc in no), λ e. absurd (let no : ⊥ = cc in no))))

@@ -11,5 +11,5 @@ returns c =
     (λ told. IsTrue told ↔ IsForced g.system g.decisions
     (λ a. Some (a.var c.args.path.now c.args.x)))) c.self.view_is
     (forced_told c.is_given.result c.self.inside.system.now c.self.inside.laid
-    c.self.inside.decisions.items c.args.path.now (Var c.args.x) c.self.invariant.says
+    c.self.inside.decisions.items c.args.path.now (Var c.args.x) c.self.invariant.0.says
     c.is_given.ensures)

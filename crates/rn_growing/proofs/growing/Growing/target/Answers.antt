@@ -18,7 +18,7 @@ returns-in_ok-inst-in-This c =
     g.decisions (λ a. read_at a c.args.head.now (site_of c.args.site) c.args.target.now)
     (Worth.Inst i)) c.self.view_is
     (told_this c.self.inside.system.now c.self.inside.laid c.self.inside.decisions.items
-    c.self.invariant.says
+    c.self.invariant.0.says
     (λ a. read_at a c.args.head.now (site_of c.args.site) c.args.target.now)
     c.args.head.now.inst c.in_ok-inst-in-This.inst c.in_ok-inst-in-This.ensures
     (λ a. sym (this_is c.args.head.now (site_of c.args.site) [] c.args.target.now c.in-This.is a)))
@@ -59,7 +59,7 @@ returns-in-Int c =
     (λ a. read_at a c.args.head.now (site_of c.args.site) c.args.target.now) (Worth.Inst i))
     c.self.view_is
     (told_none c.self.inside.system.now c.self.inside.laid c.self.inside.decisions.items
-    c.self.invariant.says
+    c.self.invariant.0.says
     (λ a. read_at a c.args.head.now (site_of c.args.site) c.args.target.now)
     (λ a. subst (λ e. NamesNone (read_at a c.args.head.now (site_of c.args.site) e))
     (sym c.in-Int.is) (int_names_none _ _)))
@@ -70,7 +70,7 @@ returns-in-Text c =
     (λ a. read_at a c.args.head.now (site_of c.args.site) c.args.target.now) (Worth.Inst i))
     c.self.view_is
     (told_none c.self.inside.system.now c.self.inside.laid c.self.inside.decisions.items
-    c.self.invariant.says
+    c.self.invariant.0.says
     (λ a. read_at a c.args.head.now (site_of c.args.site) c.args.target.now)
     (λ a. subst (λ e. NamesNone (read_at a c.args.head.now (site_of c.args.site) e))
     (sym c.in-Text.is) (text_names_none _ _)))
@@ -81,7 +81,7 @@ returns-in-Step c =
     (λ a. read_at a c.args.head.now (site_of c.args.site) c.args.target.now) (Worth.Inst i))
     c.self.view_is
     (told_none c.self.inside.system.now c.self.inside.laid c.self.inside.decisions.items
-    c.self.invariant.says
+    c.self.invariant.0.says
     (λ a. read_at a c.args.head.now (site_of c.args.site) c.args.target.now)
     (λ a. subst (λ e. NamesNone (read_at a c.args.head.now (site_of c.args.site) e))
     (sym c.in-Step.is) (step_names_none _)))
@@ -92,7 +92,7 @@ returns-in-Tuple c =
     (λ a. read_at a c.args.head.now (site_of c.args.site) c.args.target.now) (Worth.Inst i))
     c.self.view_is
     (told_none c.self.inside.system.now c.self.inside.laid c.self.inside.decisions.items
-    c.self.invariant.says
+    c.self.invariant.0.says
     (λ a. read_at a c.args.head.now (site_of c.args.site) c.args.target.now)
     (λ a. subst (λ e. NamesNone (read_at a c.args.head.now (site_of c.args.site) e))
     (sym c.in-Tuple.is) (tuple_names_none _ _)))
@@ -103,7 +103,7 @@ returns-in-List c =
     (λ a. read_at a c.args.head.now (site_of c.args.site) c.args.target.now) (Worth.Inst i))
     c.self.view_is
     (told_none c.self.inside.system.now c.self.inside.laid c.self.inside.decisions.items
-    c.self.invariant.says
+    c.self.invariant.0.says
     (λ a. read_at a c.args.head.now (site_of c.args.site) c.args.target.now)
     (λ a. subst (λ e. NamesNone (read_at a c.args.head.now (site_of c.args.site) e))
     (sym c.in-List.is) (list_names_none _ _)))
@@ -114,7 +114,7 @@ returns-in-Cons c =
     (λ a. read_at a c.args.head.now (site_of c.args.site) c.args.target.now) (Worth.Inst i))
     c.self.view_is
     (told_none c.self.inside.system.now c.self.inside.laid c.self.inside.decisions.items
-    c.self.invariant.says
+    c.self.invariant.0.says
     (λ a. read_at a c.args.head.now (site_of c.args.site) c.args.target.now)
     (λ a. subst (λ e. NamesNone (read_at a c.args.head.now (site_of c.args.site) e))
     (sym c.in-Cons.is) (cons_names_none _ _ _)))

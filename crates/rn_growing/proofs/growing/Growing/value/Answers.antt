@@ -12,5 +12,5 @@ returns c =
     (λ told. (v : Value) → (told ≡ Some v) ↔ IsForcedTo g.system g.decisions
     (λ a. Some (a.var c.args.path.now c.args.x)) v)) c.self.view_is
     (forced_answer c.value.result c.self.inside.system.now c.self.inside.laid
-    c.self.inside.decisions.items c.args.path.now (Var c.args.x) c.self.invariant.says
+    c.self.inside.decisions.items c.args.path.now (Var c.args.x) c.self.invariant.0.says
     c.value.ensures)

@@ -8,7 +8,7 @@ add-requires-clause-list c = may_be_list c.self.inside.store c.new_var.new.self 
 
 pub invariant_of-self-2 : goal.invariant_of-self-2
 invariant_of-self-2 c = laid_so c.self.inside.store c.new_var.new.self c.add.new.self
-    c.unify.new.store c.self.inside.slots.items c.args.ids c.args.tail c.in_ok-rest.rest
+    c.unify.new.store c.self.inside.slots c.args.ids c.args.tail c.in_ok-rest.rest
     c.in_ok-id.id c.args.self.now c.self.view_is c.mark-kept.ensures.kept c.mark-still.ensures.kept
     c.self.invariant c.requires.within c.requires.some c.requires.tail_within
     c.in_ok-rest.ensures.id c.in_ok-rest.ensures.added c.in_ok-id.ensures.id
@@ -17,7 +17,7 @@ invariant_of-self-2 c = laid_so c.self.inside.store c.new_var.new.self c.add.new
 pub returns-then-not-branch-clause-put : goal.returns-then-not-branch-clause-put
 returns-then-not-branch-clause-put c =
     put_no c.self.inside.store c.new_var.new.self c.add.new.self c.unify.new.store
-    c.self.inside.slots.items c.args.ids c.args.tail c.in_ok-rest.rest c.in_ok-id.id
+    c.self.inside.slots c.args.ids c.args.tail c.in_ok-rest.rest c.in_ok-id.id
     c.args.self.now c.self.view_is c.mark-kept.ensures.kept c.mark-still.ensures.kept
     c.self.invariant c.requires.within c.requires.some c.requires.tail_within
     c.in_ok-rest.ensures.id c.in_ok-rest.ensures.added c.in_ok-id.ensures.id
@@ -28,7 +28,7 @@ returns-then-not-branch-clause-put c =
 pub returns-clause-put : goal.returns-clause-put
 returns-clause-put c =
     put_yes c.self.inside.store c.new_var.new.self c.add.new.self c.unify.new.store
-    c.self.inside.slots.items c.args.ids c.args.tail c.in_ok-rest.rest c.in_ok-id.id
+    c.self.inside.slots c.args.ids c.args.tail c.in_ok-rest.rest c.in_ok-id.id
     c.args.self.now c.self.view_is c.mark-kept.ensures.kept c.mark-still.ensures.kept
     c.self.invariant c.requires.within c.requires.some c.requires.tail_within
     c.in_ok-rest.ensures.id c.in_ok-rest.ensures.added c.in_ok-id.ensures.id

@@ -10,7 +10,7 @@ returns-clause-made c =
     let within : All (λ id. id < length c.self.inside.store.terms) c.args.ids =
     subst (λ old. All (λ id. id < length old.store.terms) c.args.ids) (sym c.self.view_is)
     c.requires.within in
-    made_answer c.add.result c.self.inside.store c.add.new.self c.self.inside.slots.items
+    made_answer c.add.result c.self.inside.store c.add.new.self c.self.inside.slots
     c.args.self.now (T.Tuple c.args.ids) (λ vs. Value.Tuple vs) c.args.ids c.self.view_is
     c.mark-kept.ensures.kept c.self.invariant within c.requires.within
     (λ vs v. (λ e. e, λ e. e)) c.add.ensures.id c.add.ensures.added
