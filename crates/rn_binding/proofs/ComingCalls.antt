@@ -25,9 +25,10 @@ use Rattle.rn_growing.specs.Grown.{IsNew}
 use Rattle.rn_growing.specs.Turns.{AreInTurn, MayCome}
 use Rattle.rn_growing.proofs.Followers.{snoc_equal, some_equal, decision_in, equations, entered_by}
 use Rattle.rn_growing.proofs.SameUnknowns.{path_itself}
-use Rattle.rn_binding.specs.Before.{enters}
+use Rattle.rn_growing.specs.Decided.{enters}
 use Rattle.rn_binding.specs.Passing.{IsGiven, IsOut}
-use Rattle.rn_binding.proofs.Deciding.{not_entered, entered_is_in, none_passes}
+use Rattle.rn_binding.proofs.Deciding.{not_entered, entered_is_in}
+use Rattle.rn_growing.proofs.NewThings.{none_passes}
 
 module _ (system : System) (b : Binding) (given : IsGiven system b) (ds : List Decision)
     (turns : AreInTurn system ds) (node : Node)

@@ -28,21 +28,20 @@ use Rattle.rn_growing.specs.Turns.{MayCome, IsEntered, IsVarForced}
 use Rattle.rn_growing.proofs.SameUnknowns.{site_itself, as_site, site_of-is}
 use Rattle.rn_growing.proofs.SoundItems.{items_sound}
 use Rattle.rn_growing.proofs.Followers.{decision_in, forced_over, entered_by, each_is_decided}
-use Rattle.rn_binding.specs.Before.{enters, finds, computes}
+use Rattle.rn_growing.specs.Decided.{enters, finds, computes}
 use Rattle.rn_binding.specs.Passing.{IsGiven, IsFollowed, BringsItem, IsVarForcedOn}
 use Rattle.rn_binding.proofs.Coming.{tried}
 use Rattle.rn_binding.proofs.Deciding.{entered_is_in, not_entered, found_is_in, not_found}
-use Rattle.rn_binding.proofs.Deciding.{computed_is_in, not_computed, in_is_decided, none_passes}
-use Rattle.rn_binding.proofs.Deciding.{both_are, alike}
+use Rattle.rn_binding.proofs.Deciding.{computed_is_in, not_computed, in_is_decided}
+use Rattle.rn_growing.proofs.NewThings.{none_passes, both_are, alike}
 use Rattle.rn_model.proofs.ItemsOfNodes.{entry_is_item}
 
--- the answer of a test at the same list and path
-pub tested : (test : List ℕ → Decision → Bool) (answer value : Bool) (all ds : List Decision) (at path : List ℕ) →
-    answer ≡ list_any (test at) all → all ≡ ds → at ≡ path → answer ≡ value →
+-- the answer of a test at the same path
+pub tested : (test : List ℕ → Decision → Bool) (answer value : Bool) (ds : List Decision)
+    (at path : List ℕ) → answer ≡ list_any (test at) ds → at ≡ path → answer ≡ value →
     list_any (test path) ds ≡ value
-tested test answer value all ds at path is same there e =
-    ap (λ xs. list_any (test path) xs) (sym same) ∙ ap (λ p. list_any (test p) all) (sym there)
-    ∙ sym is ∙ e
+tested test answer value ds at path is there e =
+    ap (λ p. list_any (test p) ds) (sym there) ∙ sym is ∙ e
 
 module _ (system : System) (b : Binding) (given : IsGiven system b) (g : Grown)
     (followed : IsFollowed system b g) where

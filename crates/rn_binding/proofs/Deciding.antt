@@ -1,6 +1,6 @@
 -- What is decided is what is in.
-use Rattle.std.proofs.Common.{◌≡◌, ℕ, zero, suc, ◌&&◌, ◌||◌, Bool, true, false, List, []}
-use Rattle.std.proofs.Common.{◌∷◌, refl, sym, ap, ◌∙◌, subst, arith}
+use Rattle.std.proofs.Common.{◌≡◌, ℕ, ◌&&◌, true, false, List}
+use Rattle.std.proofs.Common.{refl, sym, ap, ◌∙◌, subst}
 use Rattle.std.specs.Prelude.{Contains, Option, None, nat_eq}
 use Rattle.std.specs.List.{list_any}
 use Rattle.std.specs.Cmp.Lexicographic.{pointwise}
@@ -19,51 +19,14 @@ use Rattle.rn_growing.specs.declared.decision.Decision.TheVariants.{Entered, Fou
 use Rattle.rn_growing.specs.Decisions.{site_of, head_of, IsOn, AreOn}
 use Rattle.rn_growing.specs.Layouts.{same_site}
 use Rattle.rn_growing.specs.Turns.{SameThing}
-use Rattle.rn_growing.proofs.SameUnknowns.{both_true, path_itself, same_path, site_is}
+use Rattle.rn_growing.proofs.SameUnknowns.{both_true, same_path, site_is}
 use Rattle.rn_growing.proofs.SameUnknowns.{site_itself, as_site, site_of-is}
+use Rattle.rn_growing.proofs.NewThings.{some_passes, none_passes, alike, both_are}
 use Rattle.rn_growing.proofs.SoundItems.{items_sound}
 use Rattle.rn_growing.proofs.Followers.{item_in, decision_in, closed_entry, closed_found}
 use Rattle.rn_growing.proofs.Followers.{closed_computed}
-use Rattle.rn_binding.specs.Before.{enters, finds, computes}
+use Rattle.rn_growing.specs.Decided.{enters, finds, computes}
 use Rattle.rn_binding.specs.Passing.{IsDecided}
-
--- some element passes a test, or none does
-abbrev pub Passes : {A : Type 0} → (A → Bool) → List A → Type 0
-Passes {A} p xs = (x : A) × Contains xs x × (p x ≡ true)
-
-by_first : {A : Type 0} (p : A → Bool) (x : A) (xs : List A) (first : Bool) → p x ≡ first →
-    (list_any p xs ≡ true → Passes p xs) → (first || list_any p xs) ≡ true → Passes p (x ∷ xs)
-by_first p x xs true here others e = (x, (0, omega arith, refl), here)
-by_first p x xs false here others e =
-    let rest = others e in
-    let room = rest.1.1 in
-    (rest.0, (suc rest.1.0, omega (arith, room), rest.1.2), rest.2)
-
-pub some_passes : {A : Type 0} (p : A → Bool) (xs : List A) → list_any p xs ≡ true → Passes p xs
-some_passes p [] e = absurd (let no : ⊥ = cc in no)
-some_passes p (x ∷ xs) e = by_first p x xs (p x) refl (some_passes p xs) e
-
-after_first : (first rest : Bool) → (first || rest) ≡ false → rest ≡ false
-after_first true rest e = absurd (let no : ⊥ = cc in no)
-after_first false rest e = e
-
-pub none_passes : {A : Type 0} (p : A → Bool) (xs : List A) (x : A) → list_any p xs ≡ false →
-    Contains xs x → p x ≡ true → ⊥
-none_passes p [] x e (k, h, is) passes = let no : ⊥ = omega (arith, h) in no
-none_passes p (y ∷ ys) x e (zero, h, is) passes =
-    let first : p y ≡ true = ap p is ∙ passes in
-    let any : list_any p (y ∷ ys) ≡ true = ap (λ v. v || list_any p ys) first in
-    let no : ⊥ = cc in no
-none_passes p (y ∷ ys) x e (suc k, h, is) passes =
-    none_passes p ys x (after_first (p y) (list_any p ys) e) (k, omega (arith, h), is) passes
-
--- a path that is the same on both sides
-pub alike : (p q : List ℕ) → p ≡ q → pointwise nat_eq p q ≡ true
-alike p q e = subst (λ r. pointwise nat_eq p r ≡ true) e (path_itself p)
-
-pub both_are : (p q : Bool) → p ≡ true → q ≡ true → p && q ≡ true
-both_are true q e f = f
-both_are false q e f = absurd (let no : ⊥ = cc in no)
 
 module _ (system : System) (b : Binding) (depth : ℕ) (shape : Shape system b depth)
     (ds : List Decision) (items : List Item) (on : AreOn system b ds items) where

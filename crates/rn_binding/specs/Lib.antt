@@ -1,4 +1,3 @@
-pub mod Before
 pub mod Parts
 pub mod Passing
 pub mod Soundness

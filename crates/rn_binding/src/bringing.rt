@@ -5,7 +5,6 @@ ghost use Rattle.rn_growing.specs.Decisions.{head_of, site_of};
 ghost use Rattle.rn_binding.specs.Parts.{item_of};
 ghost use Rattle.rn_binding.specs.Passing.{IsGiven, IsFollowed, BringsItem};
 
-use crate::before::{was_computed, was_entered, was_found};
 use crate::forcing::is_expr_forced;
 use crate::part::Part;
 use rn_agree::{node_on, transition_of};
@@ -46,7 +45,7 @@ pub(crate) fn bring_entry(
     ensures followed { IfOk result (λ yes. IsFollowed system.now binding.now growing.new) }
 {
     let path = node.path.as_slice();
-    if was_entered(growing.decisions(), path) {
+    if growing.was_entered(path) {
         return Ok(true);
     }
     let Some((i, front)) = path.split_last() else {
@@ -55,7 +54,7 @@ pub(crate) fn bring_entry(
     let Some(caller) = node_on(binding, front) else {
         return Ok(false);
     };
-    if !was_entered(growing.decisions(), front) {
+    if !growing.was_entered(front) {
         return Ok(false);
     }
     let Some(downlink) = transition_of(system, caller).downlinks.get(*i as usize) else {
@@ -95,10 +94,10 @@ pub(crate) fn bring_found(
     ensures followed { IfOk result (λ yes. IsFollowed system.now binding.now growing.new) }
 {
     let path = node.path.as_slice();
-    if was_found(growing.decisions(), path, k) {
+    if growing.was_found(path, k) {
         return Ok(true);
     }
-    if !was_entered(growing.decisions(), path) {
+    if !growing.was_entered(path) {
         return Ok(false);
     }
     let values = NodeValues::new(system, node);
@@ -129,10 +128,10 @@ pub(crate) fn bring_computed(
     ensures followed { IfOk result (λ yes. IsFollowed system.now binding.now growing.new) }
 {
     let path = node.path.as_slice();
-    if was_computed(growing.decisions(), path, site, way) {
+    if growing.was_computed(path, site, way) {
         return Ok(true);
     }
-    if !was_entered(growing.decisions(), path) {
+    if !growing.was_entered(path) {
         return Ok(false);
     }
     if !is_expr_forced(alloc, growing, path, form)? {

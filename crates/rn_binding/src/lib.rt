@@ -1,7 +1,6 @@
 //! Certified bindings.
 #![tactic(auto)]
 
-mod before;
 mod bringing;
 mod candidate;
 mod certifying;

@@ -4,7 +4,7 @@ use Rattle.std.proofs.lemmas.Result.{IfOk-weaker}
 use Rattle.rn_model.specs.Evaluation.{worth}
 use Rattle.std.specs.Prelude.{All}
 use Rattle.rn_model.specs.Systems.{vars_in}
-use Rattle.rn_binding.specs.Before.{enters, computes}
+use Rattle.rn_growing.specs.Decided.{enters, computes}
 use Rattle.rn_binding.specs.Passing.{IsVarForcedOn}
 use Rattle.rn_binding.proofs.ComingValues.{tested, computed_already, computed_early}
 use Rattle.rn_binding.proofs.ComingValues.{computed_unforced}
@@ -16,30 +16,30 @@ returns-then-was_computed-clause-brings c =
     computed_already c.args.system.now c.args.binding.now c.requires.given c.args.growing.now
     c.requires.followed c.args.node.now c.args.site
     (record { way = c.args.way.now; form = c.args.form.now }) c.requires.item
-    (tested (λ p. computes p c.args.site c.args.way.now) c.was_computed.result true c.decisions.result.now
+    (tested (λ p. computes p c.args.site c.args.way.now) c.was_computed.result true
     c.args.growing.now.decisions c.as_slice-path.result.now c.args.node.now.path
-    c.was_computed.ensures c.decisions.ensures c.as_slice-path.ensures c.if-was_computed.true)
+    c.was_computed.ensures c.as_slice-path.ensures c.if-was_computed.true)
 
 pub returns-then-not-was_entered-clause-brings : goal.returns-then-not-was_entered-clause-brings
 returns-then-not-was_entered-clause-brings c =
     computed_early c.args.system.now c.args.binding.now c.requires.given c.args.growing.now
     c.requires.followed c.args.node.now c.args.site
     (record { way = c.args.way.now; form = c.args.form.now }) c.requires.item
-    (tested (λ p. computes p c.args.site c.args.way.now) c.was_computed.result false c.decisions.result.now
+    (tested (λ p. computes p c.args.site c.args.way.now) c.was_computed.result false
     c.args.growing.now.decisions c.as_slice-path.result.now c.args.node.now.path
-    c.was_computed.ensures c.decisions.ensures c.as_slice-path.ensures c.if-was_computed.false)
-    (tested (enters) c.was_entered.result false c.decisions-2.result.now
+    c.was_computed.ensures c.as_slice-path.ensures c.if-was_computed.false)
+    (tested (enters) c.was_entered.result false
     c.args.growing.now.decisions c.as_slice-path.result.now c.args.node.now.path
-    c.was_entered.ensures c.decisions-2.ensures c.as_slice-path.ensures c.if-not-was_entered.true)
+    c.was_entered.ensures c.as_slice-path.ensures c.if-not-was_entered.true)
 
 pub returns-then-not-branch-clause-brings : goal.returns-then-not-branch-clause-brings
 returns-then-not-branch-clause-brings c =
     computed_unforced c.args.system.now c.args.binding.now c.requires.given c.args.growing.now
     c.requires.followed c.args.node.now c.args.site
     (record { way = c.args.way.now; form = c.args.form.now }) c.requires.item
-    (tested (λ p. computes p c.args.site c.args.way.now) c.was_computed.result false c.decisions.result.now
+    (tested (λ p. computes p c.args.site c.args.way.now) c.was_computed.result false
     c.args.growing.now.decisions c.as_slice-path.result.now c.args.node.now.path
-    c.was_computed.ensures c.decisions.ensures c.as_slice-path.ensures c.if-was_computed.false)
+    c.was_computed.ensures c.as_slice-path.ensures c.if-was_computed.false)
     (λ all. let yes = c.in_ok-is_expr_forced.ensures.1
     (subst (λ p. All (IsVarForcedOn c.args.growing.now p) (vars_in c.args.form.now)) (sym c.as_slice-path.ensures) all) in
     let no : ⊥ = cc in no)
@@ -61,12 +61,12 @@ compute-requires-clause-may_come c =
     c.in_ok-head.head c.from_vec-way.result c.in-Some.value c.in_ok-head.ensures way
     (ap (worth c.args.form.now) (sym c.new-values.ensures) ∙ sym c.in_ok-value.ensures.value
     ∙ c.in-Some.is)
-    (tested (λ p. computes p c.args.site c.args.way.now) c.was_computed.result false c.decisions.result.now
+    (tested (λ p. computes p c.args.site c.args.way.now) c.was_computed.result false
     c.args.growing.now.decisions c.as_slice-path.result.now c.args.node.now.path
-    c.was_computed.ensures c.decisions.ensures c.as_slice-path.ensures c.if-was_computed.false)
-    (tested (enters) c.was_entered.result true c.decisions-2.result.now
+    c.was_computed.ensures c.as_slice-path.ensures c.if-was_computed.false)
+    (tested (enters) c.was_entered.result true
     c.args.growing.now.decisions c.as_slice-path.result.now c.args.node.now.path
-    c.was_entered.ensures c.decisions-2.ensures c.as_slice-path.ensures c.if-not-was_entered.false)
+    c.was_entered.ensures c.as_slice-path.ensures c.if-not-was_entered.false)
     (subst (λ p. All (IsVarForcedOn c.args.growing.now p) (vars_in c.args.form.now)) c.as_slice-path.ensures
     (c.in_ok-is_expr_forced.ensures.0 c.if-not-branch.false))).0
 
@@ -79,12 +79,12 @@ compute-requires-clause-fresh c =
     c.in_ok-head.head c.from_vec-way.result c.in-Some.value c.in_ok-head.ensures way
     (ap (worth c.args.form.now) (sym c.new-values.ensures) ∙ sym c.in_ok-value.ensures.value
     ∙ c.in-Some.is)
-    (tested (λ p. computes p c.args.site c.args.way.now) c.was_computed.result false c.decisions.result.now
+    (tested (λ p. computes p c.args.site c.args.way.now) c.was_computed.result false
     c.args.growing.now.decisions c.as_slice-path.result.now c.args.node.now.path
-    c.was_computed.ensures c.decisions.ensures c.as_slice-path.ensures c.if-was_computed.false)
-    (tested (enters) c.was_entered.result true c.decisions-2.result.now
+    c.was_computed.ensures c.as_slice-path.ensures c.if-was_computed.false)
+    (tested (enters) c.was_entered.result true
     c.args.growing.now.decisions c.as_slice-path.result.now c.args.node.now.path
-    c.was_entered.ensures c.decisions-2.ensures c.as_slice-path.ensures c.if-not-was_entered.false)
+    c.was_entered.ensures c.as_slice-path.ensures c.if-not-was_entered.false)
     (subst (λ p. All (IsVarForcedOn c.args.growing.now p) (vars_in c.args.form.now)) c.as_slice-path.ensures
     (c.in_ok-is_expr_forced.ensures.0 c.if-not-branch.false))).1
 
@@ -97,12 +97,12 @@ returns-clause-brings c =
     c.in_ok-head.head c.from_vec-way.result c.in-Some.value c.in_ok-head.ensures way
     (ap (worth c.args.form.now) (sym c.new-values.ensures) ∙ sym c.in_ok-value.ensures.value
     ∙ c.in-Some.is)
-    (tested (λ p. computes p c.args.site c.args.way.now) c.was_computed.result false c.decisions.result.now
+    (tested (λ p. computes p c.args.site c.args.way.now) c.was_computed.result false
     c.args.growing.now.decisions c.as_slice-path.result.now c.args.node.now.path
-    c.was_computed.ensures c.decisions.ensures c.as_slice-path.ensures c.if-was_computed.false)
-    (tested (enters) c.was_entered.result true c.decisions-2.result.now
+    c.was_computed.ensures c.as_slice-path.ensures c.if-was_computed.false)
+    (tested (enters) c.was_entered.result true
     c.args.growing.now.decisions c.as_slice-path.result.now c.args.node.now.path
-    c.was_entered.ensures c.decisions-2.ensures c.as_slice-path.ensures c.if-not-was_entered.false)
+    c.was_entered.ensures c.as_slice-path.ensures c.if-not-was_entered.false)
     (subst (λ p. All (IsVarForcedOn c.args.growing.now p) (vars_in c.args.form.now)) c.as_slice-path.ensures
     (c.in_ok-is_expr_forced.ensures.0 c.if-not-branch.false))).2 c.compute.new.self yes tries).0) c.compute.ensures.tries
 
@@ -115,11 +115,11 @@ returns-clause-followed c =
     c.in_ok-head.head c.from_vec-way.result c.in-Some.value c.in_ok-head.ensures way
     (ap (worth c.args.form.now) (sym c.new-values.ensures) ∙ sym c.in_ok-value.ensures.value
     ∙ c.in-Some.is)
-    (tested (λ p. computes p c.args.site c.args.way.now) c.was_computed.result false c.decisions.result.now
+    (tested (λ p. computes p c.args.site c.args.way.now) c.was_computed.result false
     c.args.growing.now.decisions c.as_slice-path.result.now c.args.node.now.path
-    c.was_computed.ensures c.decisions.ensures c.as_slice-path.ensures c.if-was_computed.false)
-    (tested (enters) c.was_entered.result true c.decisions-2.result.now
+    c.was_computed.ensures c.as_slice-path.ensures c.if-was_computed.false)
+    (tested (enters) c.was_entered.result true
     c.args.growing.now.decisions c.as_slice-path.result.now c.args.node.now.path
-    c.was_entered.ensures c.decisions-2.ensures c.as_slice-path.ensures c.if-not-was_entered.false)
+    c.was_entered.ensures c.as_slice-path.ensures c.if-not-was_entered.false)
     (subst (λ p. All (IsVarForcedOn c.args.growing.now p) (vars_in c.args.form.now)) c.as_slice-path.ensures
     (c.in_ok-is_expr_forced.ensures.0 c.if-not-branch.false))).2 c.compute.new.self yes tries).1) c.compute.ensures.tries

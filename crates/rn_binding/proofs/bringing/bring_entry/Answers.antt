@@ -3,7 +3,7 @@ use Rattle.std.proofs.Common.{◌∙◌, ap, sym, refl, length, true, false}
 use Rattle.std.specs.Prelude.{slice_get}
 use Rattle.std.specs.Option.{option_copied}
 use Rattle.std.proofs.lemmas.Result.{IfOk-weaker}
-use Rattle.rn_binding.specs.Before.{enters}
+use Rattle.rn_growing.specs.Decided.{enters}
 use Rattle.rn_binding.proofs.ComingCalls.{start_out, orphan_out, early_out, no_downlink_out}
 use Rattle.rn_binding.proofs.ComingValues.{tested}
 use Rattle.rn_binding.proofs.EnteringNodes.{entry_already, entry_out, unforced, entry_comes}
@@ -13,9 +13,9 @@ pub returns-then-was_entered-clause-brings : goal.returns-then-was_entered-claus
 returns-then-was_entered-clause-brings c =
     entry_already c.args.system.now c.args.binding.now c.requires.given c.args.growing.now
     c.requires.followed c.args.node.now c.requires.item
-    (tested enters c.was_entered.result true c.decisions.result.now
+    (tested enters c.was_entered.result true
     c.args.growing.now.decisions c.as_slice-path.result.now c.args.node.now.path
-    c.was_entered.ensures c.decisions.ensures c.as_slice-path.ensures c.if-was_entered.true)
+    c.was_entered.ensures c.as_slice-path.ensures c.if-was_entered.true)
 
 pub returns-in_default-clause-brings : goal.returns-in_default-clause-brings
 returns-in_default-clause-brings c =
@@ -23,9 +23,9 @@ returns-in_default-clause-brings c =
     c.requires.followed c.args.node.now c.requires.item
     (start_out c.args.system.now c.args.binding.now c.requires.given c.args.growing.now.decisions
     c.requires.followed.turns c.args.node.now
-    (tested enters c.was_entered.result false c.decisions.result.now
+    (tested enters c.was_entered.result false
     c.args.growing.now.decisions c.as_slice-path.result.now c.args.node.now.path
-    c.was_entered.ensures c.decisions.ensures c.as_slice-path.ensures c.if-was_entered.false) (ap length (sym c.as_slice-path.ensures) ∙ c.in_default.ensures.cases))
+    c.was_entered.ensures c.as_slice-path.ensures c.if-was_entered.false) (ap length (sym c.as_slice-path.ensures) ∙ c.in_default.ensures.cases))
 
 pub returns-in_default-node_on-clause-brings : goal.returns-in_default-node_on-clause-brings
 returns-in_default-node_on-clause-brings c =
@@ -33,9 +33,9 @@ returns-in_default-node_on-clause-brings c =
     c.requires.followed c.args.node.now c.requires.item
     (orphan_out c.args.system.now c.args.binding.now c.requires.given c.args.growing.now.decisions
     c.requires.followed.turns c.args.node.now
-    (tested enters c.was_entered.result false c.decisions.result.now
+    (tested enters c.was_entered.result false
     c.args.growing.now.decisions c.as_slice-path.result.now c.args.node.now.path
-    c.was_entered.ensures c.decisions.ensures c.as_slice-path.ensures c.if-was_entered.false) c.in-Some.front.now c.in-Some.i.now
+    c.was_entered.ensures c.as_slice-path.ensures c.if-was_entered.false) c.in-Some.front.now c.in-Some.i.now
     (sym c.as_slice-path.ensures ∙ c.in-Some.ensures.cases.0)
     (sym c.node_on.ensures.node ∙ ap option_copied c.in_default-node_on.is))
 
@@ -45,13 +45,13 @@ returns-then-not-was_entered-clause-brings c =
     c.requires.followed c.args.node.now c.requires.item
     (early_out c.args.system.now c.args.binding.now c.requires.given c.args.growing.now.decisions
     c.requires.followed.turns c.args.node.now
-    (tested enters c.was_entered.result false c.decisions.result.now
+    (tested enters c.was_entered.result false
     c.args.growing.now.decisions c.as_slice-path.result.now c.args.node.now.path
-    c.was_entered.ensures c.decisions.ensures c.as_slice-path.ensures c.if-was_entered.false) c.in-Some.front.now c.in-Some.i.now
+    c.was_entered.ensures c.as_slice-path.ensures c.if-was_entered.false) c.in-Some.front.now c.in-Some.i.now
     (sym c.as_slice-path.ensures ∙ c.in-Some.ensures.cases.0)
-    (tested enters c.was_entered-2.result false c.decisions-2.result.now
+    (tested enters c.was_entered-2.result false
     c.args.growing.now.decisions c.in-Some.front.now c.in-Some.front.now
-    c.was_entered-2.ensures c.decisions-2.ensures refl c.if-not-was_entered.true))
+    c.was_entered-2.ensures refl c.if-not-was_entered.true))
 
 pub returns-in_default-get-clause-brings : goal.returns-in_default-get-clause-brings
 returns-in_default-get-clause-brings c =
@@ -59,9 +59,9 @@ returns-in_default-get-clause-brings c =
     c.requires.followed c.args.node.now c.requires.item
     (no_downlink_out c.args.system.now c.args.binding.now c.requires.given c.args.growing.now.decisions
     c.requires.followed.turns c.args.node.now
-    (tested enters c.was_entered.result false c.decisions.result.now
+    (tested enters c.was_entered.result false
     c.args.growing.now.decisions c.as_slice-path.result.now c.args.node.now.path
-    c.was_entered.ensures c.decisions.ensures c.as_slice-path.ensures c.if-was_entered.false) c.in-Some.front.now c.in-Some.i.now
+    c.was_entered.ensures c.as_slice-path.ensures c.if-was_entered.false) c.in-Some.front.now c.in-Some.i.now
     (sym c.as_slice-path.ensures ∙ c.in-Some.ensures.cases.0) c.in-Some-node_on.caller.now
     (sym c.node_on.ensures.node ∙ ap option_copied c.in-Some-node_on.is)
     (ap (λ t. slice_get t.downlinks c.in-Some.i.now) (sym c.transition_of.ensures)
@@ -71,9 +71,9 @@ pub returns-in_default-2-clause-brings : goal.returns-in_default-2-clause-brings
 returns-in_default-2-clause-brings c =
     unforced c.args.system.now c.args.binding.now c.requires.given c.args.growing.now
     c.requires.followed c.args.node.now c.requires.item
-    (tested enters c.was_entered.result false c.decisions.result.now
+    (tested enters c.was_entered.result false
     c.args.growing.now.decisions c.as_slice-path.result.now c.args.node.now.path
-    c.was_entered.ensures c.decisions.ensures c.as_slice-path.ensures c.if-was_entered.false)
+    c.was_entered.ensures c.as_slice-path.ensures c.if-was_entered.false)
     c.in-Some.front.now c.in-Some.i.now
     (sym c.as_slice-path.ensures ∙ c.in-Some.ensures.cases.0) c.in-Some-node_on.caller.now
     (sym c.node_on.ensures.node ∙ ap option_copied c.in-Some-node_on.is)
@@ -86,9 +86,9 @@ pub enter-requires-clause-may_come : goal.enter-requires-clause-may_come
 enter-requires-clause-may_come c =
     (entry_comes c.args.system.now c.args.binding.now c.requires.given c.args.growing.now
     c.requires.followed c.args.node.now c.requires.item
-    (tested enters c.was_entered.result false c.decisions.result.now
+    (tested enters c.was_entered.result false
     c.args.growing.now.decisions c.as_slice-path.result.now c.args.node.now.path
-    c.was_entered.ensures c.decisions.ensures c.as_slice-path.ensures c.if-was_entered.false)
+    c.was_entered.ensures c.as_slice-path.ensures c.if-was_entered.false)
     c.in-Some.front.now c.in-Some.i.now
     (sym c.as_slice-path.ensures ∙ c.in-Some.ensures.cases.0) c.in-Some-node_on.caller.now
     (sym c.node_on.ensures.node ∙ ap option_copied c.in-Some-node_on.is)
@@ -96,18 +96,18 @@ enter-requires-clause-may_come c =
     (ap (λ t. slice_get t.downlinks c.in-Some.i.now) (sym c.transition_of.ensures)
     ∙ sym c.get.ensures.value ∙ ap option_copied c.in-Some-get.is)
     c.in_ok-head.head c.in-Some-2._inst c.in_ok-head.ensures c.in-Some-node_on.ensures.there
-    (tested enters c.was_entered-2.result true c.decisions-2.result.now
+    (tested enters c.was_entered-2.result true
     c.args.growing.now.decisions c.in-Some.front.now c.in-Some.front.now
-    c.was_entered-2.ensures c.decisions-2.ensures refl c.if-not-was_entered.false)
+    c.was_entered-2.ensures refl c.if-not-was_entered.false)
     ((c.in_ok-_inst.ensures c.in-Some-2._inst).0 c.in-Some-2.is)).0
 
 pub enter-requires-clause-fresh : goal.enter-requires-clause-fresh
 enter-requires-clause-fresh c =
     (entry_comes c.args.system.now c.args.binding.now c.requires.given c.args.growing.now
     c.requires.followed c.args.node.now c.requires.item
-    (tested enters c.was_entered.result false c.decisions.result.now
+    (tested enters c.was_entered.result false
     c.args.growing.now.decisions c.as_slice-path.result.now c.args.node.now.path
-    c.was_entered.ensures c.decisions.ensures c.as_slice-path.ensures c.if-was_entered.false)
+    c.was_entered.ensures c.as_slice-path.ensures c.if-was_entered.false)
     c.in-Some.front.now c.in-Some.i.now
     (sym c.as_slice-path.ensures ∙ c.in-Some.ensures.cases.0) c.in-Some-node_on.caller.now
     (sym c.node_on.ensures.node ∙ ap option_copied c.in-Some-node_on.is)
@@ -115,18 +115,18 @@ enter-requires-clause-fresh c =
     (ap (λ t. slice_get t.downlinks c.in-Some.i.now) (sym c.transition_of.ensures)
     ∙ sym c.get.ensures.value ∙ ap option_copied c.in-Some-get.is)
     c.in_ok-head.head c.in-Some-2._inst c.in_ok-head.ensures c.in-Some-node_on.ensures.there
-    (tested enters c.was_entered-2.result true c.decisions-2.result.now
+    (tested enters c.was_entered-2.result true
     c.args.growing.now.decisions c.in-Some.front.now c.in-Some.front.now
-    c.was_entered-2.ensures c.decisions-2.ensures refl c.if-not-was_entered.false)
+    c.was_entered-2.ensures refl c.if-not-was_entered.false)
     ((c.in_ok-_inst.ensures c.in-Some-2._inst).0 c.in-Some-2.is)).1
 
 pub returns-clause-brings : goal.returns-clause-brings
 returns-clause-brings c =
     IfOk-weaker _ _ _ (λ yes tries. ((entry_comes c.args.system.now c.args.binding.now c.requires.given c.args.growing.now
     c.requires.followed c.args.node.now c.requires.item
-    (tested enters c.was_entered.result false c.decisions.result.now
+    (tested enters c.was_entered.result false
     c.args.growing.now.decisions c.as_slice-path.result.now c.args.node.now.path
-    c.was_entered.ensures c.decisions.ensures c.as_slice-path.ensures c.if-was_entered.false)
+    c.was_entered.ensures c.as_slice-path.ensures c.if-was_entered.false)
     c.in-Some.front.now c.in-Some.i.now
     (sym c.as_slice-path.ensures ∙ c.in-Some.ensures.cases.0) c.in-Some-node_on.caller.now
     (sym c.node_on.ensures.node ∙ ap option_copied c.in-Some-node_on.is)
@@ -134,18 +134,18 @@ returns-clause-brings c =
     (ap (λ t. slice_get t.downlinks c.in-Some.i.now) (sym c.transition_of.ensures)
     ∙ sym c.get.ensures.value ∙ ap option_copied c.in-Some-get.is)
     c.in_ok-head.head c.in-Some-2._inst c.in_ok-head.ensures c.in-Some-node_on.ensures.there
-    (tested enters c.was_entered-2.result true c.decisions-2.result.now
+    (tested enters c.was_entered-2.result true
     c.args.growing.now.decisions c.in-Some.front.now c.in-Some.front.now
-    c.was_entered-2.ensures c.decisions-2.ensures refl c.if-not-was_entered.false)
+    c.was_entered-2.ensures refl c.if-not-was_entered.false)
     ((c.in_ok-_inst.ensures c.in-Some-2._inst).0 c.in-Some-2.is)).2 c.enter.new.self yes tries).0) c.enter.ensures.tries
 
 pub returns-clause-followed : goal.returns-clause-followed
 returns-clause-followed c =
     IfOk-weaker _ _ _ (λ yes tries. ((entry_comes c.args.system.now c.args.binding.now c.requires.given c.args.growing.now
     c.requires.followed c.args.node.now c.requires.item
-    (tested enters c.was_entered.result false c.decisions.result.now
+    (tested enters c.was_entered.result false
     c.args.growing.now.decisions c.as_slice-path.result.now c.args.node.now.path
-    c.was_entered.ensures c.decisions.ensures c.as_slice-path.ensures c.if-was_entered.false)
+    c.was_entered.ensures c.as_slice-path.ensures c.if-was_entered.false)
     c.in-Some.front.now c.in-Some.i.now
     (sym c.as_slice-path.ensures ∙ c.in-Some.ensures.cases.0) c.in-Some-node_on.caller.now
     (sym c.node_on.ensures.node ∙ ap option_copied c.in-Some-node_on.is)
@@ -153,7 +153,7 @@ returns-clause-followed c =
     (ap (λ t. slice_get t.downlinks c.in-Some.i.now) (sym c.transition_of.ensures)
     ∙ sym c.get.ensures.value ∙ ap option_copied c.in-Some-get.is)
     c.in_ok-head.head c.in-Some-2._inst c.in_ok-head.ensures c.in-Some-node_on.ensures.there
-    (tested enters c.was_entered-2.result true c.decisions-2.result.now
+    (tested enters c.was_entered-2.result true
     c.args.growing.now.decisions c.in-Some.front.now c.in-Some.front.now
-    c.was_entered-2.ensures c.decisions-2.ensures refl c.if-not-was_entered.false)
+    c.was_entered-2.ensures refl c.if-not-was_entered.false)
     ((c.in_ok-_inst.ensures c.in-Some-2._inst).0 c.in-Some-2.is)).2 c.enter.new.self yes tries).1) c.enter.ensures.tries
