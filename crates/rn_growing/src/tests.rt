@@ -2,9 +2,7 @@
 ghost use Rattle.std.specs.Prelude.{◌≡◌, ◌↔◌, ◌≤◌, [], All, IsTrue, length};
 ghost use Rattle.rn_growing.specs.Grown.{HasFewCreations};
 
-use crate::{
-    Growing, Head, Site, followers_are_decided, good_systems_open, more_decisions, new_is_undecided,
-};
+use crate::{Growing, Head, Site, followers_are_decided, good_systems_open, more_decisions};
 use rn_items::{Boxed, Items};
 use rn_model::{Creation, Creations, Expr, Exprs, Net, OpKind, Pairs, System, Transition};
 use rn_value::{InstRef, NoMemory, Str, Vals, Value, same};
@@ -170,11 +168,8 @@ fn is_so(
     let mut growing = Growing::open(alloc, system);
     let before = growing.mark();
     if !growing.enter(alloc, start(alloc), None)? {
-        return Ok(expected.is_none() && !growing.was_entered(&[]));
+        return Ok(expected.is_none());
     }
-    assert!(rt; growing.was_entered(&[]) && !growing.was_entered(&[0]));
-    assert!(rt; !growing.was_found(&[], 0));
-    assert!(rt; !growing.was_computed(&[], Site::Left(0), &[]));
     let values = match expected {
         Some(values) => values.as_slice(),
         None => return Ok(false),
@@ -189,7 +184,7 @@ fn is_so(
     }
     growing.undo(before);
     let is_forced = growing.is_forced(alloc, &[], 0)?;
-    Ok(growing.decisions().is_empty() && !is_forced && !growing.was_entered(&[]))
+    Ok(growing.decisions().is_empty() && !is_forced)
 }
 
 #[test]
@@ -251,6 +246,5 @@ fn laws_hold(_rt: HostRuntime) -> Result<(), Fail> {
     followers_are_decided();
     good_systems_open();
     more_decisions();
-    new_is_undecided();
     Ok(())
 }
