@@ -1,3 +1,3 @@
 mod GivenLemmas
-mod OwnLemmas
+pub mod OwnLemmas
 mod TableLemmas
