@@ -36,3 +36,8 @@ pub mod ConditionDepths
 pub mod SpelledInscriptions
 pub mod WellFormedTexts
 pub mod FirstLemmas
+pub mod GuardLemmas
+pub mod NumberLemmas
+pub mod MarkLemmas
+pub mod OccurringLemmas
+pub mod NumberingLemmas

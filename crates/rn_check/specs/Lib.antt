@@ -17,3 +17,6 @@ pub mod Scopes
 pub mod WellFormed
 pub mod Laws
 pub mod SpelledForms
+pub mod Parts
+pub mod NumbersFound
+pub mod OccurringParts

@@ -4,7 +4,7 @@ use Rattle.rn_inscript.specs.declared.inscriptions.PName.{PName}
 use Rattle.rn_check.specs.declared.fault.Rule.TheVariants as Rule
 use Rattle.rn_check.specs.declared.fault.Fault.{Fault}
 use Rattle.rn_check.specs.Faults.{broken_if}
-use Rattle.std.specs.Prelude.{◌≡◌, ◌<◌, ◌^◌, unwrap_or, ℕ, Bool, not, nat_le, length, ◌++◌, List, Option, Some, None, if◌then◌else◌}
+use Rattle.std.specs.Prelude.{ℕ, Bool, not, nat_le, length, ◌++◌, List, Option, Some, None, if◌then◌else◌}
 use Rattle.std.specs.Ordering.{nat_cmp}
 use Rattle.std.specs.Cmp.Lexicographic.{slice_cmp}
 use Rattle.std.specs.BTreeMap.{get}
@@ -29,11 +29,3 @@ abbrev pub name_told : Bool → PName → List Fault
 name_told again name =
     broken_if (not (nat_le (length name.text) longest_name)) Rule.Limit name.spot
     ++ broken_if again Rule.Once name.spot
-
--- the number of a name in a table, and 0 where it isn't there
-abbrev pub numbers_in : Table → List ℕ → ℕ
-numbers_in table name = unwrap_or (found_in table name) 0
-
--- all numbers that a table finds are small
-abbrev pub HasSmall : Table → Type 0
-HasSmall table = (name : List ℕ) (n : ℕ) → found_in table name ≡ Some n → n < 2 ^ 32

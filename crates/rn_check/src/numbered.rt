@@ -1,9 +1,9 @@
-//! Kinds, constants, expressions and conditions with numbers in place of names.
-ghost use Rattle.std.specs.Prelude.{◌≡◌, IfOk, map, unwrap_or};
-ghost use Rattle.rn_check.specs.Tables.{found_in, HasSmall, numbers_in};
-ghost use Rattle.rn_check.specs.Numbering.{kind_of, value_of, expr_of, simple_of_form, cond_of};
+//! Kinds, constants and expressions with numbers in place of names.
+ghost use Rattle.std.specs.Prelude.{◌≡◌, IfOk, map};
+ghost use Rattle.rn_check.specs.NumbersFound.{AreFew};
+ghost use Rattle.rn_check.specs.Numbering.{kind_of, value_of, expr_of, number_in};
 
-use crate::table::Table;
+use crate::numbers::Names;
 use rn_inscript::{PExpr, PForm};
 use rn_items::{Boxed, Items};
 use rn_model::{Expr, Exprs};
@@ -60,27 +60,16 @@ pub(crate) fn values_of(alloc: Global, constants: &[PConst]) -> Result<Vals, NoM
     Ok(Items::from_vec(made))
 }
 
-/// The number of a name, and 0 where it isn't declared.
-fn number_of(table: &Table, name: &Str) -> u32
-    requires { HasSmall table.now }
-    ensures { result ≡ numbers_in table.now name.now }
-{
-    match table.number(name) {
-        Some(number) => number as u32,
-        None => 0,
-    }
-}
-
 /// The expression with numbers in place of names, where variables have these.
 #[cycle(expr)]
-pub(crate) fn expr_of(alloc: Global, e: &PExpr, vars: &Table) -> Result<Expr, NoMemory>
-    requires { HasSmall vars.now }
-    ensures { IfOk result (λ made. made ≡ expr_of e.now (numbers_in vars.now)) }
+pub(crate) fn expr_of(alloc: Global, e: &PExpr, vars: &Names) -> Result<Expr, NoMemory>
+    requires { AreFew vars.now }
+    ensures { IfOk result (λ made. made ≡ expr_of e.now (number_in vars.now)) }
 {
     match &e.form {
         PForm::Int(n) => Ok(Expr::Int(*n)),
         PForm::Text(text) => Ok(Expr::Text(copy_text(alloc, text)?)),
-        PForm::Name(name) => Ok(Expr::Var(number_of(vars, name))),
+        PForm::Name(name) => Ok(Expr::Var(vars.number(name))),
         PForm::This => Ok(Expr::This),
         PForm::Step => Ok(Expr::Step),
         PForm::Tuple(parts) => Ok(Expr::Tuple(exprs_of(alloc, parts.as_slice(), vars)?)),
@@ -98,10 +87,10 @@ pub(crate) fn expr_of(alloc: Global, e: &PExpr, vars: &Table) -> Result<Expr, No
 }
 
 #[cycle(expr)]
-pub(crate) fn exprs_of(alloc: Global, es: &[PExpr], vars: &Table) -> Result<Exprs, NoMemory>
-    requires { HasSmall vars.now }
+pub(crate) fn exprs_of(alloc: Global, es: &[PExpr], vars: &Names) -> Result<Exprs, NoMemory>
+    requires { AreFew vars.now }
     ensures { IfOk result (λ made. made
-        ≡ map (λ numbered. numbered (numbers_in vars.now)) (map expr_of es.now)) }
+        ≡ map (λ numbered. numbered (number_in vars.now)) (map expr_of es.now)) }
 {
     let mut made = Vec::with_capacity(alloc, es.len())?;
     for e in es {

@@ -1,0 +1,105 @@
+-- Transitions with numbers in place of names.
+use Rattle.std.proofs.Common.{◌≡◌, ℕ, ◌+◌, ◌<◌, suc, List, [], ◌∷◌, ◌++◌, None, length, map, drop, get_or, refl, sym, ap, ◌∙◌}
+use Rattle.std.proofs.Common.{add-one, drop-cons}
+use Rattle.std.specs.Prelude.{flat_map, slice_get}
+use Rattle.std.proofs.lemmas.List.{append_assoc}
+use Rattle.std.proofs.lemmas.List.Folds.{flat_map-map}
+use Rattle.rn_model.specs.declared.system.Transition.{Transition}
+use Rattle.rn_inscript.specs.declared.exprs.PExpr.{PExpr}
+use Rattle.rn_inscript.specs.declared.inscriptions.PName.{PName}
+use Rattle.rn_inscript.specs.declared.inscriptions.PInscribed.{PInscribed}
+use Rattle.rn_inscript.specs.declared.inscriptions.PInscribed.TheVariants as I
+use Rattle.rn_inscript.specs.declared.inscriptions.PInscription.{PInscription}
+use Rattle.rn_check.specs.Numbering.{Numbers, inscribed}
+use Rattle.rn_check.specs.Numbering.{equality_of, guard_of, action_of, creation_of, uplink_of}
+use Rattle.rn_check.specs.Numbering.{downlink_of, arc_of}
+
+-- the lists of a transition, from its inscriptions and from their forms
+pub inscribed_is : (to : Numbers) (name : List ℕ) (is : List PInscription) →
+    record {
+      name = name;
+      vars = [];
+      action_vars = [];
+      equalities = flat_map (λ i. equality_of to i.form) is;
+      guards = flat_map (λ i. guard_of to i.form) is;
+      actions = flat_map (λ i. action_of to i.form) is;
+      creations = flat_map (λ i. creation_of to i.form) is;
+      uplink = slice_get (flat_map (λ i. uplink_of to i.form) is) 0;
+      downlinks = flat_map (λ i. downlink_of to i.form) is;
+      arcs = flat_map (λ i. arc_of to i.form) is;
+    } ≡ inscribed to name (map (λ i. i.form) is)
+inscribed_is to name is =
+    rw (
+      flat_map-map (equality_of to) (λ i. i.form) is,
+      flat_map-map (guard_of to) (λ i. i.form) is,
+      flat_map-map (action_of to) (λ i. i.form) is,
+      flat_map-map (creation_of to) (λ i. i.form) is,
+      flat_map-map (uplink_of to) (λ i. i.form) is,
+      flat_map-map (downlink_of to) (λ i. i.form) is,
+      flat_map-map (arc_of to) (λ i. i.form) is,
+    ) refl
+
+abbrev bare_of : List ℕ → Transition
+bare_of name = record {
+  name = name;
+  vars = [];
+  action_vars = [];
+  equalities = [];
+  guards = [];
+  actions = [];
+  creations = [];
+  uplink = None;
+  downlinks = [];
+  arcs = [];
+}
+
+abbrev with_local : Numbers → List PInscription → Transition → Transition
+with_local to is t = record t {
+  equalities = flat_map (λ i. equality_of to i.form) is;
+  guards = flat_map (λ i. guard_of to i.form) is;
+  actions = flat_map (λ i. action_of to i.form) is;
+  creations = flat_map (λ i. creation_of to i.form) is;
+}
+
+abbrev with_joined : Numbers → List PInscription → Transition → Transition
+with_joined to is t = record t {
+  uplink = slice_get (flat_map (λ i. uplink_of to i.form) is) 0;
+  downlinks = flat_map (λ i. downlink_of to i.form) is;
+  arcs = flat_map (λ i. arc_of to i.form) is;
+}
+
+-- the transition that was made in these steps
+pub made_of : (to : Numbers) (name copied : List ℕ) (is slice : List PInscription)
+    (first second third : Transition) → first ≡ bare_of copied → second ≡ with_local to slice first →
+    third ≡ with_joined to slice second → copied ≡ name → slice ≡ is →
+    third ≡ inscribed to name (map (λ i. i.form) is)
+made_of to name copied is slice first second third a b c named same =
+    c
+    ∙ ap (with_joined to slice) (b ∙ ap (with_local to slice) a)
+    ∙ ap (λ n. with_joined to slice (with_local to slice (bare_of n))) named
+    ∙ ap (λ s. with_joined to s (with_local to s (bare_of name))) same
+    ∙ inscribed_is to name is
+
+-- what one more inscription gives
+pub given_more : {A B : Type 0} (f : A → List B) (xs : List A) (i : ℕ) (x : A) (made now all : List B) →
+    i < length xs → x ≡ get_or xs i x → made ++ flat_map f (drop i xs) ≡ all → now ≡ made ++ f x →
+    now ++ flat_map f (drop (i + 1) xs) ≡ all
+given_more f xs i x made now all h is before put =
+    let rest : drop i xs ≡ x ∷ drop (i + 1) xs =
+    drop-cons xs i x h ∙ ap (λ y. y ∷ drop (suc i) xs) (sym is) ∙ ap (λ n. x ∷ drop n xs) (sym (add-one i)) in
+    ap (λ ys. ys ++ flat_map f (drop (i + 1) xs)) put
+    ∙ append_assoc made (f x) (flat_map f (drop (i + 1) xs))
+    ∙ ap (λ ys. made ++ flat_map f ys) (sym rest)
+    ∙ before
+
+pub no_downlink : (to : Numbers) (form : PInscribed) →
+    ((target : PExpr) (channel : PName) (args : List PExpr) → form ≡ I.Downlink target channel args → ⊥) →
+    downlink_of to form ≡ []
+no_downlink to (I.Downlink target channel args) other = absurd (other target channel args refl)
+no_downlink to (I.Set var value) other = refl
+no_downlink to (I.Arc kind place e) other = refl
+no_downlink to (I.Guard cond) other = refl
+no_downlink to (I.Print e) other = refl
+no_downlink to (I.Uplink channel args) other = refl
+no_downlink to (I.New var net) other = refl
+no_downlink to (I.Equality a b) other = refl

@@ -1,0 +1,132 @@
+//! The numbers of names that are declared without fault, in the order of the text.
+ghost use Rattle.std.specs.Prelude.{◌≡◌, ◌<◌, ◌^◌, [], ◌∷◌, ◌++◌, false, OnOk, IfOk, map, length};
+ghost use Rattle.std.specs.List.{list_any};
+ghost use Rattle.rn_check.specs.Names.{same_name, names_faults};
+ghost use Rattle.rn_check.specs.Systems.{channels_faults};
+ghost use Rattle.rn_check.specs.Numbering.{number_in};
+ghost use Rattle.rn_check.specs.NumbersFound.{is_key, key_of, channel_by};
+
+use crate::names::Named;
+use indexmap::IndexSet;
+use rn_net::PChannel;
+use rn_value::{NoMemory, Str};
+use std::alloc::Global;
+use std::marker::Model;
+
+/// Names, which contracts see as their list. The number of a name is its index.
+#[derive(Drop)]
+pub(crate) struct Names {
+    names: IndexSet<String>,
+}
+
+impl Model for Names {
+    ghost use Rattle.std.specs.Prelude.{List, ℕ, map, string_bytes};
+
+    ghost Value = { List (List ℕ) };
+
+    ghost view = { λ names. map string_bytes names.names.keys };
+}
+
+impl Names {
+    fn new(alloc: Global) -> Names
+        ensures { result ≡ [] }
+    {
+        Names {
+            names: IndexSet::new(alloc),
+        }
+    }
+
+    /// Puts a name at the end, if it isn't there.
+    fn put(&mut self, alloc: Global, name: &Str) -> Result<(), NoMemory>
+        ensures { OnOk result (list_any (λ declared. same_name declared name.now) self.old ≡ false →
+            self.new ≡ self.old ++ name.now ∷ []) }
+    {
+        self.names.insert(String::from_str(alloc, name.as_str())?)?;
+        Ok(())
+    }
+
+    /// The number of a name, and 0 where it isn't there.
+    pub(crate) fn number(&self, name: &Str) -> u32
+        requires { length self.now < 2 ^ 32 }
+        ensures { result ≡ number_in self.now name.now }
+    {
+        match self.names.get_index_of(name.as_str()) {
+            Some(number) => number as u32,
+            None => 0,
+        }
+    }
+}
+
+/// The names that are declared here.
+pub(crate) fn names_of<T: Named>(alloc: Global, items: &[T]) -> Result<Names, NoMemory>
+    requires { names_faults [] (map T.name_of items.now) ≡ [] }
+    ensures { IfOk result (λ names. names ≡ map (λ item. (T.name_of item).text) items.now) }
+{
+    let mut names = Names::new(alloc);
+    for item in items {
+        names.put(alloc, &item.name().text)?;
+    }
+    Ok(names)
+}
+
+/// Channels by name and number of arguments, which contracts see as their list. The number of a
+/// channel is its index.
+#[derive(Drop)]
+pub(crate) struct ChannelNames {
+    channels: IndexSet<(String, usize)>,
+}
+
+impl Model for ChannelNames {
+    ghost use Rattle.std.specs.Prelude.{List, ℕ, map, string_bytes};
+
+    ghost Value = { List (List ℕ × ℕ) };
+
+    ghost view = { λ names. map (λ key. (string_bytes key.0, key.1)) names.channels.keys };
+}
+
+impl ChannelNames {
+    fn new(alloc: Global) -> ChannelNames
+        ensures { result ≡ [] }
+    {
+        ChannelNames {
+            channels: IndexSet::new(alloc),
+        }
+    }
+
+    /// Puts a channel at the end, if it isn't there.
+    fn put(&mut self, alloc: Global, name: &Str, count: usize) -> Result<(), NoMemory>
+        ensures { OnOk result (list_any (is_key name.now count) self.old ≡ false →
+            self.new ≡ self.old ++ (name.now, count) ∷ []) }
+    {
+        let name = String::from_str(alloc, name.as_str())?;
+        self.channels.insert((name, count))?;
+        Ok(())
+    }
+
+    /// The number of a channel, and 0 where it isn't there.
+    pub(crate) fn number(&self, alloc: Global, name: &Str, count: usize) -> Result<u32, NoMemory>
+        requires { length self.now < 2 ^ 32 }
+        ensures { IfOk result (λ number. number ≡ channel_by self.now name.now count) }
+    {
+        let key = (String::from_str(alloc, name.as_str())?, count);
+        match self.channels.get_index_of(&key) {
+            Some(number) => Ok(number as u32),
+            None => Ok(0),
+        }
+    }
+}
+
+/// The channels that are declared here.
+pub(crate) fn channel_names_of(
+    alloc: Global,
+    channels: &[PChannel],
+) -> Result<ChannelNames, NoMemory>
+    requires { channels_faults [] channels.now ≡ [] }
+    ensures { IfOk result (λ names. names ≡ map key_of channels.now) }
+{
+    let mut names = ChannelNames::new(alloc);
+    for channel in channels {
+        names.put(alloc, &channel.name.text, channel.kinds.len())?;
+    }
+    Ok(names)
+}
