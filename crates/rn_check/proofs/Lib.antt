@@ -41,3 +41,4 @@ pub mod NumberLemmas
 pub mod MarkLemmas
 pub mod OccurringLemmas
 pub mod NumberingLemmas
+pub mod NetNumbers

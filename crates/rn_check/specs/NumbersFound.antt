@@ -1,6 +1,6 @@
 -- The numbers that the sets of the code find. It connects the code with the definitions, and states
 -- no rule.
-use Rattle.std.specs.Prelude.{◌<◌, ◌^◌, ◌&&◌, ℕ, Bool, nat_eq, List, [], Option, Some, None}
+use Rattle.std.specs.Prelude.{◌≡◌, All, map, ◌<◌, ◌^◌, ◌&&◌, ℕ, Bool, nat_eq, List, [], Option, Some, None}
 use Rattle.std.specs.Prelude.{unwrap_or, length}
 use Rattle.std.specs.List.{position_from}
 use Rattle.rn_model.specs.declared.expr.Expr.{Expr}
@@ -8,8 +8,12 @@ use Rattle.rn_model.specs.declared.expr.Expr.TheVariants as Expr
 use Rattle.rn_inscript.specs.declared.exprs.PExpr.{PExpr}
 use Rattle.rn_net.specs.declared.plain.PChannel.{PChannel}
 use Rattle.rn_check.specs.declared.inscribed.Tables.{Tables}
-use Rattle.rn_check.specs.Names.{same_name}
-use Rattle.rn_check.specs.Numbering.{Numbers, number_in, expr_of}
+use Rattle.rn_model.specs.declared.system.Net.{Net}
+use Rattle.rn_net.specs.declared.plain.PNet.{PNet}
+use Rattle.rn_net.specs.declared.plain.Plain.{Plain}
+use Rattle.rn_check.specs.Systems.{channels_faults}
+use Rattle.rn_check.specs.Names.{same_name, names_faults}
+use Rattle.rn_check.specs.Numbering.{Numbers, number_in, expr_of, kind_of, value_of, inscribed, with_vars}
 
 -- a channel's name, and how many arguments it has
 abbrev pub key_of : PChannel → List ℕ × ℕ
@@ -47,3 +51,39 @@ pub record AllFew (tables : Tables) : Type 0 where
   pub places : AreFew tables.places.now
   pub nets : AreFew tables.nets.now
   pub channels : AreFew tables.channels.now
+
+-- each variable and each place of a net has a number of its own
+pub record HasNetNumbers (net : PNet) : Type 0 where
+  pub vars : names_faults [] (map (λ v. v.name) net.vars) ≡ []
+  pub few_vars : AreFew net.vars
+  pub places : names_faults [] (map (λ p. p.name) net.places) ≡ []
+  pub few_places : AreFew net.places
+
+-- so has each net and each channel, and each name of a net
+pub record HasNumbers (plain : Plain) : Type 0 where
+  pub channels : channels_faults [] plain.channels ≡ []
+  pub few_channels : AreFew plain.channels
+  pub nets : names_faults [] (map (λ n. n.name) plain.nets) ≡ []
+  pub few_nets : AreFew plain.nets
+  pub each : All HasNetNumbers plain.nets
+
+-- the net with numbers in place of names, where those of nets and channels are these
+abbrev pub net_by : List (List ℕ) → (List ℕ → ℕ → ℕ) → PNet → Net
+net_by nets channel net =
+    let to : Numbers = record {
+      var = number_in (map (λ v. v.name.text) net.vars);
+      place = number_in (map (λ p. p.name.text) net.places);
+      net = number_in nets;
+      channel = channel;
+    } in
+    record {
+      name = net.name.text;
+      vars = map (λ v. record { name = v.name.text; kind = kind_of v.kind }) net.vars;
+      places = map
+          (λ p. record { name = p.name.text; kind = kind_of p.kind; initial = map value_of p.initial })
+          net.places;
+      transitions = map
+          (λ t. with_vars (length net.vars)
+          (inscribed to t.name.text (map (λ i. i.form) t.inscriptions)))
+          net.transitions;
+    }

@@ -1,18 +1,21 @@
-//! Transitions with numbers in place of names.
-ghost use Rattle.std.specs.Prelude.{◌≡◌, [], None, IfOk, OnOk, map, flat_map, slice_get};
-ghost use Rattle.rn_check.specs.Numbering.{inscribed, with_vars};
+//! Transitions, nets and systems with numbers in place of names.
+ghost use Rattle.std.specs.Prelude.{◌≡◌, [], All, None, IfOk, OnOk, map, flat_map, slice_get};
+ghost use Rattle.rn_check.specs.Numbering.{inscribed, with_vars, system_of};
 ghost use Rattle.rn_check.specs.Numbering.{equality_of, guard_of, action_of, creation_of};
 ghost use Rattle.rn_check.specs.Numbering.{uplink_of, downlink_of, arc_of};
-ghost use Rattle.rn_check.specs.NumbersFound.{numbers_by, AllFew};
+ghost use Rattle.rn_check.specs.NumbersFound.{numbers_by, channel_by, net_by, AreFew, AllFew};
+ghost use Rattle.rn_check.specs.NumbersFound.{HasNetNumbers, HasNumbers};
 
+use crate::declarations::{channels_of, places_of, vars_of};
 use crate::inscribed::{
     Tables, actions_of, arcs_of, creations_of, downlinks_of, equalities_of, guards_of, uplink_of,
 };
 use crate::marks::with_vars;
+use crate::numbers::{ChannelNames, Names, channel_names_of, names_of};
 use rn_inscript::PInscription;
 use rn_items::Items;
-use rn_model::{Transition, Transitions};
-use rn_net::PTransition;
+use rn_model::{Net, Nets, System, Transition, Transitions};
+use rn_net::{PNet, PTransition, Plain};
 use rn_value::{NoMemory, Str, copy_text};
 use std::alloc::Global;
 
@@ -122,4 +125,60 @@ fn transitions_of(
         made.push(transition_of(alloc, t, tables, count)?)?;
     }
     Ok(Items::from_vec(made))
+}
+
+/// A net of a system with these nets and channels.
+fn net_of(alloc: Global, net: &PNet, nets: &Names, channels: &ChannelNames) -> Result<Net, NoMemory>
+    requires declared { HasNetNumbers net.now }
+    requires nets { AreFew nets.now }
+    requires channels { AreFew channels.now }
+    ensures { IfOk result (λ made. made ≡ net_by nets.now (channel_by channels.now) net.now) }
+{
+    let vars = names_of(alloc, net.vars.as_slice())?;
+    let places = names_of(alloc, net.places.as_slice())?;
+    let tables = Tables {
+        vars: &vars,
+        places: &places,
+        nets,
+        channels,
+    };
+    let count = net.vars.len() as u32;
+    Ok(Net {
+        name: copy_text(alloc, &net.name.text)?,
+        vars: vars_of(alloc, net.vars.as_slice())?,
+        places: places_of(alloc, net.places.as_slice())?,
+        transitions: transitions_of(alloc, net.transitions.as_slice(), &tables, count)?,
+    })
+}
+
+/// The nets of a system with these nets and channels.
+fn nets_of(
+    alloc: Global,
+    nets: &[PNet],
+    names: &Names,
+    channels: &ChannelNames,
+) -> Result<Nets, NoMemory>
+    requires declared { All HasNetNumbers nets.now }
+    requires nets { AreFew names.now }
+    requires channels { AreFew channels.now }
+    ensures { IfOk result (λ made. made ≡ map (net_by names.now (channel_by channels.now)) nets.now) }
+{
+    let mut made = Vec::with_capacity(alloc, nets.len())?;
+    for net in nets {
+        made.push(net_of(alloc, net, names, channels)?)?;
+    }
+    Ok(Items::from_vec(made))
+}
+
+/// The system of a plain form in which no rule is broken.
+pub(crate) fn system_of(alloc: Global, plain: &Plain) -> Result<System, NoMemory>
+    requires { HasNumbers plain.now }
+    ensures { IfOk result (λ made. made ≡ system_of plain.now) }
+{
+    let names = names_of(alloc, plain.nets.as_slice())?;
+    let channels = channel_names_of(alloc, plain.channels.as_slice())?;
+    Ok(System {
+        nets: nets_of(alloc, plain.nets.as_slice(), &names, &channels)?,
+        channels: channels_of(alloc, plain.channels.as_slice())?,
+    })
 }
