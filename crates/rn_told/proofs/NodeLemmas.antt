@@ -1,18 +1,13 @@
 -- Single nodes, and those after them.
-use Rattle.std.proofs.Common.{◌≡◌, ℕ, zero, suc, ◌≤◌, Bool, true, false, cond, List, [], ◌∷◌, ◌++◌, length, refl, sym, ap, ◌∙◌, subst, arith, append_assoc}
-use Rattle.std.specs.Prelude.{IsTrue, ◌↔◌, bytes_eq, Option, All, unwrap_or, slice_get, drop}
+use Rattle.std.proofs.Common.{◌≡◌, ℕ, Bool, true, false, cond, List, [], ◌∷◌, ◌++◌, refl, sym, ap, ◌∙◌, subst, append_assoc}
+use Rattle.std.specs.Prelude.{IsTrue, ◌↔◌, bytes_eq, Option, drop}
 use Rattle.std.proofs.lemmas.Bool.{false≢true}
 use Rattle.std.proofs.lemmas.Slice.Eq.{bytes_eq-Decides}
 use Rattle.std.proofs.lemmas.List.{append-nil}
-use Rattle.std.proofs.lemmas.List.Elements.{All-weaker, All-head, All-tail, All-nil}
 use Rattle.rn_value.specs.Grammar.{IsNumeral}
 use Rattle.rn_value.specs.Text.{numeral}
 use Rattle.rn_value.proofs.Numerals.{IsNumeral-numeral, numeral_only}
 use Rattle.rn_model.specs.declared.system.System.{System}
-use Rattle.rn_model.specs.declared.system.Net.{Net}
-use Rattle.rn_model.specs.declared.system.Transition.{Transition}
-use Rattle.rn_model.specs.Systems.{net_at, transition_at, empty_net, empty_transition}
-use Rattle.rn_model.specs.Good.{Good, IsGoodNet, IsGoodTransition}
 use Rattle.rn_lines.specs.LineText.{LineSaid}
 use Rattle.rn_lines.specs.NodeText.{NodeSaid}
 use Rattle.rn_told.specs.Paths.{children}
@@ -31,29 +26,6 @@ step_is step digits false is = by (bytes_eq digits (numeral step)) (bytes_eq-Dec
     by : (e : Bool) → (e ≡ true → digits ≡ numeral step) → false ≡ e
     by false same = refl
     by true same = absurd (false≢true (is.1 (subst (IsNumeral step) (sym (same refl)) (IsNumeral-numeral step))))
-
--- what holds of all, and of what stands for those that aren't there, holds at each number
-at_each : {X : Type 0} (P : X → Type 0) (xs : List X) (n : ℕ) (d : X) → All P xs → P d →
-    P (unwrap_or (slice_get xs n) d)
-at_each P [] n d all other = other
-at_each P (x ∷ xs) zero d all other = All-head P x xs all
-at_each P (x ∷ xs) (suc n) d all other = at_each P xs n d (All-tail P x xs all) other
-
-abbrev CallsFew : Transition → Type 0
-CallsFew t = length t.downlinks ≤ 200
-
--- a transition of a good system calls few nodes
-pub calls_few : (system : System) (n t : ℕ) → Good system →
-    length (transition_at system n t).downlinks ≤ 200
-calls_few system n t good =
-    let few : (net : Net) → IsGoodNet system net → All CallsFew net.transitions
-    = λ net is. All-weaker (IsGoodTransition system net) CallsFew
-    (λ x of. let many = of.many in omega (arith, many)) net.transitions is.transitions in
-    let here : All CallsFew (net_at system n).transitions
-    = at_each (λ net. All CallsFew net.transitions) system.nets n empty_net
-    (All-weaker (IsGoodNet system) (λ net. All CallsFew net.transitions) few system.nets good.nets)
-    (All-nil CallsFew) in
-    at_each CallsFew (net_at system n).transitions t empty_transition here (omega arith)
 
 -- One more node is read.
 module _ (system : System) (role : Role) (xs : List Placed) (before : List (List ℕ)) (path : List ℕ)
