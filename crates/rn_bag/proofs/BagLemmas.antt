@@ -1,8 +1,7 @@
 -- What is taken from a bag and put in it.
-use Rattle.std.proofs.Common.{◌≡◌, ℕ, suc, ◌+◌, ◌*◌, ◌<◌, ◌≤◌, Some, slice_get, Bool, true, false, cond, List, [], ◌∷◌, ◌++◌, length, take, drop, get_or, append_assoc, append-nil, length-take, length-drop, length-append, refl, sym, ap, ◌∙◌, subst, arith}
+use Rattle.std.proofs.Common.{◌≡◌, ℕ, suc, ◌+◌, ◌*◌, ◌<◌, ◌≤◌, Some, slice_get, Bool, true, false, List, [], ◌∷◌, ◌++◌, length, take, drop, get_or, append_assoc, append-nil, length-take, length-drop, length-append, refl, sym, ap, ◌∙◌, subst, arith}
 use Rattle.std.proofs.lemmas.Bool.{false≢true, true≢false}
 use Rattle.std.proofs.lemmas.List.{take-append-drop, take-take, drop-append-le, append_cancel_left}
-use Rattle.std.proofs.lemmas.List.Sums.{sum_by-cons}
 use Rattle.std.specs.List.{AllByRecursion}
 use Rattle.std.specs.Cmp.{Equal-is}
 use Rattle.std.specs.Ordering.{is_lt, is_eq, ordering_reverse}
@@ -12,6 +11,7 @@ use Rattle.rn_value.specs.Order.{value_cmp}
 use Rattle.rn_value.specs.OrderLaws.{value_cmp-total, value_cmp-apart}
 use Rattle.rn_value.specs.declared.value.Value.{Value}
 use Rattle.rn_model.specs.Lists.{same_value, count_of, with_value, without_one}
+use Rattle.rn_model.proofs.ValueLists.{one_if, count_of-cons}
 use Rattle.std.proofs.Math.Seq.{take-append_seam, drop-append_seam}
 use Rattle.rn_bag.specs.declared.cut.Cut.{Cut}
 use Rattle.rn_bag.specs.declared.cut.Cut.TheVariants.{UpTo}
@@ -25,13 +25,6 @@ use Rattle.rn_bag.proofs.AscendingLemmas.{below, below_differs, same_itself, wit
 use Rattle.rn_bag.proofs.SlotIndexLemmas.{tokens_before_is, tokens_after_is, tokens_whole, all_tokens_before, all_tokens_after}
 use Rattle.rn_bag.proofs.CountLemmas.{counted_at}
 use Rattle.rn_bag.proofs.EditLemmas.{token_here, no_token_here, thin_prefix, at_get}
-
--- 1 where the test passes
-abbrev one_if : Bool → ℕ
-one_if t = cond t 1 0
-
-count_of-cons : (z w : Value) (ws : List Value) → count_of z (w ∷ ws) ≡ one_if (same_value z w) + count_of z ws
-count_of-cons z w ws = sum_by-cons (λ y. one_if (same_value z y)) w ws
 
 -- none of these is the value
 abbrev pub Absent : Value → List Value → Type 0

@@ -23,7 +23,8 @@ use Rattle.rn_growing.specs.Decisions.{head_of, AreOn}
 use Rattle.rn_growing.specs.Equations.{read_at, IsForcedTo}
 use Rattle.rn_growing.specs.Grown.{IsNew}
 use Rattle.rn_growing.specs.Turns.{AreInTurn, MayCome}
-use Rattle.rn_growing.proofs.Followers.{snoc_equal, some_equal, decision_in, equations, entered_by}
+use Rattle.rn_growing.proofs.Followers.{snoc_equal, decision_in, equations, entered_by}
+use Rattle.rn_growing.proofs.Growth.{some_equal}
 use Rattle.rn_growing.proofs.SameUnknowns.{path_itself}
 use Rattle.rn_growing.specs.Decided.{enters}
 use Rattle.rn_binding.specs.Passing.{IsGiven, IsOut}

@@ -36,11 +36,8 @@ use Rattle.rn_growing.specs.Following.{FollowersAreDecided, ClosedDecisionsDecid
 use Rattle.rn_growing.specs.Following.{EachIsDecided}
 use Rattle.rn_growing.proofs.SameUnknowns.{as_site, as_site-is}
 use Rattle.rn_growing.proofs.SoundItems.{items_sound, one_hole}
-use Rattle.rn_growing.proofs.Growth.{turns_front, at_in}
+use Rattle.rn_growing.proofs.Growth.{turns_front, at_in, some_equal}
 use Rattle.rn_model.proofs.Rounds.{all_more, closed_decide}
-
-pub some_equal : {A : Type 0} (x y : A) → Some x ≡ Some y → x ≡ y
-some_equal x y e = cc
 
 pub snoc_equal : (p q : List ℕ) (i j : ℕ) → p ++ i ∷ [] ≡ q ++ j ∷ [] → (p ≡ q) × (i ≡ j)
 snoc_equal p q i j e =

@@ -57,7 +57,7 @@ opened system laid ds frames few keeps laid_in none undecided unframed =
       before = λ k frame at. absurd (let no : ⊥ = cc in no);
     }))
 
-some_equal : {A : Type 0} (x y : A) → Some x ≡ Some y → x ≡ y
+pub some_equal : {A : Type 0} (x y : A) → Some x ≡ Some y → x ≡ y
 some_equal x y e = cc
 
 pub stands_at : {A : Type 0} (xs : List A) (k : ℕ) (x : A) → k < length xs → x ≡ get_or xs k x →

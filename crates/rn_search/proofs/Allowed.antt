@@ -19,8 +19,7 @@ use Rattle.rn_growing.specs.declared.decision.Decision.{Decision}
 use Rattle.rn_growing.specs.declared.decision.Decision.TheVariants.{Entered, Found, Computed}
 use Rattle.rn_growing.specs.Decisions.{transition_in, site_of}
 use Rattle.rn_growing.specs.Turns.{IsEntered, IsVarForced, IsHole, MayBeCalled}
-use Rattle.rn_growing.proofs.Followers.{some_equal}
-use Rattle.rn_growing.proofs.Growth.{at_in}
+use Rattle.rn_growing.proofs.Growth.{some_equal, at_in}
 use Rattle.rn_growing.proofs.SameUnknowns.{as_site, as_site-is}
 use Rattle.rn_channel.specs.Answering.{is_of, answering, answering_from}
 use Rattle.rn_search.specs.Sought.{Sought}

@@ -20,8 +20,8 @@ use Rattle.rn_growing.specs.declared.decision.Caller.{Caller}
 use Rattle.rn_growing.specs.declared.decision.Decision.{Decision}
 use Rattle.rn_growing.specs.declared.decision.Decision.TheVariants.{Found, Computed}
 use Rattle.rn_growing.specs.Decisions.{transition_in}
-use Rattle.rn_growing.proofs.Followers.{On, some_equal}
-use Rattle.rn_growing.proofs.Growth.{at_in}
+use Rattle.rn_growing.proofs.Followers.{On}
+use Rattle.rn_growing.proofs.Growth.{some_equal, at_in}
 use Rattle.rn_growing.proofs.SameUnknowns.{as_site}
 use Rattle.rn_channel.specs.Answering.{is_of, answering, answering_from}
 use Rattle.rn_search.specs.declared.point.Point.{Point}

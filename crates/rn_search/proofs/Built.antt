@@ -41,7 +41,8 @@ use Rattle.rn_growing.specs.declared.decision.Decision.TheVariants.{Entered, Fou
 use Rattle.rn_growing.specs.Decisions.{head_of, site_of, transition_in, Follows}
 use Rattle.rn_growing.specs.Equations.{Solves, read_at}
 use Rattle.rn_growing.specs.Turns.{IsEntered, IsHole, AreInTurn, SameThing}
-use Rattle.rn_growing.proofs.Followers.{On, same_node, some_equal}
+use Rattle.rn_growing.proofs.Followers.{On, same_node}
+use Rattle.rn_growing.proofs.Growth.{some_equal}
 use Rattle.rn_growing.proofs.SameUnknowns.{as_site, as_site-is}
 use Rattle.rn_growing.proofs.SoundItems.{one_hole}
 use Rattle.rn_search.specs.Missing.{IsKnown}

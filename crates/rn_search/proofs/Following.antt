@@ -21,9 +21,9 @@ use Rattle.rn_growing.specs.declared.decision.Decision.TheVariants.{Entered, Fou
 use Rattle.rn_growing.specs.Decisions.{head_of, IsOn, AreOn}
 use Rattle.rn_growing.specs.Equations.{Solves}
 use Rattle.rn_growing.specs.Turns.{IsEntered, AreInTurn}
-use Rattle.rn_growing.proofs.Followers.{On, item_in, decision_in, same_node, equations, some_equal}
+use Rattle.rn_growing.proofs.Followers.{On, item_in, decision_in, same_node, equations}
+use Rattle.rn_growing.proofs.Growth.{some_equal, contains_last, at_in}
 use Rattle.rn_growing.proofs.Followers.{follows_on}
-use Rattle.rn_growing.proofs.Growth.{contains_last, at_in}
 use Rattle.rn_growing.proofs.SoundItems.{items_sound}
 use Rattle.rn_search.specs.Sought.{Sought, Leads}
 use Rattle.rn_search.specs.Points.{node_on, node_of, nowhere}

@@ -11,7 +11,7 @@ use Rattle.rn_model.specs.Bindings.{IsNodeOf, env_of}
 use Rattle.rn_model.specs.ExpressionLaws.{ReadSame}
 use Rattle.rn_model.proofs.EnablingLemmas.{not_in_nil}
 use Rattle.rn_model.proofs.ValuesLookUp.{values_look_up}
-use Rattle.rn_growing.proofs.Followers.{some_equal}
+use Rattle.rn_growing.proofs.Growth.{some_equal}
 use Rattle.rn_search.specs.Missing.{IsKnown, KnownIsSo}
 use Rattle.rn_search.specs.Ending.{ForcedAreItsValues}
 use Rattle.rn_search.proofs.Following.{own_values, own_solve}

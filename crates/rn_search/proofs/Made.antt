@@ -30,8 +30,7 @@ use Rattle.rn_growing.specs.declared.decision.Decision.TheVariants.{Entered, Fou
 use Rattle.rn_growing.specs.Decisions.{transition_in}
 use Rattle.rn_growing.specs.Equations.{EntryBrings, Brings, Solves, read_at}
 use Rattle.rn_growing.specs.Turns.{IsEntered, AreInTurn}
-use Rattle.rn_growing.proofs.Followers.{some_equal}
-use Rattle.rn_growing.proofs.Growth.{front_at, at_in}
+use Rattle.rn_growing.proofs.Growth.{some_equal, front_at, at_in}
 use Rattle.rn_growing.proofs.SameUnknowns.{path_itself}
 use Rattle.rn_search.specs.Making.{makes, is_made, NamesMade, NameMade, ForcedAreMade}
 

@@ -16,7 +16,8 @@ use Rattle.rn_model.proofs.EvaluationLemmas.{worth-Tuple}
 use Rattle.rn_growing.specs.declared.decision.Decision.{Decision}
 use Rattle.rn_growing.specs.declared.decision.Decision.TheVariants.{Found}
 use Rattle.rn_growing.specs.Decisions.{head_of, transition_in}
-use Rattle.rn_growing.proofs.Followers.{On, some_equal}
+use Rattle.rn_growing.proofs.Followers.{On}
+use Rattle.rn_growing.proofs.Growth.{some_equal}
 use Rattle.rn_growing.proofs.SoundItems.{items_sound}
 use Rattle.rn_search.specs.declared.point.Point.TheVariants as P
 use Rattle.rn_search.specs.Sought.{Sought, Leads}

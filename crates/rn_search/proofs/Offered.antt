@@ -48,8 +48,7 @@ use Rattle.rn_growing.specs.declared.decision.Decision.{Decision}
 use Rattle.rn_growing.specs.declared.decision.Decision.TheVariants.{Entered, Found, Computed}
 use Rattle.rn_growing.specs.Decisions.{head_of, transition_in}
 use Rattle.rn_growing.specs.Equations.{read_at}
-use Rattle.rn_growing.proofs.Followers.{some_equal}
-use Rattle.rn_growing.proofs.Growth.{at_in}
+use Rattle.rn_growing.proofs.Growth.{some_equal, at_in}
 use Rattle.rn_growing.proofs.SameUnknowns.{as_site, as_site-is, same_path}
 use Rattle.rn_channel.specs.Answering.{is_of, answering}
 use Rattle.rn_channel.specs.Heights.{CallsNeedLevels, suffices}

@@ -27,7 +27,7 @@ use Rattle.rn_growing.specs.declared.decision.Head.{Head}
 use Rattle.rn_growing.specs.declared.decision.Decision.{Decision}
 use Rattle.rn_growing.specs.Decisions.{head_of, transition_in}
 use Rattle.rn_growing.specs.Turns.{IsVarForced}
-use Rattle.rn_growing.proofs.Followers.{some_equal}
+use Rattle.rn_growing.proofs.Growth.{some_equal}
 use Rattle.rn_search.specs.Ending.{IsMadeOf, LeadingIsMade, MadeIsOne}
 use Rattle.rn_growing.specs.Equations.{IsSolvable}
 use Rattle.rn_search.proofs.Ends.{leading_forces, entered_in_them}

@@ -22,7 +22,7 @@ use Rattle.rn_table.specs.Steps.{Step, AreNet, step_at, after_step, steps_at, af
 use Rattle.rn_table.specs.Tables.{started, starting_in}
 use Rattle.rn_model.specs.Systems.{may_start}
 use Rattle.rn_table.proofs.InstanceLemmas.{numbered_at, all_get}
-use Rattle.rn_table.proofs.StepLemmas.{step_sorted, with_places}
+use Rattle.rn_table.proofs.StepLemmas.{step_sorted, with_places, and_false}
 
 -- steps, one place at a time
 abbrev steps_on : List Step → Instance → Instance
@@ -68,10 +68,6 @@ hit puts n place z s = cond (is_at puts n place z s) 1 0
 and_true : (b : Bool) → (b && true) ≡ b
 and_true true = refl
 and_true false = refl
-
-and_false : (b : Bool) → (b && false) ≡ false
-and_false true = refl
-and_false false = refl
 
 module _ (n place : ℕ) (z : Value) (s : Step) (vs : List Value) (up : IsSorted value_cmp vs) where
   abbrev Counts : Bool → Bool → Type 0

@@ -73,7 +73,7 @@ step_here : (s : Step) (n place : ℕ) (vs : List Value) → n ≡ s.inst → pl
 step_here s n place vs inst at =
     ap (λ b. cond (b && nat_eq place s.place) (stepped s vs) vs) (ap (λ m. nat_eq m s.inst) inst ∙ same_number s.inst) ∙ ap (λ b. cond b (stepped s vs) vs) (ap (λ m. nat_eq m s.place) at ∙ same_number s.place)
 
-and_false : (b : Bool) → (b && false) ≡ false
+pub and_false : (b : Bool) → (b && false) ≡ false
 and_false true = refl
 and_false false = refl
 
