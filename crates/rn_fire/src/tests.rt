@@ -1,73 +1,27 @@
 //! A state is opened, fires once, and ends.
-ghost use Rattle.std.specs.Prelude.{◌≡◌, ◌≤◌, ◌<◌, [], None, IfOk, codes};
+ghost use Rattle.std.specs.Prelude.{◌≡◌, ◌≤◌, ◌<◌, [], None, IfOk};
 ghost use Rattle.rn_binding.specs.Soundness.{IsSound};
-ghost use Rattle.rn_model.specs.Good.{Good};
 ghost use Rattle.rn_model.specs.Markings.{initial_marking};
-ghost use Rattle.rn_model.specs.Systems.{empty_transition};
 
 use crate::{Commit, SimState, open_state};
 use rn_arcs::fits;
 use rn_binding::{Candidate, certify};
 use rn_items::Items;
-use rn_model::{Binding, Net, Node, Options, System, Transition};
-use rn_value::{InstRef, NoMemory, Str};
+use rn_model::Options;
+use rn_samples::{idle_system, one_node};
+use rn_value::NoMemory;
 use std::alloc::Global;
 use std::sync::Arc;
 use std::test::Fail;
 
-fn name(alloc: Global, text: &str) -> Result<Str, NoMemory>
-    ensures { IfOk result (λ name. name ≡ text.now) }
-{
-    Ok(Str::from_string(String::from_str(alloc, text)?))
-}
-
-// `trans t { }`
-fn idle(alloc: Global) -> Result<Transition, NoMemory>
-    ensures { IfOk result
-        (λ transition. transition ≡ record empty_transition { name = codes "t" }) }
-{
-    Ok(Transition {
-        name: name(alloc, "t")?,
-        vars: Items::new(alloc),
-        action_vars: Items::new(alloc),
-        equalities: Items::new(alloc),
-        guards: Items::new(alloc),
-        actions: Items::new(alloc),
-        creations: Items::new(alloc),
-        uplink: None,
-        downlinks: Items::new(alloc),
-        arcs: Items::new(alloc),
-    })
-}
-
-// `net main { trans t { } }`
-#[tactic(auto, using(rn_agree::proofs::TestSystem::good))]
-fn single(alloc: Global) -> Result<System, NoMemory>
-    ensures { IfOk result (λ system. Good system) }
-{
-    let mut transitions = Items::new(alloc);
-    transitions.push(idle(alloc)?)?;
-    let mut nets = Items::new(alloc);
-    nets.push(Net {
-        name: name(alloc, "main")?,
-        vars: Items::new(alloc),
-        places: Items::new(alloc),
-        transitions,
-    })?;
-    Ok(System {
-        nets,
-        channels: Items::new(alloc),
-    })
-}
-
-// A new state of that net, with one firing at most.
+// A new state of the idle system, with one firing at most.
 fn opened(alloc: Global) -> Result<SimState, NoMemory>
     ensures limits { IfOk result (λ s.
         (s.setup.options.steps ≡ 1) × (s.setup.options.depth ≡ 0)) }
     ensures empty { IfOk result (λ s. (s.fired ≡ []) × (s.ended ≡ None)
         × (s.table.marking ≡ initial_marking s.setup.system)) }
 {
-    let system = Arc::new(alloc, single(alloc)?)?;
+    let system = Arc::new(alloc, idle_system(alloc)?)?;
     let options = Options {
         workers: 1,
         steps: 1,
@@ -75,19 +29,6 @@ fn opened(alloc: Global) -> Result<SimState, NoMemory>
         sweep_every: 0,
     };
     open_state(alloc, system, options)
-}
-
-// The idle transition in the first instance.
-fn start(alloc: Global) -> Result<Binding, NoMemory> {
-    let mut nodes = Items::new(alloc);
-    nodes.push(Node {
-        path: Items::new(alloc),
-        inst: InstRef::Old(1),
-        net: 0,
-        transition: 0,
-        values: Items::new(alloc),
-    })?;
-    Ok(Binding { nodes })
 }
 
 // Commits a candidate to a new state, where the table meets it.
@@ -109,7 +50,12 @@ fn commit_first(
 
 fn fires_once(alloc: Global) -> Result<bool, NoMemory> {
     let mut state = opened(alloc)?;
-    let Ok(candidate) = certify(alloc, state.system(), 0, start(alloc)?) else {
+    let Ok(candidate) = certify(
+        alloc,
+        state.system(),
+        0,
+        one_node(alloc, Items::new(alloc))?,
+    ) else {
         return Ok(false);
     };
     let first = commit_first(alloc, &mut state, &candidate)?;
