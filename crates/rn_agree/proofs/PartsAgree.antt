@@ -33,6 +33,7 @@ use Rattle.rn_agree.specs.Agreeing.{IsReadable, NodeHolds, CallsAgree, AgreesInP
 use Rattle.rn_agree.proofs.LinkLemmas.{found_itself, on_its_path, links_of_shape, no_more_downlinks}
 
 -- values beside their variables have their kinds, as in the proofs of the model
+-- (`rn_model` proves it as well, in `AgreeingValues`, and for itself alone)
 beside_kind : (kinds : ℕ → Kind) (xs : List ℕ) (vs : List Value) →
     AllZip (λ x v. HasKind v (kinds x)) xs vs → (x : ℕ) (v : Value) →
     value_beside (zip xs vs) x ≡ Some v → HasKind v (kinds x)
