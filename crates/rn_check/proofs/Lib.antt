@@ -42,3 +42,4 @@ pub mod MarkLemmas
 pub mod OccurringLemmas
 pub mod NumberingLemmas
 pub mod NetNumbers
+pub mod ReportLemmas

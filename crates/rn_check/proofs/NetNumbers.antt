@@ -1,16 +1,14 @@
 -- Nets and systems with numbers in place of names.
-use Rattle.std.proofs.Common.{◌≡◌, ℕ, ◌≤◌, ◌<◌, ◌^◌, not, List, [], ◌∷◌, ◌++◌, length, map, refl, sym, ap, ◌∙◌, arith}
+use Rattle.std.proofs.Common.{◌≡◌, ℕ, ◌<◌, ◌^◌, not, List, [], ◌∷◌, ◌++◌, length, map, refl, ap, ◌∙◌, arith}
 use Rattle.std.proofs.Math.Path.{fun_ext}
-use Rattle.std.specs.Prelude.{All, codes, flat_map, unwrap_or, slice_get}
+use Rattle.std.specs.Prelude.{codes, flat_map, unwrap_or}
 use Rattle.std.specs.List.{list_any, AllByRecursion}
 use Rattle.std.proofs.lemmas.List.{length-map}
 use Rattle.std.proofs.lemmas.List.Elements.{All-from_recursion}
-use Rattle.std.proofs.lemmas.List.Folds.{flat_map-map}
 use Rattle.rn_notation.specs.declared.token.Spot.{Spot}
 use Rattle.rn_model.specs.declared.system.Transition.{Transition}
 use Rattle.rn_model.specs.Limits.{most_nets, most_channels, most_vars, most_places, most_transitions}
 use Rattle.rn_inscript.specs.declared.inscriptions.PName.{PName}
-use Rattle.rn_inscript.specs.declared.inscriptions.PInscription.{PInscription}
 use Rattle.rn_net.specs.declared.plain.Plain.{Plain}
 use Rattle.rn_net.specs.declared.plain.PNet.{PNet}
 use Rattle.rn_net.specs.declared.plain.PTransition.{PTransition}
@@ -26,8 +24,6 @@ use Rattle.rn_check.specs.Declarations.{kind_faults, place_faults}
 use Rattle.rn_check.specs.Transitions.{transition_faults}
 use Rattle.rn_check.specs.Systems.{channels_faults, scope_of, net_faults, system_faults, text_start}
 use Rattle.rn_check.specs.Numbering.{Numbers, inscribed, net_of}
-use Rattle.rn_check.specs.Numbering.{equality_of, guard_of, action_of, creation_of, uplink_of}
-use Rattle.rn_check.specs.Numbering.{downlink_of, arc_of}
 use Rattle.rn_check.specs.NumbersFound.{key_of, channel_by, AreFew, HasNetNumbers, HasNumbers, net_by}
 use Rattle.rn_check.proofs.Faultless.{both_nil, each_nil, within_limit}
 use Rattle.rn_check.proofs.DeclaredNames.{declared_few}

@@ -1,8 +1,10 @@
 -- What the checker accepts.
-use Rattle.std.specs.Prelude.{◌≡◌, [], Contains}
+use Rattle.std.specs.Prelude.{◌≡◌, [], Contains, Result, Err}
 use Rattle.rn_notation.specs.declared.token.Spot.{Spot}
 use Rattle.rn_net.specs.declared.plain.Plain.{Plain}
 use Rattle.rn_model.specs.declared.system.System.{System}
+use Rattle.rn_check.specs.declared.fault.CheckFault.{CheckFault}
+use Rattle.rn_check.specs.declared.fault.CheckFault.TheVariants as C
 use Rattle.rn_check.specs.declared.fault.Rule.{Rule}
 use Rattle.rn_check.specs.Faults.{IsFirstOf, broken}
 use Rattle.rn_check.specs.Systems.{system_faults}
@@ -21,3 +23,8 @@ BreaksFirst plain rule spot = IsFirstOf (system_faults plain) (broken rule spot)
 pub record Checked (plain : Plain) (system : System) : Type 0 where
   pub unbroken : system_faults plain ≡ []
   pub means : system ≡ system_of plain
+
+-- this is the answer, unless memory ran out
+abbrev pub Answers : Result System CheckFault → Result System CheckFault → Type 0
+Answers (Err C.NoMemory) expected = Unit {0}
+Answers result expected = result ≡ expected

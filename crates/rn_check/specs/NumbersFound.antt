@@ -1,7 +1,7 @@
 -- The numbers that the sets of the code find. It connects the code with the definitions, and states
 -- no rule.
-use Rattle.std.specs.Prelude.{◌≡◌, All, map, ◌<◌, ◌^◌, ◌&&◌, ℕ, Bool, nat_eq, List, [], Option, Some, None}
-use Rattle.std.specs.Prelude.{unwrap_or, length}
+use Rattle.std.specs.Prelude.{◌≡◌, All, map, ◌<◌, ◌^◌, ◌&&◌, ℕ, Bool, nat_eq, List, []}
+use Rattle.std.specs.Prelude.{Option, Some, None, unwrap_or, length}
 use Rattle.std.specs.List.{position_from}
 use Rattle.rn_model.specs.declared.expr.Expr.{Expr}
 use Rattle.rn_model.specs.declared.expr.Expr.TheVariants as Expr
@@ -13,7 +13,8 @@ use Rattle.rn_net.specs.declared.plain.PNet.{PNet}
 use Rattle.rn_net.specs.declared.plain.Plain.{Plain}
 use Rattle.rn_check.specs.Systems.{channels_faults}
 use Rattle.rn_check.specs.Names.{same_name, names_faults}
-use Rattle.rn_check.specs.Numbering.{Numbers, number_in, expr_of, kind_of, value_of, inscribed, with_vars}
+use Rattle.rn_check.specs.Numbering.{Numbers, number_in, expr_of, kind_of, value_of}
+use Rattle.rn_check.specs.Numbering.{inscribed, with_vars}
 
 -- a channel's name, and how many arguments it has
 abbrev pub key_of : PChannel → List ℕ × ℕ
@@ -80,7 +81,11 @@ net_by nets channel net =
       name = net.name.text;
       vars = map (λ v. record { name = v.name.text; kind = kind_of v.kind }) net.vars;
       places = map
-          (λ p. record { name = p.name.text; kind = kind_of p.kind; initial = map value_of p.initial })
+          (λ p. record {
+            name = p.name.text;
+            kind = kind_of p.kind;
+            initial = map value_of p.initial;
+          })
           net.places;
       transitions = map
           (λ t. with_vars (length net.vars)

@@ -1,14 +1,19 @@
 //! The check of a net text.
-ghost use Rattle.std.specs.Prelude.{◌≡◌, ◌↔◌, [], None, Some, IfOk};
+ghost use Rattle.std.specs.Prelude.{◌≡◌, ◌↔◌, ℕ, List, [], None, Some, Ok, Err, IfOk};
+ghost use Rattle.rn_model.specs.declared.system.System.{System as Made};
+ghost use Rattle.rn_model.specs.Good.{Good};
+ghost use Rattle.rn_net.specs.Texts.{Spells};
 ghost use Rattle.rn_notation.specs.declared.token.Spot.{Spot};
 ghost use Rattle.rn_check.specs.declared.fault.Rule.{Rule};
-ghost use Rattle.rn_check.specs.Faults.{broken};
+ghost use Rattle.rn_check.specs.Faults.{broken, report_of};
 ghost use Rattle.rn_check.specs.Systems.{system_faults};
-ghost use Rattle.rn_check.specs.Checked.{BreaksFirst};
+ghost use Rattle.rn_check.specs.Checked.{BreaksFirst, Checked, Answers};
 
-use crate::fault::Fault;
+use crate::fault::{CheckFault, Fault};
 use crate::first::First;
 use crate::nets::see_system;
+use crate::numbering::system_of;
+use rn_model::System;
 use rn_net::Plain;
 use rn_value::NoMemory;
 use std::alloc::Global;
@@ -22,4 +27,25 @@ pub fn first_fault(alloc: Global, plain: &Plain) -> Result<Option<Fault>, NoMemo
     let mut first = First { fault: None };
     see_system(alloc, plain, &mut first)?;
     Ok(first.fault)
+}
+
+/// The system that a net text means, or why it means none.
+///
+/// It recurses as deep as brackets nest, 64 levels in what a text spells.
+pub fn check_system(alloc: Global, plain: Plain) -> Result<System, CheckFault>
+    // What is returned is checked, and what is refused is refused for the first broken rule.
+    ensures accepted { IfOk result (λ system. Checked plain system) }
+    ensures refused { (rule : Rule) (spot : Spot) → result ≡ Err (report_of rule spot) →
+        BreaksFirst plain rule spot }
+    // Where no rule is broken the system is returned, and where one is the first is told.
+    ensures accepts { (system : Made) → Checked plain system → Answers result (Ok system) }
+    ensures refuses { (rule : Rule) (spot : Spot) → BreaksFirst plain rule spot →
+        Answers result (Err (report_of rule spot)) }
+    // The system of a text is good.
+    ensures good { IfOk result (λ system. (bytes : List ℕ) → Spells bytes plain → Good system) }
+{
+    if let Some(fault) = first_fault(alloc, &plain)? {
+        return Err(fault.report());
+    }
+    Ok(system_of(alloc, &plain)?)
 }

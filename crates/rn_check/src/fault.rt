@@ -1,5 +1,9 @@
 //! The rules of the checker, and what it reports.
+ghost use Rattle.std.specs.Prelude.{◌≡◌};
+ghost use Rattle.rn_check.specs.declared.fault.CheckFault.TheVariants.{NoMemory as OutOfMemory};
+
 use rn_notation::Spot;
+use rn_value::NoMemory;
 
 /// What a net text must keep, in the order in which broken rules count at one spot.
 #[derive(Clone, Copy, Debug, PartialEq, Eq)]
@@ -82,4 +86,12 @@ pub enum CheckFault {
     C11(Spot),
 
     NoMemory,
+}
+
+impl From<NoMemory> for CheckFault {
+    ghost from_gives = { λ _ fault. fault ≡ OutOfMemory };
+
+    fn from(_error: NoMemory) -> CheckFault {
+        CheckFault::NoMemory
+    }
 }

@@ -1,6 +1,7 @@
 //! The parts of a transition with numbers in place of names, each in the order of the text.
 ghost use Rattle.std.specs.Prelude.{◌≡◌, IfOk, map, flat_map, length, slice_get};
-ghost use Rattle.rn_check.specs.Numbering.{expr_of, number_in, equality_of, guard_of, action_of, creation_of, uplink_of, downlink_of, arc_of};
+ghost use Rattle.rn_check.specs.Numbering.{expr_of, number_in, equality_of, guard_of, action_of};
+ghost use Rattle.rn_check.specs.Numbering.{creation_of, uplink_of, downlink_of, arc_of};
 ghost use Rattle.rn_check.specs.NumbersFound.{numbers_by, channel_by, expr_of_arc, AreFew, AllFew};
 
 use crate::guards::cond_of;

@@ -33,6 +33,6 @@ mod table;
 mod tests;
 mod transitions;
 
-pub use checked::first_fault;
+pub use checked::{check_system, first_fault};
 pub use fault::{CheckFault, Fault, Rule};
 pub use pattern::{Pattern, Patterns};

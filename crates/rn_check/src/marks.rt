@@ -1,7 +1,8 @@
 //! Which variables of a net occur in a transition.
-ghost use Rattle.std.specs.Prelude.{◌≡◌, ◌<◌, ℕ, true, false, not, ◌&&◌, IfOk, OnOk, filter, flat_map, length, slice_index_or as get_or};
+ghost use Rattle.std.specs.Prelude.{◌≡◌, ◌<◌, ℕ, true, false, not, ◌&&◌, IfOk, filter, length};
+ghost use Rattle.std.specs.Prelude.{slice_index_or as get_or};
 ghost use Rattle.std.specs.List.{range_with_len};
-ghost use Rattle.rn_model.specs.Good.{occurring, set_var};
+ghost use Rattle.rn_model.specs.Good.{occurring};
 ghost use Rattle.rn_check.specs.Numbering.{is_among, with_vars};
 
 use crate::occurring::{put_occurring, put_set_vars};

@@ -8,7 +8,7 @@ use rn_inscript::{PExpr, PForm};
 use rn_items::{Boxed, Items};
 use rn_model::{Expr, Exprs};
 use rn_net::{PConst, PConstForm, PKind, PKindForm};
-use rn_value::{Kind, Kinds, NoMemory, Str, Vals, Value, copy_text};
+use rn_value::{Kind, Kinds, NoMemory, Vals, Value, copy_text};
 use std::alloc::Global;
 
 /// The kind without its spots.

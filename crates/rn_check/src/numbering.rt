@@ -50,7 +50,8 @@ fn put_joined(
 ) -> Result<(), NoMemory>
     requires { AllFew tables.now }
     ensures { OnOk result (made.new ≡ record made.old {
-      uplink = slice_get (flat_map (λ i. uplink_of (numbers_by tables.now) i.form) inscriptions.now) 0;
+      uplink = slice_get
+          (flat_map (λ i. uplink_of (numbers_by tables.now) i.form) inscriptions.now) 0;
       downlinks = flat_map (λ i. downlink_of (numbers_by tables.now) i.form) inscriptions.now;
       arcs = flat_map (λ i. arc_of (numbers_by tables.now) i.form) inscriptions.now;
     }) }
@@ -99,7 +100,8 @@ fn transition_of(
 ) -> Result<Transition, NoMemory>
     requires { AllFew tables.now }
     ensures { IfOk result (λ made. made ≡ with_vars count
-        (inscribed (numbers_by tables.now) t.now.name.text (map (λ i. i.form) t.now.inscriptions))) }
+        (inscribed (numbers_by tables.now) t.now.name.text
+        (map (λ i. i.form) t.now.inscriptions))) }
 {
     let inscriptions = t.inscriptions.as_slice();
     let mut made = bare(alloc, copy_text(alloc, &t.name.text)?);
@@ -161,7 +163,8 @@ fn nets_of(
     requires declared { All HasNetNumbers nets.now }
     requires nets { AreFew names.now }
     requires channels { AreFew channels.now }
-    ensures { IfOk result (λ made. made ≡ map (net_by names.now (channel_by channels.now)) nets.now) }
+    ensures { IfOk result (λ made. made
+        ≡ map (net_by names.now (channel_by channels.now)) nets.now) }
 {
     let mut made = Vec::with_capacity(alloc, nets.len())?;
     for net in nets {
