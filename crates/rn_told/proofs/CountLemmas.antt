@@ -1,6 +1,13 @@
 -- How many lines are read.
-use Rattle.std.proofs.Common.{◌≡◌, ℕ, ◌+◌, ◌≤◌, Bool, true, false, cond, List, [], ◌∷◌, ◌++◌, length, sym, subst, arith, length-append}
-use Rattle.std.specs.Prelude.{Option, nat_eq}
+use Rattle.std.proofs.Common.{◌≡◌, ℕ, ◌+◌, ◌<◌, ◌≤◌, Bool, true, false, cond, List, [], ◌∷◌, ◌++◌, length, refl, sym, subst, arith, length-append}
+use Rattle.std.specs.Prelude.{Option, Some, None, nat_eq, nat_lt, ⊤}
+use Rattle.std.proofs.lemmas.Bool.Decides.{nat_tests}
+use Rattle.rn_model.specs.declared.log.MarkLine.{MarkLine}
+use Rattle.rn_lookup.specs.declared.refusal.Refusal.{Refusal}
+use Rattle.rn_lookup.specs.declared.refusal.Refusal.TheVariants.{Name}
+use Rattle.rn_lookup.specs.Faults.{mark_fault}
+use Rattle.rn_told.specs.Called.{BadAt, count_of_called, stop_fault, nodes_fault}
+use Rattle.rn_told.specs.Marks.{Marked, marked, told_mark, fault_of_mark, mark_then, marked_then, marks_from}
 use Rattle.rn_value.specs.declared.value.Value.{Value}
 use Rattle.rn_model.specs.declared.system.System.{System}
 use Rattle.rn_lines.specs.NodeText.{NodeSaid}
@@ -9,7 +16,9 @@ use Rattle.rn_lines.specs.LineReading.{line_at}
 use Rattle.rn_told.specs.declared.role.Role.{Role}
 use Rattle.rn_told.specs.Lines.{lines_from, lines_in}
 use Rattle.rn_told.specs.Paths.{is_root, children}
-use Rattle.rn_told.specs.Nodes.{Judged, judged, Placed, Stop, nodes_from, node_then, count_called, binding_lines}
+use Rattle.rn_told.specs.Nodes.{Judged, judged, Placed, Stop, nodes_from, node_then, count_called, binding_lines, placed_at}
+use Rattle.rn_told.specs.Firings.{FiringRead, firing_read, firing_by, after_nodes, with_prints, made_with}
+use Rattle.rn_told.specs.declared.role.Role.TheVariants.{Firing}
 use Rattle.rn_told.specs.Prints.{Print, PrintsEnd, printed, judged_print, print_then, prints_from}
 
 -- there are no more lines than bytes
@@ -86,3 +95,121 @@ pub prints_few : (system : System) (made : List ℕ) (step worker : ℕ) (lines 
     length vs + after e ≤ length lines
 prints_few system made step worker lines vs e is =
     subst (AreAllPrinted (length lines)) (sym is) (prints_few_from system made step worker lines)
+
+-- marks are no more than the lines
+marks_few_from : (system : System) (made : List ℕ) (lines : List (Option LineSaid)) →
+    length (marks_from system made lines).0 ≤ length lines
+marks_few_from system made [] = omega arith
+marks_few_from system made (line ∷ lines) =
+    by (marked line) (marks_few_from system made lines)
+  where
+    rest : List MarkLine × Option Refusal
+    rest = marks_from system made lines
+
+    then_few : (m : MarkLine) (o : Option Refusal) → length rest.0 ≤ length lines →
+        length (mark_then m o rest).0 ≤ length (line ∷ lines)
+    then_few m (Some refusal) few = omega arith
+    then_few m None few = omega (arith, few)
+
+    by : (o : Option Marked) → length rest.0 ≤ length lines →
+        length (marked_then system made o rest).0 ≤ length (line ∷ lines)
+    by None few = omega arith
+    by (Some m) few =
+        then_few (told_mark system m) (fault_of_mark system made m (mark_fault system m.inst m.place m.tokens)) few
+
+pub marks_few : (system : System) (made : List ℕ) (lines : List (Option LineSaid)) (ms : List MarkLine)
+    (o : Option Refusal) → (ms, o) ≡ marks_from system made lines → length ms ≤ length lines
+marks_few system made lines ms o is =
+    subst (λ read. length read.0 ≤ length lines) (sym is) (marks_few_from system made lines)
+
+-- a bad line among nodes is no later than the nodes
+abbrev IsEarly : ℕ → Option BadAt → Type 0
+IsEarly count None = ⊤
+IsEarly count (Some b) = b.before ≤ count
+
+stop_early : (system : System) (made : List ℕ) (count : ℕ) (s : Stop) → IsEarly count (stop_fault system made count s)
+stop_early system made count (Stop.whole rest) = tt
+stop_early system made count (Stop.late n) = omega arith
+stop_early system made count (Stop.refused refusal) = omega arith
+
+fault_early : (system : System) (made : List ℕ) (read : List Placed × Stop) →
+    IsEarly (length read.0) (nodes_fault system made read)
+fault_early system made read = by (nat_lt called (length read.0)) (λ below. nat_lt-below called (length read.0) below)
+  where
+    called : ℕ
+    called = count_of_called system made read.0
+
+    nat_lt-below : (m n : ℕ) → nat_lt m n ≡ true → m < n
+    nat_lt-below m n e = grind (arith, nat_tests)
+
+    by : (b : Bool) → (b ≡ true → called < length read.0) →
+        IsEarly (length read.0) (cond b (Some (record { before = called; refusal = Name })) (stop_fault system made (length read.0) read.1))
+    by true below = let h = below refl in omega (arith, h)
+    by false below = stop_early system made (length read.0) read.1
+
+pub bad_early : (system : System) (made : List ℕ) (read : List Placed × Stop) (b : BadAt) →
+    Some b ≡ nodes_fault system made read → b.before ≤ length read.0
+bad_early system made read b is = subst (IsEarly (length read.0)) (sym is) (fault_early system made read)
+
+-- where nodes are whole there is one
+abbrev HasOne : List Placed → Stop → Type 0
+HasOne xs (Stop.whole rest) = 1 ≤ length xs
+HasOne xs (Stop.late n) = ⊤
+HasOne xs (Stop.refused refusal) = ⊤
+
+one_more : (x : Placed) (xs : List Placed) (s : Stop) → HasOne (x ∷ xs) s
+one_more x xs (Stop.whole rest) = omega arith
+one_more x xs (Stop.late n) = tt
+one_more x xs (Stop.refused refusal) = tt
+
+one_node : (system : System) (role : Role) (path : List ℕ) (due : List (List ℕ)) (lines : List (Option LineSaid)) →
+    HasOne (nodes_from system role (path ∷ due) lines).0 (nodes_from system role (path ∷ due) lines).1
+one_node system role path due [] = tt
+one_node system role path due (line ∷ lines) = by (judged system role (is_root path) line)
+  where
+    more : NodeSaid → List Placed × Stop
+    more n = nodes_from system role (children path (count_called system n) ++ due) lines
+
+    by : (j : Judged) → HasOne (node_then system path j more).0 (node_then system path j more).1
+    by (Judged.stands n) = one_more (placed_at system path n) (more n).0 (more n).1
+    by (Judged.late n) = tt
+    by (Judged.refused refusal) = tt
+
+-- A firing has a line, and its lines and those after it are no more than the lines. Its bad line is
+-- one of them, or comes next.
+abbrev pub IsWithin : ℕ → FiringRead → Type 0
+IsWithin count (FiringRead.fired entry all n rest) = (1 ≤ n) × (n + length rest ≤ count)
+IsWithin count (FiringRead.broken b) = b.before ≤ count
+
+pub firing_few : (system : System) (made : List ℕ) (step worker : ℕ) (lines : List (Option LineSaid)) →
+    IsWithin (length lines) (firing_read system made step worker lines)
+firing_few system made step worker lines =
+    by (nodes_fault system all read) (fault_early system all read)
+  where
+    read : List Placed × Stop
+    read = binding_lines system (Firing step worker) lines
+
+    all : List ℕ
+    all = made_with system made read
+
+    outs : (rest : List (Option LineSaid)) (nodes : List Placed) (p : List Value × PrintsEnd) →
+        AreAllPrinted (length rest) p → length nodes + length rest ≤ length lines → 1 ≤ length nodes →
+        IsWithin (length lines) (with_prints system made all worker nodes p)
+    outs rest nodes (vs, PrintsEnd.over more) few within one = (omega (arith, one), omega (arith, few, within))
+    outs rest nodes (vs, PrintsEnd.refused refusal) few within one = omega (arith, few, within)
+
+    ends : (nodes : List Placed) (s : Stop) → length nodes + left s ≤ length lines → HasOne nodes s →
+        IsWithin (length lines) (after_nodes system made all step worker nodes s)
+    ends nodes (Stop.whole rest) few one =
+        outs rest nodes (prints_from system all step worker rest) (prints_few_from system all step worker rest) few one
+    ends nodes (Stop.late n) few one = omega (arith, few)
+    ends nodes (Stop.refused refusal) few one = omega (arith, few)
+
+    by : (o : Option BadAt) → IsEarly (length read.0) o →
+        IsWithin (length lines) (firing_by system made all step worker read o)
+    by None early =
+        ends read.0 read.1 (nodes_few_from system (Firing step worker) ([] ∷ []) lines)
+        (one_node system (Firing step worker) [] [] lines)
+    by (Some b) early =
+        let few = nodes_few_from system (Firing step worker) ([] ∷ []) lines in
+        omega (arith, few, early)

@@ -3,4 +3,6 @@ mod DueLemmas
 mod LineLemmas
 mod MakerLemmas
 mod NodeLemmas
+mod RunLemmas
+mod SameReading
 mod SequenceLemmas

@@ -4,6 +4,7 @@ pub mod CalledAhead
 pub mod DueAhead
 pub mod Firings
 pub mod FiringsAhead
+pub mod Laws
 pub mod Lines
 pub mod LinesAhead
 pub mod Marks
@@ -13,3 +14,5 @@ pub mod NodesAhead
 pub mod Paths
 pub mod Prints
 pub mod PrintsAhead
+pub mod Runs
+pub mod RunsAhead

@@ -18,9 +18,9 @@ use std::alloc::Global;
 
 /// A bad line: how many lines of its entry are before it, and why it is refused.
 #[derive(Clone, Copy, Debug)]
-pub struct BadLine {
-    pub before: usize,
-    pub refusal: Refusal,
+pub(crate) struct BadLine {
+    pub(crate) before: usize,
+    pub(crate) refusal: Refusal,
 }
 
 fn push_nets(creations: &[Creation], made: &mut Vec<u32>) -> Result<(), NoMemory>

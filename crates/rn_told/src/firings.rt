@@ -21,7 +21,7 @@ use std::alloc::Global;
 
 /// What is read of a firing.
 #[derive(Debug, Drop)]
-pub enum FiringRead<'a> {
+pub(crate) enum FiringRead<'a> {
     /// Its entry, how many lines it has, and the bytes after them.
     Fired(Entry, usize, &'a [u8]),
 
@@ -72,7 +72,7 @@ fn read_on<'a>(
 ///
 /// `made` has the nets of the instances that were made before, from number 1 on; those that the
 /// firing makes are added. Where one of its lines is bad, those of the nodes before it are.
-pub fn read_firing<'a>(
+pub(crate) fn read_firing<'a>(
     alloc: Global,
     system: &System,
     directory: &Directory,
@@ -83,7 +83,7 @@ pub fn read_firing<'a>(
 ) -> Result<FiringRead<'a>, NoMemory>
     requires good { Good system.now }
     requires directory { IsDirectoryOf system.now directory.now }
-    requires few { length bytes.now < 2 ^ 32 }
+    requires few { length (lines_in bytes.now) < 2 ^ 32 }
     ensures { IfOk result (λ read. ReadsFiring
         (firing_read system.now made.old.items step worker (lines_in bytes.now))
         made.new.items read) }

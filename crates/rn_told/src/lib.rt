@@ -1,21 +1,27 @@
-//! Reading records: the firings that the lines of a record tell, with what they printed, and the
-//! marks, or the first line that is bad.
+//! Reading records: the run that the lines of a record tell, with its marks, or the first line that
+//! is bad.
 #![tactic(auto)]
 
 mod bindings;
 mod called;
 mod due;
+mod ends;
+mod entries;
+mod fault;
 mod firings;
 mod judging;
+mod laws;
 mod level;
 mod lines;
 mod maker;
 mod makers;
 mod marks;
 mod nodes;
+mod opening;
 mod prints;
+mod record;
 mod role;
 
-pub use called::BadLine;
-pub use firings::{FiringRead, read_firing};
-pub use marks::{MarksRead, read_marks};
+pub use fault::RecordFault;
+pub use laws::record_laws;
+pub use record::read_record;

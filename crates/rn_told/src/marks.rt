@@ -26,9 +26,9 @@ pub(crate) enum MarkNext {
 
 /// The marks that were read, and why the next line is refused, if there is one.
 #[derive(Debug, Drop)]
-pub struct MarksRead {
-    pub marks: Vec<MarkLine>,
-    pub refusal: Option<Refusal>,
+pub(crate) struct MarksRead {
+    pub(crate) marks: Vec<MarkLine>,
+    pub(crate) refusal: Option<Refusal>,
 }
 
 fn values_of(alloc: Global, tokens: &[ReadToken<'_>]) -> Result<Vals, NoMemory>
@@ -92,7 +92,7 @@ fn next_mark<'a>(
 
 /// The marks that the bytes are, and why the line after them is refused, where there is one. `made`
 /// has the nets of the instances that firings made, from number 1 on.
-pub fn read_marks(
+pub(crate) fn read_marks(
     alloc: Global,
     system: &System,
     directory: &Directory,

@@ -1,10 +1,10 @@
--- The nodes and the lines after them are no more than the bytes.
+-- The nodes and the lines after them are no more than the lines.
 use Rattle.std.proofs.Common.{◌+◌, ◌≤◌, length, map, ap, subst, arith}
 use Rattle.std.proofs.lemmas.List.{length-map}
 use Rattle.rn_told.specs.declared.role.Role.TheVariants.{Firing}
 use Rattle.rn_told.specs.Lines.{lines_in}
 use Rattle.rn_told.specs.NodesAhead.{placed, stop}
-use Rattle.rn_told.proofs.CountLemmas.{left, lines_few, nodes_few}
+use Rattle.rn_told.proofs.CountLemmas.{left, nodes_few}
 use Rattle.rn_told.proofs.firings.read_firing.Goals as goal
 
 pub read_on-requires-clause-few : goal.read_on-requires-clause-few
@@ -17,6 +17,5 @@ read_on-requires-clause-few c =
     = subst (λ s. length (map placed nodes) + left s ≤ length lines) (ap stop c.in-Whole.is) all in
     let size = length-map nodes placed in
     let same = ap length c.as_slice-4.ensures.value in
-    let bytes = lines_few c.args.bytes.now in
     let few = c.requires.few in
-    omega (arith, here, size, same, bytes, few)
+    omega (arith, here, size, same, few)

@@ -1,0 +1,12 @@
+-- The entries so far, and what the lines that are left tell, are what the record tells.
+use Rattle.std.proofs.Common.{length}
+use Rattle.rn_told.specs.Lines.{lines_in}
+use Rattle.rn_told.proofs.RunLemmas.{IsSoFar}
+use Rattle.rn_told.proofs.record.read_record.Given as goal
+
+abbrev pub invariant-loop-entries : goal.invariant-loop-entries
+invariant-loop-entries l =
+    IsSoFar l.system l.bytes l.entries.items l.made.items l.step l.line (lines_in l.rest)
+
+abbrev pub decreases-loop-entries : goal.decreases-loop-entries
+decreases-loop-entries l = length (lines_in l.rest)

@@ -1,0 +1,37 @@
+//! Why a record is refused.
+ghost use Rattle.std.specs.Prelude.{◌≡◌};
+ghost use Rattle.rn_told.specs.declared.fault.RecordFault.TheVariants.{NoMemory as Memory};
+
+use rn_value::NoMemory;
+use std::alloc::AllocFailed;
+
+/// Why a record is refused, by the number of its first bad line, from 1.
+#[derive(Clone, Copy, Debug, PartialEq, Eq)]
+pub enum RecordFault {
+    /// The line isn't of the form that is due there, or is missing.
+    Q1(u32),
+
+    /// It names what isn't there.
+    Q2(u32),
+
+    /// It has another step than its entry.
+    Q3(u32),
+
+    NoMemory,
+}
+
+impl From<NoMemory> for RecordFault {
+    ghost from_gives = { λ _ e. e ≡ Memory };
+
+    fn from(_error: NoMemory) -> RecordFault {
+        RecordFault::NoMemory
+    }
+}
+
+impl<T: Drop> From<AllocFailed<T>> for RecordFault {
+    ghost from_gives = { λ _ e. e ≡ Memory };
+
+    fn from(_failed: AllocFailed<T>) -> RecordFault {
+        RecordFault::NoMemory
+    }
+}

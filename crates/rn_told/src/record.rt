@@ -1,0 +1,98 @@
+//! Whole records.
+ghost use Rattle.std.specs.Prelude.{◌≡◌, ◌≤◌, length, codes, unwrap_or};
+ghost use Rattle.rn_model.specs.Good.{Good};
+ghost use Rattle.rn_lookup.specs.Found.{net_named};
+ghost use Rattle.rn_told.specs.Runs.{Verdict, TellsRecord};
+ghost use Rattle.rn_told.specs.RunsAhead.{FaultTells, RecordTells, end_verdict, with_entries};
+
+use crate::ends::EndRead;
+use crate::entries::{EntryRead, next_entry};
+use crate::fault::RecordFault;
+use rn_items::Items;
+use rn_lookup::{Directory, Refusal};
+use rn_model::{Entry, System, Told};
+use std::alloc::Global;
+
+/// The number of the net `main`.
+fn main_net(system: &System) -> u32
+    requires { Good system.now }
+    ensures { result ≡ unwrap_or (net_named system.now (codes "main")) 0 }
+{
+    for (i, net) in system.nets.as_slice().iter().enumerate() {
+        if net.name.as_str().as_bytes() == "main".as_bytes() {
+            return i as u32;
+        }
+    }
+    0
+}
+
+fn fault_at(line: u32, refusal: Refusal) -> RecordFault
+    ensures { FaultTells (λ v. v ≡ Verdict.bad line refusal) result }
+{
+    match refusal {
+        Refusal::Form => RecordFault::Q1(line),
+        Refusal::Name => RecordFault::Q2(line),
+        Refusal::Step => RecordFault::Q3(line),
+        Refusal::Memory => RecordFault::NoMemory,
+    }
+}
+
+/// What a record tells, by its firings and what comes after them.
+#[tactic(auto, using(crate::proofs::RunLemmas::entries_tell, crate::proofs::RunLemmas::fault_tells))]
+fn told(mut entries: Vec<Entry>, end: EndRead) -> Result<Told, RecordFault>
+    ensures { RecordTells
+        (λ v. v ≡ with_entries entries.items (end_verdict end)) result }
+{
+    match end {
+        EndRead::Told(reason, marks) => {
+            entries.push(Entry::End(reason))?;
+            Ok(Told {
+                entries: Items::from_vec(entries),
+                marks: Items::from_vec(marks),
+            })
+        }
+        EndRead::Bad(line, refusal) => Err(fault_at(line, refusal)),
+    }
+}
+
+/// What a record tells: its firings, its end, and the marks after it; or its first bad line.
+///
+/// ```text
+/// 1 w1 main[1].make w=worker[2]
+/// 2 w1 main[1].step k=0 w=worker[2]
+/// 2 w1 + worker[2].go k=0
+/// 2 w1 > "done"
+/// end dead
+/// worker[2].q []
+/// ```
+///
+/// Of the instances that a firing makes each has the next number, in the order of the firing's nodes
+/// and of their creations. Its own lines name them by these numbers, and they are read as the
+/// creations that they are. A line that names an instance that isn't made, or that has another net,
+/// is refused as `Q2`.
+///
+/// The bytes are at most 64 MiB.
+pub fn read_record(alloc: Global, system: &System, bytes: &[u8]) -> Result<Told, RecordFault>
+    requires good { Good system.now }
+    requires few { length bytes.now ≤ 67108864 }
+    ensures { RecordTells (TellsRecord system.now bytes.now) result }
+{
+    let directory = Directory::new(alloc, system)?;
+    let mut made = Vec::new(alloc);
+    made.push(main_net(system))?;
+    let mut entries = Vec::new(alloc);
+    let mut step = 1;
+    let mut line = 1;
+    let mut rest = bytes;
+    loop {
+        match next_entry(alloc, system, &directory, &mut made, step, line, rest)? {
+            EntryRead::Fired(entry, count, after) => {
+                entries.push(entry)?;
+                step += 1;
+                line += count as u32;
+                rest = after;
+            }
+            EntryRead::Over(end) => return told(entries, end),
+        }
+    }
+}
