@@ -3,6 +3,7 @@ pub mod Alternatives
 pub mod Built
 pub mod Ends
 pub mod Falling
+pub mod FirstTokens
 pub mod Following
 pub mod Items
 pub mod Known

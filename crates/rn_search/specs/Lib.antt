@@ -4,7 +4,9 @@ pub mod Leaving
 pub mod Making
 pub mod Missing
 pub mod Narrowing
+pub mod Offering
 pub mod Points
+pub mod Problems
 pub mod Room
 pub mod Solving
 pub mod Sought

@@ -3,10 +3,15 @@
 #![tactic(auto)]
 
 mod laws;
+mod offering;
 mod point;
+mod problem;
+mod system_parts;
+mod tokens;
 
 pub use laws::{
     forced_are_made, nothing_is_missed, one_way, points_are_allowed, room_falls, sound_decisions,
     stuck_means_none, tokens_are_narrowed, what_is_found, what_is_left, what_may_be_cut,
 };
 pub use point::{Called, Point};
+pub use problem::Problem;

@@ -1,0 +1,47 @@
+//! Tokens of a bag of which only the first of equal ones counts.
+ghost use Rattle.std.specs.Prelude.{◌≡◌, ◌↔◌, IsTrue, Some, slice_get, ◌+◌};
+ghost use Rattle.std.specs.Option.{option_copied};
+ghost use Rattle.rn_search.specs.Points.{first_token};
+
+use rn_bag::Bag;
+use rn_value::{Value, same};
+
+// The token of an index, where no earlier one equals it.
+fn first_token(bag: &Bag, index: usize) -> Option<&Value>
+    ensures { option_copied result ≡ first_token bag.now index }
+{
+    if index >= bag.len() {
+        return None;
+    }
+    let Some(token) = bag.get(index) else {
+        return None;
+    };
+    if index > 0 && is_at(bag, index - 1, token) {
+        return None;
+    }
+    Some(token)
+}
+
+/// The token at a number after an index, where no earlier one of the bag equals it.
+pub(crate) fn first_token_after(bag: &Bag, from: usize, a: usize) -> Option<&Value>
+    ensures { option_copied result ≡ first_token bag.now (from + a) }
+{
+    let count = bag.len();
+    if from >= count {
+        return None;
+    }
+    if a >= count - from {
+        return None;
+    }
+    first_token(bag, from + a)
+}
+
+// Whether a token stands at an index.
+fn is_at(bag: &Bag, index: usize, token: &Value) -> bool
+    ensures { IsTrue result ↔ (slice_get bag.now index ≡ Some token.now) }
+{
+    match bag.get(index) {
+        Some(other) => same(other, token),
+        None => false,
+    }
+}
