@@ -28,6 +28,8 @@ mod places;
 mod scope;
 mod seeing;
 mod sight;
+#[cfg(test)]
+mod system_tests;
 mod table;
 #[cfg(test)]
 mod tests;
