@@ -7,7 +7,6 @@ use rn_items::{Boxed, Items};
 use rn_model::{Creation, Creations, Expr, Exprs, Net, OpKind, Pairs, System, Transition};
 use rn_value::{InstRef, NoMemory, Str, Vals, Value, same};
 use std::alloc::Global;
-use std::process::Abort;
 use std::test::Fail;
 
 fn start(alloc: Global) -> Head
@@ -157,87 +156,151 @@ fn are_same(a: &Option<Value>, b: &Option<Value>) -> bool {
     }
 }
 
-// Whether just these values are forced after the entry of the start, and none after undoing it.
-fn is_so(
-    rt: &impl Abort,
+// Whether a variable of the start has this value, or none.
+fn has_value(
     alloc: Global,
-    system: &System,
-    expected: &Option<Vec<Option<Value>>>,
+    growing: &Growing,
+    x: u32,
+    wanted: &Option<Value>,
 ) -> Result<bool, NoMemory> {
-    assert!(rt; has_few(system));
-    let mut growing = Growing::open(alloc, system);
+    let value = growing.value(alloc, &[], x)?;
+    Ok(are_same(&value, wanted))
+}
+
+// Whether just these values are forced.
+fn are_forced(
+    alloc: Global,
+    growing: &Growing,
+    values: &[Option<Value>],
+) -> Result<bool, NoMemory> {
+    for x in 0..3u32 {
+        let Some(wanted) = values.get(x as usize) else {
+            return Ok(false);
+        };
+        let is_forced = growing.is_forced(alloc, &[], x)?;
+        if is_forced != wanted.is_some() || !has_value(alloc, growing, x, wanted)? {
+            return Ok(false);
+        }
+    }
+    Ok(true)
+}
+
+// Whether just these values are forced after the entry of the start, and none after undoing it.
+fn is_entered(
+    alloc: Global,
+    growing: &mut Growing,
+    expected: &Option<Vec<Option<Value>>>,
+) -> Result<bool, NoMemory>
+    requires { growing.old.decisions ≡ [] }
+{
     let before = growing.mark();
     if !growing.enter(alloc, start(alloc), None)? {
         return Ok(expected.is_none());
     }
-    let values = match expected {
-        Some(values) => values.as_slice(),
-        None => return Ok(false),
+    let Some(values) = expected else {
+        return Ok(false);
     };
-    for x in 0..3u32 {
-        let value = growing.value(alloc, &[], x)?;
-        let is_forced = growing.is_forced(alloc, &[], x)?;
-        assert!(rt; (x as usize) < values.len());
-        if !are_same(&value, &values[x as usize]) || is_forced != value.is_some() {
-            return Ok(false);
-        }
+    if !are_forced(alloc, growing, values.as_slice())? {
+        return Ok(false);
     }
     growing.undo(before);
     let is_forced = growing.is_forced(alloc, &[], 0)?;
     Ok(growing.decisions().is_empty() && !is_forced)
 }
 
+fn is_so(
+    alloc: Global,
+    system: &System,
+    expected: &Option<Vec<Option<Value>>>,
+) -> Result<bool, NoMemory> {
+    if !has_few(system) {
+        return Ok(false);
+    }
+    let mut growing = Growing::open(alloc, system);
+    is_entered(alloc, &mut growing, expected)
+}
+
+fn entry_is_so(alloc: Global, case: usize) -> Result<bool, NoMemory> {
+    let expected = forced(alloc, case)?;
+    let system = system_of(alloc, equalities(alloc, case)?, Items::new(alloc))?;
+    is_so(alloc, &system, &expected)
+}
+
 #[test]
 fn entries(rt: HostRuntime) -> Result<(), Fail> {
-    let alloc = rt.alloc();
     for case in 0..7 {
-        let system = system_of(alloc, equalities(alloc, case)?, Items::new(alloc))?;
-        let expected = forced(alloc, case)?;
-        assert!(rt; is_so(&rt, alloc, &system, &expected)?, "case {case}");
+        assert!(rt; entry_is_so(rt.alloc(), case)?, "case {case}");
     }
     Ok(())
+}
+
+// Variables 1 and 0 are creations of the first net.
+fn two_creations(alloc: Global) -> Result<Creations, NoMemory> {
+    let mut made = Items::new(alloc);
+    made.push(Creation { var: 1, net: 0 })?;
+    made.push(Creation { var: 0, net: 0 })?;
+    Ok(made)
+}
+
+fn two_made(alloc: Global) -> Result<Vec<Option<Value>>, NoMemory> {
+    let mut values = Vec::new(alloc);
+    for j in [1, 0] {
+        values.push(Some(Value::Inst(InstRef::New(Items::new(alloc), j))))?;
+    }
+    values.push(None)?;
+    Ok(values)
+}
+
+fn creations_are_so(alloc: Global) -> Result<bool, NoMemory> {
+    let expected = Some(two_made(alloc)?);
+    let system = system_of(alloc, Items::new(alloc), two_creations(alloc)?)?;
+    is_so(alloc, &system, &expected)
 }
 
 #[test]
 fn creations(rt: HostRuntime) -> Result<(), Fail> {
-    let alloc = rt.alloc();
-    let mut made = Items::new(alloc);
-    made.push(Creation { var: 1, net: 0 })?;
-    made.push(Creation { var: 0, net: 0 })?;
-    let system = system_of(alloc, Items::new(alloc), made)?;
-    let mut expected = Vec::new(alloc);
-    for j in [1, 0] {
-        expected.push(Some(Value::Inst(InstRef::New(Items::new(alloc), j))))?;
-    }
-    expected.push(None)?;
-    assert!(rt; is_so(&rt, alloc, &system, &Some(expected))?);
+    assert!(rt; creations_are_so(rt.alloc())?);
     Ok(())
 }
 
-fn target_of(
-    rt: &impl Abort,
+fn target_in(
     alloc: Global,
-    system: &System,
+    growing: &mut Growing,
     target: &Expr,
-) -> Result<Option<InstRef>, NoMemory> {
-    assert!(rt; has_few(system));
-    let mut growing = Growing::open(alloc, system);
+) -> Result<Option<InstRef>, NoMemory>
+    requires { growing.old.decisions ≡ [] }
+{
     let _entered = growing.enter(alloc, start(alloc), None)?;
     growing.target(alloc, &start(alloc), Site::Target(0), target)
 }
 
+// The target that is told is the first instance, or there is none.
+fn target_is_so(
+    alloc: Global,
+    system: &System,
+    target: &Expr,
+    is_first: bool,
+) -> Result<bool, NoMemory> {
+    if !has_few(system) {
+        return Ok(false);
+    }
+    let mut growing = Growing::open(alloc, system);
+    let told = target_in(alloc, &mut growing, target)?;
+    Ok((told == Some(InstRef::Old(1))) == is_first)
+}
+
+fn targets_are_so(alloc: Global) -> Result<bool, NoMemory> {
+    let system = system_of(alloc, equalities(alloc, 5)?, Items::new(alloc))?;
+    Ok(
+        target_is_so(alloc, &system, &Expr::This, true)?
+            && target_is_so(alloc, &system, &Expr::Var(0), true)?
+            && target_is_so(alloc, &system, &Expr::Var(1), false)?,
+    )
+}
+
 #[test]
 fn targets(rt: HostRuntime) -> Result<(), Fail> {
-    let alloc = rt.alloc();
-    let system = system_of(alloc, equalities(alloc, 5)?, Items::new(alloc))?;
-    for (target, is_forced) in [
-        (Expr::This, true),
-        (Expr::Var(0), true),
-        (Expr::Var(1), false),
-    ] {
-        let told = target_of(&rt, alloc, &system, &target)?;
-        assert_eq!(rt; told == Some(InstRef::Old(1)), is_forced);
-    }
+    assert!(rt; targets_are_so(rt.alloc())?);
     Ok(())
 }
 
