@@ -105,6 +105,10 @@ pub data Tells (system : System) : List ℕ → ℕ → ℕ → List (Option Lin
 abbrev pub first_made : System → List ℕ
 first_made system = unwrap_or (net_named system (codes "main")) 0 ∷ []
 
+-- how many bytes a record has, at most
+abbrev pub longest_record : ℕ
+longest_record = 67108864
+
 -- What the bytes of a record tell.
 abbrev pub TellsRecord : System → List ℕ → Verdict → Type 0
 TellsRecord system bytes = Tells system (first_made system) 1 1 (lines_in bytes)

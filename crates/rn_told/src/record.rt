@@ -2,7 +2,7 @@
 ghost use Rattle.std.specs.Prelude.{◌≡◌, ◌≤◌, length, codes, unwrap_or};
 ghost use Rattle.rn_model.specs.Good.{Good};
 ghost use Rattle.rn_lookup.specs.Found.{net_named};
-ghost use Rattle.rn_told.specs.Runs.{Verdict, TellsRecord};
+ghost use Rattle.rn_told.specs.Runs.{TellsRecord, Verdict, longest_record};
 ghost use Rattle.rn_told.specs.RunsAhead.{FaultTells, RecordTells, end_verdict, with_entries};
 
 use crate::ends::EndRead;
@@ -74,7 +74,7 @@ fn told(mut entries: Vec<Entry>, end: EndRead) -> Result<Told, RecordFault>
 /// The bytes are at most 64 MiB.
 pub fn read_record(alloc: Global, system: &System, bytes: &[u8]) -> Result<Told, RecordFault>
     requires good { Good system.now }
-    requires few { length bytes.now ≤ 67108864 }
+    requires few { length bytes.now ≤ longest_record }
     ensures { RecordTells (TellsRecord system.now bytes.now) result }
 {
     let directory = Directory::new(alloc, system)?;
