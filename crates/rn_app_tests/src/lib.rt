@@ -1,0 +1,2 @@
+//! Tests of words, lines, records and the program's top call.
+#![tactic(auto)]

@@ -1,0 +1,2 @@
+//! Tests of bindings that agree, and of firing them.
+#![tactic(auto)]

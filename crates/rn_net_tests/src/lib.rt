@@ -1,0 +1,2 @@
+//! Tests of net texts: how they are read, printed and checked.
+#![tactic(auto)]

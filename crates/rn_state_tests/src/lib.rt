@@ -1,0 +1,2 @@
+//! Tests of nets, bags, the table of instances, arcs, channels and garbage.
+#![tactic(auto)]

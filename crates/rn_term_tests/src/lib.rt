@@ -1,0 +1,2 @@
+//! Tests of computing, terms, unification and bindings that grow.
+#![tactic(auto)]

@@ -1,0 +1,2 @@
+//! Tests of values, tokens and inscriptions.
+#![tactic(auto)]
