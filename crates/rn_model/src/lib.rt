@@ -14,8 +14,6 @@ mod ordering;
 mod round_laws;
 mod sharing;
 mod system;
-#[cfg(test)]
-mod tests;
 
 pub use binding::{Binding, Node, Nodes};
 pub use copying::{copy_binding, copy_entry};

@@ -1,2 +1,7 @@
 //! Tests of nets, bags, the table of instances, arcs, channels and garbage.
 #![tactic(auto)]
+
+#[cfg(test)]
+mod build;
+#[cfg(test)]
+mod model;
