@@ -9,8 +9,6 @@ mod cut;
 mod edits;
 mod seek;
 mod sharing;
-#[cfg(test)]
-mod tests;
 pub mod words;
 
 pub use bag::Bag;

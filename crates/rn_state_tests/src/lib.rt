@@ -2,6 +2,8 @@
 #![tactic(auto)]
 
 #[cfg(test)]
+mod bag;
+#[cfg(test)]
 mod build;
 #[cfg(test)]
 mod model;
