@@ -5,8 +5,6 @@ mod heights;
 mod laws;
 mod rows;
 mod sharing;
-#[cfg(test)]
-mod tests;
 mod uplinks;
 
 pub use laws::calls_need_levels;

@@ -6,4 +6,6 @@ mod bag;
 #[cfg(test)]
 mod build;
 #[cfg(test)]
+mod channel;
+#[cfg(test)]
 mod model;
