@@ -9,3 +9,5 @@ mod build;
 mod channel;
 #[cfg(test)]
 mod model;
+#[cfg(test)]
+mod table;

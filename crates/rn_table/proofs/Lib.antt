@@ -9,5 +9,4 @@ pub mod ListLemmas
 pub mod StartingLemmas
 pub mod StepLemmas
 pub mod TableLemmas
-pub mod TestLemmas
 pub mod UndoLemmas

@@ -12,8 +12,6 @@ mod page;
 mod pages;
 mod sharing;
 mod table;
-#[cfg(test)]
-mod tests;
 mod undo;
 
 pub use change::{Change, Nums, Row, Rows};

@@ -56,7 +56,7 @@ module _ (system : System) (m : Marking) (n : ℕ) (taken put vs : List Value) (
   abbrev Placed : Row → Type 0
   Placed row = (i : Instance) × (instance_at made row.inst ≡ Some i) × (row.place < length i.places)
 
-  may_exchange : m.next ≤ 1000 → (let change : Change = record { taken = row_of n taken ∷ []; cleared = []; made = []; put = row_of n put ∷ [] } in MayCome system change m)
+  pub may_exchange : m.next ≤ 20000 → (let change : Change = record { taken = row_of n taken ∷ []; cleared = []; made = []; put = row_of n put ∷ [] } in MayCome system change m)
   may_exchange low = record {
     there = λ k p. subst (λ values. IsWithin values (tokens_at made k p)) (sym (append-nil (cond (nat_eq k n && nat_eq p 0) taken [] ++ []) ∙ append-nil (cond (nat_eq k n && nat_eq p 0) taken []))) (within_case k p (nat_eq k n && nat_eq p 0) refl);
     nets = All-nil (λ net. net < length system.nets);
@@ -66,14 +66,7 @@ module _ (system : System) (m : Marking) (n : ℕ) (taken put vs : List Value) (
     room = omega (arith, low);
   }
 
-  pub may_exchange_of : (t cl p : List Row) (mk : List ℕ) → t ≡ row_of n taken ∷ [] → cl ≡ [] → mk ≡ [] → p ≡ row_of n put ∷ [] → m.next ≤ 1000 → (let change : Change = record { taken = t; cleared = cl; made = mk; put = p } in MayCome system change m)
-  may_exchange_of t cl p mk t_is cl_is mk_is p_is low =
-      subst (λ r. let change : Change = record { taken = r; cleared = cl; made = mk; put = p } in MayCome system change m) (sym t_is)
-      (subst (λ r. let change : Change = record { taken = row_of n taken ∷ []; cleared = r; made = mk; put = p } in MayCome system change m) (sym cl_is)
-      (subst (λ r. let change : Change = record { taken = row_of n taken ∷ []; cleared = []; made = r; put = p } in MayCome system change m) (sym mk_is)
-      (subst (λ r. let change : Change = record { taken = row_of n taken ∷ []; cleared = []; made = []; put = r } in MayCome system change m) (sym p_is) (may_exchange low))))
-
-may_make : (system : System) (m : Marking) (net : ℕ) → net < length system.nets → m.next ≤ 1000 → (let change : Change = record { taken = []; cleared = []; made = net ∷ []; put = [] } in MayCome system change m)
+pub may_make : (system : System) (m : Marking) (net : ℕ) → net < length system.nets → m.next ≤ 20000 → (let change : Change = record { taken = []; cleared = []; made = net ∷ []; put = [] } in MayCome system change m)
 may_make system m net inside low =
     let P : Row → Type 0 = λ row. (i : Instance) × (instance_at (with_made system (net ∷ []) m) row.inst ≡ Some i) × (row.place < length i.places) in
     let N : ℕ → Type 0 = λ k. k < length system.nets in
@@ -85,13 +78,6 @@ may_make system m net inside low =
       put = All-nil P;
       room = omega (arith, low);
     }
-
-pub may_make_of : (system : System) (m : Marking) (net : ℕ) (t cl p : List Row) (mk : List ℕ) → t ≡ [] → cl ≡ [] → mk ≡ net ∷ [] → p ≡ [] → net < length system.nets → m.next ≤ 1000 → (let change : Change = record { taken = t; cleared = cl; made = mk; put = p } in MayCome system change m)
-may_make_of system m net t cl p mk t_is cl_is mk_is p_is inside low =
-    subst (λ r. let change : Change = record { taken = r; cleared = cl; made = mk; put = p } in MayCome system change m) (sym t_is)
-    (subst (λ r. let change : Change = record { taken = []; cleared = r; made = mk; put = p } in MayCome system change m) (sym cl_is)
-    (subst (λ r. let change : Change = record { taken = []; cleared = []; made = r; put = p } in MayCome system change m) (sym mk_is)
-    (subst (λ r. let change : Change = record { taken = []; cleared = []; made = net ∷ []; put = r } in MayCome system change m) (sym p_is) (may_make system m net inside low))))
 
 pub one_sorted : (v : Value) → IsSorted value_cmp (v ∷ [])
 one_sorted v k d low high = absurd (let no : ⊥ = omega (arith, high) in no)
