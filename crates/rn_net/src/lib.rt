@@ -12,13 +12,9 @@ mod laws;
 mod net_reader;
 mod part;
 mod plain;
-#[cfg(test)]
-mod prefix_tests;
 mod reading;
 mod refusal;
 mod system_reader;
-#[cfg(test)]
-mod tests;
 
 pub use constants::{PConst, PConstForm, PConsts};
 pub use kinds::{PKind, PKindForm, PKinds};

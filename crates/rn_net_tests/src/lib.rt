@@ -1,2 +1,9 @@
 //! Tests of net texts: how they are read, printed and checked.
 #![tactic(auto)]
+
+#[cfg(test)]
+mod net;
+#[cfg(test)]
+mod net_prefixes;
+#[cfg(test)]
+mod spot;

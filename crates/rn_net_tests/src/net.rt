@@ -1,13 +1,9 @@
 //! Texts that are systems, and texts that are refused.
-use crate::{PConst, PConstForm, Plain, Refusal, read_system};
-use rn_notation::Spot;
+use crate::spot::at;
+use rn_net::{PConst, PConstForm, Plain, Refusal, read_system};
 use rn_value::NoMemory;
 use std::alloc::Global;
 use std::test::Fail;
-
-const fn at(line: u32, column: u32) -> Spot {
-    Spot { line, column }
-}
 
 // The numbers of channels and nets of a text, or why it is refused.
 fn sizes(alloc: Global, bytes: &[u8]) -> Result<(usize, usize), Refusal> {
@@ -186,12 +182,24 @@ fn limits(rt: HostRuntime) -> Result<(), Fail> {
             257,
             Refusal::P5(at(1, 541)),
         ),
-        ("", " ", 4_194_304, Refusal::P2(at(1, 4_194_305))),
-        ("", " ", 4_194_305, Refusal::P6(at(1, 1))),
     ];
     for (start, piece, count, wanted) in rows {
         let text = repeated(rt.alloc(), start, piece, count)?;
         let found = sizes(rt.alloc(), text.as_bytes());
+        assert_eq!(&rt; found, Err(wanted));
+    }
+    Ok(())
+}
+
+#[test]
+fn longest(rt: HostRuntime) -> Result<(), Fail> {
+    let rows = [
+        (4_194_304, Refusal::P2(at(1, 4_194_305))),
+        (4_194_305, Refusal::P6(at(1, 1))),
+    ];
+    for (length, wanted) in rows {
+        let text = vec![in rt.alloc(); b' '; length]?;
+        let found = sizes(rt.alloc(), text.as_slice());
         assert_eq!(&rt; found, Err(wanted));
     }
     Ok(())

@@ -1,5 +1,5 @@
 //! Prefixes of one text that uses the whole notation.
-use crate::{Refusal, read_system};
+use rn_net::{Refusal, read_system};
 use rn_notation::Spot;
 use std::alloc::Global;
 use std::test::Fail;
