@@ -6,4 +6,6 @@ mod net;
 #[cfg(test)]
 mod net_prefixes;
 #[cfg(test)]
+mod print;
+#[cfg(test)]
 mod spot;

@@ -9,8 +9,6 @@ mod kinds;
 mod laws;
 mod nets;
 mod pieces;
-#[cfg(test)]
-mod tests;
 
 pub use laws::printing_laws;
 pub use nets::print_system;
