@@ -11,8 +11,6 @@ mod piece;
 mod scanning;
 pub mod sign;
 mod spots;
-#[cfg(test)]
-mod tests;
 mod texts;
 mod token;
 pub mod word;
