@@ -10,8 +10,6 @@ mod given;
 mod integers;
 mod node_values;
 mod reading;
-#[cfg(test)]
-mod tests;
 mod values;
 
 pub use conditions::{holds, is_true};

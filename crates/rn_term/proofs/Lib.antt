@@ -3,7 +3,6 @@ pub mod AssignmentLemmas
 pub mod Bulks
 pub mod Closed
 pub mod ElementsOfTerms
-pub mod Examples
 pub mod Extents
 pub mod Filling
 pub mod FillingSteps

@@ -13,8 +13,6 @@ mod lists;
 mod seen;
 mod store;
 mod term;
-#[cfg(test)]
-mod tests;
 
 pub use laws::{forced_is_ground, ground_is_forced, marks_lead_back, marks_stay, terms_extend};
 pub use store::Store;

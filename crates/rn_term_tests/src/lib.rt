@@ -1,2 +1,9 @@
 //! Tests of computing, terms, unification and bindings that grow.
 #![tactic(auto)]
+
+#[cfg(test)]
+mod calc;
+#[cfg(test)]
+mod making;
+#[cfg(test)]
+mod term;
