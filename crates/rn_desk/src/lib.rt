@@ -8,8 +8,7 @@ mod kinds;
 mod lent;
 mod opening;
 mod rule;
-#[cfg(test)]
-mod tests;
+mod sharing;
 mod view;
 
 pub use closing::{Closed, close};

@@ -1,6 +1,9 @@
-//! What several threads leave on the sheet.
+//! What passes and several threads leave on the sheet.
+ghost use Rattle.rn_desk.specs.Passes.{IsBack};
+
 use crate::{Line, Sheet, Sight, look, look_all, write_note, write_sheet};
-use rn_desk::{Closed, close, open_desk};
+use rn_desk::{Closed, Desk, Kept, Pass, close, open_desk};
+use std::sync::Wait;
 use std::test::Fail;
 
 // Whether these are the rounds from 0 of each worker, each once and in order, and none of another.
@@ -35,6 +38,35 @@ fn each_worker_leaves_its_lines(rt: HostRuntime) -> Result<(), Fail> {
             assert!(rt; tally.fired == rounds as u64, "worker {}", tally.worker);
         }
     }
+    Ok(())
+}
+
+// Writes the pass's number in one turn, and looks in the next.
+fn write_and_look<R: Wait>(rt: &R, desk: &Desk<Sheet>, pass: &mut Pass<Sheet>, number: u32) -> bool
+    requires { IsBack ⟦<Sheet as Kept>⟧.fixed desk.now number pass.old }
+    ensures { IsBack ⟦<Sheet as Kept>⟧.fixed desk.now number pass.new }
+{
+    let mut turn = desk.take(rt, pass);
+    let line = Line {
+        worker: number,
+        round: 0,
+    };
+    let written = turn.state().write(line);
+    desk.give(pass, turn);
+    let turn = desk.take(rt, pass);
+    desk.give(pass, turn);
+    written
+}
+
+#[test]
+fn two_passes_write_in_turn(rt: HostRuntime) -> Result<(), Fail> {
+    let (desk, mut passes) = open_desk(rt.alloc(), Sheet::new(rt.alloc(), 7), 2)?;
+    let second = write_and_look(&rt, &desk, &mut passes[1], 2);
+    let first = write_and_look(&rt, &desk, &mut passes[0], 1);
+    let Closed { state } = close(desk, passes);
+    assert!(rt; second && first && state.title == 7);
+    assert_eq!(rt; state.lines.len(), 2);
+    assert!(rt; state.lines[0].worker == 2 && state.lines[1].worker == 1);
     Ok(())
 }
 
