@@ -1,2 +1,5 @@
 //! Tests of words, lines, records and the program's top call.
 #![tactic(auto)]
+
+#[cfg(test)]
+mod lines;

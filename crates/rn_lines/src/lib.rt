@@ -9,8 +9,6 @@ mod lines;
 mod nodes;
 mod numerals;
 mod quoted;
-#[cfg(test)]
-mod tests;
 mod unread;
 mod values;
 

@@ -1,8 +1,8 @@
 //! Values, nodes and lines, by rows worked out from the grammar.
-use crate::{
+use rn_lines::{
     Line, Unread, first_line, is_numeral, line_laws, read_line, read_node, read_value, value_laws,
 };
-use rn_value::{Names, NoMemory, Str, write_value};
+use rn_value::{Names, NoMemory, Str, Value, are_named, write_value};
 use std::alloc::Global;
 use std::test::Fail;
 
@@ -89,43 +89,54 @@ fn brackets(rt: HostRuntime) -> Result<(), Fail> {
     Ok(())
 }
 
-// The text of the value at the start, by names of two instances.
-fn again(alloc: Global, row: &str) -> Result<Vec<u8>, Unread> {
+// The names of two instances, 1 of `main` and 2 of `worker`.
+fn two_names(alloc: Global) -> Result<Names, NoMemory> {
     let mut names = Names::new(alloc);
     for name in ["main", "worker"] {
-        let name = Str::from_string(String::from_str(alloc, name)?);
-        if names.push(alloc, &name).is_err() {
-            return Err(Unread::NoMemory);
-        }
+        names.push(alloc, &Str::from_string(String::from_str(alloc, name)?))?;
     }
-    let read = read_value(alloc, row.as_bytes())?;
+    Ok(names)
+}
+
+// The text of a value, and nothing where one of its instances has no name.
+fn text_of(alloc: Global, value: &Value, names: &Names) -> Result<Vec<u8>, NoMemory> {
     let mut text = Vec::new(alloc);
-    if rn_value::are_named(&read.value, &names)
-        && write_value(alloc, &read.value, &names, &mut text).is_err()
-    {
-        return Err(Unread::NoMemory);
+    if are_named(value, names) {
+        write_value(alloc, value, names, &mut text)?;
     }
     Ok(text)
+}
+
+// Whether the value at the start has this very text.
+fn is_written_again(alloc: Global, row: &str) -> Result<bool, Fail> {
+    let names = two_names(alloc)?;
+    let read = read_value(alloc, row.as_bytes())?;
+    Ok(text_of(alloc, &read.value, &names)?.as_slice() == row.as_bytes())
 }
 
 #[test]
 fn written_again(rt: HostRuntime) -> Result<(), Fail> {
     for row in ["-5", "\"a\\n\"", "{[],main[1],[0,{7}],worker[2]}"] {
-        let text = again(rt.alloc(), row)?;
-        assert_eq!(rt; text.as_slice(), row.as_bytes(), "{row}");
+        assert!(rt; is_written_again(rt.alloc(), row)?, "{row}");
     }
     value_laws();
     Ok(())
 }
 
-#[test]
-fn mentions(rt: HostRuntime) -> Result<(), Fail> {
-    let read = read_value(rt.alloc(), b"{worker[2],[main[1]]} ")?;
-    let mut numbers = Vec::new(rt.alloc());
+// Whether the value at the start names these instances, by the lengths of the names of their nets
+// and their numbers.
+fn names(alloc: Global, row: &str, wanted: &[(usize, u32)]) -> Result<bool, Fail> {
+    let read = read_value(alloc, row.as_bytes())?;
+    let mut numbers = Vec::new(alloc);
     for mention in &read.mentions {
         numbers.push((mention.name.len(), mention.number))?;
     }
-    assert_eq!(rt; numbers.as_slice(), [(6, 2), (4, 1)].as_slice());
+    Ok(numbers.as_slice() == wanted)
+}
+
+#[test]
+fn mentions(rt: HostRuntime) -> Result<(), Fail> {
+    assert!(rt; names(rt.alloc(), "{worker[2],[main[1]]} ", &[(6, 2), (4, 1)])?);
     Ok(())
 }
 
