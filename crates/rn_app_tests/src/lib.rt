@@ -2,4 +2,12 @@
 #![tactic(auto)]
 
 #[cfg(test)]
+mod given;
+#[cfg(test)]
 mod lines;
+#[cfg(test)]
+mod lookup;
+#[cfg(test)]
+mod record;
+#[cfg(test)]
+mod words;

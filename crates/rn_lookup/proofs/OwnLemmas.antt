@@ -1,12 +1,11 @@
 -- The tables of each net, at its number.
 use Rattle.std.proofs.Common.{ℕ, zero, suc, ◌≡◌, ◌<◌, ◌≤◌, List, [], ◌∷◌, ◌++◌, length, None}
 use Rattle.std.proofs.Common.{refl, sym, subst, arith, get_or}
-use Rattle.std.specs.Prelude.{unwrap_or, slice_get, All}
-use Rattle.std.proofs.lemmas.List.Elements.{All-nil, All-cons}
+use Rattle.std.specs.Prelude.{unwrap_or, slice_get}
 use Rattle.rn_model.specs.declared.system.Net.{Net}
 use Rattle.rn_model.specs.Systems.{empty_net}
 use Rattle.rn_lookup.specs.declared.directory.OwnNames.{OwnNames}
-use Rattle.rn_lookup.specs.Tables.{AreFew, IsOwnOf, AreOwnOf}
+use Rattle.rn_lookup.specs.Tables.{IsOwnOf, AreOwnOf}
 
 -- one more net
 pub one_more_net : (nets : List Net) (others : List OwnNames) (net : Net) (own : OwnNames) →
@@ -37,8 +36,3 @@ none_past [] (x ∷ all) k are past = absurd are
 none_past (n ∷ nets) [] k are past = absurd are
 none_past (n ∷ nets) (x ∷ all) zero are past = absurd (omega (arith, past))
 none_past (n ∷ nets) (x ∷ all) (suc k) are past = none_past nets all k are.1 (omega (arith, past))
-
--- two nets that are small
-pub two_are : (a b : Net) → AreFew a → AreFew b → All AreFew (a ∷ b ∷ [])
-two_are a b first second =
-    All-cons AreFew a (b ∷ []) first (All-cons AreFew b [] second (All-nil AreFew))

@@ -8,8 +8,6 @@ mod marks;
 mod nodes;
 mod refusal;
 mod tables;
-#[cfg(test)]
-mod tests;
 
 pub use directory::Directory;
 pub use instances::{are_called, is_called, node_is_called, tokens_are_called};

@@ -7,8 +7,6 @@ mod naming;
 mod node_text;
 mod numbers;
 mod record;
-#[cfg(test)]
-mod tests;
 
 pub use node_text::write_nodes;
 pub use numbers::named;

@@ -10,8 +10,6 @@ mod laws;
 mod options;
 mod reading;
 mod table;
-#[cfg(test)]
-mod tests;
 mod values;
 
 pub use command::{Command, WordsFault};

@@ -1,21 +1,8 @@
 //! Words that are accepted, and words that are refused, by two tables.
-use crate::{Command, WordsFault, read_words};
+use crate::given::words_of;
 use rn_model::Options;
-use std::alloc::Global;
-use std::process::Abort;
+use rn_words::{Command, WordsFault, read_words};
 use std::test::Fail;
-
-// The words of a line, which stand one space apart; none where the line is empty.
-fn words_of(alloc: Global, line: &str) -> Result<Vec<String>, Fail> {
-    let mut words = Vec::new(alloc);
-    if line.is_empty() {
-        return Ok(words);
-    }
-    for word in line.split(' ') {
-        words.push(String::from_str(alloc, word)?)?;
-    }
-    Ok(words)
-}
 
 const fn options(workers: u32, steps: u32, depth: u32, sweep_every: u32) -> Options {
     Options {

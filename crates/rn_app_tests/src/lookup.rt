@@ -1,15 +1,16 @@
 //! Nodes, marks and instances of a small system, by rows worked out from the rules.
-ghost use Rattle.std.specs.Prelude.{◌≡◌, ◌<◌, ◌^◌, All, IfOk, length};
+ghost use Rattle.std.specs.Prelude.{◌↔◌, All, IsTrue};
 ghost use Rattle.rn_lookup.specs.Tables.{AreFew, IsDirectoryOf};
 
-use crate::{
-    Directory, FoundMark, FoundNode, Refusal, find_mark, find_node, find_token, node_is_called,
-};
 use rn_items::Items;
 use rn_lines::{Line, ReadNode, read_line};
+use rn_lookup::{
+    Directory, FoundMark, FoundNode, Refusal, find_mark, find_node, find_token, node_is_called,
+};
 use rn_model::{Net, Place, Places, System, Transition, Transitions, Var, Vars};
 use rn_value::{Kind, NoMemory, Str};
 use std::alloc::Global;
+use std::process::Abort;
 use std::test::Fail;
 
 fn name(alloc: Global, text: &str) -> Result<Str, NoMemory> {
@@ -31,9 +32,7 @@ fn vars(alloc: Global) -> Result<Vars, NoMemory> {
 }
 
 // `place p: int;`
-fn places(alloc: Global) -> Result<Places, NoMemory>
-    ensures { IfOk result (λ ps. length ps ≡ 1) }
-{
+fn places(alloc: Global) -> Result<Places, NoMemory> {
     let mut places = Items::new(alloc);
     places.push(Place {
         name: name(alloc, "p")?,
@@ -44,9 +43,7 @@ fn places(alloc: Global) -> Result<Places, NoMemory>
 }
 
 // A transition `t` in which x and w occur.
-fn transitions(alloc: Global) -> Result<Transitions, NoMemory>
-    ensures { IfOk result (λ ts. length ts ≡ 1) }
-{
+fn transitions(alloc: Global) -> Result<Transitions, NoMemory> {
     let mut vars = Items::new(alloc);
     vars.push(0)?;
     vars.push(1)?;
@@ -66,9 +63,7 @@ fn transitions(alloc: Global) -> Result<Transitions, NoMemory>
     Ok(transitions)
 }
 
-fn main_net(alloc: Global) -> Result<Net, NoMemory>
-    ensures { IfOk result (λ net. AreFew net) }
-{
+fn main_net(alloc: Global) -> Result<Net, NoMemory> {
     Ok(Net {
         name: name(alloc, "main")?,
         vars: vars(alloc)?,
@@ -77,9 +72,7 @@ fn main_net(alloc: Global) -> Result<Net, NoMemory>
     })
 }
 
-fn worker_net(alloc: Global) -> Result<Net, NoMemory>
-    ensures { IfOk result (λ net. AreFew net) }
-{
+fn worker_net(alloc: Global) -> Result<Net, NoMemory> {
     Ok(Net {
         name: name(alloc, "worker")?,
         vars: Items::new(alloc),
@@ -89,11 +82,7 @@ fn worker_net(alloc: Global) -> Result<Net, NoMemory>
 }
 
 // `main`, and a net `worker` without parts.
-#[tactic(auto, using(crate::proofs::OwnLemmas::two_are))]
-fn small(alloc: Global) -> Result<System, NoMemory>
-    ensures nets { IfOk result (λ system. length system.nets < 2 ^ 32) }
-    ensures own { IfOk result (λ system. All AreFew system.nets) }
-{
+fn small(alloc: Global) -> Result<System, NoMemory> {
     let mut nets = Items::new(alloc);
     nets.push(main_net(alloc)?)?;
     nets.push(worker_net(alloc)?)?;
@@ -101,6 +90,18 @@ fn small(alloc: Global) -> Result<System, NoMemory>
         nets,
         channels: Items::new(alloc),
     })
+}
+
+fn is_few(net: &Net) -> bool
+    ensures { IsTrue result ↔ AreFew net.now }
+{
+    net.transitions.len() < 4_294_967_296 && net.places.len() < 4_294_967_296
+}
+
+fn are_few(nets: &[Net]) -> bool
+    ensures { IsTrue result ↔ All AreFew nets.now }
+{
+    nets.iter().all(|net| is_few(net))
 }
 
 fn letter(refusal: Refusal) -> char {
@@ -153,35 +154,45 @@ fn judged(alloc: Global, system: &System, directory: &Directory, row: &str) -> c
     }
 }
 
-#[test]
-fn lines(rt: HostRuntime) -> Result<(), Fail> {
-    let rows = [
-        ("! main[1].t x=5 w=worker[2]", 'o'),
-        ("! main[1].t x=5 w=worker[3]", 'm'),
-        ("! main[1].t x=5 w=main[2]", 'm'),
-        ("! main[2].t x=5 w=worker[2]", 'm'),
-        ("! main[1].t x=5 w=other[2]", 'N'),
-        ("! main[1].t y=5 w=worker[2]", 'N'),
-        ("! main[1].u x=5 w=worker[2]", 'N'),
-        ("! main[1].u x=\"a\"", 'N'),
-        ("! other[1].t x=5 w=worker[2]", 'N'),
-        ("! worker[2].t", 'N'),
-        ("! main[1].t x=5", 'F'),
-        ("! main[1].t x=5 w=worker[2] x=5", 'F'),
-        ("! main[1].t x=\"a\" w=worker[2]", 'F'),
-        ("! main[1].t y=\"a\" w=other[2]", 'F'),
-        ("main[1].p 5 -5", 'o'),
-        ("main[1].p 5 \"a\"", 'F'),
-        ("main[1].q 5", 'N'),
-        ("worker[2].p 5", 'N'),
-        ("1 w1 > {1,\"a\",worker[9]}", 'o'),
-        ("1 w1 > [other[1]]", 'N'),
-    ];
-    let system = small(rt.alloc())?;
-    let directory = Directory::new(rt.alloc(), &system)?;
-    for (row, wanted) in rows {
-        let found = judged(rt.alloc(), &system, &directory, row);
+const ROWS: [(&str, char); 20] = [
+    ("! main[1].t x=5 w=worker[2]", 'o'),
+    ("! main[1].t x=5 w=worker[3]", 'm'),
+    ("! main[1].t x=5 w=main[2]", 'm'),
+    ("! main[2].t x=5 w=worker[2]", 'm'),
+    ("! main[1].t x=5 w=other[2]", 'N'),
+    ("! main[1].t y=5 w=worker[2]", 'N'),
+    ("! main[1].u x=5 w=worker[2]", 'N'),
+    ("! main[1].u x=\"a\"", 'N'),
+    ("! other[1].t x=5 w=worker[2]", 'N'),
+    ("! worker[2].t", 'N'),
+    ("! main[1].t x=5", 'F'),
+    ("! main[1].t x=5 w=worker[2] x=5", 'F'),
+    ("! main[1].t x=\"a\" w=worker[2]", 'F'),
+    ("! main[1].t y=\"a\" w=other[2]", 'F'),
+    ("main[1].p 5 -5", 'o'),
+    ("main[1].p 5 \"a\"", 'F'),
+    ("main[1].q 5", 'N'),
+    ("worker[2].p 5", 'N'),
+    ("1 w1 > {1,\"a\",worker[9]}", 'o'),
+    ("1 w1 > [other[1]]", 'N'),
+];
+
+// Whether the system is so small; judges each row.
+fn judge<A: Abort>(rt: &A, alloc: Global, system: &System) -> Result<bool, NoMemory> {
+    if system.nets.len() > 4_294_967_295 || !are_few(system.nets.as_slice()) {
+        return Ok(false);
+    }
+    let directory = Directory::new(alloc, system)?;
+    for (row, wanted) in ROWS {
+        let found = judged(alloc, system, &directory, row);
         assert_eq!(rt; found, wanted, "{row}");
     }
+    Ok(true)
+}
+
+#[test]
+fn lines(rt: HostRuntime) -> Result<(), Fail> {
+    let system = small(rt.alloc())?;
+    assert!(rt; judge(&rt, rt.alloc(), &system)?);
     Ok(())
 }
