@@ -10,13 +10,7 @@ mod fault;
 mod forms;
 mod inscriptions;
 mod laws;
-#[cfg(test)]
-mod limit_tests;
 mod reading;
-#[cfg(test)]
-mod shown;
-#[cfg(test)]
-mod tests;
 
 pub use conds::{PAlts, PCond, PSimple, PSimples};
 pub use exprs::{PExpr, PExprs, PForm};

@@ -1,7 +1,7 @@
 //! Readings, their ends and spots, and refusals, as tables.
-use crate::InscriptFault::P2;
-use crate::shown::{put_expr, put_form};
-use crate::{
+use crate::inscript_shown::{put_expr, put_form};
+use rn_inscript::InscriptFault::P2;
+use rn_inscript::{
     InscriptFault, PExpr, PInscribed, PInscription, read_expr, read_transition_inscription,
 };
 use rn_notation::lex;
@@ -53,6 +53,9 @@ fn shape_of_inscription(alloc: Global, text: &str) -> Result<String, InscriptFau
     inscription_shown(alloc, &i)
 }
 
+/// The column of a spot, and the index after what was read.
+type Extent = Result<(u32, usize), InscriptFault>;
+
 fn expression_extent(e: &PExpr, end: usize) -> (u32, usize) {
     (e.spot.column, end)
 }
@@ -62,13 +65,13 @@ fn inscription_extent(i: &PInscription, end: usize) -> (u32, usize) {
 }
 
 // The column of an expression's spot, and the index after the expression.
-fn extent_of_expression(alloc: Global, text: &str) -> Result<(u32, usize), InscriptFault> {
+fn extent_of_expression(alloc: Global, text: &str) -> Extent {
     let (e, end) = expression(alloc, text)?;
     Ok(expression_extent(&e, end))
 }
 
 // The column of an inscription's spot, and the index after the inscription.
-fn extent_of_inscription(alloc: Global, text: &str) -> Result<(u32, usize), InscriptFault> {
+fn extent_of_inscription(alloc: Global, text: &str) -> Extent {
     let (i, end) = inscription(alloc, text)?;
     Ok(inscription_extent(&i, end))
 }
@@ -93,6 +96,29 @@ fn column_in(alloc: Global, text: &str) -> Result<Option<u32>, InscriptFault> {
 pub(crate) fn end_of(alloc: Global, text: &str) -> Result<usize, InscriptFault> {
     let (_, end) = extent_of_inscription(alloc, text)?;
     Ok(end)
+}
+
+/// The index of the first row whose text isn't read as the row's shape.
+fn first_unlike(alloc: Global, rows: &[(&str, &str)]) -> Result<Option<usize>, InscriptFault> {
+    for (i, (text, wanted)) in rows.iter().enumerate() {
+        if shape_of_expression(alloc, text)?.as_str() != *wanted {
+            return Ok(Some(i));
+        }
+    }
+    Ok(None)
+}
+
+/// The same of inscriptions.
+fn first_inscription_unlike(
+    alloc: Global,
+    rows: &[(&str, &str)],
+) -> Result<Option<usize>, InscriptFault> {
+    for (i, (text, wanted)) in rows.iter().enumerate() {
+        if shape_of_inscription(alloc, text)?.as_str() != *wanted {
+            return Ok(Some(i));
+        }
+    }
+    Ok(None)
 }
 
 #[test]
@@ -130,10 +156,7 @@ fn expressions(rt: HostRuntime) -> Result<(), Fail> {
         ("--x", "(-(-x))"),
         ("-step()", "(-STEP)"),
     ];
-    for (text, wanted) in rows {
-        let made = shape_of_expression(rt.alloc(), text)?;
-        assert_eq!(rt; made.as_str(), wanted, "{text}");
-    }
+    assert_eq!(&rt; first_unlike(rt.alloc(), &rows)?, None);
     Ok(())
 }
 
@@ -162,10 +185,7 @@ fn conditions(rt: HostRuntime) -> Result<(), Fail> {
         ),
         ("guard (a) > (b)", "guard any(all(a>b;))"),
     ];
-    for (text, wanted) in rows {
-        let made = shape_of_inscription(rt.alloc(), text)?;
-        assert_eq!(rt; made.as_str(), wanted, "{text}");
-    }
+    assert_eq!(&rt; first_inscription_unlike(rt.alloc(), &rows)?, None);
     Ok(())
 }
 
@@ -200,58 +220,79 @@ fn inscriptions(rt: HostRuntime) -> Result<(), Fail> {
         ("step() = x", "equal STEP x"),
         ("{x:y} = {1}", "equal {x;:y} {1;}"),
     ];
-    for (text, wanted) in rows {
-        let made = shape_of_inscription(rt.alloc(), text)?;
-        assert_eq!(rt; made.as_str(), wanted, "{text}");
-    }
+    assert_eq!(&rt; first_inscription_unlike(rt.alloc(), &rows)?, None);
     Ok(())
+}
+
+/// The first row whose expression has another spot or end, or is refused otherwise.
+fn first_of_other_extent(alloc: Global, rows: &[(&str, Extent)]) -> Option<usize> {
+    for (i, (text, wanted)) in rows.iter().enumerate() {
+        if extent_of_expression(alloc, text) != *wanted {
+            return Some(i);
+        }
+    }
+    None
 }
 
 #[test]
 fn extents_of_expressions(rt: HostRuntime) -> Result<(), Fail> {
     let rows = [
-        ("x", (1, 1)),
-        (" x;", (2, 1)),
-        ("((x))", (3, 5)),
-        ("(a + b) * c", (2, 7)),
-        ("a * (b + c)", (1, 7)),
-        ("(-x)", (2, 4)),
-        ("([x])", (2, 5)),
-        ("{(x)}", (1, 5)),
-        ("x y", (1, 1)),
-        ("x == y", (1, 1)),
-        ("x)", (1, 1)),
-        ("x: y", (1, 1)),
-        ("x = y", (1, 1)),
+        ("x", Ok((1, 1))),
+        (" x;", Ok((2, 1))),
+        ("((x))", Ok((3, 5))),
+        ("(a + b) * c", Ok((2, 7))),
+        ("a * (b + c)", Ok((1, 7))),
+        ("(-x)", Ok((2, 4))),
+        ("([x])", Ok((2, 5))),
+        ("{(x)}", Ok((1, 5))),
+        ("x y", Ok((1, 1))),
+        ("x == y", Ok((1, 1))),
+        ("x)", Ok((1, 1))),
+        ("x: y", Ok((1, 1))),
+        ("x = y", Ok((1, 1))),
     ];
-    for (text, wanted) in rows {
-        let found = extent_of_expression(rt.alloc(), text);
-        assert_eq!(&rt; found, Ok(wanted), "{text}");
-    }
+    assert_eq!(&rt; first_of_other_extent(rt.alloc(), &rows), None);
     Ok(())
+}
+
+/// The first row whose inscription has another spot or end, or is refused otherwise.
+fn first_inscription_of_other_extent(alloc: Global, rows: &[(&str, Extent)]) -> Option<usize> {
+    for (i, (text, wanted)) in rows.iter().enumerate() {
+        if extent_of_inscription(alloc, text) != *wanted {
+            return Some(i);
+        }
+    }
+    None
 }
 
 #[test]
 fn extents_of_inscriptions(rt: HostRuntime) -> Result<(), Fail> {
     let rows = [
-        ("in p;", (1, 2)),
-        (" in p: x + 1;", (2, 6)),
-        ("in p x", (1, 2)),
-        ("clear p: x", (1, 4)),
-        ("guard x; y", (1, 2)),
-        ("guard a == b == c", (1, 4)),
-        ("action v = e = f", (1, 4)),
-        (":ch() x", (1, 4)),
-        ("x: new n(", (1, 4)),
-        ("x:ch():", (1, 5)),
-        ("  (x) = 1;", (3, 5)),
-        ("x = y = z", (1, 3)),
+        ("in p;", Ok((1, 2))),
+        (" in p: x + 1;", Ok((2, 6))),
+        ("in p x", Ok((1, 2))),
+        ("clear p: x", Ok((1, 4))),
+        ("guard x; y", Ok((1, 2))),
+        ("guard a == b == c", Ok((1, 4))),
+        ("action v = e = f", Ok((1, 4))),
+        (":ch() x", Ok((1, 4))),
+        ("x: new n(", Ok((1, 4))),
+        ("x:ch():", Ok((1, 5))),
+        ("  (x) = 1;", Ok((3, 5))),
+        ("x = y = z", Ok((1, 3))),
     ];
-    for (text, wanted) in rows {
-        let found = extent_of_inscription(rt.alloc(), text);
-        assert_eq!(&rt; found, Ok(wanted), "{text}");
-    }
+    assert_eq!(&rt; first_inscription_of_other_extent(rt.alloc(), &rows), None);
     Ok(())
+}
+
+/// The first row whose arc has its expression elsewhere.
+fn first_of_other_column(alloc: Global, rows: &[(&str, Option<u32>)]) -> Option<usize> {
+    for (i, (text, wanted)) in rows.iter().enumerate() {
+        if column_in(alloc, text) != Ok(*wanted) {
+            return Some(i);
+        }
+    }
+    None
 }
 
 // An absent inscription has the spot of the place's name.
@@ -264,91 +305,82 @@ fn columns_of_arcs(rt: HostRuntime) -> Result<(), Fail> {
         ("in p: (x)", Some(8)),
         ("clear p", None),
     ];
-    for (text, wanted) in rows {
-        let found = column_in(rt.alloc(), text);
-        assert_eq!(&rt; found, Ok(wanted), "{text}");
-    }
+    assert_eq!(&rt; first_of_other_column(rt.alloc(), &rows), None);
     Ok(())
 }
 
 #[test]
 fn no_expressions(rt: HostRuntime) -> Result<(), Fail> {
     let rows = [
-        ("", 0),
-        (")", 0),
-        ("net", 0),
-        ("+ x", 0),
-        ("!(x)", 0),
-        ("-", 1),
-        ("()", 1),
-        ("a +", 2),
-        ("a + ;", 2),
-        ("a * / b", 2),
-        ("(x", 2),
-        ("(x]", 2),
-        ("(x, y)", 2),
-        ("[x y]", 2),
-        ("[x,]", 3),
-        ("{x,}", 3),
-        ("{:x}", 1),
-        ("{x:}", 3),
-        ("{x:y,z}", 4),
-        ("[x:y]", 2),
-        ("step(1)", 2),
+        ("", Err(P2(0))),
+        (")", Err(P2(0))),
+        ("net", Err(P2(0))),
+        ("+ x", Err(P2(0))),
+        ("!(x)", Err(P2(0))),
+        ("-", Err(P2(1))),
+        ("()", Err(P2(1))),
+        ("a +", Err(P2(2))),
+        ("a + ;", Err(P2(2))),
+        ("a * / b", Err(P2(2))),
+        ("(x", Err(P2(2))),
+        ("(x]", Err(P2(2))),
+        ("(x, y)", Err(P2(2))),
+        ("[x y]", Err(P2(2))),
+        ("[x,]", Err(P2(3))),
+        ("{x,}", Err(P2(3))),
+        ("{:x}", Err(P2(1))),
+        ("{x:}", Err(P2(3))),
+        ("{x:y,z}", Err(P2(4))),
+        ("[x:y]", Err(P2(2))),
+        ("step(1)", Err(P2(2))),
     ];
-    for (text, k) in rows {
-        let found = extent_of_expression(rt.alloc(), text);
-        assert_eq!(&rt; found, Err(P2(k)), "{text}");
-    }
+    assert_eq!(&rt; first_of_other_extent(rt.alloc(), &rows), None);
     Ok(())
 }
 
 #[test]
 fn no_inscriptions(rt: HostRuntime) -> Result<(), Fail> {
     let rows = [
-        ("", 0),
-        (";", 0),
-        ("var", 0),
-        ("in", 1),
-        ("in 1", 1),
-        ("in p:", 3),
-        ("in p: ;", 3),
-        ("in p: (x", 5),
-        ("in p: [x,]", 6),
-        ("guard", 1),
-        ("guard a &&", 3),
-        ("guard a || ;", 3),
-        ("guard a ==", 3),
-        ("guard !a", 2),
-        ("guard !(a;", 4),
-        ("guard (a == b)", 3),
-        ("action", 1),
-        ("action 1", 1),
-        ("action print", 2),
-        ("action v 1", 2),
-        ("action v =", 3),
-        (":", 1),
-        (":ch", 2),
-        (":ch(", 3),
-        (":ch(1,)", 5),
-        (":new n", 1),
-        ("x:", 2),
-        ("x: 1", 2),
-        ("x: ch", 3),
-        ("x: new", 3),
-        ("x: new 1", 3),
-        ("this: new n", 2),
-        ("(x):ch()", 3),
-        ("1:ch()", 1),
-        ("step():ch()", 3),
-        ("x", 1),
-        ("x + 1;", 3),
-        ("x == y", 1),
-        ("x = ", 2),
+        ("", Err(P2(0))),
+        (";", Err(P2(0))),
+        ("var", Err(P2(0))),
+        ("in", Err(P2(1))),
+        ("in 1", Err(P2(1))),
+        ("in p:", Err(P2(3))),
+        ("in p: ;", Err(P2(3))),
+        ("in p: (x", Err(P2(5))),
+        ("in p: [x,]", Err(P2(6))),
+        ("guard", Err(P2(1))),
+        ("guard a &&", Err(P2(3))),
+        ("guard a || ;", Err(P2(3))),
+        ("guard a ==", Err(P2(3))),
+        ("guard !a", Err(P2(2))),
+        ("guard !(a;", Err(P2(4))),
+        ("guard (a == b)", Err(P2(3))),
+        ("action", Err(P2(1))),
+        ("action 1", Err(P2(1))),
+        ("action print", Err(P2(2))),
+        ("action v 1", Err(P2(2))),
+        ("action v =", Err(P2(3))),
+        (":", Err(P2(1))),
+        (":ch", Err(P2(2))),
+        (":ch(", Err(P2(3))),
+        (":ch(1,)", Err(P2(5))),
+        (":new n", Err(P2(1))),
+        ("x:", Err(P2(2))),
+        ("x: 1", Err(P2(2))),
+        ("x: ch", Err(P2(3))),
+        ("x: new", Err(P2(3))),
+        ("x: new 1", Err(P2(3))),
+        ("this: new n", Err(P2(2))),
+        ("(x):ch()", Err(P2(3))),
+        ("1:ch()", Err(P2(1))),
+        ("step():ch()", Err(P2(3))),
+        ("x", Err(P2(1))),
+        ("x + 1;", Err(P2(3))),
+        ("x == y", Err(P2(1))),
+        ("x = ", Err(P2(2))),
     ];
-    for (text, k) in rows {
-        let found = end_of(rt.alloc(), text);
-        assert_eq!(&rt; found, Err(P2(k)), "{text}");
-    }
+    assert_eq!(&rt; first_inscription_of_other_extent(rt.alloc(), &rows), None);
     Ok(())
 }

@@ -1,6 +1,6 @@
 //! What was read, written for tests: each operator in parentheses, and `;` after each part of a
 //! list.
-use crate::{PCond, PExpr, PForm, PInscribed, PName, PSimple};
+use rn_inscript::{PCond, PExpr, PForm, PInscribed, PName, PSimple};
 use rn_model::{ArcKind, CompareKind, OpKind};
 use rn_value::NoMemory;
 use std::alloc::Global;
