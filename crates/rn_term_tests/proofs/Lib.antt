@@ -1,1 +1,2 @@
+pub mod NewVariables
 pub mod SmallStores

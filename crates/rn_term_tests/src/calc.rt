@@ -2,12 +2,12 @@
 ghost use Rattle.std.specs.Prelude.{◌≤◌, IfOk};
 ghost use Rattle.rn_model.specs.Limits.{greatest_step};
 
-use crate::making::{are_same, numbers, two};
+use crate::making::{are_same, numbers, text, two};
 use rn_calc::{Given, Reading, calc, has_value, have_one_value, holds, read};
 use rn_items::{Boxed, Items};
 use rn_model::limits::GREATEST_STEP;
 use rn_model::{CompareKind, Cond, Expr, OpKind, Simple, Simples};
-use rn_value::{InstRef, NoMemory, Str, Value};
+use rn_value::{InstRef, NoMemory, Value};
 use std::alloc::Global;
 use std::test::Fail;
 
@@ -31,10 +31,6 @@ fn op(alloc: Global, kind: OpKind, a: i64, b: i64) -> Result<Expr, NoMemory> {
     let a = Boxed::new(alloc, Expr::Int(a))?;
     let b = Boxed::new(alloc, Expr::Int(b))?;
     Ok(Expr::Op(kind, a, b))
-}
-
-fn text(alloc: Global) -> Result<Str, NoMemory> {
-    Ok(Str::from_string(String::from_str(alloc, "a")?))
 }
 
 fn value_of(alloc: Global, expr: &Expr) -> Result<Option<Value>, NoMemory> {
@@ -100,7 +96,7 @@ fn form(alloc: Global, case: usize) -> Result<Expr, NoMemory> {
         4 => Ok(Expr::Step),
         5 => Ok(Expr::Neg(Boxed::new(alloc, Expr::Var(3))?)),
         6 => Ok(Expr::Neg(Boxed::new(alloc, Expr::Int(i64::MIN))?)),
-        7 => Ok(Expr::Text(text(alloc)?)),
+        7 => Ok(Expr::Text(text(alloc, "a")?)),
         8 => Ok(Expr::List(two(alloc, Expr::Int(1), Expr::Var(3))?)),
         9 => undefined_part(alloc),
         10 => before(alloc, 5),
@@ -116,7 +112,7 @@ fn value_of_form(alloc: Global, case: usize) -> Result<Option<Value>, NoMemory> 
         3 => Ok(Some(Value::Inst(InstRef::Old(4)))),
         4 => Ok(Some(Value::Int(GREATEST_STEP as i64))),
         5 => Ok(Some(Value::Int(-7))),
-        7 => Ok(Some(Value::Text(text(alloc)?))),
+        7 => Ok(Some(Value::Text(text(alloc, "a")?))),
         8 => Ok(Some(list(alloc, &[1, 7])?)),
         10 => Ok(Some(list(alloc, &[1, 7, 2, 3])?)),
         _ => Ok(None),

@@ -4,6 +4,10 @@
 #[cfg(test)]
 mod calc;
 #[cfg(test)]
+mod forms;
+#[cfg(test)]
 mod making;
 #[cfg(test)]
 mod term;
+#[cfg(test)]
+mod unify;

@@ -1,9 +1,10 @@
 //! A store by hand: terms of each form, binding and undoing.
-ghost use Rattle.std.specs.Prelude.{◌≡◌, ◌<◌, ◌∷◌, [], IfOk, length};
+ghost use Rattle.std.specs.Prelude.{◌≡◌, ◌<◌, [], length};
 
+use crate::making::one_id;
 use rn_items::Items;
 use rn_term::{
-    Ids, Store, Term, forced_is_ground, ground_is_forced, marks_lead_back, marks_stay, terms_extend,
+    Store, Term, forced_is_ground, ground_is_forced, marks_lead_back, marks_stay, terms_extend,
 };
 use rn_value::{NoMemory, Vals, Value, same};
 use std::alloc::Global;
@@ -37,14 +38,6 @@ fn bound_and_taken_back(rt: HostRuntime) -> Result<(), Fail> {
     let answer = bind_and_undo(rt.alloc(), &mut store)?;
     assert!(rt; answer);
     Ok(())
-}
-
-fn one_id(alloc: Global, id: usize) -> Result<Ids, NoMemory>
-    ensures { IfOk result (λ ids. ids ≡ id ∷ []) }
-{
-    let mut ids = Items::new(alloc);
-    ids.push(id)?;
-    Ok(ids)
 }
 
 fn one_value(alloc: Global, value: Value) -> Result<Vals, NoMemory> {

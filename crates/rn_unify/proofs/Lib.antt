@@ -7,7 +7,6 @@ pub mod FreeNumbers
 pub mod ListPrefixes
 pub mod ListPositions
 pub mod ListsOfTerms
-pub mod NewVariables
 pub mod PairsLeft
 pub mod AddedTerms
 pub mod RemainingElements

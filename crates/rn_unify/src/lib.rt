@@ -14,8 +14,6 @@ mod lists;
 mod matching;
 mod ordering;
 mod rests;
-#[cfg(test)]
-mod tests;
 mod unifying;
 
 pub use laws::{says_both_in_turn, undo_gives_back, unify_is_symmetric};
