@@ -11,8 +11,6 @@ mod laid;
 mod laws;
 mod slot;
 mod slots;
-#[cfg(test)]
-mod tests;
 mod thing;
 
 pub use decision::{Caller, Decision, Decisions, Head, Site, Way};

@@ -6,6 +6,8 @@ mod calc;
 #[cfg(test)]
 mod forms;
 #[cfg(test)]
+mod growing;
+#[cfg(test)]
 mod making;
 #[cfg(test)]
 mod term;
