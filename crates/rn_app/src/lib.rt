@@ -9,8 +9,6 @@ mod numbering;
 mod parsing;
 mod reading;
 mod small;
-#[cfg(test)]
-mod tests;
 mod text_laws;
 mod top;
 mod writing;

@@ -2,6 +2,8 @@
 #![tactic(auto)]
 
 #[cfg(test)]
+mod app;
+#[cfg(test)]
 mod given;
 #[cfg(test)]
 mod lines;
@@ -9,5 +11,7 @@ mod lines;
 mod lookup;
 #[cfg(test)]
 mod record;
+#[cfg(test)]
+mod told;
 #[cfg(test)]
 mod words;

@@ -21,8 +21,6 @@ mod opening;
 mod prints;
 mod record;
 mod role;
-#[cfg(test)]
-mod tests;
 
 pub use fault::RecordFault;
 pub use laws::record_laws;
