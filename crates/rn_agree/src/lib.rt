@@ -2,8 +2,6 @@
 #![tactic(auto)]
 
 mod agreement;
-#[cfg(test)]
-mod agreement_tests;
 mod calls;
 mod inscriptions;
 mod links;
@@ -11,12 +9,6 @@ mod lookup;
 mod mentions;
 mod nodes;
 mod shape;
-#[cfg(test)]
-mod shape_tests;
-#[cfg(test)]
-mod test_help;
-#[cfg(test)]
-mod worked_tests;
 
 pub use agreement::does_agree;
 pub use lookup::{child_index, child_on, node_index, node_on};

@@ -1,2 +1,9 @@
 //! Tests of bindings that agree, and of firing them.
 #![tactic(auto)]
+
+#[cfg(test)]
+mod agree;
+#[cfg(test)]
+mod nets;
+#[cfg(test)]
+mod rows;

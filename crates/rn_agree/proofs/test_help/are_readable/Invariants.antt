@@ -1,8 +1,0 @@
-use Rattle.std.proofs.Common.{ℕ, ◌<◌, get_or}
-use Rattle.rn_model.specs.declared.binding.Node.{Node}
-use Rattle.rn_agree.specs.Agreeing.{IsReadable}
-use Rattle.rn_agree.proofs.test_help.are_readable.Given as goal
-
-abbrev pub invariant-loop-node : goal.invariant-loop-node
-invariant-loop-node l = (k : ℕ) (d : Node) → k < l.node-index → IsReadable l.system
-    (get_or l.nodes k d)
