@@ -55,11 +55,15 @@ fn ascending(alloc: Global) -> Result<Vec<Value>, NoMemory> {
     for number in [1, 2, u32::MAX] {
         values.push(Value::Inst(InstRef::Old(number)))?;
     }
-    values.push(made(alloc, &[], 0)?)?;
-    values.push(made(alloc, &[], 1)?)?;
-    values.push(made(alloc, &[0], 0)?)?;
-    values.push(made(alloc, &[0, 3], 0)?)?;
-    values.push(made(alloc, &[1], 0)?)?;
+    for (path, index) in [
+        ([].as_slice(), 0),
+        (&[], 1),
+        (&[0], 0),
+        (&[0, 3], 0),
+        (&[1], 0),
+    ] {
+        values.push(made(alloc, path, index)?)?;
+    }
     Ok(values)
 }
 
@@ -107,18 +111,34 @@ fn copies(rt: HostRuntime) -> Result<(), Fail> {
     Ok(())
 }
 
-fn kinds(alloc: Global) -> Result<Vec<Kind>, NoMemory> {
+fn pair_of_ints(alloc: Global) -> Result<Kind, NoMemory> {
     let mut parts = Items::new(alloc);
     parts.push(Kind::Int)?;
     parts.push(Kind::Int)?;
+    Ok(Kind::Tuple(parts))
+}
+
+fn list_of(alloc: Global, kind: Kind) -> Result<Kind, NoMemory> {
+    Ok(Kind::List(Boxed::new(alloc, kind)?))
+}
+
+fn numbered_kind(alloc: Global, number: u32) -> Result<Kind, NoMemory> {
+    match number {
+        0 => Ok(Kind::Int),
+        1 => Ok(Kind::Text),
+        2 => Ok(Kind::Tuple(Items::new(alloc))),
+        3 => pair_of_ints(alloc),
+        4 => list_of(alloc, Kind::Int),
+        5 => list_of(alloc, Kind::Text),
+        _ => Ok(Kind::Net),
+    }
+}
+
+fn kinds(alloc: Global) -> Result<Vec<Kind>, NoMemory> {
     let mut kinds = Vec::new(alloc);
-    kinds.push(Kind::Int)?;
-    kinds.push(Kind::Text)?;
-    kinds.push(Kind::Tuple(Items::new(alloc)))?;
-    kinds.push(Kind::Tuple(parts))?;
-    kinds.push(Kind::List(Boxed::new(alloc, Kind::Int)?))?;
-    kinds.push(Kind::List(Boxed::new(alloc, Kind::Text)?))?;
-    kinds.push(Kind::Net)?;
+    for number in 0..7 {
+        kinds.push(numbered_kind(alloc, number)?)?;
+    }
     Ok(kinds)
 }
 
@@ -128,22 +148,22 @@ fn mixed(alloc: Global) -> Result<Value, NoMemory> {
     Ok(Value::List(values))
 }
 
-/// Values with the kinds that they have: `x` for one that the value has, in the order of `kinds`.
-fn of_kinds(alloc: Global) -> Result<Vec<(Value, &'static str)>, NoMemory> {
-    let mut rows = Vec::new(alloc);
-    rows.push((Value::Int(5), "x------"))?;
-    rows.push((text(alloc, "a")?, "-x-----"))?;
-    rows.push((tuple(alloc, &[])?, "--x----"))?;
-    rows.push((tuple(alloc, &[1])?, "-------"))?;
-    rows.push((tuple(alloc, &[1, 2])?, "---x---"))?;
-    rows.push((list(alloc, &[])?, "----xx-"))?;
-    rows.push((list(alloc, &[1, 2])?, "----x--"))?;
-    rows.push((mixed(alloc)?, "-------"))?;
-    rows.push((Value::Inst(InstRef::Old(1)), "------x"))?;
-    rows.push((made(alloc, &[], 0)?, "------x"))?;
-    Ok(rows)
+fn of_kinds(alloc: Global, row: usize) -> Result<Value, NoMemory> {
+    match row {
+        0 => Ok(Value::Int(5)),
+        1 => text(alloc, "a"),
+        2 => tuple(alloc, &[]),
+        3 => tuple(alloc, &[1]),
+        4 => tuple(alloc, &[1, 2]),
+        5 => list(alloc, &[]),
+        6 => list(alloc, &[1, 2]),
+        7 => mixed(alloc),
+        8 => Ok(Value::Inst(InstRef::Old(1))),
+        _ => made(alloc, &[], 0),
+    }
 }
 
+/// `x` for each kind that a value has, and `-` for each other.
 fn kinds_shown(alloc: Global, value: &Value, kinds: &[Kind]) -> Result<String, NoMemory> {
     let mut shown = String::new(alloc);
     for kind in kinds {
@@ -154,9 +174,14 @@ fn kinds_shown(alloc: Global, value: &Value, kinds: &[Kind]) -> Result<String, N
 
 #[test]
 fn kinds_of_values(rt: HostRuntime) -> Result<(), Fail> {
+    let rows = [
+        "x------", "-x-----", "--x----", "-------", "---x---", "----xx-", "----x--", "-------",
+        "------x", "------x",
+    ];
     let kinds = kinds(rt.alloc())?;
-    for (value, wanted) in &of_kinds(rt.alloc())? {
-        let shown = kinds_shown(rt.alloc(), value, kinds.as_slice())?;
+    for (row, wanted) in rows.iter().enumerate() {
+        let value = of_kinds(rt.alloc(), row)?;
+        let shown = kinds_shown(rt.alloc(), &value, kinds.as_slice())?;
         assert_eq!(rt; shown.as_str(), *wanted, "{value:?}");
     }
     Ok(())
@@ -170,32 +195,36 @@ fn names(alloc: Global, texts: &[&str]) -> Result<Names, NoMemory> {
     Ok(names)
 }
 
-fn of_many_forms(alloc: Global) -> Result<Value, NoMemory> {
+fn of_form(alloc: Global, number: u32) -> Result<Value, NoMemory> {
+    match number {
+        0 => tuple(alloc, &[1, 2]),
+        1 => list(alloc, &[]),
+        2 => tuple(alloc, &[]),
+        3 => text(alloc, "]"),
+        _ => Ok(Value::Inst(InstRef::Old(2))),
+    }
+}
+
+fn of_all_forms(alloc: Global) -> Result<Value, NoMemory> {
     let mut parts = Items::new(alloc);
-    parts.push(tuple(alloc, &[1, 2])?)?;
-    parts.push(list(alloc, &[])?)?;
-    parts.push(tuple(alloc, &[])?)?;
-    parts.push(text(alloc, "]")?)?;
-    parts.push(Value::Inst(InstRef::Old(2)))?;
+    for number in 0..5 {
+        parts.push(of_form(alloc, number)?)?;
+    }
     Ok(Value::List(parts))
 }
 
-/// Values with their texts, after `x=`.
-fn with_texts(alloc: Global) -> Result<Vec<(Value, &'static str)>, NoMemory> {
-    let mut rows = Vec::new(alloc);
-    rows.push((Value::Int(0), "x=0"))?;
-    rows.push((Value::Int(i64::MAX), "x=9223372036854775807"))?;
-    rows.push((Value::Int(i64::MIN), "x=-9223372036854775808"))?;
-    rows.push((text(alloc, "")?, "x=\"\""))?;
-    rows.push((
-        text(alloc, "a\"b\\c\nd\te\rné")?,
-        "x=\"a\\\"b\\\\c\\nd\\te\rné\"",
-    ))?;
-    rows.push((tuple(alloc, &[])?, "x=[]"))?;
-    rows.push((list(alloc, &[-5])?, "x={-5}"))?;
-    rows.push((Value::Inst(InstRef::Old(1)), "x=main[1]"))?;
-    rows.push((of_many_forms(alloc)?, "x={[1,2],{},[],\"]\",worker[2]}"))?;
-    Ok(rows)
+fn with_text(alloc: Global, row: usize) -> Result<Value, NoMemory> {
+    match row {
+        0 => Ok(Value::Int(0)),
+        1 => Ok(Value::Int(i64::MAX)),
+        2 => Ok(Value::Int(i64::MIN)),
+        3 => text(alloc, ""),
+        4 => text(alloc, "a\"b\\c\nd\te\rné"),
+        5 => tuple(alloc, &[]),
+        6 => list(alloc, &[-5]),
+        7 => Ok(Value::Inst(InstRef::Old(1))),
+        _ => of_all_forms(alloc),
+    }
 }
 
 /// The text of a value after `x=`, and `x=` alone where a name is missing.
@@ -209,9 +238,21 @@ fn written(alloc: Global, value: &Value, names: &Names) -> Result<Vec<u8>, NoMem
 
 #[test]
 fn texts(rt: HostRuntime) -> Result<(), Fail> {
+    let rows = [
+        "x=0",
+        "x=9223372036854775807",
+        "x=-9223372036854775808",
+        "x=\"\"",
+        "x=\"a\\\"b\\\\c\\nd\\te\rné\"",
+        "x=[]",
+        "x={-5}",
+        "x=main[1]",
+        "x={[1,2],{},[],\"]\",worker[2]}",
+    ];
     let names = names(rt.alloc(), &["main", "worker"])?;
-    for (value, wanted) in &with_texts(rt.alloc())? {
-        let out = written(rt.alloc(), value, &names)?;
+    for (row, wanted) in rows.iter().enumerate() {
+        let value = with_text(rt.alloc(), row)?;
+        let out = written(rt.alloc(), &value, &names)?;
         assert_eq!(rt; out.as_slice(), wanted.as_bytes());
     }
     text_laws();
