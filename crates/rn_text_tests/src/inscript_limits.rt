@@ -27,95 +27,102 @@ fn nested(
     end_of(alloc, text.as_str())
 }
 
-type Row<'a> = (
-    u32,
-    &'a str,
-    (&'a str, &'a str, &'a str),
-    Result<usize, InscriptFault>,
-);
+fn end_shown(alloc: Global, found: Result<usize, InscriptFault>) -> Result<String, NoMemory> {
+    match found {
+        Ok(end) => Ok(format!(in alloc; "end {end}")?),
+        Err(P2(k)) => Ok(format!(in alloc; "P2 {k}")?),
+        Err(P5(k)) => Ok(format!(in alloc; "P5 {k}")?),
+        Err(InscriptFault::NoMemory) => Err(NoMemory),
+    }
+}
+
+/// How often a part stands, the text before, the part, the text inside, the part after it, and how
+/// the whole ends.
+type Row<'a> = (u32, &'a str, &'a str, &'a str, &'a str, &'a str);
 
 /// The index of the first row whose text has another end, or is refused otherwise.
-fn first_unlike(alloc: Global, rows: &[Row]) -> Option<usize> {
-    for (i, (times, start, parts, wanted)) in rows.iter().enumerate() {
-        if nested(alloc, *times, start, *parts) != *wanted {
-            return Some(i);
+fn first_unlike(alloc: Global, rows: &[Row]) -> Result<Option<usize>, NoMemory> {
+    for (i, (times, start, open, inner, close, wanted)) in rows.iter().enumerate() {
+        let found = nested(alloc, *times, start, (*open, *inner, *close));
+        if end_shown(alloc, found)?.as_str() != *wanted {
+            return Ok(Some(i));
         }
     }
-    None
+    Ok(None)
 }
 
 #[test]
 fn levels(rt: HostRuntime) -> Result<(), Fail> {
     let rows = [
-        (64, "in p: ", ("(", "x", ")"), Ok(132)),
-        (65, "in p: ", ("(", "x", ")"), Err(P5(67))),
-        (64, "in p: ", ("[", "", "]"), Ok(131)),
-        (65, "in p: ", ("[", "", "]"), Err(P5(67))),
-        (64, "in p: ", ("{", "", "}"), Ok(131)),
-        (65, "in p: ", ("{", "", "}"), Err(P5(67))),
-        (64, "in p: ", ("{1,", "2", "}"), Ok(260)),
-        (65, "in p: ", ("{1,", "2", "}"), Err(P5(195))),
-        (64, "in p: ", ("-", "1", ""), Ok(68)),
-        (65, "in p: ", ("-", "1", ""), Err(P5(67))),
-        (300, "in p: ", ("-", "1", ""), Err(P5(67))),
-        (64, "in p: ", ("-", "step", ""), Ok(68)),
-        (64, "in p: ", ("-", "step()", ""), Err(P5(68))),
-        (63, "in p: ", ("-", "step()", ""), Ok(69)),
-        (64, "in p: ", ("-", "1 + (x)", ""), Ok(72)),
-        (32, "in p: ", ("-(", "x", ")"), Ok(100)),
-        (33, "in p: ", ("-(", "x", ")"), Err(P5(67))),
-        (32, "in p: ", ("[-", "x", "]"), Ok(100)),
-        (33, "in p: ", ("[-", "x", "]"), Err(P5(67))),
-        (64, "in p: ", ("(", ",", ")"), Err(P2(67))),
-        (65, "in p: ", ("(", ",", ")"), Err(P5(67))),
+        (64, "in p: ", "(", "x", ")", "end 132"),
+        (65, "in p: ", "(", "x", ")", "P5 67"),
+        (64, "in p: ", "[", "", "]", "end 131"),
+        (65, "in p: ", "[", "", "]", "P5 67"),
+        (64, "in p: ", "{", "", "}", "end 131"),
+        (65, "in p: ", "{", "", "}", "P5 67"),
+        (64, "in p: ", "{1,", "2", "}", "end 260"),
+        (65, "in p: ", "{1,", "2", "}", "P5 195"),
+        (64, "in p: ", "-", "1", "", "end 68"),
+        (65, "in p: ", "-", "1", "", "P5 67"),
+        (300, "in p: ", "-", "1", "", "P5 67"),
+        (64, "in p: ", "-", "step", "", "end 68"),
+        (64, "in p: ", "-", "step()", "", "P5 68"),
+        (63, "in p: ", "-", "step()", "", "end 69"),
+        (64, "in p: ", "-", "1 + (x)", "", "end 72"),
+        (32, "in p: ", "-(", "x", ")", "end 100"),
+        (33, "in p: ", "-(", "x", ")", "P5 67"),
+        (32, "in p: ", "[-", "x", "]", "end 100"),
+        (33, "in p: ", "[-", "x", "]", "P5 67"),
+        (64, "in p: ", "(", ",", ")", "P2 67"),
+        (65, "in p: ", "(", ",", ")", "P5 67"),
     ];
-    assert_eq!(&rt; first_unlike(rt.alloc(), &rows), None);
+    assert_eq!(&rt; first_unlike(rt.alloc(), &rows)?, None);
     Ok(())
 }
 
 #[test]
 fn levels_of_other_forms(rt: HostRuntime) -> Result<(), Fail> {
     let rows = [
-        (64, "guard ", ("!(", "x", ")"), Ok(194)),
-        (65, "guard ", ("!(", "x", ")"), Err(P5(130))),
-        (63, "x:ch(", ("(", "1", ")"), Err(P2(131))),
-        (64, "x:ch(", ("(", "1", ")"), Err(P5(67))),
-        (63, ":ch(", ("-", "1)", ""), Ok(68)),
-        (64, ":ch(", ("-", "1)", ""), Err(P5(66))),
-        (64, "x = ", ("(", "1", ")"), Ok(131)),
-        (65, "x = ", ("(", "1", ")"), Err(P5(66))),
-        (65, "in p: ,", ("(", "1", ")"), Err(P2(3))),
-        (65, "in p", ("(", "1", ")"), Ok(2)),
+        (64, "guard ", "!(", "x", ")", "end 194"),
+        (65, "guard ", "!(", "x", ")", "P5 130"),
+        (63, "x:ch(", "(", "1", ")", "P2 131"),
+        (64, "x:ch(", "(", "1", ")", "P5 67"),
+        (63, ":ch(", "-", "1)", "", "end 68"),
+        (64, ":ch(", "-", "1)", "", "P5 66"),
+        (64, "x = ", "(", "1", ")", "end 131"),
+        (65, "x = ", "(", "1", ")", "P5 66"),
+        (65, "in p: ,", "(", "1", ")", "P2 3"),
+        (65, "in p", "(", "1", ")", "end 2"),
     ];
-    assert_eq!(&rt; first_unlike(rt.alloc(), &rows), None);
+    assert_eq!(&rt; first_unlike(rt.alloc(), &rows)?, None);
     Ok(())
 }
 
 #[test]
 fn operators(rt: HostRuntime) -> Result<(), Fail> {
     let rows = [
-        (256, "in p: 1", ("+1", "", ""), Ok(516)),
-        (257, "in p: 1", ("+1", "", ""), Err(P5(516))),
-        (256, "in p: 1", ("+1", "+[[", ""), Err(P5(516))),
-        (255, "in p: 1", ("+1", "+", ""), Err(P2(515))),
-        (85, "in p: 1", ("*1/1%1", "-1", ""), Ok(516)),
-        (85, "in p: 1", ("*1/1%1", "-1-1", ""), Err(P5(516))),
-        (128, "in p: 1", ("--1", "", ""), Ok(388)),
-        (129, "in p: 1", ("--1", "", ""), Err(P5(388))),
-        (256, "in p: [1", (",-1", "]", ""), Ok(774)),
-        (257, "in p: [1", (",-1", "]", ""), Err(P5(774))),
-        (256, "guard x", (" && x", "", ""), Ok(514)),
-        (257, "guard x", (" && x", "", ""), Err(P5(514))),
-        (256, "guard x", (" || x", "", ""), Ok(514)),
-        (257, "guard x", (" || x", "", ""), Err(P5(514))),
-        (127, "guard x == 1", (" && x == 1", "", ""), Ok(512)),
-        (128, "guard x == 1", (" && x == 1", "", ""), Err(P5(514))),
-        (128, "guard x", (" && !(x)", "", ""), Ok(642)),
-        (129, "guard x", (" && !(x)", "", ""), Err(P5(642))),
-        (256, "x = 1", ("+1", "", ""), Ok(515)),
-        (128, "x", ("+1", " = y", "+1"), Ok(515)),
-        (129, "x", ("+1", " = y", "+1"), Err(P5(515))),
+        (256, "in p: 1", "+1", "", "", "end 516"),
+        (257, "in p: 1", "+1", "", "", "P5 516"),
+        (256, "in p: 1", "+1", "+[[", "", "P5 516"),
+        (255, "in p: 1", "+1", "+", "", "P2 515"),
+        (85, "in p: 1", "*1/1%1", "-1", "", "end 516"),
+        (85, "in p: 1", "*1/1%1", "-1-1", "", "P5 516"),
+        (128, "in p: 1", "--1", "", "", "end 388"),
+        (129, "in p: 1", "--1", "", "", "P5 388"),
+        (256, "in p: [1", ",-1", "]", "", "end 774"),
+        (257, "in p: [1", ",-1", "]", "", "P5 774"),
+        (256, "guard x", " && x", "", "", "end 514"),
+        (257, "guard x", " && x", "", "", "P5 514"),
+        (256, "guard x", " || x", "", "", "end 514"),
+        (257, "guard x", " || x", "", "", "P5 514"),
+        (127, "guard x == 1", " && x == 1", "", "", "end 512"),
+        (128, "guard x == 1", " && x == 1", "", "", "P5 514"),
+        (128, "guard x", " && !(x)", "", "", "end 642"),
+        (129, "guard x", " && !(x)", "", "", "P5 642"),
+        (256, "x = 1", "+1", "", "", "end 515"),
+        (128, "x", "+1", " = y", "+1", "end 515"),
+        (129, "x", "+1", " = y", "+1", "P5 515"),
     ];
-    assert_eq!(&rt; first_unlike(rt.alloc(), &rows), None);
+    assert_eq!(&rt; first_unlike(rt.alloc(), &rows)?, None);
     Ok(())
 }
