@@ -14,4 +14,6 @@ mod record;
 #[cfg(test)]
 mod told;
 #[cfg(test)]
+mod told_calls;
+#[cfg(test)]
 mod words;
