@@ -10,8 +10,6 @@ mod fitting;
 mod grouping;
 mod holding;
 mod rows;
-#[cfg(test)]
-mod tests;
 
 pub use demands::{Demands, Place2, Places2};
 pub use fitting::fits;
