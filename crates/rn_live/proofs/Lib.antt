@@ -4,5 +4,4 @@ pub mod HolderLemmas
 pub mod ListingLemmas
 pub mod LiveMarks
 pub mod StartLemmas
-pub mod TestLemmas
 pub mod TokenLemmas

@@ -7,8 +7,6 @@ mod laws;
 mod listing;
 mod marking;
 mod starting;
-#[cfg(test)]
-mod tests;
 mod visiting;
 
 pub use laws::places_are_few;

@@ -10,6 +10,8 @@ mod build;
 #[cfg(test)]
 mod channel;
 #[cfg(test)]
+mod live;
+#[cfg(test)]
 mod model;
 #[cfg(test)]
 mod table;

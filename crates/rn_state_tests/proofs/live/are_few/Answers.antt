@@ -4,8 +4,8 @@ use Rattle.std.proofs.lemmas.List.{take_all}
 use Rattle.std.proofs.lemmas.List.Elements.{All-more}
 use Rattle.rn_model.specs.Markings.{instance_at}
 use Rattle.rn_live.specs.Marks.{places_of}
-use Rattle.rn_live.proofs.TestLemmas.{few}
-use Rattle.rn_live.proofs.tests.are_few.Goals as goal
+use Rattle.rn_state_tests.proofs.FewPlaces.{few}
+use Rattle.rn_state_tests.proofs.live.are_few.Goals as goal
 
 pub loop-number-preserved : goal.loop-number-preserved
 loop-number-preserved c =

@@ -1,6 +1,6 @@
 use Rattle.std.proofs.Common.{◌≤◌, ◌∙◌, length, arith}
-use Rattle.rn_live.proofs.TestLemmas.{all_few}
-use Rattle.rn_live.proofs.tests.is_small.Goals as goal
+use Rattle.rn_state_tests.proofs.FewPlaces.{all_few}
+use Rattle.rn_state_tests.proofs.live.is_small.Goals as goal
 
 pub returns : goal.returns
 returns c = λ yes n i there.

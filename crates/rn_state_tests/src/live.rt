@@ -3,11 +3,12 @@ ghost use Rattle.std.specs.Prelude.{◌≡◌, ◌<◌, ◌≤◌, ◌^◌, ℕ,
 ghost use Rattle.rn_model.specs.Markings.{Instance, instance_at};
 ghost use Rattle.rn_live.specs.Marks.{places_of};
 
-use crate::{garbage, live};
+use crate::build::{make, net, of_nets, one, place, transition};
 use rn_items::{Items, NoMemory};
-use rn_model::{Net, Nets, Place, System, Transition, Uplink};
-use rn_table::{Change, Table};
-use rn_value::{InstRef, Kind, Str, Vals, Value};
+use rn_live::{garbage, live};
+use rn_model::{Net, Nets, Places, System};
+use rn_table::Table;
+use rn_value::{InstRef, Kind, Value};
 use std::alloc::Global;
 use std::test::Fail;
 
@@ -20,21 +21,11 @@ enum Token {
 }
 
 /// An instance of a net of its own: whether a transition of the net has no uplink, and the tokens of
-/// its place.
+/// its second place.
 #[derive(Clone, Copy)]
 struct Made<'a> {
     starts: bool,
     tokens: &'a [Token],
-}
-
-fn text(alloc: Global, bytes: &str) -> Result<Str, NoMemory> {
-    Ok(Str::from_string(String::from_str(alloc, bytes)?))
-}
-
-fn one(alloc: Global, value: Value) -> Result<Vals, NoMemory> {
-    let mut values = Items::new(alloc);
-    values.push(value)?;
-    Ok(values)
 }
 
 fn value_of(alloc: Global, token: Token) -> Result<Value, NoMemory> {
@@ -48,73 +39,25 @@ fn value_of(alloc: Global, token: Token) -> Result<Value, NoMemory> {
     }
 }
 
-fn places(alloc: Global, tokens: &[Token]) -> Result<Items<Place>, NoMemory> {
+fn places(alloc: Global, tokens: &[Token]) -> Result<Places, NoMemory> {
     let mut initial = Items::new(alloc);
     for token in tokens {
         initial.push(value_of(alloc, *token)?)?;
     }
-    let mut places = Items::new(alloc);
-    places.push(Place {
-        name: text(alloc, "empty")?,
-        kind: Kind::Int,
-        initial: Items::new(alloc),
-    })?;
-    places.push(Place {
-        name: text(alloc, "p")?,
-        kind: Kind::Net,
-        initial,
-    })?;
+    let mut places = one(alloc, place(alloc, Kind::Int, Items::new(alloc))?)?;
+    places.push(place(alloc, Kind::Net, initial)?)?;
     Ok(places)
 }
 
-fn transition(alloc: Global, starts: bool) -> Result<Transition, NoMemory> {
-    let uplink = if starts {
-        None
-    } else {
-        Some(Uplink {
-            channel: 0,
-            args: Items::new(alloc),
-        })
-    };
-    Ok(Transition {
-        name: text(alloc, "t")?,
-        vars: Items::new(alloc),
-        action_vars: Items::new(alloc),
-        equalities: Items::new(alloc),
-        guards: Items::new(alloc),
-        actions: Items::new(alloc),
-        creations: Items::new(alloc),
-        uplink,
-        downlinks: Items::new(alloc),
-        arcs: Items::new(alloc),
-    })
-}
-
-fn net(alloc: Global, name: &str, made: &Made<'_>) -> Result<Net, NoMemory> {
-    let mut transitions = Items::new(alloc);
-    transitions.push(transition(alloc, made.starts)?)?;
-    Ok(Net {
-        name: text(alloc, name)?,
-        vars: Items::new(alloc),
-        places: places(alloc, made.tokens)?,
-        transitions,
-    })
-}
-
-/// Makes one more instance, of this net, where that may come.
-fn make(alloc: Global, table: &mut Table, system: &System, net: u32) -> Result<(), NoMemory> {
-    if net as usize >= system.nets.len() || table.next() > 20000 {
-        return Ok(());
-    }
-    let mut made = Items::new(alloc);
-    made.push(net)?;
-    let change = Change {
-        taken: Items::new(alloc),
-        cleared: Items::new(alloc),
-        made,
-        put: Items::new(alloc),
-    };
-    table.apply(system, &change)
+fn net_of(alloc: Global, k: usize, made: &Made<'_>) -> Result<Net, NoMemory> {
+    let name = if k == 0 { "main" } else { "other" };
+    let places = places(alloc, made.tokens)?;
+    net(
+        alloc,
+        name,
+        places,
+        one(alloc, transition(alloc, made.starts)?)?,
+    )
 }
 
 /// A table with an instance of each net, the first of them `main`.
@@ -146,39 +89,36 @@ fn is_small(table: &Table) -> Result<bool, NoMemory>
     Ok(are_few(table, numbers.as_slice()))
 }
 
-fn system_of(alloc: Global, rows: &[Made<'_>]) -> Result<System, NoMemory> {
-    let mut nets: Nets = Items::new(alloc);
-    for (k, made) in rows.iter().enumerate() {
-        let name = if k == 0 { "main" } else { "other" };
-        nets.push(net(alloc, name, made)?)?;
-    }
-    Ok(System {
-        nets,
-        channels: Items::new(alloc),
-    })
-}
-
-/// Whether of a table just these are garbage and just those are live.
-fn are(
+/// The garbage and the live instances of a table of few places.
+fn parts(
     alloc: Global,
     system: &System,
     table: &Table,
-    dead: &[u32],
-    alive: &[u32],
-) -> Result<bool, NoMemory> {
+) -> Result<Option<(Vec<u32>, Vec<u32>)>, NoMemory> {
     if !is_small(table)? {
-        return Ok(false);
+        return Ok(None);
     }
-    let garbage = garbage(alloc, system, table)?;
-    let live = live(alloc, system, table)?;
-    Ok(garbage.as_slice() == dead && live.as_slice() == alive)
+    let dead = garbage(alloc, system, table)?;
+    let alive = live(alloc, system, table)?;
+    Ok(Some((dead, alive)))
+}
+
+fn system_of(alloc: Global, rows: &[Made<'_>]) -> Result<System, NoMemory> {
+    let mut nets: Nets = Items::new(alloc);
+    for (k, made) in rows.iter().enumerate() {
+        nets.push(net_of(alloc, k, made)?)?;
+    }
+    Ok(of_nets(alloc, nets))
 }
 
 /// Whether of these instances, numbered from 1, just these are garbage and just those are live.
 fn splits(alloc: Global, rows: &[Made<'_>], dead: &[u32], alive: &[u32]) -> Result<bool, NoMemory> {
     let system = system_of(alloc, rows)?;
     let table = table_of(alloc, &system)?;
-    are(alloc, &system, &table, dead, alive)
+    match parts(alloc, &system, &table)? {
+        None => Ok(false),
+        Some((garbage, live)) => Ok(garbage.as_slice() == dead && live.as_slice() == alive),
+    }
 }
 
 fn start(tokens: &[Token]) -> Made<'_> {
@@ -196,7 +136,7 @@ fn called(tokens: &[Token]) -> Made<'_> {
 }
 
 #[test]
-fn chains(rt: HostRuntime) -> Result<(), Fail> {
+fn chains_and_cycles(rt: HostRuntime) -> Result<(), Fail> {
     let alloc = rt.alloc();
     let [to_2, to_3, to_4, to_9] = [
         [Token::Named(2)],
@@ -214,13 +154,6 @@ fn chains(rt: HostRuntime) -> Result<(), Fail> {
     assert!(rt; splits(alloc, &chain, &[5], &[1, 2, 3, 4])?);
     let named_by_garbage = [start(&to_9), called(&to_3), called(&[])];
     assert!(rt; splits(alloc, &named_by_garbage, &[2, 3], &[1])?);
-    Ok(())
-}
-
-#[test]
-fn cycles(rt: HostRuntime) -> Result<(), Fail> {
-    let alloc = rt.alloc();
-    let [to_2, to_3] = [[Token::Named(2)], [Token::Named(3)]];
     let apart = [start(&[]), called(&to_3), called(&to_2)];
     assert!(rt; splits(alloc, &apart, &[2, 3], &[1])?);
     let reached = [start(&to_2), called(&to_3), called(&to_2)];
@@ -229,19 +162,13 @@ fn cycles(rt: HostRuntime) -> Result<(), Fail> {
 }
 
 #[test]
-fn starts(rt: HostRuntime) -> Result<(), Fail> {
+fn starts_and_tokens(rt: HostRuntime) -> Result<(), Fail> {
     let alloc = rt.alloc();
     let to_2 = [Token::Named(2)];
     let none = [called(&to_2), called(&[])];
     assert!(rt; splits(alloc, &none, &[1, 2], &[])?);
     let third = [called(&[]), called(&[]), start(&to_2)];
     assert!(rt; splits(alloc, &third, &[1], &[2, 3])?);
-    Ok(())
-}
-
-#[test]
-fn tokens(rt: HostRuntime) -> Result<(), Fail> {
-    let alloc = rt.alloc();
     let deep = [Token::Deep(2)];
     let in_list = [start(&deep), called(&[]), called(&[])];
     assert!(rt; splits(alloc, &in_list, &[3], &[1, 2])?);
@@ -260,29 +187,23 @@ fn tokens(rt: HostRuntime) -> Result<(), Fail> {
 fn long_chain(alloc: Global, starts: bool) -> Result<System, NoMemory> {
     let mut nets: Nets = Items::new(alloc);
     for k in 0..10000 {
-        let name = if k == 0 { "main" } else { "other" };
         let made = Made {
             starts: starts && k == 0,
             tokens: &[Token::Named(k + 2)],
         };
-        nets.push(net(alloc, name, &made)?)?;
+        nets.push(net_of(alloc, k as usize, &made)?)?;
     }
-    Ok(System {
-        nets,
-        channels: Items::new(alloc),
-    })
+    Ok(of_nets(alloc, nets))
 }
 
 /// How many instances of a long chain are garbage, and how many are live.
 fn counts(alloc: Global, starts: bool) -> Result<(usize, usize), NoMemory> {
     let system = long_chain(alloc, starts)?;
     let table = table_of(alloc, &system)?;
-    if !is_small(&table)? {
-        return Ok((0, 0));
+    match parts(alloc, &system, &table)? {
+        None => Ok((0, 0)),
+        Some((dead, alive)) => Ok((dead.len(), alive.len())),
     }
-    let dead = garbage(alloc, &system, &table)?;
-    let alive = live(alloc, &system, &table)?;
-    Ok((dead.len(), alive.len()))
 }
 
 #[test]
