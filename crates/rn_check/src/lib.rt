@@ -28,11 +28,7 @@ mod places;
 mod scope;
 mod seeing;
 mod sight;
-#[cfg(test)]
-mod system_tests;
 mod table;
-#[cfg(test)]
-mod tests;
 mod transitions;
 
 pub use checked::{check_system, first_fault};

@@ -2,6 +2,18 @@
 #![tactic(auto)]
 
 #[cfg(test)]
+mod check;
+#[cfg(test)]
+mod check_examples;
+#[cfg(test)]
+mod check_limits;
+#[cfg(test)]
+mod check_order;
+#[cfg(test)]
+mod check_readings;
+#[cfg(test)]
+mod check_system;
+#[cfg(test)]
 mod net;
 #[cfg(test)]
 mod net_prefixes;
@@ -9,3 +21,5 @@ mod net_prefixes;
 mod print;
 #[cfg(test)]
 mod spot;
+#[cfg(test)]
+mod told;

@@ -1,5 +1,5 @@
 //! Net texts and the systems that they mean.
-use crate::{CheckFault, check_system};
+use rn_check::{CheckFault, check_system};
 use rn_model::System;
 use rn_net::read_system;
 use rn_notation::Spot;
