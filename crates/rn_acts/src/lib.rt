@@ -3,14 +3,10 @@
 
 mod acting;
 mod acts;
-#[cfg(test)]
-mod change_tests;
 mod changes;
 mod creations;
 mod laws;
 mod outputs;
-#[cfg(test)]
-mod tests;
 
 pub use acts::{Acted, act};
 pub use changes::change_of;
