@@ -8,8 +8,6 @@ mod derived;
 mod forcing;
 mod part;
 mod parts;
-#[cfg(test)]
-mod tests;
 
 pub use candidate::{Candidate, NotSound};
 pub use certifying::certify;

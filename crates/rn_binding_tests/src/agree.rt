@@ -271,7 +271,7 @@ fn agreeing(rt: HostRuntime) -> Result<(), Fail> {
 }
 
 // A chain of calls, which counts down to zero.
-const CHAIN: &str = "
+pub(crate) const CHAIN: &str = "
     channel c(int);
     net main {
         var x, n: int;

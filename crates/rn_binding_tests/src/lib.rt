@@ -6,6 +6,8 @@ mod acts;
 #[cfg(test)]
 mod agree;
 #[cfg(test)]
+mod binding;
+#[cfg(test)]
 mod nets;
 #[cfg(test)]
 mod rows;
