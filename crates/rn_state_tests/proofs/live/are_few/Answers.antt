@@ -1,6 +1,5 @@
-use Rattle.std.proofs.Common.{◌≡◌, ◌≤◌, get_or, length, take, rules, arith, subst}
-use Rattle.std.specs.Prelude.{All, None, slice_get, option_and_then}
-use Rattle.std.proofs.lemmas.List.{take_all}
+use Rattle.std.proofs.Common.{◌≡◌, ◌≤◌, get_or, length, rules}
+use Rattle.std.specs.Prelude.{None, slice_get, option_and_then}
 use Rattle.std.proofs.lemmas.List.Elements.{All-more}
 use Rattle.rn_model.specs.Markings.{instance_at}
 use Rattle.rn_live.specs.Marks.{places_of}
