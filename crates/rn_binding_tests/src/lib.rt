@@ -8,6 +8,8 @@ mod agree;
 #[cfg(test)]
 mod binding;
 #[cfg(test)]
+mod fire;
+#[cfg(test)]
 mod nets;
 #[cfg(test)]
 mod rows;

@@ -3,4 +3,3 @@ pub mod EntryLemmas
 pub mod FiringLemmas
 pub mod OutcomeLemmas
 pub mod StateLemmas
-pub mod TestLemmas

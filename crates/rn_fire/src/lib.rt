@@ -8,8 +8,6 @@ mod kept;
 mod outcome;
 mod setup;
 mod state;
-#[cfg(test)]
-mod tests;
 
 pub use committing::Commit;
 pub use ending::NoneCommit;

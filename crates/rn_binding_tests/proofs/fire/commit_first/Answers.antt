@@ -1,8 +1,8 @@
 -- The table meets the candidate.
 use Rattle.std.proofs.Common.{subst}
 use Rattle.rn_model.specs.Enabling.{Fits}
-use Rattle.rn_fire.proofs.TestLemmas.{first_enabled}
-use Rattle.rn_fire.proofs.tests.commit_first.Goals as goal
+use Rattle.rn_binding_tests.proofs.NewStates.{first_enabled}
+use Rattle.rn_binding_tests.proofs.fire.commit_first.Goals as goal
 
 pub commit-requires-clause-seen : goal.commit-requires-clause-seen
 commit-requires-clause-seen c =

@@ -3,9 +3,9 @@ ghost use Rattle.std.specs.Prelude.{◌≡◌, ◌≤◌, ◌<◌, [], None, IfO
 ghost use Rattle.rn_binding.specs.Soundness.{IsSound};
 ghost use Rattle.rn_model.specs.Markings.{initial_marking};
 
-use crate::{Commit, SimState, open_state};
 use rn_arcs::fits;
 use rn_binding::{Candidate, certify};
+use rn_fire::{Commit, SimState, open_state};
 use rn_items::Items;
 use rn_model::Options;
 use rn_samples::{idle_system, one_node};
