@@ -2,7 +2,6 @@
 ghost use Rattle.std.specs.Prelude.{IfOk};
 ghost use Rattle.rn_model.specs.Good.{Good};
 
-use rn_binding::NotSound;
 use rn_check::{CheckFault, check_system};
 use rn_model::System;
 use rn_net::{Refusal, read_system};
@@ -15,7 +14,6 @@ pub(crate) enum Trouble {
     NoMemory,
     Unread(Refusal),
     Unchecked(CheckFault),
-    Unsound(NotSound),
 }
 
 impl From<NoMemory> for Trouble {
