@@ -1,6 +1,8 @@
 //! The value of an expression.
-ghost use Rattle.std.specs.Prelude.{◌≡◌, ◌≤◌, IfOk, IfSome, map, option_and_then};
-ghost use Rattle.rn_model.specs.Evaluation.{int_of, list_onto, neg_value, op_value, worth, worths};
+ghost use Rattle.std.specs.Prelude.{◌≡◌, ◌≤◌, IfOk, IfSome, Some, map, option_and_then, option_map, pos};
+ghost use Rattle.rn_model.specs.Lists.{value_beside};
+ghost use Rattle.rn_value.specs.declared.value.Value.TheVariants as Value;
+ghost use Rattle.rn_model.specs.Evaluation.{int_of, int_result, list_onto, neg_value, worth, worths};
 ghost use Rattle.rn_model.specs.Limits.{greatest_step};
 ghost use Rattle.rn_calc.specs.Given.{env_given};
 
@@ -9,7 +11,7 @@ use crate::integers::{operate, opposite};
 use crate::values::Values;
 use rn_items::Items;
 use rn_model::{Expr, OpKind};
-use rn_value::{NoMemory, Vals, Value, copy, copy_inst, copy_text};
+use rn_value::{NoMemory, Str, Vals, Value, copy, copy_inst, copy_text};
 use std::alloc::Global;
 
 fn int_in(value: &Option<Value>) -> Option<i64>
@@ -30,10 +32,10 @@ fn negate(value: &Option<Value>) -> Option<Value>
     }
 }
 
-fn apply(kind: OpKind, a: &Option<Value>, b: &Option<Value>) -> Option<Value>
-    ensures { result ≡ op_value kind a.now b.now }
+fn apply(kind: OpKind, a: Option<i64>, b: Option<i64>) -> Option<Value>
+    ensures { result ≡ option_and_then (λ x. option_and_then (int_result kind x) b) a }
 {
-    match (int_in(a), int_in(b)) {
+    match (a, b) {
         (Some(x), Some(y)) => operate(kind, x, y),
         _ => None,
     }
@@ -53,6 +55,55 @@ fn put_onto(values: Vals, tail: Option<Value>) -> Result<Option<Value>, NoMemory
     }
 }
 
+fn text_value(alloc: Global, text: &Str) -> Result<Option<Value>, NoMemory>
+    ensures { IfOk result (λ value. value ≡ Some (Value.Text text.now)) }
+{
+    Ok(Some(Value::Text(copy_text(alloc, text)?)))
+}
+
+fn variable_value<V: Values>(alloc: Global, values: &V, x: u32) -> Result<Option<Value>, NoMemory>
+    ensures { IfOk result (λ value. value ≡ value_beside (V.env values.now).pairs x) }
+{
+    match values.value(x) {
+        Some(value) => Ok(Some(copy(alloc, value)?)),
+        None => Ok(None),
+    }
+}
+
+fn this_value<V: Values>(alloc: Global, values: &V) -> Result<Option<Value>, NoMemory>
+    ensures { IfOk result (λ value. value ≡ Some (Value.Inst (V.env values.now).this)) }
+{
+    Ok(Some(Value::Inst(copy_inst(alloc, values.this())?)))
+}
+
+fn step_value<V: Values>(values: &V) -> Option<Value>
+    requires step { IfSome (V.env values.now).step (λ n. n ≤ greatest_step) }
+    ensures { result ≡ option_map (λ n. Value.Int (pos n)) (V.env values.now).step }
+{
+    match values.step() {
+        Some(n) => Some(Value::Int(n as i64)),
+        None => None,
+    }
+}
+
+fn tuple_of(parts: Option<Vals>) -> Option<Value>
+    ensures { result ≡ option_map (λ parts. Value.Tuple parts) parts }
+{
+    match parts {
+        Some(parts) => Some(Value::Tuple(parts)),
+        None => None,
+    }
+}
+
+fn list_of(parts: Option<Vals>) -> Option<Value>
+    ensures { result ≡ option_map (λ parts. Value.List parts) parts }
+{
+    match parts {
+        Some(parts) => Some(Value::List(parts)),
+        None => None,
+    }
+}
+
 /// The value of an expression, where it has one, under anything that lends values.
 #[cycle(evaluation)]
 pub fn evaluate<V: Values>(
@@ -65,40 +116,39 @@ pub fn evaluate<V: Values>(
 {
     match expr {
         Expr::Int(n) => Ok(Some(Value::Int(*n))),
-        Expr::Text(text) => Ok(Some(Value::Text(copy_text(alloc, text)?))),
-        Expr::Var(x) => match values.value(*x) {
-            Some(value) => Ok(Some(copy(alloc, value)?)),
-            None => Ok(None),
-        },
-        Expr::This => Ok(Some(Value::Inst(copy_inst(alloc, values.this())?))),
-        Expr::Step => match values.step() {
-            Some(n) => Ok(Some(Value::Int(n as i64))),
-            None => Ok(None),
-        },
-        Expr::Tuple(parts) => match evaluate_all(alloc, parts.as_slice(), values)? {
-            Some(parts) => Ok(Some(Value::Tuple(parts))),
-            None => Ok(None),
-        },
-        Expr::List(parts) => match evaluate_all(alloc, parts.as_slice(), values)? {
-            Some(parts) => Ok(Some(Value::List(parts))),
-            None => Ok(None),
-        },
-        Expr::Cons(parts, tail) => match evaluate_all(alloc, parts.as_slice(), values)? {
-            Some(parts) => {
-                let tail = evaluate(alloc, tail.get(), values)?;
-                put_onto(parts, tail)
-            }
-            None => Ok(None),
-        },
-        Expr::Neg(part) => {
-            let value = evaluate(alloc, part.get(), values)?;
-            Ok(negate(&value))
+        Expr::Text(text) => text_value(alloc, text),
+        Expr::Var(x) => variable_value(alloc, values, *x),
+        Expr::This => this_value(alloc, values),
+        Expr::Step => Ok(step_value(values)),
+        Expr::Tuple(parts) => Ok(tuple_of(evaluate_all(alloc, parts.as_slice(), values)?)),
+        Expr::List(parts) => Ok(list_of(evaluate_all(alloc, parts.as_slice(), values)?)),
+        Expr::Cons(parts, tail) => {
+            let parts = evaluate_all(alloc, parts.as_slice(), values)?;
+            join_tail(alloc, parts, tail.get(), values)
         }
+        Expr::Neg(part) => Ok(negate(&evaluate(alloc, part.get(), values)?)),
         Expr::Op(kind, a, b) => {
-            let x = evaluate(alloc, a.get(), values)?;
-            let y = evaluate(alloc, b.get(), values)?;
-            Ok(apply(*kind, &x, &y))
+            let x = int_in(&evaluate(alloc, a.get(), values)?);
+            let y = int_in(&evaluate(alloc, b.get(), values)?);
+            Ok(apply(*kind, x, y))
         }
+    }
+}
+
+#[cycle(evaluation)]
+fn join_tail<V: Values>(
+    alloc: Global,
+    parts: Option<Vals>,
+    tail: &Expr,
+    values: &V,
+) -> Result<Option<Value>, NoMemory>
+    requires step { IfSome (V.env values.now).step (λ n. n ≤ greatest_step) }
+    ensures { IfOk result (λ value. value ≡ option_and_then
+        (λ vs. option_and_then (list_onto vs) (worth tail.now (V.env values.now))) parts) }
+{
+    match parts {
+        Some(parts) => put_onto(parts, evaluate(alloc, tail, values)?),
+        None => Ok(None),
     }
 }
 
