@@ -3,6 +3,12 @@ mod DueLemmas
 mod LineLemmas
 mod MakerLemmas
 mod NodeLemmas
+mod NumberedAgain
+mod PathsApart
 mod RunLemmas
 mod SameReading
 mod SequenceLemmas
+mod SpelledBindings
+mod SpelledLines
+mod SpelledNodes
+mod SpelledRuns

@@ -1,7 +1,10 @@
 //! What records tell.
-ghost use Rattle.rn_told.specs.Laws.{OneReading};
+ghost use Rattle.rn_told.specs.Laws.{OneReading, OneSpelling, TellsWholeRuns};
 
-/// The bytes of a record tell one run with its marks, or have one first bad line, and not both.
+/// The bytes of a record tell one run with its marks, or have one first bad line, and not both. Where
+/// they tell a run, they are the text of that run, which ends once.
 pub fn record_laws()
-    ensures { OneReading }
+    ensures reading { OneReading }
+    ensures spelling { OneSpelling }
+    ensures whole { TellsWholeRuns }
 {}
