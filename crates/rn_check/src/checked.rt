@@ -31,7 +31,8 @@ pub fn first_fault(alloc: Global, plain: &Plain) -> Result<Option<Fault>, NoMemo
 
 /// The system that a net text means, or why it means none.
 ///
-/// It recurses as deep as brackets nest, 64 levels in what a text spells.
+/// It recurses as deep as expressions nest, which in what a text spells is by 64 levels and 256
+/// operators at most.
 pub fn check_system(alloc: Global, plain: Plain) -> Result<System, CheckFault>
     // What is returned is checked, and what is refused is refused for the first broken rule.
     ensures accepted { IfOk result (λ system. Checked plain system) }

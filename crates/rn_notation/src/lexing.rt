@@ -73,8 +73,6 @@ fn read(alloc: Global, bytes: &[u8]) -> Result<Lexed, NoMemory>
 }
 
 /// The tokens of a text before its first fault, and that fault.
-///
-/// Each byte is looked at a fixed number of times, whatever the text.
 pub fn lex(alloc: Global, bytes: &[u8]) -> Result<Lexed, NoMemory>
     requires { length bytes.now ≤ longest_text }
     // Without a fault, the text is these tokens, and no others.

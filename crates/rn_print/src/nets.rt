@@ -148,8 +148,7 @@ fn put_nets(alloc: Global, nets: &[PNet], out: &mut Vec<u8>) -> Result<(), NoMem
 /// The canonical text of a system, in UTF-8.
 ///
 /// Channels come first and then nets, each in their order, and in a net its variables, places and
-/// transitions. It takes time linear in the text, and recurses as deep as expressions, conditions,
-/// kinds and constants nest.
+/// transitions. It recurses as deep as expressions, conditions, kinds and constants nest.
 pub fn print_system(alloc: Global, plain: &Plain) -> Result<Vec<u8>, NoMemory>
     ensures text { IfOk result (λ bytes. bytes.items ≡ canonical_text plain.now) }
 
