@@ -20,6 +20,7 @@ mutual
     any : {ts rest : List Token} {all : List (List PSimple)} →
         IsAlternatives ts all rest → IsCond ts (any_of all) rest
 
+  -- one or more alternatives between which `||` stands
   pub data IsAlternatives : List Token → List (List PSimple) → List Token → Type 0 where
     alternatives : {ts mid rest : List Token} {b : List PSimple} {all : List (List PSimple)} →
         IsBoth ts b mid → IsMoreAlternatives (b ∷ []) mid all rest → IsAlternatives ts all rest
@@ -34,6 +35,7 @@ mutual
         t.kind ≡ or_sign → IsBoth ts b mid → IsMoreAlternatives (before ++ b ∷ []) mid all rest →
         IsMoreAlternatives before (t ∷ ts) all rest
 
+  -- one or more simple conditions between which `&&` stands
   pub data IsBoth : List Token → List PSimple → List Token → Type 0 where
     both : {ts mid rest : List Token} {s : PSimple} {all : List PSimple} →
         IsSimple ts s mid → IsMoreBoth (s ∷ []) mid all rest → IsBoth ts all rest

@@ -40,6 +40,7 @@ mutual
         plus_of t.kind ≡ Some op → IsProduct ts b mid → IsTerms (joined op a b) mid e rest →
         IsTerms a (t ∷ ts) e rest
 
+  -- operands between which `*`, `/` and `%` stand
   pub data IsProduct : List Token → PExpr → List Token → Type 0 where
     product : {ts mid rest : List Token} {a e : PExpr} →
         IsUnary ts a mid → IsFactors a mid e rest → IsProduct ts e rest
@@ -51,11 +52,13 @@ mutual
         times_of t.kind ≡ Some op → IsUnary ts b mid → IsFactors (joined op a b) mid e rest →
         IsFactors a (t ∷ ts) e rest
 
+  -- an operand with any number of minuses before it
   pub data IsUnary : List Token → PExpr → List Token → Type 0 where
     negative : {t : Token} {ts rest : List Token} {e : PExpr} →
         t.kind ≡ minus → IsUnary ts e rest → IsUnary (t ∷ ts) (at_spot t.spot (F.Neg e)) rest
     primary : {ts rest : List Token} {e : PExpr} → IsPrimary ts e rest → IsUnary ts e rest
 
+  -- an operand: one token, `step()`, or what stands in brackets
   pub data IsPrimary : List Token → PExpr → List Token → Type 0 where
     number : {t : Token} {rest : List Token} {n : ℤ} →
         t.kind ≡ Number n → IsPrimary (t ∷ rest) (at_spot t.spot (F.Int n)) rest
@@ -90,6 +93,7 @@ mutual
     some : {close : TokenKind} {u : Token} {ts rest : List Token} {es : List PExpr} →
         IsExprs ts es (u ∷ rest) → u.kind ≡ close → IsListed close ts es rest
 
+  -- one or more expressions between which commas stand
   pub data IsExprs : List Token → List PExpr → List Token → Type 0 where
     exprs : {ts mid rest : List Token} {e : PExpr} {es : List PExpr} →
         IsExpr ts e mid → IsMoreExprs (e ∷ []) mid es rest → IsExprs ts es rest

@@ -37,6 +37,7 @@ pub data IsCall : List Token → PName × List PExpr → List Token → Type 0 w
       t.kind ≡ Name ch → u.kind ≡ open_paren → IsListed close_paren ts es rest →
       IsCall (t ∷ u ∷ ts) (name_at t.spot ch, es) rest
 
+-- the form of an inscription, from its first token to its last
 pub data IsInscribed : List Token → PInscribed → List Token → Type 0 where
   -- `in p` and the like, without and with an inscription
   plain_arc : {t u : Token} {rest : List Token} {kind : ArcKind} {p : List ℕ} →

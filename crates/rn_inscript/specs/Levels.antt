@@ -32,10 +32,12 @@ closes (Sign k) = list_any (nat_eq k)
     (sign.RIGHT_BRACE ∷ sign.RIGHT_BRACKET ∷ sign.RIGHT_PAREN ∷ [])
 closes _ = false
 
+-- `-`, unary or not
 abbrev pub is_minus : TokenKind → Bool
 is_minus (Sign k) = nat_eq k sign.MINUS
 is_minus _ = false
 
+-- `(`
 abbrev pub is_paren : TokenKind → Bool
 is_paren (Sign k) = nat_eq k sign.LEFT_PAREN
 is_paren _ = false
@@ -76,6 +78,7 @@ levels_after c kind =
     else if is_minus kind && not c.ended then negative ∷ levels_at c kind
     else levels_at c kind
 
+-- what stands open after a token, and how many operators came up to and with it
 abbrev pub after_token : Count → TokenKind → Count
 after_token c kind = record {
   levels = levels_after c kind;
