@@ -70,7 +70,7 @@ ascends_at (x ∷ xs) zero (suc k) v w up order_is at_i at_k =
 ascends_at (x ∷ xs) (suc i) zero v w up order_is at_i at_k = absurd (omega arith)
 ascends_at (x ∷ xs) (suc i) (suc k) v w up order_is at_i at_k = ascends_at xs i k v w up.1 (omega arith) at_i at_k
 
-within : (xs : List Value) (k : ℕ) (w : Value) → slice_get xs k ≡ Some w → k < length xs
+pub within : (xs : List Value) (k : ℕ) (w : Value) → slice_get xs k ≡ Some w → k < length xs
 within [] k w is = absurd (let no : ⊥ = cc in no)
 within (x ∷ xs) zero w is = omega arith
 within (x ∷ xs) (suc k) w is = omega (arith, within xs k w is)

@@ -61,6 +61,7 @@ impl Bag {
         ensures later { index < length self.now → index < result }
         ensures equal { (k : ℕ) → index ≤ k → k < result → slice_get self.now k ≡ slice_get self.now index }
         ensures other { (k : ℕ) → result ≤ k → k < length self.now → slice_get self.now k ≢ slice_get self.now index }
+        ensures past { length self.now ≤ index → result ≡ length self.now }
     {
         match self.get(index) {
             None => self.len(),
