@@ -7,6 +7,7 @@ use Rattle.std.specs.Cmp.Lexicographic.{pointwise}
 use Rattle.std.proofs.lemmas.Bool.Decides.{nat_tests}
 use Rattle.std.proofs.lemmas.List.{length-map, map-append}
 use Rattle.std.proofs.lemmas.Option.{slice_get_within, same_Some}
+use Rattle.rn_items.proofs.Numbers.{same_numbers, numbers_themselves}
 use Rattle.rn_value.specs.declared.value.InstRef.{InstRef}
 use Rattle.rn_value.specs.declared.value.InstRef.TheVariants.{Old, New}
 use Rattle.rn_model.specs.declared.system.System.{System}
@@ -21,30 +22,12 @@ use Rattle.rn_told.specs.declared.maker.Maker.{Maker}
 use Rattle.rn_told.proofs.PathsApart.{Differ}
 use Rattle.rn_told.proofs.SpelledNodes.{KeepsNumbers, plain_node}
 
--- the bytes of a path compare as equal where they are
-same_path : (p : List ℕ) → pointwise nat_eq p p ≡ true
-same_path [] = refl
-same_path (i ∷ p) = let here : nat_eq i i ≡ true = grind (arith, nat_tests) in rw here (same_path p)
-
-equal_path : (p q : List ℕ) → pointwise nat_eq p q ≡ true → p ≡ q
-equal_path [] [] e = refl
-equal_path [] (j ∷ q) e = absurd (let no : ⊥ = cc in no)
-equal_path (i ∷ p) [] e = absurd (let no : ⊥ = cc in no)
-equal_path (i ∷ p) (j ∷ q) e = by (nat_eq i j) refl e (λ rest. equal_path p q rest)
-  where
-    by : (b : Bool) → nat_eq i j ≡ b → b && pointwise nat_eq p q ≡ true → (pointwise nat_eq p q ≡ true → p ≡ q) →
-        i ∷ p ≡ j ∷ q
-    by true same rest more =
-        let first : i ≡ j = grind (arith, nat_tests) in
-        let later = more rest in
-        cc
-    by false apart rest more = absurd (let no : ⊥ = cc in no)
-
+-- paths that differ don't compare as equal
 pub other_path : (p q : List ℕ) → p ≢ q → pointwise nat_eq p q ≡ false
 other_path p q apart = by (pointwise nat_eq p q) refl
   where
     by : (b : Bool) → pointwise nat_eq p q ≡ b → b ≡ false
-    by true e = absurd (apart (equal_path p q e))
+    by true e = absurd (apart (same_numbers p q e))
     by false e = refl
 
 -- whether what makes an instance is this
@@ -57,7 +40,7 @@ own path n cs = map (λ c. record { path = path; index = c.0 }) (enumerate_from 
 itself : (m : Maker) → is_maker m m ≡ true
 itself m =
     let here : nat_eq m.index m.index ≡ true = grind (arith, nat_tests) in
-    ap (λ b. b && nat_eq m.index m.index) (same_path m.path) ∙ here
+    ap (λ b. b && nat_eq m.index m.index) (numbers_themselves m.path) ∙ here
 
 later_index : (path : List ℕ) (n : ℕ) (m : Maker) → n < m.index →
     is_maker m (record { path = path; index = n }) ≡ false

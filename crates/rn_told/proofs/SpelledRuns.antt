@@ -26,7 +26,6 @@ use Rattle.rn_model.specs.declared.log.FaultKind.{FaultKind}
 use Rattle.rn_model.specs.declared.log.FaultKind.TheVariants.{Action, Instances}
 use Rattle.rn_model.specs.declared.log.MarkLine.{MarkLine}
 use Rattle.rn_model.specs.declared.log.Reason.{Reason}
-use Rattle.rn_model.specs.declared.log.Reason.TheVariants as Reason
 use Rattle.rn_model.specs.Good.{Good}
 use Rattle.rn_model.specs.Limits.{most_workers}
 use Rattle.rn_model.specs.Runs as Run
