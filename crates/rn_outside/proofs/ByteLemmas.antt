@@ -3,7 +3,7 @@ use Rattle.std.proofs.Common.{◌≡◌, ℕ, ◌+◌, ◌-◌, ◌≤◌, List,
 use Rattle.std.proofs.Math.Seq.{take-add, take-append-add}
 use Rattle.std.proofs.lemmas.List.{take-append-le, take_rest}
 use Rattle.std.specs.Option.{option_map}
-use Rattle.rn_outside.specs.Bytes.{Gives, GivesPrefix, Appends, AppendsPrefix}
+use Rattle.rn_outside.specs.Bytes.{Gives, GivesAtMost, GivesPrefix, Appends, AppendsPrefix}
 
 -- a source that gave nothing is as it was
 pub Gives-nothing : (left : Option (List ℕ)) → Gives left [] left
@@ -31,6 +31,18 @@ GivesPrefix-append a xs b c first second = record {
 -- two pieces are some prefix
 pub GivesPrefix-from_two : (a : Option (List ℕ)) (xs : List ℕ) (b : Option (List ℕ)) (ys : List ℕ) (c : Option (List ℕ)) → Gives a xs b → Gives b ys c → GivesPrefix a c
 GivesPrefix-from_two a xs b ys c first second = record { prefix = xs ++ ys; gives = Gives-append a xs b ys c first second }
+
+-- a piece, and then another, are few bytes where both together are
+pub GivesAtMost-from_two : (a : Option (List ℕ)) (xs : List ℕ) (b : Option (List ℕ)) (ys : List ℕ) (c : Option (List ℕ)) (most : ℕ) → Gives a xs b → Gives b ys c → length xs + length ys ≤ most → GivesAtMost most a c
+GivesAtMost-from_two a xs b ys c most first second few = record {
+  prefix = xs ++ ys;
+  few = omega (arith, few, length-append xs ys);
+  gives = Gives-append a xs b ys c first second;
+}
+
+-- the same for one piece
+pub GivesAtMost-from_one : (a : Option (List ℕ)) (xs : List ℕ) (b : Option (List ℕ)) (most : ℕ) → Gives a xs b → length xs ≤ most → GivesAtMost most a b
+GivesAtMost-from_one a xs b most gives few = record { prefix = xs; few = few; gives = gives }
 
 -- a sink that took nothing is as it was
 pub Appends-nothing : (held : Option (List ℕ)) → Appends held [] held
@@ -72,4 +84,4 @@ Appends-offered a b c bytes m n first second =
     Appends-take a b c bytes m n first (rw (sym (take_rest bytes m)) second)
 
 -- for functions that read or write several times
-pub ruleset pieces = (Gives-nothing, Gives-append, GivesPrefix-append, GivesPrefix-from_two, Appends-nothing, Appends-append, Appends-offered, AppendsPrefix-append, AppendsPrefix-longer)
+pub ruleset pieces = (Gives-nothing, Gives-append, GivesPrefix-append, GivesPrefix-from_two, GivesAtMost-from_two, GivesAtMost-from_one, Appends-nothing, Appends-append, Appends-offered, AppendsPrefix-append, AppendsPrefix-longer)

@@ -1,6 +1,6 @@
 -- What a source gives and what a sink takes. The bytes of each are known or not: what is left in a
 -- source, and what a sink holds, is `Some bytes`, or `None` where it isn't known.
-use Rattle.std.specs.Prelude.{◌≡◌, ℕ, ◌<◌, List, [], ◌++◌, length, take, Option, IfSome}
+use Rattle.std.specs.Prelude.{◌≡◌, ℕ, ◌<◌, ◌≤◌, List, [], ◌++◌, length, take, Option, IfSome}
 use Rattle.std.specs.Option.{option_map}
 
 -- A source gave `prefix`: what was left is `prefix`, and then what is left now.
@@ -10,6 +10,12 @@ Gives before prefix after = before ≡ option_map (λ rest. prefix ++ rest) afte
 -- A source gave some prefix of what was left.
 pub record GivesPrefix (before after : Option (List ℕ)) : Type 0 where
   pub prefix : List ℕ
+  pub gives : Gives before prefix after
+
+-- A source gave some prefix of what was left, of so many bytes at most.
+pub record GivesAtMost (most : ℕ) (before after : Option (List ℕ)) : Type 0 where
+  pub prefix : List ℕ
+  pub few : length prefix ≤ most
   pub gives : Gives before prefix after
 
 -- No byte is left, where that is known.

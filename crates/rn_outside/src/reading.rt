@@ -1,7 +1,7 @@
 //! Reading a source to its end.
 ghost use Rattle.std.specs.Prelude.{◌≡◌, ◌+◌, ◌<◌, ◌≤◌, length, IfOk, IfSome, IsErr, IsErrOf};
 ghost use Rattle.std.specs.Prelude.{OnErr};
-ghost use Rattle.rn_outside.specs.Bytes.{GivesAll, GivesPrefix};
+ghost use Rattle.rn_outside.specs.Bytes.{GivesAll, GivesAtMost, GivesPrefix};
 ghost use Rattle.rn_outside.specs.Faults.{Rose, risen};
 
 use crate::source::Source;
@@ -60,10 +60,15 @@ pub fn read_all<S: Source>(
     // After each error the source has given some prefix of its bytes.
     ensures prefix { OnErr result (GivesPrefix (S.left source.old) (S.left source.new)) }
 
+    // It has given no more in any case than shows that it has too many.
+    ensures taken { GivesAtMost (limit + 1) (S.left source.old) (S.left source.new) }
+
     ensures never_falls { S.faults source.old ≤ S.faults source.new }
 
     // Each read but the last gives a byte at least.
     ensures reads { S.reads source.new ≤ S.reads source.old + (limit + 1) }
+    ensures each_gives { IfSome (S.left source.old) (λ left.
+        S.reads source.new ≤ S.reads source.old + (length left + 1)) }
 {
     let mut buf = [0u8; PIECE];
     let mut bytes = Vec::new(alloc);

@@ -1,5 +1,5 @@
 //! Writing all bytes to a sink.
-ghost use Rattle.std.specs.Prelude.{◌≡◌, ◌≤◌, OnOk, OnErr};
+ghost use Rattle.std.specs.Prelude.{◌≡◌, ◌≤◌, [], OnOk, OnErr};
 ghost use Rattle.rn_outside.specs.Bytes.{Appends, AppendsPrefix};
 ghost use Rattle.rn_outside.specs.Faults.{Rose, risen};
 
@@ -22,6 +22,9 @@ pub fn write_all<O: Sink>(sink: &mut O, bytes: &[u8]) -> Result<(), WriteFault>
     ensures no_fault { OnOk result (O.faults sink.new ≡ O.faults sink.old) }
 
     ensures never_falls { O.faults sink.old ≤ O.faults sink.new }
+
+    // Where there is nothing to write, the sink isn't called.
+    ensures nothing { bytes.now ≡ [] → sink.new ≡ sink.old }
 {
     let mut taken = 0;
     while taken < bytes.len() {

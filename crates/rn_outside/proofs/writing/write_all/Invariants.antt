@@ -1,4 +1,4 @@
-use Rattle.std.proofs.Common.{◌≡◌, ◌-◌, ◌≤◌, length, take}
+use Rattle.std.proofs.Common.{◌≡◌, ◌-◌, ◌≤◌, [], length, take}
 use Rattle.rn_outside.specs.Bytes.{Appends}
 use Rattle.rn_outside.proofs.writing.write_all.Given as goal
 
@@ -10,6 +10,7 @@ invariant-loop-taken g l =
       within : l.taken ≤ length l.bytes;
       appends : Appends (sink.held l.initial.sink) (take l.taken l.bytes) (sink.held l.sink);
       no_fault : sink.faults l.sink ≡ sink.faults l.initial.sink;
+      nothing : l.bytes ≡ [] → l.sink ≡ l.initial.sink;
     }
 
 abbrev pub decreases-loop-taken : goal.decreases-loop-taken
