@@ -6,6 +6,7 @@ pub mod InstanceLemmas
 pub mod LawLemmas
 pub mod LeafLemmas
 pub mod ListLemmas
+pub mod RemovalLemmas
 pub mod StartingLemmas
 pub mod StepLemmas
 pub mod TableLemmas

@@ -1,5 +1,5 @@
 -- Laws over changed tables. Each is the contract of a function that does nothing.
-use Rattle.std.specs.Prelude.{ℕ, ◌≡◌, ◌<◌, ◌≤◌, List, [], ◌++◌, length, map, filter, flat_map, Some, None}
+use Rattle.std.specs.Prelude.{ℕ, ◌≡◌, ◌<◌, ◌≤◌, ◌^◌, List, [], ◌++◌, length, map, filter, flat_map, Some, None}
 use Rattle.std.specs.Prelude.{if◌then◌else◌}
 use Rattle.std.specs.List.Sorted.{IsSorted}
 use Rattle.rn_value.specs.Order.{value_cmp}
@@ -9,11 +9,16 @@ use Rattle.rn_model.specs.declared.system.System.{System}
 use Rattle.rn_model.specs.declared.binding.Binding.{Binding}
 use Rattle.rn_model.specs.Demands.{asked_at, puts, taken_at, cleared_at}
 use Rattle.rn_model.specs.Firing.{Made, Effects, marking_after}
+use Rattle.rn_model.specs.Good.{Good}
 use Rattle.rn_model.specs.Lists.{IsWithin, count_of}
 use Rattle.rn_model.specs.Markings.{Instance, Marking, instance_at, tokens_at}
 use Rattle.rn_table.specs.Changes.{changed, changed_tokens, values_at, with_made}
 use Rattle.rn_table.specs.Leaves.{stays}
 use Rattle.rn_table.specs.declared.change.Change.{Change}
+
+-- a good system has fewer than 2^32 nets
+abbrev pub NetsAreFew : Type 0
+NetsAreFew = (system : System) → Good system → length system.nets < 2 ^ 32
 
 -- A place of an instance that is there, with the new ones, holds after a change what it held, less
 -- what is taken and cleared there, and then what is put.

@@ -1,5 +1,10 @@
 //! Laws over changed tables, each the contract of a function that does nothing.
-ghost use Rattle.rn_table.specs.Laws.{FiringsAreChanges, KeptAfterRemoval, SameIsLeft, TokensAfterChange};
+ghost use Rattle.rn_table.specs.Laws.{FiringsAreChanges, KeptAfterRemoval, NetsAreFew, SameIsLeft, TokensAfterChange};
+
+/// The condition of `Table::new` holds for a good system.
+pub fn nets_are_few()
+    ensures { NetsAreFew }
+{}
 
 /// What a place holds after a change.
 pub fn tokens_after_change()

@@ -15,6 +15,9 @@ mod table;
 mod undo;
 
 pub use change::{Change, Nums, Row, Rows};
-pub use laws::{firings_are_changes, kept_after_removal, same_is_left, tokens_after_change};
+pub use laws::{
+    firings_are_changes, kept_after_removal, nets_are_few, same_is_left, tokens_after_change,
+};
+pub use nets::has_start;
 pub use page::Page;
 pub use table::Table;

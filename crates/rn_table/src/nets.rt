@@ -1,5 +1,5 @@
 //! What a system says of its nets.
-ghost use Rattle.std.specs.Prelude.{◌≡◌, is_none};
+ghost use Rattle.std.specs.Prelude.{◌≡◌, ◌≤◌, is_none, length};
 ghost use Rattle.std.specs.List.{list_any};
 ghost use Rattle.rn_model.specs.Systems.{net_at, may_start, main_net};
 
@@ -25,7 +25,8 @@ pub(crate) fn starts(system: &System, net: u32) -> bool
     }
 }
 
-fn has_start(transitions: &[Transition]) -> bool
+/// Whether one of these transitions has no uplink.
+pub fn has_start(transitions: &[Transition]) -> bool
     ensures { result ≡ list_any (λ t. is_none t.uplink) transitions.now }
 {
     for transition in transitions {
@@ -38,7 +39,8 @@ fn has_start(transitions: &[Transition]) -> bool
 
 /// The number of the net `main`, and 0 where there is none.
 pub(crate) fn main_net_of(system: &System) -> usize
-    ensures { result ≡ main_net system.now }
+    ensures net { result ≡ main_net system.now }
+    ensures bound { result ≤ length system.now.nets }
 {
     for (i, net) in system.nets.as_slice().iter().enumerate() {
         if net.name.as_str() == "main" {

@@ -1,8 +1,9 @@
 //! The table of instances.
-ghost use Rattle.std.specs.Prelude.{◌≡◌, ◌<◌, ◌≤◌, ◌+◌, ◌*◌, ◌↔◌, ◌++◌, ℕ, map, filter, find, not, nat_eq, nat_le, slice_get, All, Some, IsSome, IfSome, option_and_then, IfOk, OnOk, OnErr};
+ghost use Rattle.std.specs.Prelude.{◌≡◌, ◌<◌, ◌≤◌, ◌+◌, ◌*◌, ◌^◌, ◌↔◌, ◌++◌, ℕ, length, map, filter, find, not, nat_eq, nat_le, slice_get, All, Some, IsSome, IfSome, option_and_then, IfOk, OnOk, OnErr};
 ghost use Rattle.std.specs.Option.{option_copied};
 ghost use Rattle.std.specs.List.Sorted.{IsSorted, IsStrictlyIncreasing};
 ghost use Rattle.rn_value.specs.Order.{value_cmp};
+ghost use Rattle.rn_model.specs.declared.system.System.{System};
 ghost use Rattle.rn_model.specs.Markings.{Instance, IsThere, initial_marking, instance_at, net_of};
 ghost use Rattle.rn_table.specs.Changes.{MayCome, changed};
 ghost use Rattle.rn_table.specs.Leaves.{stays};
@@ -47,18 +48,15 @@ impl Model for Table {
 }
 
 impl Table {
-    /// The table with which a run starts: instance 1, of `main`, with its initial tokens. There is
-    /// no room for it either where `main` comes after the first 2^32 nets.
+    /// The table with which a run starts: instance 1, of `main`, with its initial tokens.
     pub fn new(alloc: Global, system: &System) -> Result<Table, NoMemory>
+        requires { length system.now.nets < 2 ^ 32 }
         ensures marking { IfOk result (λ table. table.marking ≡ initial_marking system.now) }
         ensures of_system { IfOk result (λ table. IsTableOf system.now table) }
     {
-        let main = main_net_of(system);
-        if main > u32::MAX as usize {
-            return Err(NoMemory);
-        }
+        let main = main_net_of(system) as u32;
         let mut leaves = Vec::new(alloc);
-        add_all(&mut leaves, &mut Vec::new(alloc), system, 1, &[main as u32])?;
+        add_all(&mut leaves, &mut Vec::new(alloc), system, 1, &[main])?;
         Ok(Table { next: 2, leaves })
     }
 
@@ -187,6 +185,7 @@ impl Table {
         ensures next { self.new.marking.next ≡ self.old.marking.next }
         ensures instances { self.new.marking.instances ≡ filter (λ i. stays numbers.now i.number) self.old.marking.instances }
         ensures starting { self.new.starting ≡ filter (stays numbers.now) self.old.starting }
+        ensures of_system { (system : System) → IsTableOf system self.old → IsTableOf system self.new }
     {
         for number in numbers {
             self.remove(*number);
@@ -197,6 +196,7 @@ impl Table {
         ensures next { self.new.marking.next ≡ self.old.marking.next }
         ensures instances { self.new.marking.instances ≡ filter (λ i. not (nat_eq i.number number)) self.old.marking.instances }
         ensures starting { self.new.starting ≡ filter (λ n. not (nat_eq n number)) self.old.starting }
+        ensures of_system { (system : System) → IsTableOf system self.old → IsTableOf system self.new }
     {
         let at = leaf_of(number);
         if at >= self.leaves.len() {

@@ -5,6 +5,7 @@ use Rattle.rn_table.specs.Tables.{Kept}
 use Rattle.rn_table.specs.Leaves.{Leaf, IsLeaf, instances_in, starting_from}
 use Rattle.rn_table.proofs.InstanceLemmas.{all_get}
 use Rattle.rn_table.proofs.TableLemmas.{leaf_here, leaves_here, all_with, length_with, dropped_in, dropped_none, dropped_zero, starts_dropped, starts_none, starts_zero}
+use Rattle.rn_table.proofs.RemovalLemmas.{left_of_system}
 use Rattle.rn_table.proofs.table.Table.remove.Goals as goal
 
 pub drop_one-requires-clause-leaf : goal.drop_one-requires-clause-leaf
@@ -53,3 +54,7 @@ pub returns-then-number-eq0-clause-starting : goal.returns-then-number-eq0-claus
 returns-then-number-eq0-clause-starting c =
     ap (λ (t : Kept). t.starting) (sym c.self.view_is) ∙ sym (starts_zero c.self.inside.leaves.items) ∙ ap (λ n. filter (λ m. not (nat_eq m n)) (starting_from 0 c.self.inside.leaves.items)) (sym c.if-number-eq0.true)
     ∙ ap (λ (t : Kept). filter (λ n. not (nat_eq n c.args.number)) t.starting) c.self.view_is
+
+pub returns-clause-of_system : goal.returns-clause-of_system
+returns-clause-of_system c = λ system of.
+    left_of_system system (λ n. not (nat_eq n c.args.number)) _ _ _ _ (returns-clause-instances c) (returns-clause-starting c) of

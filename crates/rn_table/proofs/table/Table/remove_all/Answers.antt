@@ -11,6 +11,7 @@ loop-number-init c = record {
   next = refl;
   instances = sym (filter_start (λ (i : Instance). i.number) c.args.self.now.marking.instances);
   starting = sym (filter_start (λ n. n) c.args.self.now.starting);
+  of_system = λ system of. of;
 }
 
 pub loop-number-preserved : goal.loop-number-preserved
@@ -24,4 +25,5 @@ loop-number-preserved c =
           ∙ filter_more (λ (i : Instance). i.number) (get_or xs k 0) (take k xs) c.args.self.now.marking.instances ∙ ap (λ ns. filter (λ (i : Instance). stays ns i.number) c.args.self.now.marking.instances) (sym more);
       starting = c.remove.ensures.starting ∙ ap (filter (λ n. not (nat_eq n (get_or xs k 0)))) c.loop-number.invariant.starting
           ∙ filter_more (λ n. n) (get_or xs k 0) (take k xs) c.args.self.now.starting ∙ ap (λ ns. filter (stays ns) c.args.self.now.starting) (sym more);
+      of_system = λ system of. c.remove.ensures.of_system system (c.loop-number.invariant.of_system system of);
     }
