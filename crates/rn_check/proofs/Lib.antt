@@ -8,10 +8,12 @@ pub mod CallLemmas
 pub mod NameLemmas
 pub mod PatternKinds
 pub mod SharedKinds
+pub mod BothKinds
 pub mod DeclaredKinds
 pub mod Faultless
 pub mod InscriptionParts
 pub mod ExpressionKinds
+pub mod KindsSeen
 pub mod ScopeKinds
 pub mod ConditionParts
 pub mod TransitionKinds

@@ -83,7 +83,7 @@ share-out p q =
 abbrev both_at : P.Pattern-F Pattern → P.Pattern-F Pattern → Pattern
 both_at x y = both_step (map-Pattern Pattern (Pattern → Pattern) both_of x) y
 
-both-out : (p q : Pattern) → both_of p q ≡ both_at (out-Pattern p) (out-Pattern q)
+pub both-out : (p q : Pattern) → both_of p q ≡ both_at (out-Pattern p) (out-Pattern q)
 both-out p q =
     ap (λ f. f q) (fold_out-Pattern (Pattern → Pattern) (λ p q. both_step p (out-Pattern q)) p)
 

@@ -164,6 +164,15 @@ module _ (plain : Plain) (net : PNet) where
       ap (λ kind. same_kind kind k) v.2 ∙ sym (gives_itself v.0.kind k)
       ∙ ap (λ p. gives_kind p k) v.1 ∙ g
 
+  pub vars_are_seen : (name : List ℕ) (p : Pattern) (k : Kind) →
+      (scope_of plain net).pattern_of_var name ≡ Some p →
+      same_kind (var_kind_in (net_of plain net) ((numbers_of plain net).var name)) k ≡ true →
+      gives_kind p k ≡ true
+  vars_are_seen name p k e h =
+      let v = the_var name p e in
+      sym (ap (λ p. gives_kind p k) v.1) ∙ gives_itself v.0.kind k
+      ∙ sym (ap (λ kind. same_kind kind k) v.2) ∙ h
+
   -- the channel of a call: its number, and the kinds of its arguments, of which there are as many
   pub the_channel : (name : List ℕ) (count : ℕ) (ps : List Pattern) →
       (scope_of plain net).channel name count ≡ Some ps →

@@ -9,20 +9,20 @@ use Rattle.rn_model.specs.Good.{Good}
 use Rattle.rn_model.specs.Systems.{var_kind_in}
 use Rattle.rn_model.specs.Kinds.{HasExprKind}
 use Rattle.rn_check.specs.declared.pattern.Pattern.{Pattern}
-use Rattle.rn_check.specs.Patterns.{Gives, share}
+use Rattle.rn_check.specs.Patterns.{Gives, share, both_of}
 use Rattle.rn_check.specs.Expressions.{Where, seen_of}
 use Rattle.rn_check.specs.Numbering.{net_of, numbers_of, expr_of}
 use Rattle.rn_check.specs.Systems.{scope_of}
 use Rattle.rn_check.specs.Checked.{Checked}
 use Rattle.rn_check.specs.WellFormed.{IsWellFormed}
 
--- an expression in which nothing is broken has, with numbers in place of names, each kind that
--- comes of its pattern
+-- an expression in which nothing is broken has, with numbers in place of names, exactly the kinds
+-- that come of its pattern
 abbrev pub CheckedExpressionsHaveKinds : Type 0
 CheckedExpressionsHaveKinds = (plain : Plain) (net : PNet) (at : Where) (e : PExpr) (kind : Kind) →
     at.pattern_of_var ≡ (scope_of plain net).pattern_of_var → (seen_of e at).faults ≡ [] →
-    Gives (seen_of e at).pattern kind →
-    HasExprKind (var_kind_in (net_of plain net)) (expr_of e (numbers_of plain net).var) kind
+    Gives (seen_of e at).pattern kind
+    ↔ HasExprKind (var_kind_in (net_of plain net)) (expr_of e (numbers_of plain net).var) kind
 
 -- A plain form that is well formed, and in which nothing is broken, means a good system.
 abbrev pub CheckedSystemsAreGood : Type 0
@@ -33,3 +33,8 @@ CheckedSystemsAreGood = (plain : Plain) (system : System) → Checked plain syst
 abbrev pub PatternsShareKinds : Type 0
 PatternsShareKinds = (p q : Pattern) →
     (share p q ≡ true) ↔ ((kind : Kind) × Gives p kind × Gives q kind)
+
+-- Of what two patterns that share a kind have in common come exactly the kinds that come of both.
+abbrev pub BothGiveTheirKinds : Type 0
+BothGiveTheirKinds = (p q : Pattern) (kind : Kind) → share p q ≡ true →
+    Gives (both_of p q) kind ↔ (Gives p kind × Gives q kind)

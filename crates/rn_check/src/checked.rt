@@ -8,6 +8,7 @@ ghost use Rattle.rn_check.specs.declared.fault.Rule.{Rule};
 ghost use Rattle.rn_check.specs.Faults.{broken, report_of};
 ghost use Rattle.rn_check.specs.Systems.{system_faults};
 ghost use Rattle.rn_check.specs.Checked.{BreaksFirst, Checked, Answers};
+ghost use Rattle.rn_check.specs.WellFormed.{IsWellFormed};
 
 use crate::fault::{CheckFault, Fault};
 use crate::first::First;
@@ -42,8 +43,10 @@ pub fn check_system(alloc: Global, plain: Plain) -> Result<System, CheckFault>
     ensures accepts { (system : Made) → Checked plain system → Answers result (Ok system) }
     ensures refuses { (rule : Rule) (spot : Spot) → BreaksFirst plain rule spot →
         Answers result (Err (report_of rule spot)) }
-    // The system of a text is good.
-    ensures good { IfOk result (λ system. (bytes : List ℕ) → Spells bytes plain → Good system) }
+    // The system of a plain form that is well formed is good, and so is that of a text.
+    ensures good { IfOk result (λ system. IsWellFormed plain → Good system) }
+    ensures good_text { IfOk result (λ system.
+        (bytes : List ℕ) → Spells bytes plain → Good system) }
 {
     if let Some(fault) = first_fault(alloc, &plain)? {
         return Err(fault.report());

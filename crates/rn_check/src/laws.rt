@@ -1,9 +1,9 @@
 //! Laws over what the checker accepts, each the contract of a function that does nothing.
 ghost use Rattle.rn_check.specs.Laws.{CheckedExpressionsHaveKinds, CheckedSystemsAreGood};
-ghost use Rattle.rn_check.specs.Laws.{PatternsShareKinds};
+ghost use Rattle.rn_check.specs.Laws.{PatternsShareKinds, BothGiveTheirKinds};
 ghost use Rattle.rn_check.specs.SpelledForms.{SpelledFormsAreWellFormed, CheckedTextsAreGood};
 
-/// An expression in which nothing is broken has each kind that comes of its pattern.
+/// An expression in which nothing is broken has exactly the kinds that come of its pattern.
 pub fn checked_expressions_have_kinds()
     ensures { CheckedExpressionsHaveKinds }
 {}
@@ -16,6 +16,11 @@ pub fn checked_systems_are_good()
 /// Patterns share a kind exactly where some kind comes of both.
 pub fn patterns_share_kinds()
     ensures { PatternsShareKinds }
+{}
+
+/// Of what two patterns have in common come exactly the kinds that come of both.
+pub fn both_give_their_kinds()
+    ensures { BothGiveTheirKinds }
 {}
 
 /// What a text spells is well formed.

@@ -10,7 +10,7 @@ const WHOLE: &str = "// a note\nchannel c(int,[text,{net}]);net main { \
     place r: text = \"a\\\"\\\\\\n\\t\"; trans t { in p; out p: [x,y]; test p: {x,y:z}; \
     reserve p: x * y / 2 % 3; flexin p: z; flexout p: z; inhibit p: -x; clear p: z; \
     guard !(x == 1 || x != 2) && x < 3 && x <= 4 && x > 5 && x >= 6; action print this; \
-    action x = step() + (y - 1); z: new main; z:c(x,y); this:d(); :e(x); x = y; } }";
+    action x = step() + (y - 1); z: new main; z:c(x,y); this:d(); :e(\"b\",{x,1},{}); x = y; } }";
 
 // The bytes before a spot of that text.
 fn bytes_before(spot: Spot) -> usize {

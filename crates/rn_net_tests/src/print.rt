@@ -42,8 +42,14 @@ fn operators_on_the_left(rt: HostRuntime) -> Result<(), Fail> {
         ("((a * b) / c)", "a * b / c"),
         ("((a * b) % c)", "a * b % c"),
         ("((a / b) + c)", "a / b + c"),
+        ("((a / b) - c)", "a / b - c"),
         ("((a / b) * c)", "a / b * c"),
+        ("((a / b) / c)", "a / b / c"),
+        ("((a / b) % c)", "a / b % c"),
+        ("((a % b) + c)", "a % b + c"),
         ("((a % b) - c)", "a % b - c"),
+        ("((a % b) * c)", "a % b * c"),
+        ("((a % b) / c)", "a % b / c"),
         ("((a % b) % c)", "a % b % c"),
     ];
     for (expr, wanted) in rows {
@@ -71,8 +77,14 @@ fn operators_on_the_right(rt: HostRuntime) -> Result<(), Fail> {
         ("(a * (b / c))", "a * (b / c)"),
         ("(a * (b % c))", "a * (b % c)"),
         ("(a / (b + c))", "a / (b + c)"),
+        ("(a / (b - c))", "a / (b - c)"),
         ("(a / (b * c))", "a / (b * c)"),
+        ("(a / (b / c))", "a / (b / c)"),
+        ("(a / (b % c))", "a / (b % c)"),
+        ("(a % (b + c))", "a % (b + c)"),
         ("(a % (b - c))", "a % (b - c)"),
+        ("(a % (b * c))", "a % (b * c)"),
+        ("(a % (b / c))", "a % (b / c)"),
         ("(a % (b % c))", "a % (b % c)"),
     ];
     for (expr, wanted) in rows {
@@ -132,12 +144,12 @@ net n {
 
 // declarations in another order
 const ORDER: &str = "net main { trans t { in p ; out q: (x)-( y*2 ) ; }
-place q; place p=[ ],[]; var x,y : int; }";
+place q: int; place p=[ ],[]; var x,y : int; }";
 
 const PRINTED_ORDER: &str = "net main {
   var x: int;
   var y: int;
-  place q: [];
+  place q: int;
   place p: [] = [], [];
   trans t {
     in p: [];
