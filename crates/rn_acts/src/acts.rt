@@ -1,5 +1,5 @@
 //! What the actions of a firing give.
-ghost use Rattle.std.specs.Prelude.{◌≡◌, ◌++◌, ◌≤◌, All, IfOk, IfSome, OnOk, Some, option_map};
+ghost use Rattle.std.specs.Prelude.{◌≡◌, ◌≤◌, All, IfOk, IfSome, Some, option_map};
 ghost use Rattle.rn_model.specs.Bindings.{IsNodeOf};
 ghost use Rattle.rn_model.specs.Firing.{Effects, all_effects};
 ghost use Rattle.rn_model.specs.Limits.{greatest_step};
@@ -9,6 +9,7 @@ ghost use Rattle.rn_acts.specs.Acted.{AreOfArcs, ArePut, nothing, with_node, wit
 use crate::acting::Acting;
 use crate::outputs::put_outputs;
 use rn_agree::transition_of;
+use rn_arcs::append;
 use rn_items::{Items, NoMemory};
 use rn_model::{Binding, Node, System};
 use rn_table::Rows;
@@ -21,16 +22,6 @@ use std::alloc::Global;
 pub struct Acted {
     pub outs: Vals,
     pub put: Rows,
-}
-
-/// More values at the end.
-fn append(values: &mut Vals, others: Vals) -> Result<(), NoMemory>
-    ensures { OnOk result (values.new ≡ values.old ++ others) }
-{
-    for other in others.into_vec() {
-        values.push(other)?;
-    }
-    Ok(())
 }
 
 /// Adds what a node gives. The answer is whether its actions and outputs have values; what was added

@@ -1,13 +1,14 @@
 //! What the arcs of a node put after its actions.
 ghost use Rattle.std.specs.Prelude.{◌≡◌, ◌++◌, IfOk, IsTrue, OnOk, flat_map};
 ghost use Rattle.std.specs.List.{list_all};
-ghost use Rattle.rn_model.specs.Demands.{elements, puts};
+ghost use Rattle.rn_model.specs.Demands.{puts};
 ghost use Rattle.rn_model.specs.Firing.{output_defined};
 ghost use Rattle.rn_acts.specs.Acting.{env_acting};
 ghost use Rattle.rn_acts.specs.Acted.{may_put, row_of, arc_rows};
 
 use crate::acting::Acting;
 use rn_agree::awaits_action;
+use rn_arcs::elements_of;
 use rn_calc::{Values, evaluate};
 use rn_items::{Items, NoMemory};
 use rn_model::{ArcKind, NetArc, Transition};
@@ -23,16 +24,6 @@ fn may_put(kind: ArcKind) -> bool
         kind,
         ArcKind::Output | ArcKind::FlexOutput | ArcKind::Reserve
     )
-}
-
-/// The elements of a list. What is no list has none.
-fn elements_of(alloc: Global, value: Value) -> Vals
-    ensures { result ≡ elements value }
-{
-    match value {
-        Value::List(values) => values,
-        _ => Items::new(alloc),
-    }
 }
 
 /// What an arc puts, by the value of its inscription.

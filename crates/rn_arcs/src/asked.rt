@@ -1,9 +1,9 @@
 //! What a binding asks of one place of an instance.
-ghost use Rattle.std.specs.Prelude.{◌≡◌, ◌++◌, IfOk, OnOk};
-ghost use Rattle.rn_model.specs.Demands.{elements};
+ghost use Rattle.std.specs.Prelude.{◌≡◌, IfOk, OnOk};
 ghost use Rattle.rn_model.specs.Lists.{ordered_values};
 ghost use Rattle.rn_arcs.specs.Groups.{with_arc, fresh, in_order};
 
+use crate::values::{append, elements_of};
 use rn_items::{Items, NoMemory};
 use rn_model::ArcKind;
 use rn_value::{InstRef, Vals, Value, copy, sort};
@@ -80,26 +80,6 @@ impl Asked {
             put: ascending(put)?,
         })
     }
-}
-
-/// The elements of a list. What is no list has none.
-fn elements_of(alloc: Global, value: Value) -> Vals
-    ensures { result ≡ elements value }
-{
-    match value {
-        Value::List(values) => values,
-        _ => Items::new(alloc),
-    }
-}
-
-/// More values at the end.
-fn append(values: &mut Vals, others: Vals) -> Result<(), NoMemory>
-    ensures { OnOk result (values.new ≡ values.old ++ others) }
-{
-    for other in others.into_vec() {
-        values.push(other)?;
-    }
-    Ok(())
 }
 
 /// The values in ascending order.

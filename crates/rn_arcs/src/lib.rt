@@ -10,8 +10,10 @@ mod fitting;
 mod grouping;
 mod holding;
 mod rows;
+mod values;
 
 pub use demands::{Demands, Place2, Places2};
 pub use fitting::fits;
 pub use holding::{held, is_held, left};
 pub use rows::demands_of;
+pub use values::{append, elements_of};

@@ -1,3 +1,4 @@
+pub mod Applications
 pub mod Parts
 pub mod Passing
 pub mod Soundness

@@ -1,12 +1,11 @@
 -- The items of a binding as the code goes through them. It only connects the code to the
 -- definitions.
-use Rattle.std.specs.Prelude.{ℕ, ◌<◌, List, [], ◌∷◌, ◌++◌, if◌then◌else◌, Option, Some, None}
+use Rattle.std.specs.Prelude.{ℕ, ◌<◌, List, [], ◌∷◌, if◌then◌else◌, Option, Some, None}
 use Rattle.std.specs.Prelude.{All, flat_map, length, slice_get}
-use Rattle.rn_model.specs.declared.expr.Expr.{Expr}
 use Rattle.rn_model.specs.declared.system.NetArc.{NetArc}
 use Rattle.rn_model.specs.declared.binding.Node.{Node}
-use Rattle.rn_model.specs.Derivation.{Item, entry, found, computed, Site, Hole, holes_in}
-use Rattle.rn_model.specs.Derivation.{finds_values, finds_token, arc}
+use Rattle.rn_model.specs.Derivation.{Item, entry, found, computed}
+use Rattle.rn_model.specs.Derivation.{finds_values}
 use Rattle.rn_growing.specs.Decisions.{site_of}
 use Rattle.rn_binding.specs.declared.part.Part.{Part}
 use Rattle.rn_binding.specs.declared.part.Part.TheVariants.{Entry, Found, Computed}
@@ -31,19 +30,6 @@ picked parts ks = flat_map (λ k. item_at (slice_get parts k)) ks
 abbrev pub AllWithin : List Part → List ℕ → Type 0
 AllWithin parts ks = All (λ k. k < length parts) ks
 
--- an expression beside its operator applications
-abbrev pub with_holes : Expr → Expr × List Hole
-with_holes e = (e, holes_in e)
-
--- an operator application of a part of an expression, to which this way leads, as an item
-abbrev pub hole_within : Node → Site → List ℕ → Hole → Item
-hole_within node site way hole =
-    computed node site (record { way = way ++ hole.way; form = hole.form })
-
 -- what an arc finds, if it finds values
 abbrev pub found_at : Node → ℕ × NetArc → List Item
 found_at node e = if finds_values e.1.kind then found node e.0 e.1 ∷ [] else []
-
--- the inscription of an arc, if it finds a token
-abbrev pub arc_site : ℕ × NetArc → List (Site × Expr)
-arc_site e = if finds_token e.1.kind then (arc e.0, e.1.inscription) ∷ [] else []

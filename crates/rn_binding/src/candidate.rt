@@ -40,6 +40,13 @@ impl Model for Candidate {
 }
 
 impl Candidate {
+    /// A binding of which it is known from elsewhere that `certify` would certify it.
+    pub fn known(binding: Binding) -> Candidate
+        ensures { result ≡ binding }
+    {
+        Candidate { binding }
+    }
+
     /// The binding itself.
     pub fn binding(&self) -> &Binding
         ensures { result.now ≡ self.now }

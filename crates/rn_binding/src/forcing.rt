@@ -11,9 +11,9 @@ use rn_model::{Expr, Node, System};
 use rn_value::NoMemory;
 use std::alloc::Global;
 
-// Puts the variables of an expression.
+/// Puts the variables of an expression, in the order of the text.
 #[cycle(vars)]
-fn put_vars(expr: &Expr, vars: &mut Vec<u32>) -> Result<(), NoMemory>
+pub fn put_vars(expr: &Expr, vars: &mut Vec<u32>) -> Result<(), NoMemory>
     ensures { OnOk result (vars.new.items ≡ vars.old.items ++ vars_in expr.now) }
 {
     match expr {

@@ -1,6 +1,7 @@
 //! Certified bindings.
 #![tactic(auto)]
 
+mod applications;
 mod bringing;
 mod candidate;
 mod certifying;
@@ -9,5 +10,7 @@ mod forcing;
 mod part;
 mod parts;
 
+pub use applications::{Application, applications_of};
 pub use candidate::{Candidate, NotSound};
 pub use certifying::certify;
+pub use forcing::put_vars;

@@ -5,21 +5,9 @@ ghost use Rattle.rn_live.specs.Marks.{Finds, is_start};
 
 use crate::found::Found;
 use rn_items::NoMemory;
-use rn_model::{System, Transition};
-use rn_table::Table;
+use rn_model::System;
+use rn_table::{Table, has_start};
 use std::alloc::Global;
-
-/// Whether one of the transitions has no uplink.
-fn has_start(transitions: &[Transition]) -> bool
-    ensures { result ≡ list_any (λ t. is_none t.uplink) transitions.now }
-{
-    for transition in transitions {
-        if transition.uplink.is_none() {
-            return true;
-        }
-    }
-    false
-}
 
 /// For each net whether one of its transitions has no uplink.
 pub(crate) fn starting_nets(alloc: Global, system: &System) -> Result<Vec<bool>, NoMemory>

@@ -12,8 +12,8 @@ returns c =
     let first : map item_of c.push.new.self.items
     ≡ map item_of c.args.parts.now.items ++ entry c.args.node.now ∷ [] =
     ap (map item_of) c.in_ok-push.ensures.items ∙ map-append item_of _ _ in
-    subst (λ xs. OnOk c.put_sites.result (map item_of c.put_sites.new.parts.items ≡ xs))
+    subst (λ xs. OnOk c.put_computed.result (map item_of c.put_computed.new.parts.items ≡ xs))
     (node_put c.args.system.now c.args.node.now c.transition_of-transition.result.now
     c.as_slice.result.now (map item_of c.args.parts.now.items) (map item_of c.push.new.self.items)
     (map item_of c.put_found.new.parts.items) c.transition_of-transition.ensures
-    c.as_slice.ensures first c.in_ok-put_found.ensures) c.put_sites.ensures
+    c.as_slice.ensures first c.in_ok-put_found.ensures) c.put_computed.ensures
