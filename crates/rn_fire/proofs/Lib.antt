@@ -3,3 +3,4 @@ pub mod EntryLemmas
 pub mod FiringLemmas
 pub mod OutcomeLemmas
 pub mod StateLemmas
+pub mod ThreadSafety

@@ -7,6 +7,7 @@ mod ending;
 mod kept;
 mod outcome;
 mod setup;
+mod sharing;
 mod state;
 
 pub use committing::Commit;

@@ -1,5 +1,5 @@
 //! The lines of the entries of a run.
-ghost use Rattle.std.specs.Prelude.{◌≡◌, ◌++◌, All, OnOk, IfOk, codes, flat_map};
+ghost use Rattle.std.specs.Prelude.{◌≡◌, ◌++◌, All, OnOk, OnErr, IfOk, codes, flat_map};
 ghost use Rattle.rn_value.specs.Names.{AreNamed};
 ghost use Rattle.rn_record.specs.RecordText.{names_after, binding_text, firing_lead, printed_line};
 ghost use Rattle.rn_record.specs.RecordText.{cause_text, fault_line, end_text, entry_text, entries_text};
@@ -13,8 +13,8 @@ use rn_model::{Binding, Entry, FaultKind, Reason, System};
 use rn_value::{Names, NoMemory, Value, write_value};
 use std::alloc::Global;
 
-// The lines of a binding's nodes. The instances that it makes get their names.
-fn put_binding(
+/// The lines of a binding's nodes. The instances that it makes get their names.
+pub(crate) fn put_binding(
     alloc: Global,
     system: &System,
     binding: &Binding,
@@ -26,6 +26,7 @@ fn put_binding(
     ensures names { OnOk result (names.new ≡ names_after system.now names.old binding.now) }
     ensures text { OnOk result (out.new.items
         ≡ out.old.items ++ binding_text system.now names.old lead.now binding.now) }
+    ensures err { OnErr result (out.new.items ≡ out.old.items) }
 {
     let next = names.len() as u32 + 1;
     let numbered = named(alloc, system, binding, next)?;

@@ -1,6 +1,7 @@
 -- The initial marking stands for itself.
-use Rattle.std.proofs.Common.{ap, sym, subst, ◌∙◌, arith, []}
-use Rattle.std.specs.Prelude.{None}
+use Rattle.std.proofs.Common.{◌<◌, ap, sym, subst, ◌∙◌, arith, [], length}
+use Rattle.std.specs.Prelude.{◌^◌, None}
+use Rattle.rn_model.specs.declared.system.System.{System}
 use Rattle.rn_model.specs.Liveness.{Stands}
 use Rattle.rn_model.specs.Markings.{initial_marking}
 use Rattle.rn_model.proofs.MarkingsOfRuns.{initial_is_marking}
@@ -9,6 +10,9 @@ use Rattle.rn_table.specs.Tables.{IsTableOf}
 use Rattle.rn_fire.specs.declared.setup.Setup.{Setup}
 use Rattle.rn_fire.proofs.StateLemmas.{keeps}
 use Rattle.rn_fire.proofs.state.open_state.Goals as goal
+
+pub new-requires : goal.new-requires
+new-requires c = subst (λ (s : System). length s.nets < 2 ^ 32) (sym c.deref.ensures) (omega (arith, c.requires.good.few_nets))
 
 pub invariant_of-result : goal.invariant_of-result
 invariant_of-result c =

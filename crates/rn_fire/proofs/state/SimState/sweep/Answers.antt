@@ -4,7 +4,7 @@ use Rattle.std.specs.Prelude.{Contains}
 use Rattle.rn_model.specs.Liveness.{IsLive}
 use Rattle.rn_fire.specs.States.{end_marking, state_of}
 use Rattle.rn_fire.specs.declared.setup.Setup.{Setup}
-use Rattle.rn_fire.proofs.DroppingLemmas.{still_of_system, still_stands}
+use Rattle.rn_fire.proofs.DroppingLemmas.{still_stands}
 use Rattle.rn_fire.proofs.state.SimState.sweep.Goals as goal
 
 pub invariant_of-self : goal.invariant_of-self
@@ -21,8 +21,8 @@ invariant_of-self c =
         good = k.state.good;
         limits = k.state.limits;
         log = k.state.log;
-        stands = still_stands setup.system table after (end_marking s) c.args.numbers.now came.next came.instances came.starting k.state.stands dead;
-        of_system = still_of_system setup.system table after (end_marking s) c.args.numbers.now came.next came.instances came.starting k.state.of_system;
+        stands = still_stands setup.system table after (end_marking s) c.args.numbers.now came.next came.instances k.state.stands dead;
+        of_system = came.of_system setup.system k.state.of_system;
       };
       whole = k.whole;
       enough = k.enough;

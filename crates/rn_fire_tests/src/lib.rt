@@ -1,0 +1,13 @@
+//! Tests of commits: whole histories, and their records.
+#![tactic(auto)]
+
+#[cfg(test)]
+mod histories;
+#[cfg(test)]
+mod limit;
+#[cfg(test)]
+mod opening;
+#[cfg(test)]
+mod steps;
+#[cfg(test)]
+mod watching;

@@ -1,0 +1,4 @@
+pub mod NumberedInstances
+pub mod NamesOfRuns
+pub mod TextsOfLogs
+pub mod WrittenStates

@@ -1,0 +1,45 @@
+-- The table stands for the end of the log, so its live part is that of the end.
+use Rattle.std.proofs.Common.{◌≡◌, ◌∙◌}
+use Rattle.std.proofs.lemmas.Result.{IfOk-weaker}
+use Rattle.rn_live.proofs.GoodPlaces.{good_places}
+use Rattle.rn_record.specs.RecordText.{record_text}
+use Rattle.rn_fire.specs.States.{logged}
+use Rattle.rn_written.specs.Written.{IsRecordOf}
+use Rattle.rn_written.proofs.WrittenStates.{has_text, is_marking, live_at_end}
+use Rattle.rn_written.proofs.writing.write_record.Goals as goal
+
+pub live_part-requires : goal.live_part-requires
+live_part-requires c =
+    let system = c.system-system in
+    let table = c.table-table in
+    good_places system.result.now table.result.now.marking system.ensures.good
+    (is_marking c.args.state.now system.result.now table.result.now.marking system.ensures.system
+    system.ensures.good table.ensures.stands)
+
+pub write_told-requires : goal.write_told-requires
+write_told-requires c =
+    let system = c.system-system in
+    let table = c.table-table in
+    has_text c.args.state.now system.result.now table.result.now.marking system.ensures.system
+    system.ensures.good table.ensures.stands c.in_ok-marks.marks c.in_ok-marks.ensures
+    c.in_ok-entries.entries (c.in_ok-entries.ensures ∙ c.entries.ensures.entries) c.entries.ensures.log
+
+pub returns : goal.returns
+returns c =
+    let s = c.args.state.now in
+    let system = c.system-system in
+    let table = c.table-table in
+    let marks = c.in_ok-marks.marks in
+    let entries = c.in_ok-entries.entries in
+    let are : entries ≡ logged s = c.in_ok-entries.ensures ∙ c.entries.ensures.entries in
+    let live =
+    live_at_end s system.result.now table.result.now.marking system.ensures.system
+    system.ensures.good table.ensures.stands marks c.in_ok-marks.ensures in
+    IfOk-weaker c.write_told.result
+    (λ text. text.items ≡ record_text system.result.now (record { entries = entries; marks = marks }))
+    (λ text. IsRecordOf s text.items)
+    (λ text is. record {
+      marks = marks;
+      live = live;
+      text = is ∙ (λ i. record_text (system.ensures.system i) (record { entries = are i; marks = marks }));
+    }) c.write_told.ensures
