@@ -1,10 +1,10 @@
 -- Which tokens of an ascending list are the first of their value.
 use Rattle.std.proofs.Common.{◌≡◌, ℕ, zero, suc, ◌-◌, ◌<◌, ◌≤◌, Bool, true, false, Some, None}
-use Rattle.std.proofs.Common.{slice_get, List, [], ◌∷◌, length, take, nat_eq, refl, sym, ap, ◌∙◌}
-use Rattle.std.proofs.Common.{subst, arith}
+use Rattle.std.proofs.Common.{slice_get, List, [], ◌∷◌, length, take, drop, nat_eq, refl, sym, ap}
+use Rattle.std.proofs.Common.{◌∙◌, subst, arith, Contains}
 use Rattle.std.specs.Prelude.{option_and_then, if◌then◌else◌}
-use Rattle.std.proofs.lemmas.Bool.{eqb-true}
-use Rattle.std.proofs.lemmas.Option.{slice_get_past}
+use Rattle.std.proofs.lemmas.Bool.{eqb-true, true≢false}
+use Rattle.std.proofs.lemmas.Option.{slice_get_past, slice_get-get_or}
 use Rattle.std.specs.List.Sorted.{IsSorted}
 use Rattle.rn_value.specs.Order.{value_cmp}
 use Rattle.rn_value.specs.declared.value.Value.{Value}
@@ -12,7 +12,7 @@ use Rattle.rn_model.specs.Lists.{same_value, count_of}
 use Rattle.rn_model.proofs.ValueLists.{one_if, count_of-cons}
 use Rattle.rn_bag.specs.Cuts.{AllBelow, NoneBelow, Ascends}
 use Rattle.rn_bag.proofs.AscendingLemmas.{below, below_differs, below_through, same_itself}
-use Rattle.rn_bag.proofs.AscendingLemmas.{same_value_is}
+use Rattle.rn_bag.proofs.AscendingLemmas.{not_itself, same_value_is}
 use Rattle.rn_bag.proofs.CursorLemmas.{all_past, ascends_of}
 use Rattle.rn_search.specs.Points.{first_token}
 
@@ -111,3 +111,31 @@ fresh vs (suc i) v sorted some at other =
     element [] k x is = absurd (let no : ⊥ = cc in no)
     element (y ∷ ys) zero x is = (y, refl)
     element (y ∷ ys) (suc k) x is = element ys k x is
+
+-- A token before which all others are below it is the first of its value;
+pub cut_first : (vs : List Value) (k : ℕ) (v : Value) → AllBelow v (take k vs) →
+    slice_get vs k ≡ Some v → first_token vs k ≡ Some v
+cut_first vs k v low at = told vs k v true at (ap (λ n. nat_eq n 0) (none_equal v (take k vs) low))
+
+-- and where it isn't there, it stands nowhere.
+cut_only : (vs : List Value) (k j : ℕ) (v : Value) → Ascends vs → AllBelow v (take k vs) →
+    NoneBelow v (drop k vs) → ¬ (slice_get vs k ≡ Some v) → slice_get vs j ≡ Some v → ⊥
+cut_only [] k j v up low high other at = let no : ⊥ = cc in no
+cut_only (x ∷ xs) zero zero v up low high other at = other at
+cut_only (x ∷ xs) zero (suc j) v up low high other at =
+    let past : below v x ≡ false =
+    all_past (λ z. below z x ≡ false) xs 0 j v up.0 (omega arith) at in
+    other (ap Some (same_value_is v x high.0 past))
+cut_only (x ∷ xs) (suc k) zero v up low high other at =
+    let is : x ≡ v = cc in
+    let under : below v v ≡ true = subst (λ z. below z v ≡ true) is low.0 in
+    true≢false (sym under ∙ not_itself v)
+cut_only (x ∷ xs) (suc k) (suc j) v up low high other at =
+    cut_only xs k j v up.1 low.1 high other at
+
+pub cut_absent : (vs : List Value) (k : ℕ) (v : Value) → IsSorted value_cmp vs →
+    AllBelow v (take k vs) → NoneBelow v (drop k vs) → ¬ (slice_get vs k ≡ Some v) →
+    ¬ Contains vs v
+cut_absent vs k v sorted low high other (j, within, is) =
+    cut_only vs k j v (ascends_of vs sorted) low high other
+    (slice_get-get_or vs j v within ∙ ap Some is)

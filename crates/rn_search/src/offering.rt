@@ -1,18 +1,19 @@
 //! What the alternatives of a point mean, and how many there are.
 ghost use Rattle.std.specs.Prelude.{◌≡◌, ◌<◌, ◌^◌, [], Some, IfOk, List, OnSome, ℕ, slice_get};
+ghost use Rattle.std.specs.Prelude.{Contains, IfSome, IfNone};
 ghost use Rattle.std.specs.Prelude.{unwrap_or};
 ghost use Rattle.std.specs.Option.{option_copied};
 ghost use Rattle.rn_growing.specs.Decisions.{transition_in};
 ghost use Rattle.rn_growing.specs.declared.decision.Decision.{Decision as Decided};
 ghost use Rattle.rn_search.specs.Offering.{alternatives, answers};
 ghost use Rattle.rn_search.specs.Points.{child, instance_of, net_called, node_of};
-ghost use Rattle.rn_search.specs.Points.{offered, tokens_of};
+ghost use Rattle.rn_search.specs.Points.{first_token, offered, tokens_of};
 ghost use Rattle.rn_search.specs.declared.point.Point.TheVariants as P;
 
 use crate::point::{Called, Point};
 use crate::problem::Problem;
 use crate::system_parts::{copy_head, node_on, transition_in};
-use crate::tokens::first_token_after;
+use crate::tokens::{first_token_after, index_of};
 use rn_bag::Bag;
 use rn_growing::{Caller, Decision, Head};
 use rn_items::Items;
@@ -21,8 +22,8 @@ use rn_value::{InstRef, NoMemory, Value, copy};
 use std::alloc::Global;
 
 impl<'a> Problem<'a> {
-    // The node of the decision at an index.
-    fn node_of<'b>(&'b self, decisions: &'b [Decision], k: usize) -> &'b Head
+    /// The node of the decision at an index, or the start.
+    pub fn node_of<'b>(&'b self, decisions: &'b [Decision], k: usize) -> &'b Head
         ensures { result.now ≡ node_of self.now decisions.now k }
     {
         match decisions.get(k) {
@@ -195,6 +196,27 @@ impl<'a> Problem<'a> {
         };
         let inst = self.instance_of(alloc, decisions, called)?;
         Ok(Some(child(alloc, head, i, inst, net, *transition)?))
+    }
+
+    /// The index at which a token stands first in the place of a node's arc, where it is there. It
+    /// takes no memory.
+    pub fn only_token(
+        &self,
+        decisions: &[Decision],
+        node: usize,
+        arc: usize,
+        token: &Value,
+    ) -> Option<usize>
+        ensures first { IfSome result (λ k. first_token
+            (tokens_of self.now (node_of self.now decisions.now node) arc) k ≡ Some token.now) }
+        ensures absent { IfNone result
+            (¬ Contains (tokens_of self.now (node_of self.now decisions.now node) arc) token.now) }
+    {
+        let head = self.node_of(decisions, node);
+        match self.tokens_of(head, arc) {
+            Some(bag) => index_of(bag, token),
+            None => None,
+        }
     }
 
     /// How many alternatives a point has. It takes no memory.

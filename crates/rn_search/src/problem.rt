@@ -1,10 +1,9 @@
 //! What a search works on: a marking, where it starts, and what the search may rest on.
 ghost use Rattle.std.specs.Prelude.{◌≡◌};
 ghost use Rattle.rn_model.specs.Good.{Good};
-ghost use Rattle.rn_model.specs.SoundTokens.{HasSoundTokens};
 ghost use Rattle.rn_channel.specs.Answering.{answering};
 ghost use Rattle.rn_search.specs.Missing.{MayStart};
-ghost use Rattle.rn_search.specs.Problems.{IsProblem};
+ghost use Rattle.rn_search.specs.Problems.{HasFitTokens, IsProblem};
 
 use rn_channel::Uplinks;
 use rn_growing::Head;
@@ -65,10 +64,10 @@ impl<'a> Problem<'a> {
         self.system
     }
 
-    /// The table, whose tokens are sound.
+    /// The table, whose tokens fit.
     pub fn table(&self) -> &Table
         ensures same { result.now.marking ≡ self.now.marking }
-        ensures tokens { HasSoundTokens self.now.system self.now.marking }
+        ensures tokens { HasFitTokens self.now.system self.now.marking }
     {
         self.table
     }

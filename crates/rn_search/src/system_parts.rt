@@ -12,7 +12,7 @@ use rn_value::{NoMemory, copy_inst};
 use std::alloc::Global;
 
 /// The transition of a node, where there is one.
-pub(crate) fn transition_in<'a>(system: &'a System, head: &Head) -> Option<&'a Transition>
+pub fn transition_in<'a>(system: &'a System, head: &Head) -> Option<&'a Transition>
     ensures { unwrap_or (option_copied result) empty_transition
         ≡ transition_in system.now head.now }
 {
@@ -34,7 +34,7 @@ pub(crate) fn node_on(decision: &Decision) -> &Head
 }
 
 /// The same node, which shares no memory with the first.
-pub(crate) fn copy_head(alloc: Global, head: &Head) -> Result<Head, NoMemory>
+pub fn copy_head(alloc: Global, head: &Head) -> Result<Head, NoMemory>
     ensures { IfOk result (λ h. h ≡ head.now) }
 {
     let path = Vec::from_slice(alloc, head.path.as_slice())?;

@@ -1,5 +1,6 @@
 //! Tokens of a bag of which only the first of equal ones counts.
 ghost use Rattle.std.specs.Prelude.{◌≡◌, ◌↔◌, IsTrue, Some, slice_get, ◌+◌};
+ghost use Rattle.std.specs.Prelude.{Contains, IfSome, IfNone};
 ghost use Rattle.std.specs.Option.{option_copied};
 ghost use Rattle.rn_search.specs.Points.{first_token};
 
@@ -34,6 +35,20 @@ pub(crate) fn first_token_after(bag: &Bag, from: usize, a: usize) -> Option<&Val
         return None;
     }
     first_token(bag, from + a)
+}
+
+/// The first index at which a token stands, where it is there.
+pub(crate) fn index_of(bag: &Bag, token: &Value) -> Option<usize>
+    ensures first { IfSome result (λ k. first_token bag.now k ≡ Some token.now) }
+    ensures absent { IfNone result (¬ Contains bag.now token.now) }
+{
+    let _count = bag.len();
+    let from = bag.first_from(token);
+    if is_at(bag, from, token) {
+        Some(from)
+    } else {
+        None
+    }
 }
 
 // Whether a token stands at an index.

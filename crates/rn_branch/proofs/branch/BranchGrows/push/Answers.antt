@@ -1,0 +1,71 @@
+-- By the decision that the alternative means.
+use Rattle.rn_branch.proofs.BranchSteps.{push_comes, push_fresh, push_heads, push_is, push_kept}
+use Rattle.rn_branch.proofs.BranchSteps.{push_never, push_none, push_room, push_stands}
+use Rattle.rn_branch.proofs.branch.BranchGrows.push.Goals as goal
+
+pub decision_at-requires : goal.decision_at-requires
+decision_at-requires c =
+    push_heads c.args.problem.now c.self.inside.growing c.args.self.now c.self.view_is
+    c.requires.stands c.decisions-decisions.result.now c.decisions-decisions.ensures
+    c.start-start.ensures.starts
+
+pub decide-requires-clause-may_come : goal.decide-requires-clause-may_come
+decide-requires-clause-may_come c =
+    push_comes c.args.problem.now c.self.inside.growing c.args.self.now c.self.view_is
+    c.requires.stands c.decisions-decisions.result.now c.decisions-decisions.ensures
+    c.start-start.ensures.starts c.args.site c.args.alternative
+    c.requires.allows _ c.in_ok-decision.ensures c.in-Some.decision c.in-Some.is
+
+pub decide-requires-clause-fresh : goal.decide-requires-clause-fresh
+decide-requires-clause-fresh c =
+    push_fresh c.args.problem.now c.self.inside.growing c.args.self.now c.self.view_is
+    c.requires.stands c.decisions-decisions.result.now c.decisions-decisions.ensures
+    c.start-start.ensures.starts c.args.site c.args.alternative
+    c.requires.allows _ c.in_ok-decision.ensures c.in-Some.decision c.in-Some.is
+
+pub returns-in-Some-clause-stands : goal.returns-in-Some-clause-stands
+returns-in-Some-clause-stands c =
+    push_stands c.args.problem.now c.self.inside.growing c.args.self.now c.self.view_is
+    c.requires.stands c.decisions-decisions.result.now c.decisions-decisions.ensures
+    c.start-start.ensures.starts c.args.site c.args.alternative
+    c.requires.allows _ c.in_ok-decision.ensures c.in-Some.decision c.in-Some.is
+    c.decide.result c.decide.new.growing c.decide.ensures.tries
+
+pub returns-in-Some-clause-pushed : goal.returns-in-Some-clause-pushed
+returns-in-Some-clause-pushed c =
+    push_is c.args.problem.now c.self.inside.growing c.args.self.now c.self.view_is
+    c.requires.stands c.decisions-decisions.result.now c.decisions-decisions.ensures
+    c.start-start.ensures.starts c.args.site c.args.alternative
+    c.requires.allows _ c.in_ok-decision.ensures c.in-Some.decision c.in-Some.is
+    c.decide.result c.decide.new.growing c.decide.ensures.tries
+
+pub returns-in-Some-clause-room : goal.returns-in-Some-clause-room
+returns-in-Some-clause-room c =
+    push_room c.args.problem.now c.self.inside.growing c.args.self.now c.self.view_is
+    c.requires.stands c.decisions-decisions.result.now c.decisions-decisions.ensures
+    c.start-start.ensures.starts c.args.site c.args.alternative
+    c.requires.allows _ c.in_ok-decision.ensures c.in-Some.decision c.in-Some.is
+    c.decide.result c.decide.new.growing c.decide.ensures.tries
+
+pub returns-in-Some-clause-kept : goal.returns-in-Some-clause-kept
+returns-in-Some-clause-kept c =
+    push_kept c.args.problem.now c.self.inside.growing c.args.self.now c.self.view_is
+    c.requires.stands c.decisions-decisions.result.now c.decisions-decisions.ensures
+    c.start-start.ensures.starts c.args.site c.args.alternative
+    c.requires.allows _ c.in_ok-decision.ensures c.in-Some.decision c.in-Some.is
+    c.decide.result c.decide.new.growing c.decide.ensures.tries
+
+pub returns-in-Some-clause-none : goal.returns-in-Some-clause-none
+returns-in-Some-clause-none c =
+    push_never c.args.problem.now c.self.inside.growing c.args.self.now c.self.view_is
+    c.requires.stands c.decisions-decisions.result.now c.decisions-decisions.ensures
+    c.start-start.ensures.starts c.args.site c.args.alternative
+    c.requires.allows _ c.in_ok-decision.ensures c.in-Some.decision c.in-Some.is
+    c.decide.result c.decide.new.growing c.decide.ensures.tries
+
+pub returns-in-None-clause-none : goal.returns-in-None-clause-none
+returns-in-None-clause-none c = λ no.
+    push_none c.args.problem.now c.self.inside.growing c.args.self.now c.self.view_is
+    c.requires.stands c.decisions-decisions.result.now c.decisions-decisions.ensures
+    c.start-start.ensures.starts c.args.site c.args.alternative
+    c.requires.allows _ c.in_ok-decision.ensures c.in-None.is

@@ -1,0 +1,35 @@
+-- Which variables of a node are forced, and what is known of expressions by them.
+use Rattle.std.specs.Prelude.{ℕ, ◌≡◌, List, Some, None, slice_get, Contains}
+use Rattle.rn_value.specs.declared.value.Value.{Value}
+use Rattle.rn_model.specs.declared.expr.Expr.{Expr}
+use Rattle.rn_model.specs.declared.system.NetArc.{NetArc}
+use Rattle.rn_model.specs.declared.system.Transition.{Transition}
+use Rattle.rn_model.specs.Evaluation.{Env, worth}
+use Rattle.rn_model.specs.Lists.{value_beside}
+use Rattle.rn_model.specs.Systems.{vars_in}
+use Rattle.rn_growing.specs.declared.decision.Head.{Head}
+use Rattle.rn_growing.specs.Equations.{IsForced, IsForcedTo}
+use Rattle.rn_growing.specs.Grown.{Grown}
+
+-- a variable of the node on a path is forced, or forced to a value
+abbrev pub IsVarForcedTo : Grown → List ℕ → ℕ → Value → Type 0
+IsVarForcedTo g path x v = IsForcedTo g.system g.decisions (λ a. Some (a.var path x)) v
+
+abbrev pub IsVarForcedIn : Grown → List ℕ → ℕ → Type 0
+IsVarForcedIn g path x = IsForced g.system g.decisions (λ a. Some (a.var path x))
+
+-- an environment has the value to which each variable of an expression is forced
+pub record Knows (g : Grown) (head : Head) (e : Expr) (env : Env) : Type 0 where
+  pub this : env.this ≡ head.inst
+  pub step : env.step ≡ None
+  pub forced : (x : ℕ) → Contains (vars_in e) x → (v : Value) ×
+      (value_beside env.pairs x ≡ Some v) × IsVarForcedTo g head.path x v
+
+-- the variables of an expression are known, and it has this value
+abbrev pub IsKnownValue : Grown → Head → Expr → Value → Type 0
+IsKnownValue g head e v = (env : Env) × Knows g head e env × (worth e env ≡ Some v)
+
+-- the value of the inscription of a node's arc is known
+abbrev pub IsKnownToken : Grown → Head → Transition → ℕ → Value → Type 0
+IsKnownToken g head t k v = (x : NetArc) → slice_get t.arcs k ≡ Some x →
+    IsKnownValue g head x.inscription v

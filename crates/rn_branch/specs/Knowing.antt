@@ -1,0 +1,24 @@
+-- What is known of the variables of an expression.
+use Rattle.std.specs.Prelude.{ℕ, ◌≡◌, List, Option, Some, None, map, All}
+use Rattle.rn_value.specs.declared.value.Value.{Value}
+use Rattle.rn_model.specs.declared.expr.Expr.{Expr}
+use Rattle.rn_model.specs.Evaluation.{Env}
+use Rattle.rn_model.specs.Systems.{vars_in}
+use Rattle.rn_growing.specs.declared.decision.Head.{Head}
+use Rattle.rn_growing.specs.Grown.{Grown}
+use Rattle.rn_branch.specs.declared.known.Known.{Known}
+pub use Rattle.rn_branch.specs.Forced.{IsVarForcedTo, IsVarForcedIn, Knows, IsKnownValue, IsKnownToken}
+
+-- what known values are read as
+abbrev pub known_env : Known → Env
+known_env k = record { this = k.this.now; step = None; pairs = k.pairs.items }
+
+-- These are the variables, each beside the value to which it is forced.
+abbrev pub ArePairsOf : Grown → List ℕ → List ℕ → List (ℕ × Value) → Type 0
+ArePairsOf g path vars pairs =
+    (map (λ p. p.0) pairs ≡ vars) × All (λ p. IsVarForcedTo g path p.0 p.1) pairs
+
+-- the values of the variables of an expression, or none where one isn't forced
+abbrev pub KnowsVars : Grown → Head → Expr → Option Known → Type 0
+KnowsVars g head e None = ¬ All (IsVarForcedIn g head.path) (vars_in e)
+KnowsVars g head e (Some known) = Knows g head e (known_env known)

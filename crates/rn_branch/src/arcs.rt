@@ -1,0 +1,148 @@
+//! Looking at the arcs of a node.
+ghost use Rattle.std.specs.Prelude.{◌≡◌, ◌<◌, IfOk, IfSome, Some, length, slice_get};
+ghost use Rattle.rn_branch.specs.Branches.{IsLookedAt};
+ghost use Rattle.rn_branch.specs.Knowing.{IsKnownToken, IsKnownValue};
+ghost use Rattle.rn_branch.specs.Looks.{Looked};
+ghost use Rattle.rn_branch.specs.Things.{IsOnArc, IsOnArcs, FindsToken};
+
+use crate::best::{better, is_best};
+use crate::known::known_in;
+use crate::look::Look;
+use crate::parts::{finds_token, finds_values};
+use rn_calc::evaluate;
+use rn_choices::Next;
+use rn_growing::{Growing, Head};
+use rn_model::{Expr, NetArc, Transition};
+use rn_search::{Point, Problem};
+use rn_value::{NoMemory, Value};
+use std::alloc::Global;
+
+// The value of an expression of a node, where its variables are forced and it has one.
+fn known_value(
+    alloc: Global,
+    growing: &Growing<'_>,
+    head: &Head,
+    expr: &Expr,
+) -> Result<Option<Value>, NoMemory>
+    ensures { IfOk result (λ value. IfSome value (λ v. IsKnownValue growing.now head.now expr.now v)) }
+{
+    let Some(known) = known_in(alloc, growing, head, expr)? else {
+        return Ok(None);
+    };
+    evaluate(alloc, expr, &known)
+}
+
+// With which of so many alternatives to begin.
+fn begin_at(first: usize, of: usize) -> usize {
+    if of == 0 { 0 } else { first % of }
+}
+
+// The arc of an index.
+fn arc_at(transition: &Transition, k: usize) -> &NetArc
+    requires { k < length transition.now.arcs }
+    ensures { slice_get transition.now.arcs k ≡ Some result.now }
+{
+    &transition.arcs.as_slice()[k]
+}
+
+// Goes on with the token of an arc, whose value is known.
+fn with_token(
+    problem: &Problem<'_>,
+    growing: &Growing<'_>,
+    node: usize,
+    head: &Head,
+    transition: &Transition,
+    k: usize,
+    value: &Value,
+) -> Look
+    requires at { IsLookedAt problem.now growing.now node head.now transition.now }
+    requires token { FindsToken growing.now.decisions head.now transition.now k }
+    requires known { IsKnownToken growing.now head.now transition.now k value.now }
+    ensures { Looked problem.now growing.now.decisions (IsOnArc head.now k) result }
+{
+    let _ = head;
+    let _ = transition;
+    match problem.only_token(growing.decisions(), node, k, value) {
+        Some(from) => Look::Goes(Next::Forced(Point::Token(node, k, from))),
+        None => Look::Goes(Next::Stuck),
+    }
+}
+
+// Looks for the token of an arc.
+fn look_for_token(
+    alloc: Global,
+    problem: &Problem<'_>,
+    growing: &Growing<'_>,
+    node: usize,
+    head: &Head,
+    transition: &Transition,
+    k: usize,
+    first: usize,
+) -> Result<Look, NoMemory>
+    requires at { IsLookedAt problem.now growing.now node head.now transition.now }
+    requires token { FindsToken growing.now.decisions head.now transition.now k }
+    ensures { IfOk result (λ look. Looked problem.now growing.now.decisions
+        (IsOnArc head.now k) look) }
+{
+    let arc = arc_at(transition, k);
+    if let Some(value) = known_value(alloc, growing, head, &arc.inscription)? {
+        return Ok(with_token(problem, growing, node, head, transition, k, &value));
+    }
+    let point = Point::Token(node, k, 0);
+    let of = problem.alternatives(growing.decisions(), point);
+    Ok(Look::Goes(Next::Choose(point, of, begin_at(first, of))))
+}
+
+// Looks at one of them.
+fn look_at_arc(
+    alloc: Global,
+    problem: &Problem<'_>,
+    growing: &Growing<'_>,
+    node: usize,
+    head: &Head,
+    transition: &Transition,
+    k: usize,
+    first: usize,
+) -> Result<Look, NoMemory>
+    requires at { IsLookedAt problem.now growing.now node head.now transition.now }
+    requires within { k < length transition.now.arcs }
+    ensures { IfOk result (λ look. Looked problem.now growing.now.decisions
+        (IsOnArc head.now k) look) }
+{
+    let arc = arc_at(transition, k);
+    if !finds_values(arc.kind) {
+        return Ok(Look::Done);
+    }
+    if growing.was_found(head.path.as_slice(), k) {
+        return Ok(Look::Done);
+    }
+    if !finds_token(arc.kind) {
+        return Ok(Look::Goes(Next::Forced(Point::List(node, k))));
+    }
+    look_for_token(alloc, problem, growing, node, head, transition, k, first)
+}
+
+/// Looks at what the arcs of a node find. Choices of a token begin with this one, round.
+pub(crate) fn look_at_arcs(
+    alloc: Global,
+    problem: &Problem<'_>,
+    growing: &Growing<'_>,
+    node: usize,
+    head: &Head,
+    transition: &Transition,
+    first: usize,
+) -> Result<Look, NoMemory>
+    requires { IsLookedAt problem.now growing.now node head.now transition.now }
+    ensures { IfOk result (λ look. Looked problem.now growing.now.decisions
+        (IsOnArcs head.now (length transition.now.arcs)) look) }
+{
+    let mut best = Look::Done;
+    for k in 0..transition.arcs.len() {
+        let look = look_at_arc(alloc, problem, growing, node, head, transition, k, first)?;
+        best = better(best, look);
+        if is_best(best) {
+            return Ok(best);
+        }
+    }
+    Ok(best)
+}

@@ -1,0 +1,231 @@
+//! A branch of a search: what is decided, and how it goes on.
+ghost use Rattle.std.specs.Prelude.{◌≡◌, ◌↔◌, IfOk, [], ◌++◌, ◌∷◌, IsTrue};
+ghost use Rattle.rn_growing.specs.Equations.{IsSolvable};
+ghost use Rattle.rn_growing.specs.Grown.{HasFewCreations, IsNew, Tries};
+ghost use Rattle.rn_growing.specs.Turns.{MayCome};
+ghost use Rattle.rn_search.specs.Allowing.{Allows};
+ghost use Rattle.rn_search.specs.Points.{offered};
+ghost use Rattle.rn_search.specs.Solving.{Passes};
+ghost use Rattle.rn_search.specs.declared.point.Point.TheVariants as P;
+ghost use Rattle.rn_branch.specs.Branches.{AreHeadsIn, IsHeadIn};
+
+use crate::look::Look;
+use crate::looking::look_at_all;
+use crate::made::binding_of;
+use crate::parts::transition_in;
+use rn_agree::{does_agree, has_shape};
+use rn_arcs::fits;
+use rn_binding::{Candidate, applications_of};
+use rn_choices::{Grows, Next};
+use rn_growing::{Decision, Growing, Way};
+use rn_model::{Binding, System};
+use rn_search::{Point, Problem, copy_head};
+use rn_value::{NoMemory, Value};
+use std::alloc::Global;
+use std::marker::Model;
+
+/// What is decided of a binding in a search, and with which alternative choices of tokens begin.
+#[derive(Drop)]
+pub struct Branch<'a> {
+    alloc: Global,
+    growing: Growing<'a>,
+    first: usize,
+}
+
+impl<'a> Model for Branch<'a> {
+    ghost use Rattle.rn_growing.specs.Grown.{Grown};
+    ghost use Rattle.rn_value.specs.contracts.value.Value as value;
+    ghost use Rattle.rn_value.specs.contracts.value.Kind as kind;
+    ghost use Rattle.rn_model.specs.contracts.expr.Expr as expr;
+    ghost use Rattle.rn_model.specs.contracts.expr.Cond as cond;
+    ghost use Rattle.std.specs.Coded.{codes};
+
+    ghost Value = { Grown };
+
+    ghost coded = { Prim.hlevel (
+      codes,
+      value.the_row.coded,
+      kind.the_row.coded,
+      expr.the_row.coded,
+      cond.the_row.coded,
+    ) };
+
+    ghost view = { λ b. b.growing };
+}
+
+impl<'a> Branch<'a> {
+    /// Nothing is decided. Choices of a token begin with this one of them, round. It takes no
+    /// memory.
+    pub fn open(alloc: Global, system: &'a System, first: usize) -> Branch<'a>
+        requires { HasFewCreations system.now }
+        ensures { result ≡ record { system = system.now; decisions = [] } }
+    {
+        Branch {
+            alloc,
+            growing: Growing::open(alloc, system),
+            first,
+        }
+    }
+}
+
+// The value of an operator application as a decision.
+fn result_at(
+    alloc: Global,
+    problem: &Problem<'_>,
+    decisions: &[Decision],
+    node: usize,
+    k: usize,
+    n: i64,
+    a: usize,
+) -> Result<Option<Decision>, NoMemory>
+    requires { IsHeadIn problem.now decisions.now node }
+    ensures { IfOk result
+        (λ d. d ≡ offered problem.now decisions.now (P.Result node k n) a) }
+{
+    if a > 0 {
+        return Ok(None);
+    }
+    let head = problem.node_of(decisions, node);
+    let found = applications_of(alloc, transition_in(problem.system(), head))?;
+    let Some(application) = found.get(k) else {
+        return Ok(None);
+    };
+    let way = Way::from_vec(Vec::from_slice(alloc, application.way.as_slice())?);
+    let head = copy_head(alloc, head)?;
+    Ok(Some(Decision::Computed(head, application.site, way, Value::Int(n))))
+}
+
+// The decision that an alternative means, where it is one.
+fn decision_at(
+    alloc: Global,
+    problem: &Problem<'_>,
+    decisions: &[Decision],
+    point: Point,
+    a: usize,
+) -> Result<Option<Decision>, NoMemory>
+    requires { AreHeadsIn problem.now decisions.now }
+    ensures { IfOk result (λ d. d ≡ offered problem.now decisions.now point a) }
+{
+    match point {
+        Point::Start => problem.entry(alloc, a),
+        Point::Token(node, arc, from) => problem.token(alloc, decisions, node, arc, from, a),
+        Point::List(node, arc) => problem.list(alloc, decisions, node, arc, a),
+        Point::Result(node, k, n) => result_at(alloc, problem, decisions, node, k, n, a),
+        Point::Call(node, i, called) => problem.call(alloc, decisions, node, i, called, a),
+    }
+}
+
+// One more decision, where it can be satisfied.
+fn decide(alloc: Global, growing: &mut Growing<'_>, decision: Decision) -> Result<bool, NoMemory>
+    requires may_come { MayCome growing.old.system growing.old.decisions decision }
+    requires fresh { IsNew growing.old.decisions decision }
+    ensures tries { IfOk result (λ yes. Tries growing.old decision growing.new yes) }
+{
+    match decision {
+        Decision::Entered(head, caller) => growing.enter(alloc, head, caller),
+        Decision::Found(head, arc, value) => growing.find(alloc, head, arc, value),
+        Decision::Computed(head, site, way, value) => {
+            growing.compute(alloc, head, site, way, value)
+        }
+    }
+}
+
+// Whether a binding that is made of decisions is enabled.
+fn is_enabled(alloc: Global, problem: &Problem<'_>, binding: &Binding) -> Result<bool, NoMemory>
+    ensures { IfOk result (λ yes. IsTrue yes ↔ Passes problem.now binding.now) }
+{
+    let system = problem.system();
+    let depth = problem.depth();
+    if !has_shape(system, depth, binding) {
+        return Ok(false);
+    }
+    if !does_agree(alloc, system, depth, binding)? {
+        return Ok(false);
+    }
+    fits(alloc, system, problem.table(), binding)
+}
+
+impl<'a> Grows for Branch<'a> {
+    ghost use Rattle.rn_search.specs.Sought.{Leads};
+    ghost use Rattle.rn_search.specs.Points.{offers};
+    ghost use Rattle.rn_search.specs.Allowing.{Allows};
+    ghost use Rattle.rn_search.specs.Room.{room};
+    ghost use Rattle.rn_search.proofs.Following.{fewer_lead};
+    ghost use Rattle.rn_search.proofs.Alternatives.{one_way};
+    ghost use Rattle.rn_branch.specs.Branches.{IsBranchOf, IsAtEnd};
+
+    type Problem = Problem<'a>;
+
+    type Site = Point;
+
+    type Decision = Decision;
+
+    type Solution = Candidate;
+
+    ghost decisions = { λ _ b. b.decisions };
+
+    ghost stands = { λ p b. IsBranchOf p b };
+
+    ghost leads = { λ p ds b. Leads p ds b };
+
+    ghost offers = { λ p ds site a. offers p ds site a };
+
+    ghost ends = { λ p b. IsAtEnd p b };
+
+    ghost allows = { λ p ds site a. Allows p ds site a };
+
+    ghost room = { λ p ds. room p.system p.depth ds };
+
+    fn count(&self, _problem: &Problem<'a>) -> usize {
+        self.growing.mark()
+    }
+
+    fn next(&mut self, problem: &Problem<'a>) -> Result<Next<Point>, NoMemory> {
+        let _start = problem.start();
+        if self.growing.mark() == 0 {
+            return Ok(Next::Forced(Point::Start));
+        }
+        match look_at_all(self.alloc, problem, &self.growing, self.first)? {
+            Look::Done => Ok(Next::Done),
+            Look::Waits => Ok(Next::Stuck),
+            Look::Goes(next) => Ok(next),
+        }
+    }
+
+    fn solution(
+        &self,
+        alloc: Global,
+        problem: &Problem<'a>,
+    ) -> Result<Option<Candidate>, NoMemory> {
+        let _system = problem.system();
+        let Some(binding) = binding_of(alloc, problem, &self.growing)? else {
+            return Ok(None);
+        };
+        if !is_enabled(alloc, problem, &binding)? {
+            return Ok(None);
+        }
+        Ok(Some(Candidate::known(binding)))
+    }
+
+    fn push(
+        &mut self,
+        problem: &Problem<'a>,
+        site: Point,
+        alternative: usize,
+    ) -> Result<bool, NoMemory> {
+        let _start = problem.start();
+        let decisions = self.growing.decisions();
+        match decision_at(self.alloc, problem, decisions, site, alternative)? {
+            Some(decision) => decide(self.alloc, &mut self.growing, decision),
+            None => Ok(false),
+        }
+    }
+
+    fn undo(&mut self, _problem: &Problem<'a>, count: usize) {
+        self.growing.undo(count);
+    }
+
+    ghost shorter = { λ p ds es b leads. fewer_lead p ds es b leads };
+
+    ghost one_way = { λ p ds site a c b one other. one_way p ds site a c b one other };
+}

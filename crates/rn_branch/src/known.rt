@@ -1,0 +1,82 @@
+//! What is known of the variables of an expression.
+ghost use Rattle.std.specs.Prelude.{IfOk, MatchOption, All};
+ghost use Rattle.rn_branch.specs.Forced.{IsVarForcedIn};
+ghost use Rattle.rn_branch.specs.Knowing.{ArePairsOf, KnowsVars};
+
+use rn_binding::put_vars;
+use rn_calc::Values;
+use rn_growing::{Growing, Head};
+use rn_model::Expr;
+use rn_value::{InstRef, NoMemory, Value};
+use std::alloc::Global;
+
+/// The values to which variables of a node are forced.
+#[derive(Drop)]
+pub(crate) struct Known<'a> {
+    this: &'a InstRef,
+    pairs: Vec<(u32, Value)>,
+}
+
+impl Values for Known<'_> {
+    ghost use Rattle.rn_branch.specs.Knowing.{known_env};
+
+    ghost env = { known_env };
+
+    fn this(&self) -> &InstRef {
+        self.this
+    }
+
+    fn step(&self) -> Option<u64> {
+        None
+    }
+
+    fn value(&self, x: u32) -> Option<&Value> {
+        for pair in self.pairs.as_slice() {
+            if pair.0 == x {
+                return Some(&pair.1);
+            }
+        }
+        None
+    }
+}
+
+// The values of these variables of a node, or `None` where one isn't forced.
+fn values_of(
+    alloc: Global,
+    growing: &Growing<'_>,
+    path: &[u32],
+    vars: &[u32],
+) -> Result<Option<Vec<(u32, Value)>>, NoMemory>
+    ensures { IfOk result (λ pairs. MatchOption pairs
+        (¬ All (IsVarForcedIn growing.now path.now) vars.now)
+        (λ ps. ArePairsOf growing.now path.now vars.now ps.items)) }
+{
+    let mut pairs = Vec::with_capacity(alloc, vars.len())?;
+    for x in vars {
+        let Some(value) = growing.value(alloc, path, *x)? else {
+            return Ok(None);
+        };
+        pairs.push((*x, value))?;
+    }
+    Ok(Some(pairs))
+}
+
+/// What is known of the variables of an expression of a node, or `None` where one isn't forced.
+pub(crate) fn known_in<'a>(
+    alloc: Global,
+    growing: &Growing<'_>,
+    head: &'a Head,
+    expr: &Expr,
+) -> Result<Option<Known<'a>>, NoMemory>
+    ensures { IfOk result (λ known. KnowsVars growing.now head.now expr.now known) }
+{
+    let mut vars = Vec::new(alloc);
+    put_vars(expr, &mut vars)?;
+    match values_of(alloc, growing, head.path.as_slice(), vars.as_slice())? {
+        Some(pairs) => Ok(Some(Known {
+            this: &head.inst,
+            pairs,
+        })),
+        None => Ok(None),
+    }
+}

@@ -1,0 +1,15 @@
+//! A branch of a search for enabled bindings: what is decided so far, and how it goes on.
+#![tactic(auto)]
+
+mod arcs;
+mod best;
+mod branch;
+mod calls;
+mod known;
+mod look;
+mod looking;
+mod made;
+mod parts;
+mod results;
+
+pub use branch::Branch;

@@ -1,0 +1,6 @@
+pub mod Branches
+pub mod FitTokens
+pub mod JustThese
+pub mod Numbers
+pub mod Ordered
+pub mod StartingBindings

@@ -1,0 +1,55 @@
+-- Bindings by where they start.
+use Rattle.std.specs.Prelude.{ℕ, ◌≡◌, ◌<◌, ◌≢◌, List, [], ◌++◌, Contains, AllPairs, All, map}
+use Rattle.std.specs.List.Sorted.{IsStrictlyIncreasing}
+use Rattle.rn_value.specs.declared.value.InstRef.TheVariants.{Old}
+use Rattle.rn_model.specs.declared.system.System.{System}
+use Rattle.rn_model.specs.declared.binding.Binding.{Binding}
+use Rattle.rn_model.specs.Enabling.{Enabled}
+use Rattle.rn_model.specs.Good.{Good}
+use Rattle.rn_model.specs.Markings.{Marking}
+use Rattle.rn_search.specs.Problems.{HasFitTokens}
+use Rattle.rn_channel.specs.declared.uplinks.Uplinks.{Uplinks}
+use Rattle.rn_channel.specs.Uplinks.{AreUplinksOf}
+use Rattle.rn_table.specs.Tables.{Kept, IsTableOf}
+use Rattle.rn_growing.specs.declared.decision.Head.{Head}
+use Rattle.rn_search.specs.Sought.{StartsAt}
+
+-- What may be searched: a good system with its uplinks, and a table of it whose tokens fit. The
+-- numbers of the table's instances ascend, and are below the next one.
+pub record IsSearchable (system : System) (uplinks : Uplinks) (table : Kept) : Type 0 where
+  pub good : Good system
+  pub own : AreUplinksOf system uplinks
+  pub of_system : IsTableOf system table
+  pub tokens : HasFitTokens system table.marking
+  pub ascending : IsStrictlyIncreasing (map (λ i. i.number) table.marking.instances)
+  pub below : All (λ i. i.number < table.marking.next) table.marking.instances
+
+-- the start by a transition of an instance
+abbrev pub start_of : ℕ → ℕ → ℕ → Head
+start_of number net t = record { path = []; inst = Old number; net = net; transition = t }
+
+-- no enabled binding starts at a node
+abbrev pub IsNoStart : System → Marking → ℕ → Head → Type 0
+IsNoStart system m depth start = (b : Binding) → Enabled system m b depth → ¬ StartsAt b start
+
+-- nor with an instance
+abbrev pub IsNoStartIn : System → Marking → ℕ → ℕ → Type 0
+IsNoStartIn system m depth number =
+    (net t : ℕ) → IsNoStart system m depth (start_of number net t)
+
+-- a binding starts with an instance
+abbrev pub HasStartIn : ℕ → Binding → Type 0
+HasStartIn number b = (net : ℕ) × (t : ℕ) × StartsAt b (start_of number net t)
+
+-- Just the enabled bindings of which this holds, each once.
+pub record AreJust (system : System) (m : Marking) (depth : ℕ) (Of : Binding → Type 0)
+    (found : List Binding) : Type 0 where
+  pub so : (b : Binding) → Contains found b → Enabled system m b depth × Of b
+  pub all : (b : Binding) → Enabled system m b depth → Of b → Contains found b
+  pub once : AllPairs (λ b c. b ≢ c) found
+
+-- a list with just the enabled bindings more that start with an instance
+abbrev pub IsMore : System → Marking → ℕ → ℕ → List Binding → List Binding → Type 0
+IsMore system m depth number before after =
+    (more : List Binding) × (after ≡ before ++ more)
+    × AreJust system m depth (HasStartIn number) more

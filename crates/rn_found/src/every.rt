@@ -1,0 +1,160 @@
+//! All bindings that are enabled, and the first of them.
+ghost use Rattle.std.specs.Prelude.{◌≡◌, ◌≢◌, ◌↔◌, ◌<◌, IfOk, IfSome, OnOk, IsNone, Some, ⊤, Contains, length};
+ghost use Rattle.std.specs.List.{AllAdjacentBelow};
+ghost use Rattle.std.specs.List.Sorted.{IsPermutation, IsSorted};
+ghost use Rattle.std.specs.declared.cmp.Ordering.TheVariants.{Less, Greater};
+ghost use Rattle.rn_model.specs.Order.{binding_cmp};
+ghost use Rattle.rn_model.specs.declared.binding.Binding.{Binding};
+ghost use Rattle.rn_model.specs.Good.{Good};
+ghost use Rattle.rn_model.specs.Enabling.{Enabled, DeadAt};
+ghost use Rattle.rn_model.specs.Markings.{net_of};
+ghost use Rattle.rn_search.specs.Problems.{HasFitTokens};
+ghost use Rattle.rn_model.specs.Systems.{net_at};
+ghost use Rattle.rn_channel.specs.Uplinks.{AreUplinksOf};
+ghost use Rattle.rn_search.specs.Sought.{StartsAt};
+ghost use Rattle.rn_table.specs.Tables.{IsTableOf};
+ghost use Rattle.rn_found.specs.Starting.{AreJust, IsMore, IsSearchable, start_of};
+
+use crate::marked::{Marked, problem_at};
+use crate::starts::{may_start, transition_count};
+use rn_binding::Candidate;
+use rn_branch::Branch;
+use rn_channel::Uplinks;
+use rn_choices::Choices;
+use rn_model::{System, compare_bindings};
+use rn_search::Point;
+use rn_table::Table;
+use rn_value::NoMemory;
+use std::alloc::Global;
+
+// All bindings that start with a transition of an instance.
+fn all_from(
+    alloc: Global,
+    marked: Marked<'_>,
+    choices: &mut Choices<Point>,
+    number: u32,
+    net: u32,
+    transition: u32,
+) -> Result<Vec<Candidate>, NoMemory>
+    requires searched { IsSearchable marked.system.now marked.uplinks.now
+        marked.table.now }
+    requires net { net_of marked.table.now.marking number ≡ Some net }
+    requires there { transition < length (net_at marked.system.now net).transitions }
+    ensures { IfOk result (λ found. AreJust marked.entry.system.now marked.entry.table.now.marking
+        marked.entry.depth (λ b. StartsAt b (start_of number net transition)) found.items) }
+{
+    if !may_start(marked.system, net, transition) {
+        return Ok(Vec::new(alloc));
+    }
+    let problem = problem_at(alloc, marked, number, net, transition);
+    let mut branch = Branch::open(alloc, marked.system, 0);
+    let found = rn_choices::all(alloc, &problem, &mut branch, choices)?;
+    Ok(found)
+}
+
+// Puts all bindings that start with an instance.
+fn put_at(
+    alloc: Global,
+    marked: Marked<'_>,
+    choices: &mut Choices<Point>,
+    number: u32,
+    found: &mut Vec<Candidate>,
+) -> Result<(), NoMemory>
+    requires { IsSearchable marked.system.now marked.uplinks.now
+        marked.table.now }
+    ensures { OnOk result (IsMore marked.entry.system.now marked.entry.table.now.marking
+        marked.entry.depth number found.old.items found.new.items) }
+{
+    let Some(net) = marked.table.net_of(number) else {
+        return Ok(());
+    };
+    let count = transition_count(marked.system, net);
+    for t in 0..count {
+        let mut more = all_from(alloc, marked, choices, number, net, t)?;
+        found.append(&mut more)?;
+    }
+    Ok(())
+}
+
+// All bindings, by the numbers of the instances with which they start.
+fn all_of(alloc: Global, marked: Marked<'_>) -> Result<Vec<Candidate>, NoMemory>
+    requires { IsSearchable marked.system.now marked.uplinks.now
+        marked.table.now }
+    ensures { IfOk result (λ found. AreJust marked.entry.system.now marked.entry.table.now.marking
+        marked.entry.depth (λ b. ⊤) found.items) }
+{
+    let _end = marked.table.next();
+    let mut found = Vec::new(alloc);
+    let mut choices = Choices::new(alloc);
+    let mut from = 0;
+    while let Some(number) = marked.table.first_starting(from) {
+        put_at(alloc, marked, &mut choices, number, &mut found)?;
+        from = number + 1;
+    }
+    Ok(found)
+}
+
+// Puts bindings in order.
+fn sort_bindings(found: &mut Vec<Candidate>) -> Result<(), NoMemory>
+    ensures sorted { OnOk result (IsSorted binding_cmp found.new.items) }
+    ensures same { IsPermutation found.old.items found.new.items }
+{
+    found.sort_by(|a, b| compare_bindings(a.binding(), b.binding()))?;
+    Ok(())
+}
+
+/// Just the bindings that are enabled at the table within the depth, each once, ascending by
+/// `compare_bindings`.
+pub fn all_bindings(
+    alloc: Global,
+    system: &System,
+    uplinks: &Uplinks,
+    table: &Table,
+    depth: u32,
+) -> Result<Vec<Candidate>, NoMemory>
+    requires good { Good system.now }
+    requires own { AreUplinksOf system.now uplinks.now }
+    requires table { IsTableOf system.now table.now }
+    requires tokens { HasFitTokens system.now table.now.marking }
+    ensures just { IfOk result (λ found. (b : Binding) →
+        Contains found.items b ↔ Enabled system.now table.now.marking b depth) }
+    ensures ascending { IfOk result (λ found. AllAdjacentBelow (λ b c. binding_cmp b c ≡ Less)
+        found.items (length found.items)) }
+{
+    let _end = table.next();
+    let marked = Marked {
+        system,
+        uplinks,
+        table,
+        depth,
+    };
+    let mut found = all_of(alloc, marked)?;
+    sort_bindings(&mut found)?;
+    Ok(found)
+}
+
+/// The first of them, or `None` exactly where there is none.
+pub fn least(
+    alloc: Global,
+    system: &System,
+    uplinks: &Uplinks,
+    table: &Table,
+    depth: u32,
+) -> Result<Option<Candidate>, NoMemory>
+    requires good { Good system.now }
+    requires own { AreUplinksOf system.now uplinks.now }
+    requires table { IsTableOf system.now table.now }
+    requires tokens { HasFitTokens system.now table.now.marking }
+    ensures least { IfOk result (λ found. IfSome found (λ b.
+        Enabled system.now table.now.marking b depth
+        × ((c : Binding) → Enabled system.now table.now.marking c depth →
+        binding_cmp b c ≢ Greater))) }
+    ensures none { IfOk result (λ found. IsNone found
+        ↔ DeadAt system.now table.now.marking depth) }
+{
+    let mut found = all_bindings(alloc, system, uplinks, table, depth)?;
+    if found.is_empty() {
+        return Ok(None);
+    }
+    Ok(Some(found.swap_remove(0)))
+}

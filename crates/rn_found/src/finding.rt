@@ -1,0 +1,216 @@
+//! Finding one binding that is enabled.
+ghost use Rattle.std.specs.Prelude.{◌≡◌, ◌↔◌, ◌<◌, ◌≤◌, ℕ, IfOk, IfSome, IfNone, IsNone, Some, Contains, length};
+ghost use Rattle.rn_model.specs.Markings.{net_of};
+ghost use Rattle.rn_model.specs.Systems.{net_at};
+ghost use Rattle.rn_model.specs.Good.{Good};
+ghost use Rattle.rn_model.specs.Enabling.{Enabled, DeadAt};
+ghost use Rattle.rn_search.specs.Problems.{HasFitTokens};
+ghost use Rattle.rn_channel.specs.Uplinks.{AreUplinksOf};
+ghost use Rattle.rn_table.specs.Tables.{IsTableOf};
+ghost use Rattle.rn_found.specs.Starting.{IsNoStart, IsNoStartIn, IsSearchable, start_of};
+
+use crate::hint::Hint;
+use crate::marked::{Marked, problem_at};
+use crate::starts::{may_start, transition_count};
+use rn_binding::Candidate;
+use rn_branch::Branch;
+use rn_channel::Uplinks;
+use rn_choices::Choices;
+use rn_model::System;
+use rn_search::Point;
+use rn_table::Table;
+use rn_value::NoMemory;
+use std::alloc::Global;
+
+/// A searcher that searches again and again: it keeps its room, and where it found the last
+/// binding.
+#[derive(Drop)]
+pub struct Finding {
+    choices: Choices<Point>,
+    hint: Hint,
+}
+
+// A binding that starts with a transition of an instance, where a firing may start by it.
+fn find_from(
+    alloc: Global,
+    marked: Marked<'_>,
+    choices: &mut Choices<Point>,
+    number: u32,
+    net: u32,
+    transition: u32,
+    token: usize,
+) -> Result<Option<Candidate>, NoMemory>
+    requires searched { IsSearchable marked.system.now marked.uplinks.now
+        marked.table.now }
+    requires net { net_of marked.table.now.marking number ≡ Some net }
+    requires there { transition < length (net_at marked.system.now net).transitions }
+    ensures found { IfOk result (λ found. IfSome found (λ b. Enabled marked.entry.system.now
+        marked.entry.table.now.marking b marked.entry.depth)) }
+    ensures none { IfOk result (λ found. IfNone found (IsNoStart marked.entry.system.now
+        marked.entry.table.now.marking marked.entry.depth (start_of number net transition))) }
+{
+    if !may_start(marked.system, net, transition) {
+        return Ok(None);
+    }
+    let problem = problem_at(alloc, marked, number, net, transition);
+    let mut branch = Branch::open(alloc, marked.system, token);
+    let found = rn_choices::find(alloc, &problem, &mut branch, choices)?;
+    Ok(found)
+}
+
+// A binding that starts with one of some transitions of an instance.
+fn find_among(
+    alloc: Global,
+    marked: Marked<'_>,
+    choices: &mut Choices<Point>,
+    number: u32,
+    net: u32,
+    from: u32,
+    to: u32,
+    token: usize,
+) -> Result<Option<(u32, Candidate)>, NoMemory>
+    requires searched { IsSearchable marked.system.now marked.uplinks.now
+        marked.table.now }
+    requires net { net_of marked.table.now.marking number ≡ Some net }
+    requires within { to ≤ length (net_at marked.system.now net).transitions }
+    ensures found { IfOk result (λ found. IfSome found (λ f. Enabled marked.entry.system.now
+        marked.entry.table.now.marking f.1 marked.entry.depth)) }
+    ensures none { IfOk result (λ found. IfNone found ((t : ℕ) → from ≤ t → t < to →
+        IsNoStart marked.entry.system.now marked.entry.table.now.marking marked.entry.depth
+        (start_of number net t))) }
+{
+    for t in from..to {
+        if let Some(found) = find_from(alloc, marked, choices, number, net, t, token)? {
+            return Ok(Some((t, found)));
+        }
+    }
+    Ok(None)
+}
+
+// A binding that starts with an instance, by the transitions from one on, round.
+fn find_at(
+    alloc: Global,
+    marked: Marked<'_>,
+    choices: &mut Choices<Point>,
+    number: u32,
+    first: u32,
+    token: usize,
+) -> Result<Option<(u32, Candidate)>, NoMemory>
+    requires { IsSearchable marked.system.now marked.uplinks.now
+        marked.table.now }
+    ensures found { IfOk result (λ found. IfSome found (λ f. Enabled marked.entry.system.now
+        marked.entry.table.now.marking f.1 marked.entry.depth)) }
+    ensures none { IfOk result (λ found. IfNone found (IsNoStartIn marked.entry.system.now
+        marked.entry.table.now.marking marked.entry.depth number)) }
+{
+    let Some(net) = marked.table.net_of(number) else {
+        return Ok(None);
+    };
+    let count = transition_count(marked.system, net);
+    let first = first.min(count);
+    if let Some(found) = find_among(alloc, marked, choices, number, net, first, count, token)? {
+        return Ok(Some(found));
+    }
+    let found = find_among(alloc, marked, choices, number, net, 0, first, token)?;
+    Ok(found)
+}
+
+impl Finding {
+    /// It begins where the number says, and has no room yet.
+    pub fn new(alloc: Global, start: u64) -> Finding {
+        Finding {
+            choices: Choices::new(alloc),
+            hint: Hint::of(start),
+        }
+    }
+
+    // A binding that starts with an instance of a number below an end and not below another.
+    fn find_between(
+        &mut self,
+        alloc: Global,
+        marked: Marked<'_>,
+        from: u32,
+        end: u32,
+    ) -> Result<Option<Candidate>, NoMemory>
+        requires { IsSearchable marked.system.now marked.uplinks.now
+            marked.table.now }
+        ensures found { IfOk result (λ found. IfSome found (λ b. Enabled marked.entry.system.now
+            marked.entry.table.now.marking b marked.entry.depth)) }
+        ensures none { IfOk result (λ found. IfNone found ((number : ℕ) → from ≤ number →
+            number < end → Contains marked.entry.table.now.starting number →
+            IsNoStartIn marked.entry.system.now marked.entry.table.now.marking
+            marked.entry.depth number)) }
+    {
+        let mut next = from;
+        while let Some(number) = marked.table.first_starting(next) {
+            if number >= end {
+                return Ok(None);
+            }
+            let first = self.hint.first_of(number);
+            let token = self.hint.token;
+            let found = find_at(alloc, marked, &mut self.choices, number, first, token)?;
+            if let Some((transition, found)) = found {
+                self.hint = self.hint.after(number, transition);
+                return Ok(Some(found));
+            }
+            next = number + 1;
+        }
+        Ok(None)
+    }
+
+    /// A binding that is enabled, or `None` exactly where none is within the depth.
+    pub fn find(
+        &mut self,
+        alloc: Global,
+        system: &System,
+        uplinks: &Uplinks,
+        table: &Table,
+        depth: u32,
+    ) -> Result<Option<Candidate>, NoMemory>
+        requires good { Good system.now }
+        requires own { AreUplinksOf system.now uplinks.now }
+        requires table { IsTableOf system.now table.now }
+        requires tokens { HasFitTokens system.now table.now.marking }
+        ensures found { IfOk result (λ found. IfSome found
+            (λ b. Enabled system.now table.now.marking b depth)) }
+        ensures none { IfOk result (λ found. IsNone found
+            ↔ DeadAt system.now table.now.marking depth) }
+    {
+        let marked = Marked {
+            system,
+            uplinks,
+            table,
+            depth,
+        };
+        let from = self.hint.number;
+        let end = table.next();
+        if let Some(found) = self.find_between(alloc, marked, from, end)? {
+            return Ok(Some(found));
+        }
+        let found = self.find_between(alloc, marked, 0, from)?;
+        Ok(found)
+    }
+}
+
+/// A binding that is enabled at the table within the depth, or `None` exactly where there is none.
+/// `start` may change which one is found, and nothing else.
+pub fn find(
+    alloc: Global,
+    system: &System,
+    uplinks: &Uplinks,
+    table: &Table,
+    depth: u32,
+    start: u64,
+) -> Result<Option<Candidate>, NoMemory>
+    requires good { Good system.now }
+    requires own { AreUplinksOf system.now uplinks.now }
+    requires table { IsTableOf system.now table.now }
+    requires tokens { HasFitTokens system.now table.now.marking }
+    ensures found { IfOk result (λ found. IfSome found
+        (λ b. Enabled system.now table.now.marking b depth)) }
+    ensures none { IfOk result (λ found. IsNone found
+        ↔ DeadAt system.now table.now.marking depth) }
+{
+    let mut finding = Finding::new(alloc, start);
+    finding.find(alloc, system, uplinks, table, depth)
+}

@@ -1,0 +1,41 @@
+//! Where a search begins.
+
+/// Where a search begins: at the instance of a number, by a transition of it, and each choice of a
+/// token with one of them. It goes on from there, round.
+#[derive(Clone, Copy, Debug, PartialEq, Eq)]
+pub(crate) struct Hint {
+    pub number: u32,
+    pub transition: u32,
+    pub token: usize,
+}
+
+impl Hint {
+    /// What a number says: its last 20 bits are the instance's, the 20 before them the transition's,
+    /// the others the token's.
+    pub(crate) fn of(start: u64) -> Hint {
+        Hint {
+            number: (start % 1048576) as u32,
+            transition: (start / 1048576 % 1048576) as u32,
+            token: (start / 1048576 / 1048576) as usize,
+        }
+    }
+
+    /// The transition with which an instance begins.
+    pub(crate) fn first_of(self, number: u32) -> u32 {
+        if number == self.number {
+            self.transition
+        } else {
+            0
+        }
+    }
+
+    /// Where the next search begins, after a binding was found that starts with this transition of
+    /// this instance.
+    pub(crate) fn after(self, number: u32, transition: u32) -> Hint {
+        Hint {
+            number,
+            transition,
+            token: self.token.wrapping_add(1),
+        }
+    }
+}

@@ -1,0 +1,13 @@
+//! Finding the bindings that are enabled at a marking.
+#![tactic(auto)]
+
+mod every;
+mod finding;
+mod hint;
+mod laws;
+mod marked;
+mod starts;
+
+pub use every::{all_bindings, least};
+pub use finding::{Finding, find};
+pub use laws::tokens_fit;

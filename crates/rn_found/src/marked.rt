@@ -1,0 +1,45 @@
+//! What is searched.
+ghost use Rattle.std.specs.Prelude.{◌≡◌};
+ghost use Rattle.rn_search.specs.Missing.{MayStart};
+ghost use Rattle.rn_found.specs.Starting.{IsSearchable, start_of};
+
+use crate::starts::start_at;
+use rn_channel::Uplinks;
+use rn_model::System;
+use rn_search::Problem;
+use rn_table::Table;
+use std::alloc::Global;
+
+/// A table of a system with its uplinks, and within how many levels of calls bindings are looked
+/// for.
+#[derive(Clone, Copy)]
+pub(crate) struct Marked<'a> {
+    pub system: &'a System,
+    pub uplinks: &'a Uplinks,
+    pub table: &'a Table,
+    pub depth: u32,
+}
+
+/// What is looked for with a transition of an instance as the start.
+pub(crate) fn problem_at<'a>(
+    alloc: Global,
+    marked: Marked<'a>,
+    number: u32,
+    net: u32,
+    transition: u32,
+) -> Problem<'a>
+    requires searched { IsSearchable marked.system.now marked.uplinks.now
+        marked.table.now }
+    requires starts { MayStart marked.system.now marked.table.now.marking
+        (start_of number net transition) }
+    ensures { result ≡ record { system = marked.entry.system.now; marking = marked.entry.table.now.marking; depth = marked.entry.depth; start = start_of number net transition } }
+{
+    let start = start_at(alloc, number, net, transition);
+    Problem::new(
+        marked.system,
+        marked.uplinks,
+        marked.table,
+        marked.depth,
+        start,
+    )
+}
