@@ -1,0 +1,7 @@
+pub mod Beginnings
+pub mod Endings
+pub mod LastEntries
+pub mod MarkLemmas
+pub mod Refusals
+pub mod TrueRecords
+pub mod WholeEntries

@@ -1,0 +1,18 @@
+//! Replaying what a record tells: whether it is a run of a system with its true end and its marks.
+#![tactic(auto)]
+
+mod beginning;
+mod begun;
+mod ending;
+mod fault;
+mod finishing;
+mod firing;
+mod laws;
+mod marks;
+mod redoing;
+
+pub use beginning::begin_replay;
+pub use begun::Begun;
+pub use fault::ReplayFault;
+pub use finishing::finish_replay;
+pub use laws::replay_laws;
