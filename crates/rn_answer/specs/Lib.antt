@@ -1,0 +1,6 @@
+pub mod Lines
+pub mod Refusing
+pub mod NetTexts
+pub mod Input
+pub mod TextCommands
+pub mod Writing
