@@ -1,5 +1,5 @@
 //! Arcs beside tokens, and the demands of two nodes of one transition.
-use crate::build::{net, node, of_nets, of_one, one, place, transition};
+use crate::build::{first_table, net, node, of_nets, of_one, one, place, transition};
 use rn_arcs::{Demands, Places2, demands_of, fits, held, is_held, left};
 use rn_items::{Items, NoMemory};
 use rn_model::{ArcKind, Binding, Expr, NetArcs, System};
@@ -51,7 +51,7 @@ fn fits_at(
         arcs.push(arc(kind, 0, inscription(alloc, kind, numbers)?))?;
     }
     let system = system(alloc, tokens, arcs)?;
-    let table = Table::new(alloc, &system)?;
+    let table = first_table(alloc, &system)?;
     let node = node(alloc, &[], inst, (net, 0), ints(alloc, &[0])?)?;
     let binding = of_one(alloc, node)?;
     fits(alloc, &system, &table, &binding)
@@ -284,7 +284,7 @@ fn looks(rt: &impl Abort, alloc: Global, table: &Table) -> Result<(), NoMemory> 
 #[test]
 fn single_values(rt: HostRuntime) -> Result<(), Fail> {
     let alloc = rt.alloc();
-    let table = Table::new(alloc, &system(alloc, &[5, 4, 5], Items::new(alloc))?)?;
+    let table = first_table(alloc, &system(alloc, &[5, 4, 5], Items::new(alloc))?)?;
     looks(&rt, alloc, &table)?;
     Ok(())
 }

@@ -97,6 +97,14 @@ fn making(alloc: Global, net: u32) -> Result<Change, NoMemory>
     })
 }
 
+/// The table with which a run of a system starts. It gives up on more nets than tests need.
+pub(crate) fn first_table(alloc: Global, system: &System) -> Result<Table, NoMemory> {
+    if system.nets.len() > 20000 {
+        return Err(NoMemory);
+    }
+    Table::new(alloc, system)
+}
+
 /// Makes one more instance, of this net, where that may come.
 pub(crate) fn make(
     alloc: Global,

@@ -3,7 +3,7 @@ ghost use Rattle.std.specs.Prelude.{◌≡◌, ◌<◌, ◌≤◌, ◌^◌, ℕ,
 ghost use Rattle.rn_model.specs.Markings.{Instance, instance_at};
 ghost use Rattle.rn_live.specs.Marks.{places_of};
 
-use crate::build::{make, net, of_nets, one, place, transition};
+use crate::build::{first_table, make, net, of_nets, one, place, transition};
 use rn_items::{Items, NoMemory};
 use rn_live::{garbage, live};
 use rn_model::{Net, Nets, Places, System};
@@ -62,7 +62,7 @@ fn net_of(alloc: Global, k: usize, made: &Made<'_>) -> Result<Net, NoMemory> {
 
 /// A table with an instance of each net, the first of them `main`.
 fn table_of(alloc: Global, system: &System) -> Result<Table, NoMemory> {
-    let mut table = Table::new(alloc, system)?;
+    let mut table = first_table(alloc, system)?;
     for net in 1..20000 {
         make(alloc, &mut table, system, net)?;
     }

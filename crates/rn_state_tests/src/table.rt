@@ -2,7 +2,7 @@
 ghost use Rattle.std.specs.Prelude.{◌≡◌, [], ◌∷◌, IfOk};
 ghost use Rattle.rn_value.specs.declared.value.Value.TheVariants as Value;
 
-use crate::build::{make, net, of_nets, one, place, transition};
+use crate::build::{first_table, make, net, of_nets, one, place, transition};
 use rn_items::{Items, NoMemory};
 use rn_model::{ArcKind, Expr, Net, NetArc, System, Transition, Var};
 use rn_samples::{ints, text};
@@ -69,7 +69,7 @@ fn removes(rt: &impl Abort, table: &mut Table) {
 #[test]
 fn starts_and_removes(rt: HostRuntime) -> Result<(), Fail> {
     let alloc = rt.alloc();
-    let mut table = Table::new(alloc, &system(alloc)?)?;
+    let mut table = first_table(alloc, &system(alloc)?)?;
     starts(&rt, &table);
     assert!(rt; holds(alloc, &table, 1, &[1, 2, 2])?);
     let seen = table.snapshot()?;
@@ -156,7 +156,7 @@ fn changes(
 fn snapshots_stay(rt: HostRuntime) -> Result<(), Fail> {
     let alloc = rt.alloc();
     let system = system(alloc)?;
-    let table = Table::new(alloc, &system)?;
+    let table = first_table(alloc, &system)?;
     let mut first = table.snapshot()?;
     let second = table.snapshot()?;
     changes(&rt, alloc, &system, &table, &mut first, &second)?;
@@ -214,7 +214,7 @@ fn reads<R: Threads + Abort + Sync>(
 fn threads_read_a_snapshot(rt: HostRuntime) -> Result<(), Fail> {
     let alloc = rt.alloc();
     let system = taking(alloc)?;
-    let table = Table::new(alloc, &system)?;
+    let table = first_table(alloc, &system)?;
     let mut first = table.snapshot()?;
     let second = table.snapshot()?;
     reads(&rt, alloc, &system, &mut first, &second)?;
@@ -224,7 +224,7 @@ fn threads_read_a_snapshot(rt: HostRuntime) -> Result<(), Fail> {
 
 /// A table of 65 instances: 1 and 65 are of `main`, the others of the net without a start.
 fn two_pages(alloc: Global, system: &System) -> Result<Table, NoMemory> {
-    let mut table = Table::new(alloc, system)?;
+    let mut table = first_table(alloc, system)?;
     for number in 2..66 {
         let net = if number == 65 { 1 } else { 0 };
         make(alloc, &mut table, system, net)?;
