@@ -9,5 +9,5 @@ mod limit;
 mod opening;
 #[cfg(test)]
 mod steps;
-#[cfg(test)]
+// The specs name its types, and they are read without the tests too.
 mod watching;
