@@ -12,3 +12,14 @@ mod SpelledBindings
 mod SpelledLines
 mod SpelledNodes
 mod SpelledRuns
+mod WrittenBack
+mod WrittenBindings
+mod WrittenEntries
+mod WrittenFirings
+mod WrittenLines
+mod WrittenMarks
+mod WrittenNodes
+mod WrittenOrder
+mod WrittenPrints
+mod WrittenRuns
+mod WrittenValues

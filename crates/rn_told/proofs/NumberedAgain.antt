@@ -122,10 +122,10 @@ module _ (system : System) where
       own_first x.path 0 (made_at x) (makers_of system xs) k m e
       (λ j f. (maker_first xs j m differ.1 f, not_among x.path xs j m differ.0 f))
 
-abbrev as_maker : Made → Maker
+abbrev pub as_maker : Made → Maker
 as_maker c = record { path = c.path; index = c.index }
 
-each_made : (path : List ℕ) (es : List (ℕ × Creation)) →
+pub each_made : (path : List ℕ) (es : List (ℕ × Creation)) →
     map as_maker (map (λ c. record { path = path; index = c.0; net = c.1.net }) es)
     ≡ map (λ c. record { path = path; index = c.0 }) es
 each_made path [] = refl

@@ -436,7 +436,7 @@ entries_more entry (Verdict.tells others marks) es ms e =
 entries_more entry (Verdict.bad line r) es ms e = absurd (let no : ⊥ = cc in no)
 
 -- The text of a run, after some instances were made.
-abbrev run_text : System → List (List ℕ) → ℕ → List Entry → List MarkLine → List ℕ
+abbrev pub run_text : System → List (List ℕ) → ℕ → List Entry → List MarkLine → List ℕ
 run_text system names step es ms =
     entries_text system names step es ++ flat_map (mark_text system (names_at_end system names es)) ms
 
@@ -486,7 +486,7 @@ none_named {X = X} name word k (x ∷ xs) none = by (bytes_eq (name x) word) ref
         let both = sum_by-cons (λ y. cond (pointwise nat_eq (name y) word) 1 0) x xs in
         omega (arith, here, rest, both)
 
-main_there : (system : System) → Good system → is_some (net_named system (codes "main")) ≡ true
+pub main_there : (system : System) → Good system → is_some (net_named system (codes "main")) ≡ true
 main_there system good = by (is_some (net_named system (codes "main"))) refl
   where
     by : (b : Bool) → is_some (net_named system (codes "main")) ≡ b → b ≡ true

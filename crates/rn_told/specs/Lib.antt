@@ -14,5 +14,6 @@ pub mod NodesAhead
 pub mod Paths
 pub mod Prints
 pub mod PrintsAhead
+pub mod Readable
 pub mod Runs
 pub mod RunsAhead

@@ -2,6 +2,12 @@ use Rattle.rn_told.specs.Lines.{lines_in}
 use Rattle.rn_told.specs.Runs.{first_made}
 use Rattle.rn_told.proofs.SameReading.{tells_one}
 use Rattle.rn_told.proofs.SpelledRuns.{one_spelling, whole_runs}
+use Rattle.rn_told.proofs.WrittenFirings.{binding_read}
+use Rattle.rn_told.proofs.WrittenLines.{line_then}
+use Rattle.rn_told.proofs.WrittenMarks.{marks_read}
+use Rattle.rn_told.proofs.WrittenPrints.{prints_read}
+use Rattle.rn_told.proofs.WrittenRuns.{texts_tell}
+use Rattle.rn_told.proofs.WrittenOrder.{nodes_walk}
 use Rattle.rn_told.proofs.laws.record_laws.Goals as goal
 
 pub returns-clause-reading : goal.returns-clause-reading
@@ -12,3 +18,6 @@ returns-clause-spelling c = one_spelling
 
 pub returns-clause-whole : goal.returns-clause-whole
 returns-clause-whole c = whole_runs
+
+pub returns-clause-texts : goal.returns-clause-texts
+returns-clause-texts c = texts_tell
