@@ -5,6 +5,8 @@ mod MakerLemmas
 mod NodeLemmas
 mod NumberedAgain
 mod PathsApart
+mod PathsInOrder
+mod ReturningValues
 mod RunLemmas
 mod SameReading
 mod SequenceLemmas
@@ -22,4 +24,5 @@ mod WrittenNodes
 mod WrittenOrder
 mod WrittenPrints
 mod WrittenRuns
+mod WrittenStart
 mod WrittenValues

@@ -1,86 +1,41 @@
 -- The instances of an enabled binding, once they have numbers, are read as what they were.
-use Rattle.std.proofs.Common.{◌≡◌, ℕ, zero, suc, ◌+◌, ◌-◌, ◌<◌, ◌≤◌, Bool, true, false, cond, List, [], ◌∷◌, ◌++◌, length, map, refl, sym, ap, ◌∙◌, subst, arith, get_or}
-use Rattle.std.specs.Prelude.{Option, Some, None, All, Contains, ◌&&◌, flat_map, is_some, nat_eq, nat_le, position, slice_get, option_map, unwrap_or, option_and_then}
-use Rattle.std.specs.List.{enumerate_from, list_all}
+use Rattle.std.proofs.Common.{◌≡◌, ℕ, zero, suc, ◌+◌, ◌-◌, ◌≤◌, Bool, true, false, cond, List, [], ◌∷◌, ◌++◌, length, map, refl, sym, ap, ◌∙◌, subst, arith, get_or}
+use Rattle.std.specs.Prelude.{Option, Some, None, Contains, ◌&&◌, is_some, nat_eq, nat_le, position, slice_get, option_map, unwrap_or, option_and_then}
+use Rattle.std.specs.List.{enumerate_from}
 use Rattle.std.specs.Option.{option_map_or}
 use Rattle.std.specs.Cmp.Lexicographic.{pointwise}
 use Rattle.std.proofs.lemmas.Bool.{eq-eqb, eqb-true, false≢true}
 use Rattle.std.proofs.lemmas.Bool.Decides.{nat_tests}
-use Rattle.std.proofs.lemmas.List.{length-map, map-append}
 use Rattle.std.proofs.lemmas.List.Elements.{All-contains}
 use Rattle.std.proofs.lemmas.List.Quantifiers.{position-Some}
 use Rattle.std.proofs.lemmas.Option.{same_Some, slice_get-get_or, slice_get-map}
 use Rattle.rn_items.proofs.Numbers.{numbers_themselves, same_numbers}
-use Rattle.rn_items.proofs.Bools.{and_left, and_right, both_true, true_both}
+use Rattle.rn_items.proofs.Bools.{and_left, and_right, true_both}
 use Rattle.rn_value.specs.declared.value.InstRef.{InstRef}
 use Rattle.rn_value.specs.declared.value.InstRef.TheVariants.{Old, New}
-use Rattle.rn_value.specs.declared.value.Value.{Value, fold-roll-Value, ind-Value, map-Value, roll-Value}
-use Rattle.rn_value.specs.declared.value.Value.TheOpen as V
-use Rattle.rn_value.specs.declared.value.Value.TheVariants as Value
+use Rattle.rn_value.specs.declared.value.Value.{Value}
 use Rattle.rn_model.specs.declared.system.System.{System}
 use Rattle.rn_model.specs.declared.system.Creation.{Creation}
 use Rattle.rn_model.specs.declared.binding.Node.{Node}
 use Rattle.rn_model.specs.declared.binding.Binding.{Binding}
 use Rattle.rn_model.specs.Bindings.{IsOfCreation, node_at}
 use Rattle.rn_model.specs.Enabling.{Enabled}
-use Rattle.rn_model.specs.Firing.{Made, creations_of, made_by, numbered_inst, renamed_step, renamed_value}
+use Rattle.rn_model.specs.Firing.{Made, creations_of, made_by, numbered_inst}
 use Rattle.rn_model.specs.Good.{Good}
-use Rattle.rn_model.specs.Liveness.{mentions}
 use Rattle.rn_model.specs.Markings.{Instance, IsMarking, IsThere, Marking, instance_at, net_of, tokens_at}
-use Rattle.rn_model.specs.SoundTokens.{HasSoundTokens, holds_new}
+use Rattle.rn_model.specs.SoundTokens.{HasSoundTokens}
 use Rattle.rn_model.specs.Systems.{transition_of}
 use Rattle.rn_model.proofs.AskedValues.{contained_flat, contained_mapped, flat_source, got_contained, map_source}
 use Rattle.rn_model.proofs.DeadInstances.{below_next, there_of_net}
 use Rattle.rn_model.proofs.DerivedInstances.{PassesOn, inst_passes, value_passes}
 use Rattle.rn_model.proofs.EnablingLemmas.{not_in_nil}
 use Rattle.rn_model.proofs.IndicesInLists.{from_enumerated, has_position, in_enumerated}
-use Rattle.rn_model.proofs.NamingRules.{renamed_value-Int, renamed_value-Inst}
 use Rattle.rn_model.proofs.NodesByPath.{node_at-path}
-use Rattle.rn_model.proofs.PassingInstances.{names_passing, only, only_step}
-use Rattle.rn_record.proofs.NumberedInstances.{renamed-List, renamed-Text, renamed-Tuple}
+use Rattle.rn_model.proofs.PassingInstances.{names_passing, only}
 use Rattle.rn_lookup.specs.Found.{net_of_made}
-use Rattle.rn_told.specs.Bindings.{reference, unnumbered}
+use Rattle.rn_told.specs.Bindings.{unnumbered}
 use Rattle.rn_told.specs.declared.maker.Maker.{Maker}
 use Rattle.rn_told.proofs.NumberedAgain.{as_maker}
-
--- Where each instance that passes returns, so does a value in which all pass.
-module _ (test : InstRef → Bool) (f g : InstRef → InstRef) (back : (i : InstRef) → test i ≡ true → g (f i) ≡ i) where
-  abbrev Returns : Value → Type 0
-  Returns v = only test v ≡ true → renamed_value (renamed_value v f) g ≡ v
-
-  abbrev ReturnPart : Type 0
-  ReturnPart = (v : Value) × Returns v
-
-  parts_return : (parts : List ReturnPart) → list_all (λ p. p) (map (only test) (map (λ e. e.0) parts)) ≡ true →
-      map (λ v. renamed_value v g) (map (λ part. part f) (map renamed_value (map (λ e. e.0) parts))) ≡ map (λ e. e.0) parts
-  parts_return [] e = refl
-  parts_return (part ∷ parts) e =
-      let vs : List Value = map (λ e. e.0) parts in
-      let both = both_true (only test part.0) (list_all (λ p. p) (map (only test) vs)) e in
-      ap (λ v. v ∷ map (λ v. renamed_value v g) (map (λ part. part f) (map renamed_value vs))) (part.1 both.0)
-      ∙ ap (λ ws. part.0 ∷ ws) (parts_return parts both.1)
-
-  abbrev LayerReturns : V.Value-F Value → Type 0
-  LayerReturns x = only_step test (map-Value Value Bool (only test) x) ≡ true →
-      renamed_value (renamed_step (map-Value Value ((InstRef → InstRef) → Value) renamed_value x) f) g ≡ roll-Value x
-
-  return_layer : (y : V.Value-F ReturnPart) → LayerReturns (map-Value ReturnPart Value (λ e. e.0) y)
-  return_layer (V.Int n) e = renamed_value-Int n g ∙ sym (Value.rolls-Int n)
-  return_layer (V.Text s) e = renamed-Text s g ∙ sym (Value.rolls-Text s)
-  return_layer (V.Tuple parts) e =
-      let vs : List Value = map (λ e. e.0) parts in
-      renamed-Tuple (map (λ part. part f) (map renamed_value vs)) g
-      ∙ ap (λ ws. Value.Tuple ws) (parts_return parts e) ∙ sym (Value.rolls-Tuple vs)
-  return_layer (V.List parts) e =
-      let vs : List Value = map (λ e. e.0) parts in
-      renamed-List (map (λ part. part f) (map renamed_value vs)) g
-      ∙ ap (λ ws. Value.List ws) (parts_return parts e) ∙ sym (Value.rolls-List vs)
-  return_layer (V.Inst i) e = renamed_value-Inst (f i) g ∙ ap (λ j. Value.Inst j) (back i e) ∙ sym (Value.rolls-Inst i)
-
-  pub value_returns : (v : Value) → Returns v
-  value_returns = ind-Value Returns (λ x y is e.
-      ap (λ h. renamed_value (h f) g) (fold-roll-Value ((InstRef → InstRef) → Value) renamed_step x)
-      ∙ subst LayerReturns is (return_layer y) (sym (fold-roll-Value Bool (only_step test) x) ∙ e))
 
 -- the net of an instance that was made, among more
 pub net_still_made : (made more : List ℕ) (n net : ℕ) → net_of_made made n ≡ Some net → net_of_made (made ++ more) n ≡ Some net

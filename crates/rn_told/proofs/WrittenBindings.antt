@@ -1,6 +1,6 @@
 -- The lines of a binding that are written are read again, and tell the binding.
-use Rattle.std.proofs.Common.{◌≡◌, ℕ, zero, suc, ◌+◌, ◌<◌, ◌≤◌, Bool, true, false, cond, List, [], ◌∷◌, ◌++◌, length, map, refl, sym, ap, ◌∙◌, subst, append_assoc, arith}
-use Rattle.std.specs.Prelude.{Option, Some, None, ⊤, codes, flat_map, nat_eq, bytes_eq}
+use Rattle.std.proofs.Common.{◌≡◌, ℕ, zero, suc, ◌+◌, ◌<◌, ◌≤◌, Bool, true, false, List, [], ◌∷◌, ◌++◌, length, map, refl, sym, ap, ◌∙◌, subst, append_assoc}
+use Rattle.std.specs.Prelude.{Option, Some, None, ⊤, codes, flat_map, nat_eq}
 use Rattle.std.specs.List.{AllByRecursion, enumerate_from}
 use Rattle.std.proofs.lemmas.Bool.{eq-eqb}
 use Rattle.std.proofs.lemmas.List.{append-nil, map-append}
@@ -15,17 +15,15 @@ use Rattle.rn_model.specs.Good.{Good}
 use Rattle.rn_model.specs.Systems.{net_at, transition_at, transition_of}
 use Rattle.rn_lines.specs.LineText.{IsLine, LineSaid}
 use Rattle.rn_lines.specs.NodeText.{IsNode, NodeSaid}
-use Rattle.rn_lookup.specs.declared.refusal.Refusal.{Refusal}
 use Rattle.rn_lookup.specs.Faults.{node_fault}
 use Rattle.rn_lookup.specs.Found.{node_is_called}
 use Rattle.rn_record.specs.NodeText.{node_line, node_lines, node_text}
 use Rattle.rn_record.specs.RecordText.{firing_lead, names_by}
 use Rattle.rn_told.specs.Bindings.{makers_by, makers_of}
-use Rattle.rn_told.specs.Called.{nets_by, nets_made}
+use Rattle.rn_told.specs.Called.{nets_made}
 use Rattle.rn_told.specs.Lines.{lines_in}
-use Rattle.rn_told.specs.Nodes.{Judged, Placed, Stop, binding_lines, count_called, is_step, judged, judged_by, judged_node, node_due, node_then, nodes_from, placed_at, with_node}
+use Rattle.rn_told.specs.Nodes.{Judged, Placed, Stop, binding_lines, count_called, is_step, judged, judged_by, judged_node, node_due, node_then, nodes_from, with_node}
 use Rattle.rn_told.specs.Paths.{children, children_from, is_root}
-use Rattle.rn_told.specs.declared.maker.Maker.{Maker}
 use Rattle.rn_told.specs.declared.role.Role.{Role}
 use Rattle.rn_told.specs.declared.role.Role.TheVariants.{Firing, Fault}
 use Rattle.rn_told.proofs.NumberedAgain.{as_maker, each_made}

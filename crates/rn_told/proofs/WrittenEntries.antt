@@ -1,5 +1,5 @@
 -- The entries of a run that are written are read again: firings, and the end with its marks.
-use Rattle.std.proofs.Common.{◌≡◌, ℕ, suc, ◌+◌, ◌<◌, ◌≤◌, Bool, true, false, cond, List, [], ◌∷◌, ◌++◌, length, map, refl, sym, ap, ◌∙◌, subst, append_assoc, arith}
+use Rattle.std.proofs.Common.{◌≡◌, ℕ, suc, ◌+◌, ◌≤◌, Bool, true, false, cond, List, [], ◌∷◌, ◌++◌, length, refl, sym, ap, ◌∙◌, subst, append_assoc, arith}
 use Rattle.std.specs.Prelude.{Option, Some, None, All, ⊤, codes, flat_map, nat_lt}
 use Rattle.std.specs.List.{AllByRecursion, prefix_len}
 use Rattle.std.proofs.lemmas.Bool.Decides.{nat_tests}
@@ -21,21 +21,19 @@ use Rattle.rn_model.specs.Markings.{Marking}
 use Rattle.rn_lines.specs.LineText.{IsLine, LineSaid, ending_text}
 use Rattle.rn_lines.specs.declared.lines.Ending.{Ending}
 use Rattle.rn_lines.specs.declared.lines.Ending.TheVariants as Ends
-use Rattle.rn_lookup.specs.declared.refusal.Refusal.{Refusal}
 use Rattle.rn_lookup.specs.declared.refusal.Refusal.TheVariants.{Name}
 use Rattle.rn_lookup.specs.Found.{node_is_called}
 use Rattle.rn_record.specs.RecordText.{binding_text, end_text, entry_text, fault_line, firing_lead, mark_text, names_after, printed_line}
 use Rattle.rn_record.specs.Writable.{HasEnd, HasLines}
 use Rattle.rn_told.specs.Bindings.{told_binding}
 use Rattle.rn_told.specs.Called.{count_of_called, nodes_fault, stop_fault}
-use Rattle.rn_told.specs.Firings.{FiringRead, after_nodes, firing_by, firing_read, made_with, with_prints}
+use Rattle.rn_told.specs.Firings.{FiringRead, firing_by, firing_read, made_with, with_prints}
 use Rattle.rn_told.specs.Lines.{lines_in}
 use Rattle.rn_told.specs.Marks.{marks_from}
-use Rattle.rn_told.specs.Nodes.{Placed, Stop, binding_lines}
+use Rattle.rn_told.specs.Nodes.{Placed, Stop}
 use Rattle.rn_told.specs.Prints.{PrintsEnd, prints_from}
 use Rattle.rn_told.specs.Readable.{HasReadableValues, IsReadable, IsReadableEnd}
-use Rattle.rn_told.specs.Runs.{Opening, Tells, Verdict, after_fault, end_read, fault_by, fault_read, opening_of, with_marks}
-use Rattle.rn_told.specs.declared.role.Role.{Role}
+use Rattle.rn_told.specs.Runs.{Opening, Tells, Verdict, end_read, fault_by, fault_read, opening_of, with_marks}
 use Rattle.rn_told.specs.declared.role.Role.TheVariants as Roles
 use Rattle.rn_told.proofs.SpelledNodes.{names_for}
 use Rattle.rn_told.proofs.WrittenBindings.{nets_of}

@@ -1,15 +1,13 @@
 -- The text of an enabled binding is read again, and tells the binding.
-use Rattle.std.proofs.Common.{◌≡◌, ℕ, ◌+◌, ◌<◌, ◌≤◌, Bool, true, false, cond, List, [], ◌∷◌, ◌++◌, length, map, refl, sym, ap, ◌∙◌, subst, append_assoc, arith}
-use Rattle.std.specs.Prelude.{Option, Some, None, All, Contains, codes, flat_map, nat_lt, slice_get}
-use Rattle.std.specs.List.{AllZip, AllByRecursion, enumerate_from, list_all, prefix_len}
-use Rattle.std.proofs.lemmas.Bool.Decides.{nat_tests}
+use Rattle.std.proofs.Common.{◌≡◌, ℕ, ◌+◌, ◌<◌, true, List, [], ◌∷◌, ◌++◌, length, map, refl, sym, ap, ◌∙◌, subst, arith}
+use Rattle.std.specs.Prelude.{Option, Some, All, Contains}
+use Rattle.std.specs.List.{AllZip, AllByRecursion, enumerate_from}
 use Rattle.std.proofs.lemmas.List.{length-append, length-map, map-append}
 use Rattle.std.proofs.lemmas.List.Elements.{All-contains, All-contains_itself, recursion_from_All}
 use Rattle.rn_value.specs.Kinds.{HasKind}
 use Rattle.rn_value.specs.declared.value.InstRef.{InstRef}
 use Rattle.rn_value.specs.declared.value.InstRef.TheVariants.{Old}
 use Rattle.rn_value.specs.declared.value.Kind.{Kind}
-use Rattle.rn_value.specs.declared.value.Kind.TheVariants as Kind
 use Rattle.rn_value.specs.declared.value.Value.{Value}
 use Rattle.rn_model.specs.declared.system.System.{System}
 use Rattle.rn_model.specs.declared.system.Creation.{Creation}
@@ -27,7 +25,6 @@ use Rattle.rn_model.proofs.AskedValues.{contained_mapped, later}
 use Rattle.rn_model.proofs.EachElement.{at_place, each_append, each_flat_map, each_map, each_place, each_weaker}
 use Rattle.rn_model.proofs.KindsOfValues.{renamed_has_kind}
 use Rattle.rn_model.proofs.MarkingsOfRuns.{good_transition}
-use Rattle.rn_model.proofs.PassingInstances.{only}
 use Rattle.rn_lines.specs.LineText.{LineSaid}
 use Rattle.rn_lines.specs.NodeText.{Given, NodeSaid}
 use Rattle.rn_lines.specs.ValueText.{most_brackets}
@@ -45,7 +42,8 @@ use Rattle.rn_told.specs.declared.role.Role.{Role}
 use Rattle.rn_told.proofs.NumberedAgain.{as_maker}
 use Rattle.rn_told.proofs.SpelledBindings.{role_lead}
 use Rattle.rn_told.proofs.SpelledNodes.{names_for}
-use Rattle.rn_told.proofs.WrittenBack.{inst_back, is_back, net_numbered, returns, value_back, value_returns}
+use Rattle.rn_told.proofs.ReturningValues.{value_returns}
+use Rattle.rn_told.proofs.WrittenBack.{inst_back, is_back, net_numbered, returns, value_back}
 use Rattle.rn_told.proofs.WrittenBindings.{HasLead, all_called, lines_read, makers_same, names_of_nets, nets_of, nets_same, node_says, places_of, walk_renamed}
 use Rattle.rn_told.proofs.WrittenNodes.{IsNumbered, NodeRead, node_read}
 use Rattle.rn_told.proofs.WrittenOrder.{nodes_walk}

@@ -1,6 +1,6 @@
 -- Lines that are written are read again.
 use Rattle.std.proofs.Common.{◌≡◌, ℕ, ◌≤◌, List, [], ◌∷◌, ◌++◌, refl, ap, ◌∙◌, subst, append_assoc}
-use Rattle.std.specs.Prelude.{Option, Some}
+use Rattle.std.specs.Prelude.{Some}
 use Rattle.rn_value.specs.Text.{numeral}
 use Rattle.rn_value.proofs.Numerals.{IsNumeral-numeral}
 use Rattle.rn_lines.specs.LineText.{IsLead, IsLine, LeadSaid, LineSaid}

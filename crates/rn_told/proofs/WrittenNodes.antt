@@ -1,6 +1,6 @@
 -- A node that is written is read again.
-use Rattle.std.proofs.Common.{◌≡◌, ℕ, suc, ◌+◌, ◌<◌, ◌≤◌, Bool, true, false, cond, List, [], ◌∷◌, ◌++◌, length, map, refl, sym, ap, ◌∙◌, subst, append_assoc, arith}
-use Rattle.std.specs.Prelude.{Option, Some, None, All, Contains, ◌&&◌, not, bytes_eq, codes, is_some, nat_eq, nat_le, slice_get, unwrap_or}
+use Rattle.std.proofs.Common.{◌≡◌, ℕ, suc, ◌+◌, ◌<◌, ◌≤◌, true, false, cond, List, [], ◌∷◌, ◌++◌, length, map, refl, sym, ap, ◌∙◌, subst, append_assoc, arith}
+use Rattle.std.specs.Prelude.{Some, None, Contains, not, bytes_eq, codes, is_some, nat_le, unwrap_or}
 use Rattle.std.specs.List.{AllZip, AllByRecursion, list_all}
 use Rattle.std.specs.Option.{option_map_or}
 use Rattle.std.proofs.lemmas.Bool.{false≢true}
@@ -29,8 +29,7 @@ use Rattle.rn_model.specs.Systems.{empty_transition, net_at, transition_at, tran
 use Rattle.rn_model.proofs.EachElement.{at_place}
 use Rattle.rn_model.proofs.MarkingsOfRuns.{good_net, good_transition}
 use Rattle.rn_lines.specs.NodeText.{AreGiven, Given, IsInstance, IsNode, NodeSaid}
-use Rattle.rn_lines.specs.ValueText.{IsValue, Said, most_brackets}
-use Rattle.rn_lookup.specs.declared.refusal.Refusal.{Refusal}
+use Rattle.rn_lines.specs.ValueText.{Said}
 use Rattle.rn_lookup.specs.declared.refusal.Refusal.TheVariants.{Form, Name}
 use Rattle.rn_lookup.specs.Faults.{given_fault, has_names, is_there, node_fault}
 use Rattle.rn_lookup.specs.Found.{are_called, fits_var, is_called, is_var, name_nets, names_net, net_named, net_of_made, net_said, node_is_called, transition_named, transition_said, values_fit, variables_fit, vars_due}

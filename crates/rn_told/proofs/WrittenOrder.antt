@@ -1,28 +1,23 @@
 -- The nodes of a binding stand in the order in which they are due.
-use Rattle.std.proofs.Common.{◌≡◌, ◌≢◌, ℕ, zero, suc, ◌+◌, ◌<◌, ◌≤◌, ◌⊎◌, inl, inr, Bool, true, false, cond, List, [], ◌∷◌, ◌++◌, length, get_or, refl, sym, ap, ◌∙◌, subst, append_assoc, arith}
-use Rattle.std.specs.Prelude.{Option, Some, None, Contains, find, slice_get, ⊤, nat_eq}
+use Rattle.std.proofs.Common.{◌≡◌, ◌≢◌, ℕ, zero, suc, ◌+◌, ◌<◌, ◌⊎◌, inl, inr, List, [], ◌∷◌, ◌++◌, length, get_or, refl, sym, ap, ◌∙◌, subst, arith}
+use Rattle.std.specs.Prelude.{Some, Contains, nat_eq}
 use Rattle.std.specs.List.{AllAdjacentBelow, AllByRecursion}
-use Rattle.std.specs.Cmp.{nat_cmp_is, tied_itself}
-use Rattle.std.specs.Cmp.Lexicographic.{pointwise, slice_cmp}
-use Rattle.std.specs.Ordering.{nat_cmp, ordering_then}
-use Rattle.std.specs.declared.cmp.Ordering.TheVariants.{Less, Equal}
-use Rattle.std.proofs.lemmas.Cmp.{nat_cmp_total, nat_list_cmp_total}
+use Rattle.std.specs.Cmp.Lexicographic.{pointwise}
+use Rattle.std.proofs.lemmas.Cmp.{nat_list_cmp_total}
 use Rattle.std.proofs.lemmas.List.Elements.{All-contains, Contains-append_cases, Contains-append_left, Contains-append_right}
-use Rattle.std.proofs.lemmas.Option.{same_Some, slice_get_within}
+use Rattle.std.proofs.lemmas.Option.{slice_get_within}
 use Rattle.rn_items.proofs.Numbers.{same_numbers}
 use Rattle.rn_model.specs.declared.system.System.{System}
 use Rattle.rn_model.specs.declared.binding.Binding.{Binding}
 use Rattle.rn_model.specs.declared.binding.Node.{Node}
 use Rattle.rn_model.specs.Bindings.{IsCalled, Shape, node_at}
 use Rattle.rn_model.specs.Systems.{transition_of}
-use Rattle.rn_model.proofs.EachElement.{each_append, each_weaker}
 use Rattle.rn_model.proofs.EnablingLemmas.{not_in_nil}
 use Rattle.rn_model.proofs.MarkingsOfRuns.{found_is_there}
-use Rattle.rn_told.specs.Paths.{children, children_from}
-
--- one path is before another
-abbrev IsBefore : List ℕ → List ℕ → Type 0
-IsBefore p q = slice_cmp nat_cmp p q ≡ Less
+use Rattle.rn_told.specs.Paths.{children}
+use Rattle.rn_model.proofs.AskedValues.{later}
+use Rattle.rn_told.proofs.PathsInOrder.{Ahead, AllAhead, IsBefore, ahead_before, child_there, children_ahead, crossed, each_of, find_passes, goes_on, in_cons, is_child, never}
+use Rattle.rn_told.proofs.WrittenValues.{element_at}
 
 abbrev IsBelow : Node → Node → Type 0
 IsBelow x y = IsBefore x.path y.path
@@ -41,121 +36,6 @@ below_others x (z ∷ zs) y a (zero, h, e) = subst (IsBelow x) e (a 0 x (omega a
 below_others x (z ∷ zs) y a (suc k, h, e) =
     let rest : IsBelow z y = below_others z zs y (tail_ascends x (z ∷ zs) a) (k, omega (arith, h), e) in
     nat_list_cmp_total.trans x.path z.path y.path (a 0 x (omega arith)) rest
-
-never : {A : Type 0} (p : List ℕ) → IsBefore p p → A
-never p less =
-    let tied : slice_cmp nat_cmp p p ≡ Equal = tied_itself nat_list_cmp_total p in
-    absurd (let no : ⊥ = cc in no)
-
--- neither of two paths is before the other at once
-crossed : {A : Type 0} (p q : List ℕ) → IsBefore p q → IsBefore q p → A
-crossed p q less more = never p (nat_list_cmp_total.trans p q p less more)
-
-front_same : (n : ℕ) → nat_cmp n n ≡ Equal
-front_same n = tied_itself nat_cmp_total n
-
--- a path is before those that go on from it
-goes_on : (p : List ℕ) (i : ℕ) → IsBefore p (p ++ i ∷ [])
-goes_on [] i = refl
-goes_on (n ∷ p) i = ap (λ o. ordering_then o (slice_cmp nat_cmp p (p ++ i ∷ []))) (front_same n) ∙ goes_on p i
-
--- Paths that part, the first one before.
-record Ahead (p q : List ℕ) : Type 0 where
-  from : List ℕ
-  i : ℕ
-  j : ℕ
-  s : List ℕ
-  t : List ℕ
-  first : p ≡ from ++ i ∷ s
-  second : q ≡ from ++ j ∷ t
-  low : i < j
-
-parted : (from : List ℕ) (i j : ℕ) (s t : List ℕ) → i < j → IsBefore (from ++ i ∷ s) (from ++ j ∷ t)
-parted [] i j s t low = ap (λ o. ordering_then o (slice_cmp nat_cmp s t)) (sym (nat_cmp_is i j Less low))
-parted (n ∷ from) i j s t low =
-    ap (λ o. ordering_then o (slice_cmp nat_cmp (from ++ i ∷ s) (from ++ j ∷ t))) (front_same n) ∙ parted from i j s t low
-
-ahead_before : (p q : List ℕ) → Ahead p q → IsBefore p q
-ahead_before p q a =
-    subst (λ x. IsBefore x q) (sym a.first) (subst (IsBefore (a.from ++ a.i ∷ a.s)) (sym a.second) (parted a.from a.i a.j a.s a.t a.low))
-
-abbrev AllAhead : List (List ℕ) → Type 0
-AllAhead [] = ⊤
-AllAhead (p ∷ ps) = AllByRecursion (Ahead p) ps × AllAhead ps
-
-siblings : (path : List ℕ) (i j more : ℕ) → i < j → AllByRecursion (Ahead (path ++ i ∷ [])) (children_from path j more)
-siblings path i j zero low = tt
-siblings path i j (suc more) low = (
-  record { from = path; i = i; j = j; s = []; t = []; first = refl; second = refl; low = low },
-  siblings path i (j + 1) more (omega (arith, low)),
-)
-
-child_ahead : (path : List ℕ) (i : ℕ) (q : List ℕ) → Ahead path q → Ahead (path ++ i ∷ []) q
-child_ahead path i q a = record {
-  from = a.from;
-  i = a.i;
-  j = a.j;
-  s = a.s ++ i ∷ [];
-  t = a.t;
-  first = ap (λ p. p ++ i ∷ []) a.first ∙ append_assoc a.from (a.i ∷ a.s) (i ∷ []);
-  second = a.second;
-  low = a.low;
-}
-
-children_ahead : (path : List ℕ) (i more : ℕ) (due : List (List ℕ)) → AllByRecursion (Ahead path) due → AllAhead due →
-    AllAhead (children_from path i more ++ due)
-children_ahead path i zero due here all = all
-children_ahead path i (suc more) due here all = (
-  each_append (Ahead (path ++ i ∷ [])) (children_from path (i + 1) more) due (siblings path i (i + 1) more (omega arith))
-      (each_weaker (Ahead path) (Ahead (path ++ i ∷ [])) (child_ahead path i) due here),
-  children_ahead path (i + 1) more due here all,
-)
-
-in_cons : {X : Type 0} (x : X) (xs : List X) (y : X) → Contains (x ∷ xs) y → (x ≡ y) ⊎ Contains xs y
-in_cons x xs y (zero, h, e) = inl e
-in_cons x xs y (suc k, h, e) = inr (k, omega (arith, h), e)
-
-later : {X : Type 0} (x : X) (xs : List X) (y : X) → Contains xs y → Contains (x ∷ xs) y
-later x xs y (k, h, e) = (suc k, omega (arith, h), e)
-
-each_of : {X : Type 0} (P : X → Type 0) (xs : List X) (y : X) → AllByRecursion P xs → Contains xs y → P y
-each_of P [] y all there = absurd (not_in_nil y there)
-each_of P (x ∷ xs) y all there = elim (in_cons x xs y there) as (λ _. P y) [
-  | inl same ↦ subst P same all.0
-  | inr rest ↦ each_of P xs y all.1 rest
-]
-
-reached : {X : Type 0} (xs : List X) (i : ℕ) → i < length xs → (x : X) × (slice_get xs i ≡ Some x)
-reached [] i low = absurd (let no : ⊥ = omega (arith, low) in no)
-reached (x ∷ xs) zero low = (x, refl)
-reached (x ∷ xs) (suc i) low = reached xs i (omega (arith, low))
-
-find_passes : {X : Type 0} (test : X → Bool) (xs : List X) (y : X) → find test xs ≡ Some y → test y ≡ true
-find_passes test [] y e = absurd (let no : ⊥ = cc in no)
-find_passes test (x ∷ xs) y e = by (test x) refl e (find_passes test xs y)
-  where
-    by : (b : Bool) → test x ≡ b → cond b (Some x) (find test xs) ≡ Some y → (find test xs ≡ Some y → test y ≡ true) → test y ≡ true
-    by true passes e more = subst (λ z. test z ≡ true) (same_Some x y e) passes
-    by false fails e more = more e
-
--- the paths among children
-is_child : (path : List ℕ) (i more : ℕ) (q : List ℕ) → Contains (children_from path i more) q →
-    (j : ℕ) × (j < i + more) × (q ≡ path ++ j ∷ [])
-is_child path i zero q there = absurd (not_in_nil q there)
-is_child path i (suc more) q there = elim (in_cons (path ++ i ∷ []) (children_from path (i + 1) more) q there) as (λ _. (j : ℕ) × (j < i + suc more) × (q ≡ path ++ j ∷ [])) [
-  | inl same ↦ (i, omega arith, sym same)
-  | inr rest ↦ let found = is_child path (i + 1) more q rest in let low = found.1 in (found.0, omega (arith, low), found.2)
-]
-
-child_there : (path : List ℕ) (i more k : ℕ) → k < more → Contains (children_from path i more) (path ++ (i + k) ∷ [])
-child_there path i zero k low = let no : ⊥ = omega (arith, low) in absurd no
-child_there path i (suc more) zero low =
-    let first : i ≡ i + 0 = omega arith in
-    subst (λ j. Contains (children_from path i (suc more)) (path ++ j ∷ [])) first (0, omega arith, refl)
-child_there path i (suc more) (suc k) low =
-    let next : (i + 1) + k ≡ i + suc k = omega arith in
-    subst (λ j. Contains (children_from path i (suc more)) (path ++ j ∷ [])) next
-    (later (path ++ i ∷ []) (children_from path (i + 1) more) (path ++ ((i + 1) + k) ∷ []) (child_there path (i + 1) more k (omega (arith, low))))
 
 module _ (system : System) where
   -- how many nodes a node calls
@@ -229,11 +109,11 @@ module _ (system : System) where
           (left (x.path ++ of.0 ∷ []) (goes_on x.path of.0) (f.calls x of.0 (0, omega arith, refl) (omega (arith, low))))
       | inr rest ↦
           left q (subst (λ r. IsBefore r q) (sym first_due) (ahead_before p q (each_of (Ahead p) due q f.ahead.0 rest)))
-          (f.there q (later p due q rest))
+          (f.there q (later p q due rest))
     ]
 
     next_called : (node : Node) → Contains xs node → Contains next_due node.path ⊎ HasCaller xs node
-    next_called node there = elim (f.called node (later x xs node there)) as (λ _. Contains next_due node.path ⊎ HasCaller xs node) [
+    next_called node there = elim (f.called node (later x node xs there)) as (λ _. Contains next_due node.path ⊎ HasCaller xs node) [
       | inl here ↦ elim (in_cons p due node.path here) as (λ _. Contains next_due node.path ⊎ HasCaller xs node) [
         | inl same ↦ never p (subst (λ r. IsBefore r p) first_due (subst (IsBefore x.path) (sym same) (below_others x xs node f.ascending there)))
         | inr rest ↦ inl (Contains-append_right (children x.path (downs x)) due node.path rest)
@@ -260,7 +140,7 @@ module _ (system : System) where
       calls = λ caller i there low.
           let under = below_others x xs caller f.ascending there in
           left (caller.path ++ i ∷ []) (nat_list_cmp_total.trans x.path caller.path (caller.path ++ i ∷ []) under (goes_on caller.path i))
-          (f.calls caller i (later x xs caller there) low);
+          (f.calls caller i (later x caller xs there) low);
       ascending = tail_ascends x xs f.ascending;
       ahead = children_ahead x.path 0 (downs x) due (subst (λ r. AllByRecursion (Ahead r) due) (sym first_due) f.ahead.0) f.ahead.1;
     }
@@ -294,7 +174,7 @@ module _ (system : System) where
     ];
     called = λ node there. called_or_first b node node.path refl (All-contains (λ node. node.path ≢ [] → IsCalled system b node) b.nodes node shape.called there);
     calls = λ caller i there low.
-        let d = reached (transition_of system caller).downlinks i low in
+        let d = element_at (transition_of system caller).downlinks i low in
         let child = shape.children caller i d.0 there d.1 in
         (child.0, child.1.node_there, child.1.path);
     ascending = shape.ascending;

@@ -1,20 +1,18 @@
 -- Printed values that are written are read again.
-use Rattle.std.proofs.Common.{◌≡◌, ℕ, ◌<◌, ◌≤◌, Bool, true, false, cond, List, [], ◌∷◌, ◌++◌, length, map, refl, sym, ap, ◌∙◌, append_assoc}
-use Rattle.std.specs.Prelude.{Option, Some, None, ◌&&◌, not, codes, flat_map, nat_eq}
+use Rattle.std.proofs.Common.{◌≡◌, ℕ, ◌<◌, ◌≤◌, true, List, [], ◌∷◌, ◌++◌, length, refl, ap, ◌∙◌, append_assoc}
+use Rattle.std.specs.Prelude.{Some, None, codes, flat_map}
 use Rattle.std.specs.List.{AllByRecursion}
 use Rattle.rn_items.proofs.Bools.{true_both}
 use Rattle.rn_value.specs.Names.{AreNamed}
-use Rattle.rn_value.specs.Text.{numeral, value_text}
+use Rattle.rn_value.specs.Text.{value_text}
 use Rattle.rn_value.specs.declared.value.Value.{Value}
 use Rattle.rn_model.specs.declared.system.System.{System}
 use Rattle.rn_model.specs.Good.{Good}
 use Rattle.rn_lines.specs.LineText.{IsLine, LineSaid, Token}
-use Rattle.rn_lookup.specs.declared.refusal.Refusal.TheVariants.{Form, Name, Step}
 use Rattle.rn_lookup.specs.Found.{are_called, name_nets}
 use Rattle.rn_record.specs.RecordText.{firing_lead, printed_line}
 use Rattle.rn_told.specs.Lines.{lines_in}
-use Rattle.rn_told.specs.Nodes.{is_step}
-use Rattle.rn_told.specs.Prints.{PrintsEnd, judged_print, print_by, print_fault, print_then, prints_from}
+use Rattle.rn_told.specs.Prints.{PrintsEnd, print_by, print_fault, print_then, prints_from}
 use Rattle.rn_told.specs.Readable.{IsReadable}
 use Rattle.rn_told.proofs.SpelledNodes.{names_for}
 use Rattle.rn_told.proofs.WrittenBindings.{own_step, own_worker}

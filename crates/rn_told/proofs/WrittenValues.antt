@@ -8,8 +8,8 @@ use Rattle.std.proofs.lemmas.Bool.Decides.{nat_tests}
 use Rattle.std.proofs.lemmas.Option.{get_or_from_slice_get, same_Some, slice_get-map, slice_get_within}
 use Rattle.std.proofs.lemmas.Slice.Eq.{bytes_eq-Decides}
 use Rattle.std.proofs.lemmas.List.{length-map}
-use Rattle.rn_items.proofs.Bools.{and_left, and_right, both_true, true_both}
-use Rattle.rn_value.specs.Names.{AreNamed, instances_within, name_of, within_step}
+use Rattle.rn_items.proofs.Bools.{and_right, both_true, true_both}
+use Rattle.rn_value.specs.Names.{AreNamed, instances_within, within_step}
 use Rattle.rn_value.specs.Text.{value_text}
 use Rattle.rn_value.specs.Words.{IsName}
 use Rattle.rn_value.specs.declared.value.InstRef.{InstRef}
@@ -23,10 +23,10 @@ use Rattle.rn_model.specs.Firing.{renamed_step, renamed_value}
 use Rattle.rn_model.specs.Good.{Good}
 use Rattle.rn_model.specs.Systems.{empty_net, net_at}
 use Rattle.rn_model.proofs.MarkingsOfRuns.{good_net}
-use Rattle.rn_lines.specs.Laws.{AreCalled, IsCalled, fits_step, fits_within, has_sixty_four_bits}
+use Rattle.rn_lines.specs.Laws.{AreCalled, IsCalled, fits_step, fits_within}
 use Rattle.rn_lines.specs.ValueText.{IsValue, Said, most_brackets}
 use Rattle.rn_lines.proofs.WrittenValues.{written_are_read}
-use Rattle.rn_lookup.specs.Found.{are_called, is_called, name_nets, names_net, net_named, net_of_made, number_from}
+use Rattle.rn_lookup.specs.Found.{are_called, is_called, name_nets, names_net, net_of_made, number_from}
 use Rattle.rn_told.specs.Readable.{IsReadable, readable_step, readable_within}
 use Rattle.rn_told.proofs.SpelledNodes.{names_for}
 

@@ -1,4 +1,4 @@
--- Records have one reading, and runs one spelling.
+-- Records have one reading, and runs one spelling, which tells them.
 use Rattle.std.specs.Prelude.{◌≡◌, ◌≤◌, ℕ, List, Some, All}
 use Rattle.rn_model.specs.declared.system.System.{System}
 use Rattle.rn_model.specs.declared.log.Entry.{Entry}
@@ -32,8 +32,8 @@ TellsWholeRuns = (system : System) (bytes : List ℕ) (entries : List Entry)
     (fired : List Firing) × (reason : Reason) × (entries ≡ entries_of fired (Some reason))
     × All (λ f. (1 ≤ f.worker) × (f.worker ≤ most_workers)) fired
 
--- The text of a run tells this run: of a log of a good system that has ended, with the marks of what
--- is live at its end.
+-- The text of a log that has ended, with the marks of what is live at its end, tells this log with
+-- these marks: in a good system, where the values can be read again.
 abbrev pub TextsTell : Type 0
 TextsTell = (system : System) (options : Options) (fired : List Firing) (reason : Reason)
     (marks : List MarkLine) → Good system → Log system options fired (Some reason) →

@@ -2,12 +2,7 @@ use Rattle.rn_told.specs.Lines.{lines_in}
 use Rattle.rn_told.specs.Runs.{first_made}
 use Rattle.rn_told.proofs.SameReading.{tells_one}
 use Rattle.rn_told.proofs.SpelledRuns.{one_spelling, whole_runs}
-use Rattle.rn_told.proofs.WrittenFirings.{binding_read}
-use Rattle.rn_told.proofs.WrittenLines.{line_then}
-use Rattle.rn_told.proofs.WrittenMarks.{marks_read}
-use Rattle.rn_told.proofs.WrittenPrints.{prints_read}
 use Rattle.rn_told.proofs.WrittenRuns.{texts_tell}
-use Rattle.rn_told.proofs.WrittenOrder.{nodes_walk}
 use Rattle.rn_told.proofs.laws.record_laws.Goals as goal
 
 pub returns-clause-reading : goal.returns-clause-reading
