@@ -1,4 +1,5 @@
 mod AcceptedWords
 mod FirstBadWord
+mod GivenNumbers
 mod ReadingLemmas
 mod WordParts

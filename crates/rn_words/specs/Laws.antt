@@ -1,14 +1,32 @@
--- Laws of words: which are accepted, and which word is the first bad one.
-use Rattle.std.specs.Prelude.{ℕ, ◌≡◌, ◌≤◌, ◌+◌, ◌-◌, ◌↔◌, List, ◌++◌, length, take, Ok, Err}
+-- Laws of words: which are accepted, what they give, and which word is the first bad one.
+use Rattle.std.specs.Prelude.{ℕ, ◌≡◌, ◌≤◌, ◌+◌, ◌-◌, ◌↔◌, List, ◌++◌, length, take, Ok, Err, ⊤}
+use Rattle.rn_model.specs.Good.{IsInLimits}
+use Rattle.rn_model.specs.Limits.{greatest_depth}
 use Rattle.rn_words.specs.declared.command.Command.{Command}
+use Rattle.rn_words.specs.declared.command.Command.TheVariants.{Run, Check, Print, Enabled, Replay, Gen}
 use Rattle.rn_words.specs.declared.command.WordsFault.{WordsFault}
 use Rattle.rn_words.specs.declared.command.WordsFault.TheVariants.{U1, U2, U3}
 use Rattle.rn_words.specs.Commands.{WordsOk}
 use Rattle.rn_words.specs.Reading.{reading}
+use Rattle.rn_words.specs.Table.{most_copies}
 
 -- reading gives a command exactly where the words are accepted and give it
 abbrev pub ReadsWhatIsAccepted : Type 0
 ReadsWhatIsAccepted = (words : List (List ℕ)) (c : Command) → reading words ≡ Ok c ↔ WordsOk words c
+
+-- the numbers of a command are within their limits
+abbrev pub IsWithinLimits : Command → Type 0
+IsWithinLimits (Run options) = IsInLimits options
+IsWithinLimits Check = ⊤
+IsWithinLimits Print = ⊤
+IsWithinLimits (Enabled depth) = depth ≤ greatest_depth
+IsWithinLimits (Replay options) = IsInLimits options
+IsWithinLimits (Gen copies options) = ((1 ≤ copies) × (copies ≤ most_copies)) × IsInLimits options
+
+-- accepted words give a command within the limits
+abbrev pub AcceptedAreWithinLimits : Type 0
+AcceptedAreWithinLimits = (words : List (List ℕ)) (c : Command) → WordsOk words c →
+    IsWithinLimits c
 
 -- some accepted words begin with these
 abbrev pub CanGoOn : List (List ℕ) → Type 0
