@@ -10,9 +10,11 @@ mod firing;
 mod laws;
 mod marks;
 mod redoing;
+mod searching;
 
 pub use beginning::begin_replay;
 pub use begun::Begun;
 pub use fault::ReplayFault;
 pub use finishing::finish_replay;
 pub use laws::replay_laws;
+pub use searching::replay;
