@@ -1,0 +1,58 @@
+-- The end of a log, as the program tells it.
+use Rattle.std.specs.Prelude.{ℕ, suc, ◌≡◌, List, [], Some, length, codes}
+use Rattle.rn_model.specs.declared.log.FaultKind.{FaultKind}
+use Rattle.rn_model.specs.declared.log.FaultKind.TheVariants.{Action, Instances}
+use Rattle.rn_model.specs.declared.log.Reason.{Reason}
+use Rattle.rn_model.specs.declared.log.Reason.TheVariants.{Dead, Steps, Fault, Memory}
+use Rattle.rn_model.specs.Runs.{Log}
+use Rattle.rn_fire.specs.States.{State}
+use Rattle.rn_written.specs.Written.{IsRecordOf}
+use Rattle.rn_answer.specs.declared.answer.Answer.{Answer}
+use Rattle.rn_answer.specs.declared.status.TheConstants.{DONE, FAULTED, NO_MEMORY}
+use Rattle.rn_answer.specs.Lines.{number_line}
+
+-- the status of a run whose log ended so
+abbrev pub end_status : Reason → ℕ
+end_status Dead = DONE
+end_status Steps = DONE
+end_status (Fault cause b) = FAULTED
+end_status Memory = NO_MEMORY
+
+-- the line of a firing that is undefined, which would have been the one with this number
+abbrev pub fault_line : FaultKind → ℕ → List ℕ
+fault_line Action step = number_line (codes "F1") step
+fault_line Instances step = number_line (codes "F2") step
+
+-- the line on `err` of a run whose log ended so; the next firing would have this number
+abbrev pub end_message : Reason → ℕ → List ℕ
+end_message Dead step = []
+end_message Steps step = []
+end_message (Fault cause b) step = fault_line cause step
+end_message Memory step = codes "memory\n"
+
+-- the first line of the end in a record
+abbrev pub end_line : Reason → List ℕ
+end_line Dead = codes "end dead\n"
+end_line Steps = codes "end steps\n"
+end_line Memory = codes "end memory\n"
+end_line (Fault Action b) = codes "end fault action\n"
+end_line (Fault Instances b) = codes "end fault instances\n"
+
+-- the end in one word
+abbrev pub end_word : Reason → List ℕ
+end_word Dead = codes "dead"
+end_word Steps = codes "steps"
+end_word (Fault cause b) = codes "fault"
+end_word Memory = codes "memory"
+
+-- What follows only connects the code to the definitions.
+
+-- the status and the line of a state whose log has ended, truly
+abbrev pub IsClosedBy : State → ℕ → List ℕ → Type 0
+IsClosedBy s status line = (reason : Reason) × (s.ended ≡ Some reason)
+    × Log s.setup.system s.setup.options s.fired (Some reason)
+    × (status ≡ end_status reason) × (line ≡ end_message reason (suc (length s.fired)))
+
+-- the answer of a run that is written
+abbrev pub IsWrittenBy : State → Answer → Type 0
+IsWrittenBy s a = IsRecordOf s a.text × IsClosedBy s a.status a.line

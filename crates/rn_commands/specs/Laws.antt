@@ -1,0 +1,17 @@
+-- The input of `replay` has one net text and one record, and a record has one answer.
+use Rattle.std.specs.Prelude.{ℕ, ◌≡◌, List}
+use Rattle.rn_model.specs.declared.system.System.{System}
+use Rattle.rn_model.specs.declared.log.Options.{Options}
+use Rattle.rn_answer.specs.declared.answer.Answer.{Answer}
+use Rattle.rn_commands.specs.Parts.{HasParts}
+use Rattle.rn_commands.specs.Replaying.{RecordTo}
+
+-- The parts of bytes are these alone.
+abbrev pub OneParting : Type 0
+OneParting = (bytes net rest other_net other_rest : List ℕ) → HasParts bytes net rest →
+    HasParts bytes other_net other_rest → (net ≡ other_net) × (rest ≡ other_rest)
+
+-- What `replay` comes to on a record is this alone, so none that is refused is accepted too.
+abbrev pub OneAnswerToRecord : Type 0
+OneAnswerToRecord = (system : System) (options : Options) (bytes : List ℕ) (a b : Answer) →
+    RecordTo system options bytes a → RecordTo system options bytes b → a ≡ b

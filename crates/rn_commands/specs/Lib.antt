@@ -1,0 +1,9 @@
+pub mod Ends
+pub mod Running
+pub mod Runs
+pub mod Bindings
+pub mod Parts
+pub mod Replaying
+pub mod Workloads
+pub mod NetCommands
+pub mod Laws

@@ -1,0 +1,69 @@
+//! The command `run`: a run of a net text.
+ghost use Rattle.std.specs.Prelude.{◌≡◌, ◌≢◌, ◌⊎◌, None, IfOk};
+ghost use Rattle.rn_model.specs.Good.{IsInLimits};
+ghost use Rattle.rn_fire.specs.States.{State};
+ghost use Rattle.rn_commands.specs.Ends.{fault_line, IsClosedBy, IsWrittenBy};
+ghost use Rattle.rn_answer.specs.NetTexts.{RefusesNet};
+ghost use Rattle.rn_answer.specs.Refusing.{Concludes};
+ghost use Rattle.rn_commands.specs.Runs.{RunsTo};
+
+use crate::running::run_alone;
+use rn_answer::{Answer, DONE, FAULTED, NO_MEMORY, Stopped, number_line, system_of};
+use rn_fire::SimState;
+use rn_items::{Items, NoMemory};
+use rn_model::{Entry, FaultKind, Options, Reason};
+use rn_written::write_record;
+use std::alloc::Global;
+
+// The line of a firing that is undefined, which would have been the one with this number.
+fn fault_line(alloc: Global, cause: FaultKind, step: u64) -> Result<Items<u8>, NoMemory>
+    ensures { IfOk result (λ line. line ≡ fault_line cause step) }
+{
+    match cause {
+        FaultKind::Action => number_line(alloc, b"F1", step),
+        FaultKind::Instances => number_line(alloc, b"F2", step),
+    }
+}
+
+/// The status and the line of a run, by the end of its log.
+pub(crate) fn closed_by(alloc: Global, state: &SimState) -> Result<(u8, Items<u8>), NoMemory>
+    requires { state.now.ended ≢ None }
+    ensures { IfOk result (λ r. IsClosedBy state.now r.0 r.1) }
+{
+    match state.entries().last() {
+        Some(Entry::End(Reason::Fault(cause, _))) => {
+            // The end is the entry after the last firing.
+            let line = fault_line(alloc, *cause, state.length())?;
+            Ok((FAULTED, line))
+        }
+        Some(Entry::End(Reason::Memory)) => {
+            let line = Vec::from_slice(alloc, b"memory\n")?;
+            Ok((NO_MEMORY, Items::from_vec(line)))
+        }
+        _ => Ok((DONE, Items::from_vec(Vec::new(alloc)))),
+    }
+}
+
+// What the run of a state whose log has ended comes to.
+fn written(alloc: Global, state: &SimState) -> Result<Answer, NoMemory>
+    requires { state.now.ended ≢ None }
+    ensures { IfOk result (λ a. IsWrittenBy state.now a) }
+{
+    let text = write_record(alloc, state)?;
+    let (status, line) = closed_by(alloc, state)?;
+    Ok(Answer {
+        status,
+        text: Items::from_vec(text),
+        line,
+    })
+}
+
+/// What `run` comes to on this net text, with these options.
+pub fn run(alloc: Global, options: Options, bytes: &[u8]) -> Result<Answer, Stopped>
+    requires { IsInLimits options }
+    ensures { Concludes (λ a. RefusesNet bytes.now a ⊎ RunsTo options bytes.now a) result }
+{
+    let system = system_of(alloc, bytes)?;
+    let state = run_alone(alloc, system, options)?;
+    Ok(written(alloc, &state)?)
+}

@@ -1,0 +1,101 @@
+//! The command `gen`: a run of the workload text, told in four lines.
+ghost use Rattle.std.specs.Prelude.{◌≡◌, ◌≢◌, ◌≤◌, ◌++◌, None, IfOk, IfSome, OnOk};
+ghost use Rattle.rn_model.specs.Good.{Good, IsInLimits};
+ghost use Rattle.rn_fire.specs.States.{State};
+ghost use Rattle.rn_gen.specs.Workload.{workload};
+ghost use Rattle.rn_commands.specs.Ends.{end_line};
+ghost use Rattle.rn_answer.specs.NetTexts.{Accepted};
+ghost use Rattle.rn_answer.specs.Refusing.{Concludes};
+ghost use Rattle.rn_commands.specs.Workloads.{counted_line, GensTo, IsTallyOf, IsTalliedBy};
+
+use crate::ends::fired_count;
+use crate::running::run_alone;
+use crate::runs::closed_by;
+use rn_answer::{Answer, Stopped, system_of};
+use rn_fire::SimState;
+use rn_gen::gen_text;
+use rn_items::{Items, NoMemory};
+use rn_live::live;
+use rn_model::{Entry, FaultKind, Options, Reason, System};
+use std::alloc::Global;
+
+// Appends a word and a number, as `steps 10`.
+fn put_counted(alloc: Global, word: &[u8], count: u64, text: &mut Vec<u8>) -> Result<(), NoMemory>
+    ensures { OnOk result (text.new.items ≡ text.old.items ++ counted_line word.now count) }
+{
+    let number = count.to_string(alloc)?;
+    text.extend_from_slice(word)?;
+    text.push(b' ')?;
+    text.extend_from_slice(number.as_bytes())?;
+    text.push(b'\n')?;
+    Ok(())
+}
+
+// The first line of the end of a log.
+fn end_line(state: &SimState) -> &'static [u8]
+    ensures { IfSome state.now.ended (λ reason. result.now ≡ end_line reason) }
+{
+    match state.entries().last() {
+        Some(Entry::End(Reason::Steps)) => b"end steps\n",
+        Some(Entry::End(Reason::Memory)) => b"end memory\n",
+        Some(Entry::End(Reason::Fault(FaultKind::Action, _))) => b"end fault action\n",
+        Some(Entry::End(Reason::Fault(FaultKind::Instances, _))) => b"end fault instances\n",
+        _ => b"end dead\n",
+    }
+}
+
+// What a run did: its firings, the instances ever made, those that are live, and the end.
+fn tally_text(alloc: Global, state: &SimState) -> Result<Vec<u8>, NoMemory>
+    requires { state.now.ended ≢ None }
+    ensures { IfOk result (λ text. IsTallyOf state.now text.items) }
+{
+    let live = live(alloc, state.system(), state.table())?;
+    let mut text = Vec::new(alloc);
+    put_counted(alloc, b"steps", fired_count(state), &mut text)?;
+    put_counted(
+        alloc,
+        b"made",
+        state.table().next().saturating_sub(1) as u64,
+        &mut text,
+    )?;
+    put_counted(alloc, b"live", live.len() as u64, &mut text)?;
+    text.extend_from_slice(end_line(state))?;
+    Ok(text)
+}
+
+// What the tally of a state whose log has ended comes to.
+fn tallied(alloc: Global, state: &SimState) -> Result<Answer, NoMemory>
+    requires { state.now.ended ≢ None }
+    ensures { IfOk result (λ a. IsTalliedBy state.now a) }
+{
+    let text = tally_text(alloc, state)?;
+    let (status, line) = closed_by(alloc, state)?;
+    Ok(Answer {
+        status,
+        text: Items::from_vec(text),
+        line,
+    })
+}
+
+// The system of the workload text of so many workers.
+fn workload_system(alloc: Global, copies: u32) -> Result<System, NoMemory>
+    requires copies { (1 ≤ copies) × (copies ≤ 10000) }
+    ensures { IfOk result (λ system. Accepted (workload copies) system × Good system) }
+{
+    let text = gen_text(alloc, copies)?;
+    match system_of(alloc, text.as_slice()) {
+        Ok(system) => Ok(system),
+        Err(_) => Err(NoMemory),
+    }
+}
+
+/// What `gen` comes to for so many workers, with these options.
+pub fn run_workload(alloc: Global, copies: u32, options: Options) -> Result<Answer, Stopped>
+    requires copies { (1 ≤ copies) × (copies ≤ 10000) }
+    requires limits { IsInLimits options }
+    ensures { Concludes (GensTo copies options) result }
+{
+    let system = workload_system(alloc, copies)?;
+    let state = run_alone(alloc, system, options)?;
+    Ok(tallied(alloc, &state)?)
+}
