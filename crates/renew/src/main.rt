@@ -4,7 +4,8 @@
 
 ghost use Rattle.std.specs.Prelude.{◌≡◌, drop};
 
-use rn_app::{NO_MEMORY, renew_top};
+use rn_answer::NO_MEMORY;
+use rn_app::renew_top;
 use rn_outside::{StdSink, StdSource};
 use std::env;
 use std::io::ErrorKind;

@@ -1,23 +1,6 @@
-pub mod AcceptedLemmas
-pub mod FiringCounts
-pub mod FiringLines
-pub mod FiringRuns
-pub mod GoodExample
-pub mod GoodSystems
-pub mod LinesInOrder
-pub mod LiveLines
-pub mod MarkLemmas
-pub mod NameLemmas
-pub mod NumberingLemmas
-pub mod RunTextLemmas
-pub mod RunsOfOnes
-pub mod SmallBindings
-pub mod SmallDemands
-pub mod SmallEnabling
-pub mod SmallFirings
-pub mod SpellingLemmas
-pub mod TextLemmas
-pub mod TokenLemmas
-pub mod TopLemmas
-pub mod WordLemmas
-pub mod WritingLemmas
+mod WordsAndInput
+mod OneInput
+mod Statuses
+mod Causes
+mod Written
+mod Answering

@@ -1,9 +1,3 @@
-pub mod Limits
-pub mod Reading
-pub mod RunText
-pub mod SmallNets
-pub mod SmallRuns
-pub mod SmallText
-pub mod TextLaws
-pub mod Tokens
+pub mod Commands
 pub mod TopCall
+pub mod Laws

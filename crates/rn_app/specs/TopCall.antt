@@ -1,108 +1,160 @@
--- What the top call returns, and what it leaves on the sinks.
-use Rattle.std.specs.Prelude.{ℕ, ◌≡◌, ◌⊎◌, List, [], ◌∷◌, Bool, true, false, Option, Some}
-use Rattle.std.specs.Prelude.{IfSome, ◌≢◌, ◌≤◌, codes}
-use Rattle.rn_model.specs.declared.system.System.{System}
-use Rattle.rn_model.specs.declared.log.MarkLine.{MarkLine}
+-- What the top call returns, and what it leaves of its input and on the sinks.
+use Rattle.std.specs.Prelude.{ℕ, ◌≡◌, ◌≢◌, ◌<◌, ◌≤◌, ◌+◌, ◌⊎◌, List, length, Option, Some, None}
+use Rattle.std.specs.Prelude.{[], Result, Ok, Err, ⊤}
+use Rattle.rn_model.specs.declared.log.Options.{Options}
 use Rattle.rn_model.specs.declared.log.Reason.{Reason}
-use Rattle.rn_model.specs.declared.log.Reason.TheVariants.{Dead, Steps}
-use Rattle.rn_model.specs.Runs.{Firing, Log, end_of}
-use Rattle.rn_model.specs.Liveness.{LivePart}
-use Rattle.rn_outside.specs.Bytes.{GivesAll, Appends, AppendsPrefix}
-use Rattle.rn_outside.specs.Faults.{Rose}
-use Rattle.rn_app.specs.declared.top.Refusal.{Refusal}
-use Rattle.rn_app.specs.declared.top.Refusal.TheVariants as kind
-use Rattle.rn_app.specs.SmallNets.{Accepted}
-use Rattle.rn_app.specs.SmallRuns.{run_options}
-use Rattle.rn_app.specs.RunText.{run_text}
-use Rattle.rn_app.specs.declared.top.TheConstants.{NET_REFUSED, WORDS_REFUSED, READ_FAULT}
-use Rattle.rn_app.specs.declared.top.TheConstants.{WRITE_FAULT, NO_MEMORY}
+use Rattle.rn_model.specs.declared.system.System.{System}
+use Rattle.rn_model.specs.Runs.{entries_of}
+use Rattle.rn_notation.specs.Limits.{longest_text}
+use Rattle.rn_outside.specs.Bytes.{GivesAll, GivesAtMost, Appends, AppendsPrefix}
+use Rattle.rn_outside.specs.Faults.{Rose, risen}
+use Rattle.rn_words.specs.declared.command.Command.{Command}
+use Rattle.rn_words.specs.declared.command.Command.TheVariants as command
+use Rattle.rn_words.specs.declared.command.WordsFault.{WordsFault}
+use Rattle.rn_words.specs.Commands.{WordsOk}
+use Rattle.rn_words.specs.Reading.{reading}
+use Rattle.rn_answer.specs.declared.answer.Answer.{Answer}
+use Rattle.rn_answer.specs.declared.stopped.Stopped.{Stopped}
+use Rattle.rn_answer.specs.declared.stopped.Stopped.TheVariants.{Refused, ReadFault, NoMemory}
+use Rattle.rn_answer.specs.declared.status.TheConstants.{WORDS_REFUSED}
+use Rattle.rn_answer.specs.declared.status.TheConstants.{READ_FAULT, WRITE_FAULT, NO_MEMORY, RECORD_REFUSED}
+use Rattle.rn_answer.specs.Lines.{words_line}
+use Rattle.rn_answer.specs.Refusing.{refusal}
+use Rattle.rn_answer.specs.NetTexts.{Accepted, IsRefusedBy}
+use Rattle.rn_answer.specs.Input.{longest_input, IsTooLong, too_long}
+use Rattle.rn_told.specs.Readable.{IsReadableRun}
+use Rattle.rn_commands.specs.Parts.{HasParts}
+use Rattle.rn_commands.specs.Replaying.{IsNoRunBy, IsRecordOfRun}
+use Rattle.rn_commands.specs.Runs.{IsRunOf}
+use Rattle.rn_app.specs.Commands.{ComesTo, HasNetText}
 
--- the words that are accepted
-abbrev pub AreRunWords : List (List ℕ) → Type 0
-AreRunWords words = words ≡ codes "run" ∷ codes "--workers" ∷ codes "1" ∷ []
+-- What the words and the input come to, by what is left of the input before and after. Words that
+-- aren't accepted, and `gen`, take nothing of it. Of an input that is too long no more is taken than
+-- shows it. All others take all of it.
+pub data Comes (words : List (List ℕ)) (left left_after : Option (List ℕ)) : Answer → Type 0 where
+  wordless : (fault : WordsFault) → reading words ≡ Err fault → left_after ≡ left →
+      Comes words left left_after (refusal WORDS_REFUSED (words_line fault))
+  longer : (c : Command) (limit : ℕ) → WordsOk words c → longest_input c ≡ Some limit →
+      IsTooLong limit left → GivesAtMost (limit + 1) left left_after →
+      Comes words left left_after too_long
+  inputless : (a : Answer) (c : Command) → WordsOk words c → longest_input c ≡ None →
+      ComesTo c [] a → left_after ≡ left → Comes words left left_after a
+  whole : (a : Answer) (c : Command) (limit : ℕ) (bytes : List ℕ) → WordsOk words c →
+      longest_input c ≡ Some limit → GivesAll left bytes left_after → length bytes ≤ limit →
+      ComesTo c bytes a → Comes words left left_after a
 
--- these bytes aren't a net text
-abbrev pub IsNoNetText : List ℕ → Type 0
-IsNoNetText bytes = (system : System) → ¬ Accepted bytes system
+-- What a command comes to, or why there is nothing: a read failed, or memory ran out.
+abbrev pub ComesOrStops : List (List ℕ) → Option (List ℕ) → Option (List ℕ) → ℕ → ℕ →
+    Result Answer Stopped → Type 0
+ComesOrStops words left left_after faults faults_after (Ok a) = Comes words left left_after a
+ComesOrStops words left left_after faults faults_after (Err (Refused a)) =
+    Comes words left left_after a
+ComesOrStops words left left_after faults faults_after (Err ReadFault) = Rose faults faults_after
+ComesOrStops words left left_after faults faults_after (Err NoMemory) = ⊤
 
--- The text is that of a run of the system of these bytes: its firings, from the initial marking,
--- its true end, and the marks of what is live then.
-pub record IsRunOf (bytes text : List ℕ) : Type 0 where
-  pub system : System
-  pub accepted : Accepted bytes system
-  pub firings : List Firing
-  pub reason : Reason
-  pub ends : (reason ≡ Dead) ⊎ (reason ≡ Steps)
-  pub log : Log system run_options firings (Some reason)
-  pub marks : List MarkLine
-  pub live : LivePart system (end_of system firings) marks
-  pub told : text ≡ run_text system firings reason marks
-
--- A source gave all its bytes, they are a net text, and the text is that of a run of it.
-pub record ReadsRun (left left_after : Option (List ℕ)) (text : List ℕ) : Type 0 where
-  pub bytes : List ℕ
-  pub read : GivesAll left bytes left_after
-  pub is_run : IsRunOf bytes text
-
--- A sink took the text of a run of a net text that a source gave.
-pub record WritesRun (left left_after held held_after : Option (List ℕ)) : Type 0 where
-  pub text : List ℕ
-  pub run : ReadsRun left left_after text
-  pub written : Appends held text held_after
-
--- The same, but the sink failed before the text's end.
-pub record WritesPartOfRun (left left_after held held_after : Option (List ℕ)) : Type 0 where
-  pub text : List ℕ
-  pub run : ReadsRun left left_after text
-  pub written : AppendsPrefix held text held_after
-
--- why a refusal comes; that memory ran out has no cause
-abbrev pub HasCause : List (List ℕ) → Option (List ℕ) → ℕ → ℕ → Refusal → Type 0
-HasCause words left faults faults_after kind.Net = AreRunWords words × IfSome left IsNoNetText
-HasCause words left faults faults_after kind.Words = ¬ AreRunWords words
-HasCause words left faults faults_after kind.ReadFault =
-    AreRunWords words × Rose faults faults_after
-HasCause words left faults faults_after kind.NoMemory = AreRunWords words
-
--- the line of a refusal
-abbrev pub line_of : Refusal → List ℕ
-line_of kind.Net = codes "P0 1:1\n"
-line_of kind.Words = codes "U0 1\n"
-line_of kind.ReadFault = codes "read fault\n"
-line_of kind.NoMemory = codes "memory\n"
-
--- its status
-abbrev pub status_of : Refusal → ℕ
-status_of kind.Net = NET_REFUSED
-status_of kind.Words = WORDS_REFUSED
-status_of kind.ReadFault = READ_FAULT
-status_of kind.NoMemory = NO_MEMORY
-
--- whether the status gives way where the line can't be written
-abbrev pub gives_way : Refusal → Bool
-gives_way kind.Net = true
-gives_way kind.Words = true
-gives_way kind.ReadFault = false
-gives_way kind.NoMemory = false
-
--- A sink took a line, or failed before its end.
-abbrev pub TakesLine : Option (List ℕ) → Option (List ℕ) → ℕ → ℕ → List ℕ → Type 0
-TakesLine held held_after faults faults_after line =
-    Appends held line held_after ⊎ (AppendsPrefix held line held_after × Rose faults faults_after)
-
--- A sink failed before the end of the line of the refusal that has its cause.
-pub record FailsToRefuse (words : List (List ℕ)) (left held held_after : Option (List ℕ))
-    : Type 0 where
-  pub refusal : Refusal
-  pub cause : (refusal ≡ kind.Net × AreRunWords words × IfSome left IsNoNetText)
-      ⊎ (refusal ≡ kind.Words × (¬ AreRunWords words))
-  pub written : AppendsPrefix held (line_of refusal) held_after
+-- a count has risen once at most
+abbrev pub RoseOnceAtMost : ℕ → ℕ → Type 0
+RoseOnceAtMost before now = (now ≡ before) ⊎ (now ≡ risen before)
 
 -- the statuses that are returned
 abbrev pub IsStatus : ℕ → Type 0
-IsStatus status = (status ≤ NO_MEMORY) × (status ≢ 3)
+IsStatus status = status ≤ RECORD_REFUSED
+
+-- the statuses of words and input, which are those of what they come to
+abbrev pub IsOwnStatus : ℕ → Type 0
+IsOwnStatus status = IsStatus status × (status ≢ READ_FAULT) × (status ≢ WRITE_FAULT)
+    × (status ≢ NO_MEMORY)
 
 -- those that may come in place of another
 abbrev pub IsFaultStatus : ℕ → Type 0
 IsFaultStatus status =
     (status ≡ READ_FAULT) ⊎ ((status ≡ WRITE_FAULT) ⊎ (status ≡ NO_MEMORY))
+
+-- The sinks took what the words and the input come to, and the status is that of it.
+pub record Writes (words : List (List ℕ)) (left left_after : Option (List ℕ)) (status : ℕ)
+    (out out_after err err_after : Option (List ℕ)) : Type 0 where
+  pub a : Answer
+  pub comes : Comes words left left_after a
+  pub own : status ≡ a.status
+  pub text : Appends out a.text out_after
+  pub line : Appends err a.line err_after
+
+-- A source gave all its bytes, they are a net text, and a sink took the text of a run of it, whose
+-- log has this end.
+pub record WritesRun (options : Options) (left left_after held held_after : Option (List ℕ))
+    (reason : Reason) : Type 0 where
+  pub bytes : List ℕ
+  pub read : GivesAll left bytes left_after
+  pub text : List ℕ
+  pub is_run : IsRunOf options bytes text reason
+  pub written : Appends held text held_after
+
+-- The first sink failed before the end of the text of what words and input come to.
+pub record FailsToWrite (words : List (List ℕ)) (left left_after out out_after : Option (List ℕ))
+    : Type 0 where
+  pub a : Answer
+  pub comes : Comes words left left_after a
+  pub written : AppendsPrefix out a.text out_after
+
+-- The second failed before the end of its line. The first had taken the text.
+pub record FailsToTell (words : List (List ℕ)) (left left_after : Option (List ℕ))
+    (out out_after err err_after : Option (List ℕ)) : Type 0 where
+  pub a : Answer
+  pub comes : Comes words left left_after a
+  pub own : a.status ≢ NO_MEMORY
+  pub text : Appends out a.text out_after
+  pub line : AppendsPrefix err a.line err_after
+
+-- a sink took the text of a log that ended for want of memory
+pub record WritesUnfinished (words : List (List ℕ)) (left left_after out out_after : Option (List ℕ))
+    : Type 0 where
+  pub a : Answer
+  pub comes : Comes words left left_after a
+  pub memory : a.status ≡ NO_MEMORY
+  pub text : Appends out a.text out_after
+
+-- The bytes of a command's input aren't what it asks for: they are too many, or the net text is
+-- refused.
+pub data IsNoInput : Command → List ℕ → Type 0 where
+  longer : {c : Command} {bytes : List ℕ} (limit : ℕ) → longest_input c ≡ Some limit →
+      limit < length bytes → IsNoInput c bytes
+  refused : {c : Command} {bytes net line : List ℕ} → HasNetText c bytes net →
+      IsRefusedBy net line → IsNoInput c bytes
+
+-- the input of `replay` is a net text and a record that isn't the text of a run, and not too long
+pub record IsNoRecord (options : Options) (bytes : List ℕ) : Type 0 where
+  pub few : length bytes ≤ longest_text
+  pub net : List ℕ
+  pub record_bytes : List ℕ
+  pub parts : HasParts bytes net record_bytes
+  pub system : System
+  pub accepted : Accepted net system
+  pub line : List ℕ
+  pub no_run : IsNoRunBy system options record_bytes line
+
+-- the input of `replay` is a net text and the text of a run, whose values can be read
+pub record IsRecorded (options : Options) (bytes : List ℕ) : Type 0 where
+  pub net : List ℕ
+  pub record_bytes : List ℕ
+  pub parts : HasParts bytes net record_bytes
+  pub system : System
+  pub accepted : Accepted net system
+  pub count : ℕ
+  pub reason : Reason
+  pub run : IsRecordOfRun system options record_bytes count reason
+  pub readable :
+      IsReadableRun (record { entries = entries_of run.firings (Some reason); marks = run.marks })
+
+-- the commands that run a net, whose log may end in a fault
+abbrev pub MayFault : Command → Type 0
+MayFault (command.Run options) = ⊤
+MayFault (command.Gen copies options) = ⊤
+MayFault _ = ⊥
+
+-- The input is what the command can do: an accepted net text, and for `replay` the text of a run of
+-- it. `gen` asks for none.
+abbrev pub IsFine : Command → Option (List ℕ) → Type 0
+IsFine (command.Gen copies options) left = ⊤
+IsFine (command.Replay options) left = (bytes : List ℕ) × (left ≡ Some bytes)
+    × (length bytes ≤ longest_text) × IsRecorded options bytes
+IsFine c left = (bytes : List ℕ) × (left ≡ Some bytes) × ((system : System) × Accepted bytes system)

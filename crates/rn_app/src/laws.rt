@@ -1,24 +1,20 @@
-//! Laws over the definitions, each the contract of a function that does nothing.
-ghost use Rattle.std.specs.Prelude.{List, ℕ, codes};
-ghost use Rattle.rn_model.specs.declared.system.System.{System};
-ghost use Rattle.rn_model.specs.Good.{Good};
-ghost use Rattle.rn_app.specs.Limits.{IsWithinLimits};
-ghost use Rattle.rn_app.specs.SmallNets.{Accepted};
+//! What excludes what, and that texts of runs are read, from laws of the crates below.
+ghost use Rattle.rn_app.specs.Laws.{AcceptedIsNotRefused, OneSystemAccepted, RunIsRead};
 
-/// A net text that keeps the limits of the notation gives a system that obeys all of its rules.
-pub fn accepted_is_good()
-    ensures { (bytes : List ℕ) → (system : System) →
-        Accepted bytes system → IsWithinLimits system → Good system }
-{}
+use rn_check::laws::checked_texts_are_good;
+use rn_net::net_laws;
+use rn_told::record_laws;
+use rn_written::logs_have_text;
 
-/// The limits are no more than the rules ask: each system that obeys the rules keeps them.
-pub fn good_is_within_limits()
-    ensures { (system : System) → Good system → IsWithinLimits system }
-{}
-
-/// There is a net text that keeps the limits.
-pub fn some_text_is_within_limits()
-    ensures { (system : System)
-        × Accepted (codes "net main { place p = []; place q; trans t { in p; out q; } }") system
-        × IsWithinLimits system }
-{}
+/// A net text isn't both accepted and refused, and has one system. The text of a run is read as this
+/// run.
+pub fn input_laws()
+    ensures texts { AcceptedIsNotRefused }
+    ensures systems { OneSystemAccepted }
+    ensures read { RunIsRead }
+{
+    net_laws();
+    checked_texts_are_good();
+    record_laws();
+    logs_have_text();
+}

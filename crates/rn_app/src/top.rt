@@ -1,159 +1,87 @@
 //! The top call: all that the program does.
-ghost use Rattle.std.specs.Prelude.{◌≡◌, ◌≢◌, ◌↔◌, ◌⊎◌, ◌<◌, map, length, string_bytes};
-ghost use Rattle.std.specs.Prelude.{IsTrue, IfOk, IfErr, IfSome, IsErrOf, OnErr, codes};
-ghost use Rattle.rn_model.specs.declared.system.System.{System as Whole};
-ghost use Rattle.rn_notation.specs.Limits.{longest_net_text};
-ghost use Rattle.rn_outside.specs.Bytes.{GivesAll, GivesPrefix, Appends, AppendsPrefix};
-ghost use Rattle.rn_outside.specs.Faults.{Rose};
-ghost use Rattle.rn_app.specs.SmallNets.{Accepted};
-ghost use Rattle.rn_app.specs.TopCall.{AreRunWords, IsNoNetText, IsRunOf, ReadsRun, WritesRun};
-ghost use Rattle.rn_app.specs.TopCall.{WritesPartOfRun, HasCause, FailsToRefuse, TakesLine};
-ghost use Rattle.rn_app.specs.TopCall.{IsStatus, IsFaultStatus, line_of, status_of, gives_way};
+ghost use Rattle.std.specs.Prelude.{◌≡◌, ◌≢◌, ◌≤◌, ◌+◌, ◌⊎◌, Err, Some, None, map, string_bytes};
+ghost use Rattle.std.specs.Prelude.{IfSome, IsErrOf, codes, length, List, ℕ};
+ghost use Rattle.rn_model.specs.declared.log.Options.{Options};
+ghost use Rattle.rn_model.specs.declared.log.Reason.{Reason};
+ghost use Rattle.rn_model.specs.declared.log.Reason.TheVariants as End;
+ghost use Rattle.rn_model.specs.declared.log.FaultKind.{FaultKind};
+ghost use Rattle.rn_model.specs.declared.binding.Binding.{Binding};
+ghost use Rattle.rn_notation.specs.Limits.{longest_text};
+ghost use Rattle.rn_outside.specs.Bytes.{GivesAtMost};
+ghost use Rattle.rn_outside.specs.Faults.{Rose, risen};
+ghost use Rattle.rn_words.specs.declared.command.Command.{Command as Given};
+ghost use Rattle.rn_words.specs.declared.command.WordsFault.{WordsFault as Fault};
+ghost use Rattle.rn_words.specs.Commands.{WordsOk};
+ghost use Rattle.rn_words.specs.Reading.{reading};
+ghost use Rattle.rn_answer.specs.declared.status.TheConstants.{DONE, FAULTED, NET_REFUSED};
+ghost use Rattle.rn_answer.specs.declared.status.TheConstants.{RECORD_REFUSED, WORDS_REFUSED, WRITE_FAULT};
+ghost use Rattle.rn_answer.specs.Input.{longest_input};
+ghost use Rattle.rn_answer.specs.Refusing.{Concludes};
+ghost use Rattle.rn_answer.specs.Writing.{TakesLine};
+ghost use Rattle.rn_app.specs.Commands.{ComesTo};
+ghost use Rattle.rn_app.specs.TopCall.{ComesOrStops, IsStatus, IsOwnStatus, IsFaultStatus};
+ghost use Rattle.rn_app.specs.TopCall.{Writes, WritesRun, WritesUnfinished, FailsToWrite, FailsToTell};
+ghost use Rattle.rn_app.specs.TopCall.{IsNoInput, IsNoRecord, IsFine, MayFault, RoseOnceAtMost};
 
-use crate::{firing, reading, writing};
-use rn_notation::limits::LONGEST_NET_TEXT;
-use rn_outside::{ReadAllFault, Sink, Source, read_all, write_all};
-use rn_value::NoMemory;
+use crate::laws::input_laws;
+use rn_answer::{
+    Answer, NO_MEMORY, READ_FAULT, Stopped, check, command_of, input_of, print, write_answer,
+    write_line,
+};
+use rn_commands::{answer_laws, enabled, parts_laws, replay, run, run_workload};
+use rn_outside::{Sink, Source};
+use rn_words::{Command, words_laws};
 use std::alloc::Global;
 
-/// The status of a run that is written.
-pub const DONE: u8 = 0;
-/// The status where the net text is refused.
-pub const NET_REFUSED: u8 = 1;
-/// The status where the words are refused.
-pub const WORDS_REFUSED: u8 = 2;
-/// The status where a read failed.
-pub const READ_FAULT: u8 = 4;
-/// The status where a write failed.
-pub const WRITE_FAULT: u8 = 5;
-/// The status where memory ran out.
-pub const NO_MEMORY: u8 = 6;
-
-/// Why no run is written.
-#[derive(Clone, Copy, Debug, PartialEq, Eq)]
-pub enum Refusal {
-    /// The bytes aren't a net text.
-    Net,
-    /// The words aren't accepted.
-    Words,
-    /// A read failed.
-    ReadFault,
-    NoMemory,
-}
-
-impl From<NoMemory> for Refusal {
-    ghost use Rattle.std.specs.Prelude.{◌≡◌};
-    ghost use Rattle.rn_app.specs.declared.top.Refusal.TheVariants.{NoMemory};
-
-    ghost from_gives = { λ _ e. e ≡ NoMemory };
-
-    fn from(_error: NoMemory) -> Refusal {
-        Refusal::NoMemory
+// What a command comes to on its input.
+fn work(alloc: Global, command: Command, bytes: &[u8]) -> Result<Answer, Stopped>
+    requires given { (words : List (List ℕ)) × WordsOk words command }
+    requires few { length bytes.now ≤ longest_text }
+    ensures { Concludes (ComesTo command bytes.now) result }
+{
+    words_laws();
+    match command {
+        Command::Run(options) => run(alloc, options, bytes),
+        Command::Check => check(alloc, bytes),
+        Command::Print => print(alloc, bytes),
+        Command::Enabled(depth) => enabled(alloc, depth, bytes),
+        Command::Replay(options) => replay(alloc, options, bytes),
+        Command::Gen(copies, options) => run_workload(alloc, copies, options),
     }
 }
 
-/// Whether these are the words that are accepted.
-fn are_run_words(words: &[String]) -> bool
-    ensures { IsTrue result ↔ AreRunWords (map string_bytes words.now) }
+// What the words come to: the command is read, then its input, and then it is done.
+fn answer<I: Source>(alloc: Global, words: &[String], input: &mut I) -> Result<Answer, Stopped>
+    // What is answered, or refused, is what the words and the input come to; or a read failed, or
+    // memory ran out.
+    ensures comes { ComesOrStops (map string_bytes words.now) (I.left input.old) (I.left input.new)
+        (I.faults input.old) (I.faults input.new) result }
+    ensures refuses_words { (fault : Fault) → reading (map string_bytes words.now) ≡ Err fault →
+        (input.new ≡ input.old) × (¬ IsErrOf result Stopped.ReadFault) }
+    ensures inputless { (c : Given) → WordsOk (map string_bytes words.now) c →
+        longest_input c ≡ None → input.new ≡ input.old }
+    ensures limited { (c : Given) (limit : ℕ) → WordsOk (map string_bytes words.now) c →
+        longest_input c ≡ Some limit →
+        GivesAtMost (limit + 1) (I.left input.old) (I.left input.new)
+        × (I.reads input.new ≤ I.reads input.old + (limit + 1)) }
+    ensures taken { GivesAtMost (longest_text + 1) (I.left input.old) (I.left input.new) }
+    ensures reads { I.reads input.new ≤ I.reads input.old + (longest_text + 1) }
+    ensures each_gives { IfSome (I.left input.old) (λ left.
+        I.reads input.new ≤ I.reads input.old + (length left + 1)) }
+    ensures faults { ¬ IsErrOf result Stopped.ReadFault →
+        I.faults input.new ≡ I.faults input.old }
+    ensures one_fault { IsErrOf result Stopped.ReadFault →
+        I.faults input.new ≡ risen (I.faults input.old) }
 {
-    let [command, option, count] = words else {
-        return false;
-    };
-    let is_run = command.as_bytes() == b"run".as_slice();
-    let is_workers = option.as_bytes() == b"--workers".as_slice();
-    let is_one = count.as_bytes() == b"1".as_slice();
-    is_run && is_workers && is_one
+    words_laws();
+    let command = command_of(alloc, words)?;
+    let bytes = input_of(alloc, &command, input)?;
+    work(alloc, command, bytes.as_slice())
 }
 
-/// Reads the net text to its end.
-fn read_input<I: Source>(alloc: Global, input: &mut I) -> Result<Vec<u8>, Refusal>
-    ensures all { IfOk result (λ bytes.
-        GivesAll (I.left input.old) bytes.items (I.left input.new)) }
-    ensures net { IsErrOf result Refusal.Net →
-        IfSome (I.left input.old) (λ left. longest_net_text < length left) }
-    ensures words { ¬ IsErrOf result Refusal.Words }
-    ensures cause { IsErrOf result Refusal.ReadFault →
-        Rose (I.faults input.old) (I.faults input.new) }
-    ensures prefix { OnErr result (GivesPrefix (I.left input.old) (I.left input.new)) }
-{
-    match read_all(alloc, input, LONGEST_NET_TEXT) {
-        Ok(bytes) => Ok(bytes),
-        Err(ReadAllFault::ReadFault) => Err(Refusal::ReadFault),
-        Err(ReadAllFault::TooLong) => Err(Refusal::Net),
-        Err(ReadAllFault::NoMemory) => Err(Refusal::NoMemory),
-    }
-}
-
-/// The text of a run of the system of a net text.
-fn run_text_of(alloc: Global, bytes: &[u8]) -> Result<Vec<u8>, Refusal>
-    ensures run { IfOk result (λ text. IsRunOf bytes.now text.items) }
-    ensures net { IsErrOf result Refusal.Net → IsNoNetText bytes.now }
-    ensures words { ¬ IsErrOf result Refusal.Words }
-    ensures read { ¬ IsErrOf result Refusal.ReadFault }
-{
-    let Some(system) = reading::read_net(alloc, bytes)? else {
-        return Err(Refusal::Net);
-    };
-    let ran = firing::run(alloc, &system)?;
-    Ok(writing::write_run(alloc, &system, &ran)?)
-}
-
-/// The text of the run that these words ask for.
-fn answer<I: Source>(alloc: Global, words: &[String], input: &mut I) -> Result<Vec<u8>, Refusal>
-    ensures words { IfOk result (λ _. AreRunWords (map string_bytes words.now)) }
-    ensures run { IfOk result (λ text.
-        ReadsRun (I.left input.old) (I.left input.new) text.items) }
-    ensures refused { IfErr result (HasCause (map string_bytes words.now)
-        (I.left input.old) (I.faults input.old) (I.faults input.new)) }
-    ensures untouched { ¬ AreRunWords (map string_bytes words.now) → input.new ≡ input.old }
-    ensures prefix { GivesPrefix (I.left input.old) (I.left input.new) }
-{
-    if !are_run_words(words) {
-        return Err(Refusal::Words);
-    }
-    let bytes = read_input(alloc, input)?;
-    run_text_of(alloc, bytes.as_slice())
-}
-
-/// Writes the text of a run.
-fn write_text<O: Sink>(out: &mut O, text: &[u8]) -> u8
-    ensures done { result ≡ DONE → Appends (O.held out.old) text.now (O.held out.new) }
-    ensures failed { result ≡ WRITE_FAULT → AppendsPrefix (O.held out.old) text.now (O.held out.new)
-        × Rose (O.faults out.old) (O.faults out.new) }
-    ensures only { (result ≡ DONE) ⊎ (result ≡ WRITE_FAULT) }
-{
-    match write_all(out, text) {
-        Ok(()) => DONE,
-        Err(_) => WRITE_FAULT,
-    }
-}
-
-/// Writes the line of a refusal, and returns its status.
-fn refuse<E: Sink>(err: &mut E, refusal: Refusal) -> u8
-    ensures own { result ≢ WRITE_FAULT → result ≡ status_of refusal }
-    ensures line { result ≢ WRITE_FAULT → TakesLine (E.held err.old) (E.held err.new)
-        (E.faults err.old) (E.faults err.new) (line_of refusal) }
-    ensures whole { result ≢ WRITE_FAULT → IsTrue (gives_way refusal) →
-        Appends (E.held err.old) (line_of refusal) (E.held err.new) }
-    ensures failed { result ≡ WRITE_FAULT → IsTrue (gives_way refusal)
-        × AppendsPrefix (E.held err.old) (line_of refusal) (E.held err.new)
-        × Rose (E.faults err.old) (E.faults err.new) }
-{
-    let (status, line) = match refusal {
-        Refusal::Net => (NET_REFUSED, b"P0 1:1\n".as_slice()),
-        Refusal::Words => (WORDS_REFUSED, b"U0 1\n".as_slice()),
-        Refusal::ReadFault => (READ_FAULT, b"read fault\n".as_slice()),
-        Refusal::NoMemory => (NO_MEMORY, b"memory\n".as_slice()),
-    };
-    match (write_all(err, line), refusal) {
-        (Err(_), Refusal::Net | Refusal::Words) => WRITE_FAULT,
-        _ => status,
-    }
-}
-
-/// Does all that the program does: it accepts the words, reads the net text, runs its net, and
-/// writes the run. `words` are those after the program's name. It returns one of the statuses
-/// above.
+/// Does all that the program does: it accepts the words, reads the input, does the command, and
+/// writes what it comes to. `words` are those after the program's name. It returns one of the
+/// statuses of the crate.
 pub fn renew_top<I: Source, O: Sink, E: Sink>(
     alloc: Global,
     words: &[String],
@@ -161,50 +89,96 @@ pub fn renew_top<I: Source, O: Sink, E: Sink>(
     out: &mut O,
     err: &mut E,
 ) -> u8
-    // Done: the words are accepted, and `out` took the text of a run of the net text.
-    ensures run { result ≡ DONE → AreRunWords (map string_bytes words.now)
-        × WritesRun (I.left input.old) (I.left input.new) (O.held out.old) (O.held out.new) }
-    ensures quiet { result ≡ DONE → err.new ≡ err.old }
+    // A run that is written is a true run of the net text that was read: with this status the log
+    // ended as dead or at the step limit, and with that one in a firing that is undefined.
+    ensures run { result ≡ DONE → (options : Options) →
+        WordsOk (map string_bytes words.now) (Command.Run options) →
+        (reason : Reason) × ((reason ≡ End.Dead) ⊎ (reason ≡ End.Steps))
+        × WritesRun options (I.left input.old) (I.left input.new)
+        (O.held out.old) (O.held out.new) reason }
+    ensures faulted { result ≡ FAULTED → (options : Options) →
+        WordsOk (map string_bytes words.now) (Command.Run options) →
+        (cause : FaultKind) × (b : Binding)
+        × WritesRun options (I.left input.old) (I.left input.new)
+        (O.held out.old) (O.held out.new) (End.Fault cause b) }
 
-    // Each refusal has its cause, and its line on `err`.
-    ensures net_refused { result ≡ NET_REFUSED → AreRunWords (map string_bytes words.now)
-        × IfSome (I.left input.old) IsNoNetText
-        × Appends (E.held err.old) (codes "P0 1:1\n") (E.held err.new) }
-    ensures words_refused { result ≡ WORDS_REFUSED → (¬ AreRunWords (map string_bytes words.now))
-        × Appends (E.held err.old) (codes "U0 1\n") (E.held err.new) }
-    ensures read_fault { result ≡ READ_FAULT → Rose (I.faults input.old) (I.faults input.new)
-        × TakesLine (E.held err.old) (E.held err.new) (E.faults err.old) (E.faults err.new)
-        (codes "read fault\n") }
-    ensures write_fault { result ≡ WRITE_FAULT →
-        (Rose (O.faults out.old) (O.faults out.new) × err.new ≡ err.old
-        × WritesPartOfRun (I.left input.old) (I.left input.new) (O.held out.old) (O.held out.new))
-        ⊎ (Rose (E.faults err.old) (E.faults err.new) × out.new ≡ out.old
-        × FailsToRefuse (map string_bytes words.now) (I.left input.old)
-        (E.held err.old) (E.held err.new)) }
-    ensures memory { result ≡ NO_MEMORY →
-        TakesLine (E.held err.old) (E.held err.new) (E.faults err.old) (E.faults err.new)
-        (codes "memory\n") }
+    // With each status but those of faults and of memory, the sinks took what the words and the input
+    // come to, and this has that status.
+    ensures writes { IsOwnStatus result → Writes (map string_bytes words.now)
+        (I.left input.old) (I.left input.new) result
+        (O.held out.old) (O.held out.new) (E.held err.old) (E.held err.new) }
+    ensures quiet { result ≡ DONE → err.new ≡ err.old }
     ensures only { IsStatus result }
 
-    // Each cause has its refusal, but for faults and where memory runs out.
-    ensures refuses_words { ¬ AreRunWords (map string_bytes words.now) →
-        ((result ≡ WORDS_REFUSED) ⊎ (result ≡ WRITE_FAULT)) × input.new ≡ input.old }
-    ensures refuses_net { AreRunWords (map string_bytes words.now) →
-        IfSome (I.left input.old) (λ bytes. IsNoNetText bytes → (result ≡ NET_REFUSED) ⊎ IsFaultStatus result) }
+    // The other statuses have their causes, and lines.
+    ensures read_fault { result ≡ READ_FAULT → Rose (I.faults input.old) (I.faults input.new)
+        × (out.new ≡ out.old) × TakesLine (E.held err.old) (E.held err.new)
+        (E.faults err.old) (E.faults err.new) (codes "read fault\n") }
+    ensures write_fault { result ≡ WRITE_FAULT →
+        (Rose (O.faults out.old) (O.faults out.new) × (err.new ≡ err.old)
+        × FailsToWrite (map string_bytes words.now) (I.left input.old) (I.left input.new)
+        (O.held out.old) (O.held out.new))
+        ⊎ (Rose (E.faults err.old) (E.faults err.new)
+        × FailsToTell (map string_bytes words.now) (I.left input.old) (I.left input.new)
+        (O.held out.old) (O.held out.new) (E.held err.old) (E.held err.new)) }
+    ensures memory { result ≡ NO_MEMORY →
+        TakesLine (E.held err.old) (E.held err.new) (E.faults err.old) (E.faults err.new)
+        (codes "memory\n")
+        × ((out.new ≡ out.old) ⊎ WritesUnfinished (map string_bytes words.now)
+        (I.left input.old) (I.left input.new) (O.held out.old) (O.held out.new)) }
 
-    // Without faults, a net text is run, unless memory runs out.
-    ensures complete { AreRunWords (map string_bytes words.now) →
-        IfSome (I.left input.old) (λ bytes. (system : Whole) → Accepted bytes system →
+    // Each cause has its status, but for faults and where memory runs out.
+    ensures refuses_words { (fault : Fault) → reading (map string_bytes words.now) ≡ Err fault →
+        ((result ≡ WORDS_REFUSED) ⊎ ((result ≡ WRITE_FAULT) ⊎ (result ≡ NO_MEMORY)))
+        × (input.new ≡ input.old) }
+    ensures refuses_input { (c : Given) → WordsOk (map string_bytes words.now) c →
+        IfSome (I.left input.old) (λ bytes. IsNoInput c bytes →
+        (result ≡ NET_REFUSED) ⊎ IsFaultStatus result) }
+    ensures refuses_record { (options : Options) →
+        WordsOk (map string_bytes words.now) (Command.Replay options) →
+        IfSome (I.left input.old) (λ bytes. IsNoRecord options bytes →
+        (result ≡ RECORD_REFUSED) ⊎ IsFaultStatus result) }
+
+    // Without faults, input that the command can do is done, unless memory runs out; a net's run may
+    // besides end in a fault.
+    ensures complete { (c : Given) → WordsOk (map string_bytes words.now) c →
+        IsFine c (I.left input.old) →
         ¬ Rose (I.faults input.old) (I.faults input.new) →
         ¬ Rose (O.faults out.old) (O.faults out.new) →
-        ¬ Rose (E.faults err.old) (E.faults err.new) → (result ≡ DONE) ⊎ (result ≡ NO_MEMORY)) }
+        ¬ Rose (E.faults err.old) (E.faults err.new) →
+        (result ≡ DONE) ⊎ ((result ≡ NO_MEMORY) ⊎ ((result ≡ FAULTED) × MayFault c)) }
 
-    // What a refusal leaves.
-    ensures nothing_out { result ≢ DONE → result ≢ WRITE_FAULT → out.new ≡ out.old }
-    ensures prefix { GivesPrefix (I.left input.old) (I.left input.new) }
+    // What is taken of the input: no more than the longest and one byte, in no more reads than that
+    // needs. `gen` takes nothing.
+    ensures taken { GivesAtMost (longest_text + 1) (I.left input.old) (I.left input.new) }
+    ensures reads { I.reads input.new ≤ I.reads input.old + (longest_text + 1) }
+    ensures each_gives { IfSome (I.left input.old) (λ left.
+        I.reads input.new ≤ I.reads input.old + (length left + 1)) }
+    ensures inputless { (c : Given) → WordsOk (map string_bytes words.now) c →
+        longest_input c ≡ None → input.new ≡ input.old }
+    ensures limited { (c : Given) (limit : ℕ) → WordsOk (map string_bytes words.now) c →
+        longest_input c ≡ Some limit →
+        GivesAtMost (limit + 1) (I.left input.old) (I.left input.new)
+        × (I.reads input.new ≤ I.reads input.old + (limit + 1)) }
+
+    // A fault that rises in this call is never passed over: it is the only one, and it is told by the
+    // status, unless the line of status 4 or 6 meets one more.
+    ensures input_faults { result ≢ READ_FAULT → I.faults input.new ≡ I.faults input.old }
+    ensures one_read_fault { result ≡ READ_FAULT →
+        I.faults input.new ≡ risen (I.faults input.old) }
+    ensures out_faults { result ≢ WRITE_FAULT → O.faults out.new ≡ O.faults out.old }
+    ensures err_faults { IsOwnStatus result → E.faults err.new ≡ E.faults err.old }
+    ensures few_faults { RoseOnceAtMost (O.faults out.old) (O.faults out.new)
+        × RoseOnceAtMost (E.faults err.old) (E.faults err.new) }
 {
+    words_laws();
+    input_laws();
+    parts_laws();
+    answer_laws();
     match answer(alloc, words, input) {
-        Ok(text) => write_text(out, text.as_slice()),
-        Err(refusal) => refuse(err, refusal),
+        Ok(answer) => write_answer(out, err, &answer),
+        Err(Stopped::Refused(answer)) => write_answer(out, err, &answer),
+        Err(Stopped::ReadFault) => write_line(err, b"read fault\n", READ_FAULT),
+        Err(Stopped::NoMemory) => write_line(err, b"memory\n", NO_MEMORY),
     }
 }

@@ -1,0 +1,195 @@
+-- Each cause has its status.
+use Rattle.std.proofs.Common.{◌≡◌, ◌⊎◌, ◌≤◌, ℕ, List, [], Option, Some, None, Err, inl, inr, length, refl, sym, ap, subst, arith}
+use Rattle.std.specs.Prelude.{IfSome, ⊤}
+use Rattle.rn_model.specs.declared.log.Options.{Options}
+use Rattle.rn_model.specs.declared.log.Reason.{Reason}
+use Rattle.rn_model.specs.declared.log.Reason.TheVariants as End
+use Rattle.rn_model.specs.declared.system.System.{System}
+use Rattle.rn_notation.specs.Limits.{longest_net_text, longest_text}
+use Rattle.rn_words.specs.declared.command.Command.{Command}
+use Rattle.rn_words.specs.declared.command.Command.TheVariants as command
+use Rattle.rn_words.specs.declared.command.WordsFault.{WordsFault}
+use Rattle.rn_words.specs.Commands.{WordsOk}
+use Rattle.rn_words.specs.Laws.{ReadsWhatIsAccepted}
+use Rattle.rn_words.specs.Reading.{reading}
+use Rattle.rn_answer.specs.declared.answer.Answer.{Answer}
+use Rattle.rn_answer.specs.declared.status.TheConstants.{DONE, NET_REFUSED, WORDS_REFUSED, FAULTED, NO_MEMORY, RECORD_REFUSED}
+use Rattle.rn_answer.specs.Input.{longest_input, IsTooLong}
+use Rattle.rn_answer.specs.NetTexts.{Accepted, IsRefusedBy}
+use Rattle.rn_answer.specs.Refusing.{done, refusal}
+use Rattle.rn_commands.specs.Ends.{end_status}
+use Rattle.rn_commands.specs.Laws.{OneAnswerToRecord, OneParting}
+use Rattle.rn_commands.specs.NetCommands.{ReplayComesTo}
+use Rattle.rn_commands.specs.Replaying.{IsNoRunBy, RecordTo, replayed_text}
+use Rattle.rn_app.specs.Commands.{ComesTo, HasNetText}
+use Rattle.rn_app.specs.Laws.{AcceptedIsNotRefused, OneSystemAccepted, RunIsRead}
+use Rattle.rn_app.specs.TopCall.{Comes, IsFine, IsNoInput, IsNoRecord, IsRecorded, MayFault}
+use Rattle.rn_app.proofs.WordsAndInput.{one_command, not_faulty}
+
+-- what is known of words, of net texts and of records
+pub record Laws : Type 0 where
+  pub words : ReadsWhatIsAccepted
+  pub texts : AcceptedIsNotRefused
+  pub systems : OneSystemAccepted
+  pub parts : OneParting
+  pub one : OneAnswerToRecord
+  pub read : RunIsRead
+
+-- words that have a fault come to its status
+pub words_status : Laws → (words : List (List ℕ)) (left left_after : Option (List ℕ)) (a : Answer) (fault : WordsFault) → reading words ≡ Err fault → Comes words left left_after a → a.status ≡ WORDS_REFUSED
+words_status laws words left left_after a fault faulty (Comes.wordless other is same) = refl
+words_status laws words left left_after a fault faulty (Comes.longer c limit accepted is long gives) = absurd (not_faulty laws.words words c fault accepted faulty)
+words_status laws words left left_after a fault faulty (Comes.inputless _ c accepted none comes same) = absurd (not_faulty laws.words words c fault accepted faulty)
+words_status laws words left left_after a fault faulty (Comes.whole _ c limit bytes accepted is all few comes) = absurd (not_faulty laws.words words c fault accepted faulty)
+
+-- a command whose net text is refused says so
+net_status : Laws → (c : Command) (bytes net line : List ℕ) (a : Answer) → HasNetText c bytes net → IsRefusedBy net line → ComesTo c bytes a → a.status ≡ NET_REFUSED
+net_status laws (command.Run options) bytes net line a is refused (inl (told, why, same)) = ap (λ x. x.status) same
+net_status laws (command.Run options) bytes net line a is refused (inr runs) = absurd (laws.texts bytes line runs.run.system runs.run.accepted (subst (λ b. IsRefusedBy b line) is refused))
+net_status laws command.Check bytes net line a is refused (inl (told, why, same)) = ap (λ x. x.status) same
+net_status laws command.Check bytes net line a is refused (inr (system, accepted, same)) = absurd (laws.texts bytes line system accepted (subst (λ b. IsRefusedBy b line) is refused))
+net_status laws command.Print bytes net line a is refused (inl (told, why, same)) = ap (λ x. x.status) same
+net_status laws command.Print bytes net line a is refused (inr (plain, system, spells, checked, same)) =
+    let accepted : Accepted bytes system = record { plain = plain; spelled = spells; checked = checked } in
+    absurd (laws.texts bytes line system accepted (subst (λ b. IsRefusedBy b line) is refused))
+net_status laws (command.Enabled depth) bytes net line a is refused (inl (told, why, same)) = ap (λ x. x.status) same
+net_status laws (command.Enabled depth) bytes net line a is refused (inr (system, found, accepted, just, same)) = absurd (laws.texts bytes line system accepted (subst (λ b. IsRefusedBy b line) is refused))
+net_status laws (command.Replay options) bytes net line a (rest, parts) refused (other, more, its, inl (told, why, same)) = ap (λ x. x.status) same
+net_status laws (command.Replay options) bytes net line a (rest, parts) refused (other, more, its, inr (system, accepted, record_told)) =
+    absurd (laws.texts other line system accepted (subst (λ b. IsRefusedBy b line) (laws.parts bytes net rest other more parts its).0 refused))
+net_status laws (command.Gen copies options) bytes net line a is refused gens = absurd is
+
+-- a command whose input isn't what it asks for says so, where it was within the limit
+within_status : Laws → (c : Command) (limit : ℕ) (bytes : List ℕ) (a : Answer) → longest_input c ≡ Some limit → length bytes ≤ limit → IsNoInput c bytes → ComesTo c bytes a → a.status ≡ NET_REFUSED
+within_status laws c limit bytes a is few (IsNoInput.longer other most long) comes =
+    let same : limit ≡ other = cc in
+    absurd (omega (arith, few, long, same))
+within_status laws c limit bytes a is few (IsNoInput.refused {net} {line} has refused) comes = net_status laws c bytes net line a has refused comes
+
+-- no input of `gen` is refused
+none_refused : (c : Command) (bytes : List ℕ) → longest_input c ≡ None → IsNoInput c bytes → ⊥
+none_refused c bytes none (IsNoInput.longer limit is long) = absurd cc
+none_refused (command.Gen copies options) bytes none (IsNoInput.refused has refused) = has
+none_refused (command.Run options) bytes none (IsNoInput.refused has refused) = absurd cc
+none_refused command.Check bytes none (IsNoInput.refused has refused) = absurd cc
+none_refused command.Print bytes none (IsNoInput.refused has refused) = absurd cc
+none_refused (command.Enabled depth) bytes none (IsNoInput.refused has refused) = absurd cc
+none_refused (command.Replay options) bytes none (IsNoInput.refused has refused) = absurd cc
+
+-- what accepted words come to on input that isn't what they ask for
+pub input_status : Laws → (words : List (List ℕ)) (left_after : Option (List ℕ)) (bytes : List ℕ) (c : Command) (a : Answer) → WordsOk words c → IsNoInput c bytes → Comes words (Some bytes) left_after a → a.status ≡ NET_REFUSED
+input_status laws words left_after bytes c a accepted wrong (Comes.wordless fault faulty same) = absurd (not_faulty laws.words words c fault accepted faulty)
+input_status laws words left_after bytes c a accepted wrong (Comes.longer other limit given is long gives) = refl
+input_status laws words left_after bytes c a accepted wrong (Comes.inputless _ other given none comes same) =
+    absurd (none_refused other bytes none (subst (λ k. IsNoInput k bytes) (one_command laws.words words c other accepted given) wrong))
+input_status laws words left_after bytes c a accepted wrong (Comes.whole _ other limit read given is all few comes) =
+    within_status laws other limit read a is few (subst (λ b. IsNoInput other b) (sym all.all) (subst (λ k. IsNoInput k bytes) (one_command laws.words words c other accepted given) wrong)) comes
+
+-- a record that isn't the text of a run is refused
+refusing_status : Laws → (system : System) (options : Options) (rest line : List ℕ) (a : Answer) → IsNoRunBy system options rest line → RecordTo system options rest a → a.status ≡ RECORD_REFUSED
+refusing_status laws system options rest line a wrong told =
+    ap (λ x. x.status) (laws.one system options rest a (refusal RECORD_REFUSED line) told (RecordTo.refused line wrong))
+
+no_record_status : Laws → (options : Options) (bytes : List ℕ) (a : Answer) → IsNoRecord options bytes → ReplayComesTo options bytes a → a.status ≡ RECORD_REFUSED
+no_record_status laws options bytes a wrong (net, rest, parts, inl (line, why, same)) =
+    absurd (laws.texts net line wrong.system (subst (λ n. Accepted n wrong.system) (laws.parts bytes wrong.net wrong.record_bytes net rest wrong.parts parts).0 wrong.accepted) why)
+no_record_status laws options bytes a wrong (net, rest, parts, inr (system, accepted, told)) =
+    let same = laws.parts bytes wrong.net wrong.record_bytes net rest wrong.parts parts in
+    let one : wrong.system ≡ system = laws.systems net wrong.system system (subst (λ n. Accepted n wrong.system) same.0 wrong.accepted) accepted in
+    let its : IsNoRunBy system options rest wrong.line = subst (λ s. IsNoRunBy s options rest wrong.line) one (subst (λ b. IsNoRunBy wrong.system options b wrong.line) same.1 wrong.no_run) in
+    refusing_status laws system options rest wrong.line a its told
+
+-- what the words of `replay` come to on such input
+pub record_status : Laws → (words : List (List ℕ)) (left_after : Option (List ℕ)) (bytes : List ℕ) (options : Options) (a : Answer) → WordsOk words (command.Replay options) → IsNoRecord options bytes → Comes words (Some bytes) left_after a → a.status ≡ RECORD_REFUSED
+record_status laws words left_after bytes options a accepted wrong (Comes.wordless fault faulty same) = absurd (not_faulty laws.words words (command.Replay options) fault accepted faulty)
+record_status laws words left_after bytes options a accepted wrong (Comes.longer other limit given is long gives) =
+    let most : longest_input (command.Replay options) ≡ Some limit = subst (λ k. longest_input k ≡ Some limit) (one_command laws.words words other (command.Replay options) given accepted) is in
+    let same : longest_text ≡ limit = cc in
+    let few = wrong.few in
+    absurd (omega (arith, few, long, same))
+record_status laws words left_after bytes options a accepted wrong (Comes.inputless _ other given none comes same) =
+    let nothing : longest_input (command.Replay options) ≡ None = subst (λ k. longest_input k ≡ None) (one_command laws.words words other (command.Replay options) given accepted) none in
+    absurd cc
+record_status laws words left_after bytes options a accepted wrong (Comes.whole _ other limit read given is all few comes) =
+    no_record_status laws options read a (subst (λ b. IsNoRecord options b) (sym all.all) wrong) (subst (λ k. ComesTo k read a) (one_command laws.words words other (command.Replay options) given accepted) comes)
+
+-- a command that is done, or faulted where it may, or wants memory
+abbrev pub IsDoneBut : Command → ℕ → Type 0
+IsDoneBut c status = (status ≡ DONE) ⊎ ((status ≡ NO_MEMORY) ⊎ ((status ≡ FAULTED) × MayFault c))
+
+-- a run comes to an end that is done, or faulted, or wants memory
+run_status : (P : Type 0) (reason : Reason) (status : ℕ) → status ≡ end_status reason → P → (status ≡ DONE) ⊎ ((status ≡ NO_MEMORY) ⊎ ((status ≡ FAULTED) × P))
+run_status P End.Dead status is p = inl is
+run_status P End.Steps status is p = inl is
+run_status P End.Memory status is p = inr (inl is)
+run_status P (End.Fault cause b) status is p = inr (inr (is, p))
+
+-- the text of a run is replayed
+done_record : Laws → (options : Options) (bytes rest : List ℕ) (system : System) (a : Answer) → (r : IsRecorded options bytes) → r.record_bytes ≡ rest → r.system ≡ system → RecordTo system options rest a → a.status ≡ DONE
+done_record laws options bytes rest system a r more same told =
+    let read = laws.read r.net r.system options r.record_bytes r.count r.reason r.accepted r.run r.readable in
+    let its : RecordTo r.system options r.record_bytes a = subst (λ s. RecordTo s options r.record_bytes a) (sym same) (subst (λ b. RecordTo system options b a) (sym more) told) in
+    ap (λ x. x.status) (laws.one r.system options r.record_bytes a (done (replayed_text r.count r.reason)) its (RecordTo.replayed r.count r.reason r.run read))
+
+replay_status : Laws → (options : Options) (bytes : List ℕ) (a : Answer) → IsRecorded options bytes → ReplayComesTo options bytes a → a.status ≡ DONE
+replay_status laws options bytes a r (net, rest, parts, inl (line, why, same)) =
+    absurd (laws.texts net line r.system (subst (λ n. Accepted n r.system) (laws.parts bytes r.net r.record_bytes net rest r.parts parts).0 r.accepted) why)
+replay_status laws options bytes a r (net, rest, parts, inr (system, accepted, told)) =
+    let same = laws.parts bytes r.net r.record_bytes net rest r.parts parts in
+    done_record laws options bytes rest system a r same.1 (laws.systems net r.system system (subst (λ n. Accepted n r.system) same.0 r.accepted) accepted) told
+
+-- what is read is what was left
+all_left : (left : Option (List ℕ)) (bytes known : List ℕ) → IfSome left (λ l. bytes ≡ l) → left ≡ Some known → known ≡ bytes
+all_left left bytes known all is = sym (subst (λ o. IfSome o (λ l. bytes ≡ l)) is all)
+
+-- a command does what an input that is fine asks for
+whole_status : Laws → (c : Command) (left : Option (List ℕ)) (bytes : List ℕ) (a : Answer) → IsFine c left → IfSome left (λ l. bytes ≡ l) → ComesTo c bytes a → IsDoneBut c a.status
+whole_status laws (command.Run options) left bytes a (known, is, (system, accepted)) all (inl (line, why, same)) = absurd (laws.texts bytes line system (subst (λ b. Accepted b system) (all_left left bytes known all is) accepted) why)
+whole_status laws (command.Run options) left bytes a fine all (inr runs) = run_status ⊤ runs.reason a.status runs.status tt
+whole_status laws command.Check left bytes a (known, is, (system, accepted)) all (inl (line, why, same)) = absurd (laws.texts bytes line system (subst (λ b. Accepted b system) (all_left left bytes known all is) accepted) why)
+whole_status laws command.Check left bytes a fine all (inr (system, accepted, same)) = inl (ap (λ x. x.status) same)
+whole_status laws command.Print left bytes a (known, is, (system, accepted)) all (inl (line, why, same)) = absurd (laws.texts bytes line system (subst (λ b. Accepted b system) (all_left left bytes known all is) accepted) why)
+whole_status laws command.Print left bytes a fine all (inr (plain, system, spells, checked, same)) = inl (ap (λ x. x.status) same)
+whole_status laws (command.Enabled depth) left bytes a (known, is, (system, accepted)) all (inl (line, why, same)) = absurd (laws.texts bytes line system (subst (λ b. Accepted b system) (all_left left bytes known all is) accepted) why)
+whole_status laws (command.Enabled depth) left bytes a fine all (inr (system, found, accepted, just, same)) = inl (ap (λ x. x.status) same)
+whole_status laws (command.Replay options) left bytes a (known, is, few, recorded) all comes = inl (replay_status laws options bytes a (subst (λ b. IsRecorded options b) (all_left left bytes known all is) recorded) comes)
+whole_status laws (command.Gen copies options) left bytes a fine all gens = run_status ⊤ gens.reason a.status gens.status tt
+
+-- `gen` alone asks for no input
+inputless_status : (c : Command) (a : Answer) → longest_input c ≡ None → ComesTo c [] a → IsDoneBut c a.status
+inputless_status (command.Gen copies options) a none gens = run_status ⊤ gens.reason a.status gens.status tt
+inputless_status (command.Run options) a none comes = absurd cc
+inputless_status command.Check a none comes = absurd cc
+inputless_status command.Print a none comes = absurd cc
+inputless_status (command.Enabled depth) a none comes = absurd cc
+inputless_status (command.Replay options) a none comes = absurd cc
+
+-- an accepted net text isn't too long
+fits : (limit : ℕ) (left : Option (List ℕ)) (known : List ℕ) (system : System) → left ≡ Some known → Accepted known system → limit ≡ longest_net_text → IsTooLong limit left → ⊥
+fits limit left known system is accepted most long =
+    let longer = subst (λ o. IsTooLong limit o) is long in
+    let few = accepted.spelled.fits in
+    omega (arith, longer, few, most)
+
+-- nor is another input that is fine
+fine_fits : (c : Command) (limit : ℕ) (left : Option (List ℕ)) → IsFine c left → longest_input c ≡ Some limit → IsTooLong limit left → ⊥
+fine_fits (command.Run options) limit left (known, is, (system, accepted)) most long = let same : limit ≡ longest_net_text = cc in fits limit left known system is accepted same long
+fine_fits command.Check limit left (known, is, (system, accepted)) most long = let same : limit ≡ longest_net_text = cc in fits limit left known system is accepted same long
+fine_fits command.Print limit left (known, is, (system, accepted)) most long = let same : limit ≡ longest_net_text = cc in fits limit left known system is accepted same long
+fine_fits (command.Enabled depth) limit left (known, is, (system, accepted)) most long = let same : limit ≡ longest_net_text = cc in fits limit left known system is accepted same long
+fine_fits (command.Replay options) limit left (known, is, few, recorded) most long =
+    let same : limit ≡ longest_text = cc in
+    let longer = subst (λ o. IsTooLong limit o) is long in
+    omega (arith, longer, few, same)
+fine_fits (command.Gen copies options) limit left fine most long = absurd cc
+
+-- what accepted words come to on an input that is fine
+pub fine_status : Laws → (words : List (List ℕ)) (left left_after : Option (List ℕ)) (c : Command) (a : Answer) → WordsOk words c → IsFine c left → Comes words left left_after a → IsDoneBut c a.status
+fine_status laws words left left_after c a accepted fine (Comes.wordless fault faulty same) = absurd (not_faulty laws.words words c fault accepted faulty)
+fine_status laws words left left_after c a accepted fine (Comes.longer other limit given is long gives) =
+    absurd (fine_fits c limit left fine (subst (λ k. longest_input k ≡ Some limit) (one_command laws.words words other c given accepted) is) long)
+fine_status laws words left left_after c a accepted fine (Comes.inputless _ other given none comes same) =
+    let one = one_command laws.words words other c given accepted in
+    inputless_status c a (subst (λ k. longest_input k ≡ None) one none) (subst (λ k. ComesTo k [] a) one comes)
+fine_status laws words left left_after c a accepted fine (Comes.whole _ other limit bytes given is all few comes) =
+    whole_status laws c left bytes a fine all.all (subst (λ k. ComesTo k bytes a) (one_command laws.words words other c given accepted) comes)

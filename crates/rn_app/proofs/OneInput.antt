@@ -1,0 +1,45 @@
+-- Net texts that are accepted aren't refused, and texts of runs are read.
+use Rattle.std.proofs.Common.{◌≡◌, [], Contains, Some, sym, subst}
+use Rattle.rn_model.specs.declared.system.System.{System}
+use Rattle.rn_model.specs.Runs.{entries_of}
+use Rattle.rn_model.proofs.EnablingLemmas.{not_in_nil}
+use Rattle.rn_notation.specs.declared.token.Spot.{Spot}
+use Rattle.rn_net.specs.declared.plain.Plain.{Plain}
+use Rattle.rn_net.specs.Laws.{OneSpelled, SpelledIsNotRefused}
+use Rattle.rn_check.specs.declared.fault.Rule.{Rule}
+use Rattle.rn_check.specs.Checked.{Checked, BreaksFirst}
+use Rattle.rn_check.specs.Faults.{broken}
+use Rattle.rn_check.specs.SpelledForms.{CheckedTextsAreGood}
+use Rattle.rn_told.specs.Laws.{TextsTell}
+use Rattle.rn_told.specs.Runs.{Verdict, TellsRecord}
+use Rattle.rn_written.specs.Laws.{LogsHaveText}
+use Rattle.rn_answer.specs.NetTexts.{IsRefusedBy}
+use Rattle.rn_app.specs.Laws.{AcceptedIsNotRefused, OneSystemAccepted, RunIsRead}
+
+-- where no rule is broken, none is the first
+unbroken : (plain : Plain) (system : System) (rule : Rule) (spot : Spot) → Checked plain system → BreaksFirst plain rule spot → ⊥
+unbroken plain system rule spot checked breaks =
+    let there : Contains [] (broken rule spot) = subst (λ faults. Contains faults (broken rule spot)) checked.unbroken breaks.there in
+    not_in_nil (broken rule spot) there
+
+-- an accepted net text isn't refused
+pub not_refused : OneSpelled → SpelledIsNotRefused → AcceptedIsNotRefused
+not_refused one law bytes line system accepted (IsRefusedBy.unspelled why refused) = law bytes accepted.plain why accepted.spelled refused
+not_refused one law bytes line system accepted (IsRefusedBy.broken plain rule spot spells breaks) =
+    unbroken plain system rule spot (subst (λ p. Checked p system) (one bytes accepted.plain plain accepted.spelled spells) accepted.checked) breaks
+
+-- a net text has one system
+pub one_system : OneSpelled → OneSystemAccepted
+one_system one bytes s t first second =
+    let same : first.plain ≡ second.plain = one bytes first.plain second.plain first.spelled second.spelled in
+    let a = first.checked.means in
+    let b = second.checked.means in
+    cc
+
+-- the text of a run is read as it
+pub run_is_read : CheckedTextsAreGood → LogsHaveText → TextsTell → RunIsRead
+run_is_read goods have texts net system options bytes count reason accepted run readable =
+    let good = goods net accepted.plain system accepted.spelled accepted.checked in
+    let text = have system options run.firings (Some reason) run.marks good run.log run.live in
+    subst (λ b. TellsRecord system b (Verdict.tells (entries_of run.firings (Some reason)) run.marks)) (sym run.told)
+    (texts system options run.firings reason run.marks good run.log run.live text readable)
