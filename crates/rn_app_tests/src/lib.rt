@@ -4,6 +4,10 @@
 #[cfg(test)]
 mod app;
 #[cfg(test)]
+mod app_faults;
+#[cfg(test)]
+mod calling;
+#[cfg(test)]
 mod given;
 #[cfg(test)]
 mod lines;
