@@ -171,7 +171,7 @@ fn replays(
 
 #[test]
 fn records(rt: HostRuntime) -> Result<(), Fail> {
-    let table: [(&str, &[u8], u8, &[u8], &[u8]); 9] = [
+    let table: [(&str, &[u8], u8, &[u8], &[u8]); 10] = [
         ("replay", ITS_RUN, 0, b"ok 1 dead\n", b""),
         (
             "replay --steps 1",
@@ -197,6 +197,13 @@ fn records(rt: HostRuntime) -> Result<(), Fail> {
             b"",
             b"V2 2\n",
         ),
+        (
+            "replay",
+            b"1 w1 main[1].t\n1 w1 > 5\nend dead\n",
+            7,
+            b"",
+            b"V3 1\n",
+        ),
         ("replay", b"end dead\nmain[1].p []\n", 7, b"", b"V4 1\n"),
         (
             "replay",
@@ -217,7 +224,7 @@ fn records(rt: HostRuntime) -> Result<(), Fail> {
 
 #[test]
 fn records_of_other_texts(rt: HostRuntime) -> Result<(), Fail> {
-    let table: [(&str, &[u8], u8, &[u8], &[u8]); 4] = [
+    let table: [(&str, &[u8], u8, &[u8], &[u8]); 6] = [
         // Without a line `---` the record is empty.
         ("replay", FIRES_ONCE, 7, b"", b"Q1 1\n"),
         // The first such line parts, also where it is the last and has no line feed, and a comment
@@ -225,6 +232,17 @@ fn records_of_other_texts(rt: HostRuntime) -> Result<(), Fail> {
         ("replay", b"net main { } //\n---", 7, b"", b"Q1 1\n"),
         ("replay", b"net main { }\n---\nend dead\n", 0, b"ok 0 dead\n", b""),
         ("replay", b"net main { }\n --- \nend dead\n", 1, b"", b"P2 2:2\n"),
+        // The net text is looked at before the record.
+        ("replay", b"net main { @ }\n---\nno record", 1, b"", b"P1 1:12\n"),
+        // Nothing tells the value of x.
+        (
+            "replay",
+            b"net main { var x: int; place q: int; trans t { out q: x; } }\n---\n\
+              1 w1 main[1].t x=4\nend dead\nmain[1].q 4\n",
+            7,
+            b"",
+            b"V1 1\n",
+        ),
     ];
     for (line, text, status, out, err) in table {
         let call = Call { line, text, ..WHOLE };
