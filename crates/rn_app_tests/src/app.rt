@@ -4,8 +4,7 @@ use rn_items::NoMemory;
 use std::alloc::Global;
 use std::test::Fail;
 
-const TWO_TOKENS: &[u8] =
-    b"net main { var x: int; place p: int = 1, 2; trans t { in p: x; } }";
+const TWO_TOKENS: &[u8] = b"net main { var x: int; place p: int = 1, 2; trans t { in p: x; } }";
 
 #[test]
 fn runs(rt: HostRuntime) -> Result<(), Fail> {
@@ -49,8 +48,15 @@ fn runs(rt: HostRuntime) -> Result<(), Fail> {
         ),
     ];
     for (line, text, status, out, err) in table {
-        let call = Call { line, text, ..WHOLE };
-        assert!(rt; gives(rt.alloc(), &call, status, out, err)?, "{line} {text:?}");
+        let call = Call {
+            line,
+            text,
+            ..WHOLE
+        };
+        assert!(rt;
+            gives(rt.alloc(), &call, status, out, err)?,
+            "{line} {text:?}"
+        );
     }
     Ok(())
 }
@@ -90,8 +96,15 @@ fn texts_that_are_checked_and_printed(rt: HostRuntime) -> Result<(), Fail> {
         ),
     ];
     for (line, text, status, out, err) in table {
-        let call = Call { line, text, ..WHOLE };
-        assert!(rt; gives(rt.alloc(), &call, status, out, err)?, "{line} {text:?}");
+        let call = Call {
+            line,
+            text,
+            ..WHOLE
+        };
+        assert!(rt;
+            gives(rt.alloc(), &call, status, out, err)?,
+            "{line} {text:?}"
+        );
     }
     Ok(())
 }
@@ -138,8 +151,15 @@ fn bindings_and_workloads(rt: HostRuntime) -> Result<(), Fail> {
         ),
     ];
     for (line, text, status, out, err) in table {
-        let call = Call { line, text, ..WHOLE };
-        assert!(rt; gives(rt.alloc(), &call, status, out, err)?, "{line} {text:?}");
+        let call = Call {
+            line,
+            text,
+            ..WHOLE
+        };
+        assert!(rt;
+            gives(rt.alloc(), &call, status, out, err)?,
+            "{line} {text:?}"
+        );
     }
     Ok(())
 }
@@ -230,10 +250,28 @@ fn records_of_other_texts(rt: HostRuntime) -> Result<(), Fail> {
         // The first such line parts, also where it is the last and has no line feed, and a comment
         // stands before it.
         ("replay", b"net main { } //\n---", 7, b"", b"Q1 1\n"),
-        ("replay", b"net main { }\n---\nend dead\n", 0, b"ok 0 dead\n", b""),
-        ("replay", b"net main { }\n --- \nend dead\n", 1, b"", b"P2 2:2\n"),
+        (
+            "replay",
+            b"net main { }\n---\nend dead\n",
+            0,
+            b"ok 0 dead\n",
+            b"",
+        ),
+        (
+            "replay",
+            b"net main { }\n --- \nend dead\n",
+            1,
+            b"",
+            b"P2 2:2\n",
+        ),
         // The net text is looked at before the record.
-        ("replay", b"net main { @ }\n---\nno record", 1, b"", b"P1 1:12\n"),
+        (
+            "replay",
+            b"net main { @ }\n---\nno record",
+            1,
+            b"",
+            b"P1 1:12\n",
+        ),
         // Nothing tells the value of x.
         (
             "replay",
@@ -245,7 +283,11 @@ fn records_of_other_texts(rt: HostRuntime) -> Result<(), Fail> {
         ),
     ];
     for (line, text, status, out, err) in table {
-        let call = Call { line, text, ..WHOLE };
+        let call = Call {
+            line,
+            text,
+            ..WHOLE
+        };
         assert!(rt; gives(rt.alloc(), &call, status, out, err)?, "{text:?}");
     }
     Ok(())

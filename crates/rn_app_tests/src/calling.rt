@@ -21,7 +21,8 @@ pub(crate) struct Call<'a> {
 pub(crate) const RUN: &str = "run --workers 1";
 
 /// A net with one firing.
-pub(crate) const FIRES_ONCE: &[u8] = b"net main { place p = []; place q; trans t { in p; out q; } }";
+pub(crate) const FIRES_ONCE: &[u8] =
+    b"net main { place p = []; place q; trans t { in p; out q; } }";
 
 /// The text of its run.
 pub(crate) const ITS_RUN: &[u8] = b"1 w1 main[1].t\nend dead\nmain[1].q []\n";
