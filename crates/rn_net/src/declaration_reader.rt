@@ -9,7 +9,6 @@ ghost use Rattle.rn_net.specs.Words.{channel_word, var_word, place_word};
 
 use crate::constant_reader::constants_up_to;
 use crate::constants::PConsts;
-use crate::copying::copy_kind;
 use crate::cursor::{MOST_LEVELS, expect_name, expect_sign, past_sign};
 use crate::kind_reader::{kind, kinds_listed};
 use crate::kinds::{PKind, PKindForm};
@@ -17,6 +16,7 @@ use crate::plain::{PChannel, PPlace, PVar, PVars};
 use rn_inscript::{InscriptFault, PName};
 use rn_items::Items;
 use rn_notation::{Tokens, sign};
+use rn_shared::Shared;
 use rn_value::{NoMemory, copy_text};
 use std::alloc::Global;
 
@@ -72,7 +72,7 @@ fn names_up_to(
 }
 
 /// One variable of this kind for each name.
-fn vars_of(alloc: Global, kind: &PKind, names: &Items<PName>) -> Result<PVars, NoMemory>
+fn vars_of(alloc: Global, kind: &Shared<PKind>, names: &Items<PName>) -> Result<PVars, NoMemory>
     ensures { IfOk result (λ vars. vars ≡ map (var_of kind.now) names.now) }
 {
     let mut vars = Vec::with_capacity(alloc, names.len())?;
@@ -82,14 +82,21 @@ fn vars_of(alloc: Global, kind: &PKind, names: &Items<PName>) -> Result<PVars, N
     Ok(Items::from_vec(vars))
 }
 
-fn var_named(alloc: Global, kind: &PKind, name: &PName) -> Result<PVar, NoMemory>
+/// One variable for each name, which share this kind.
+fn vars_sharing(alloc: Global, kind: PKind, names: &Items<PName>) -> Result<PVars, NoMemory>
+    ensures { IfOk result (λ vars. vars ≡ map (var_of kind) names.now) }
+{
+    vars_of(alloc, &Shared::new(alloc, kind)?, names)
+}
+
+fn var_named(alloc: Global, kind: &Shared<PKind>, name: &PName) -> Result<PVar, NoMemory>
     ensures { IfOk result (λ var. var ≡ var_of kind.now name.now) }
 {
     let name = PName {
         text: copy_text(alloc, &name.text)?,
         spot: name.spot,
     };
-    let kind = copy_kind(alloc, kind)?;
+    let kind = kind.share()?;
     Ok(PVar { name, kind })
 }
 
@@ -108,7 +115,7 @@ pub(crate) fn vars(
     let (names, after_names) = names_up_to(alloc, tokens, start)?;
     let (kind, after) = kind(alloc, tokens, after_names, MOST_LEVELS)?;
     let (_, end) = expect_sign(tokens, after, sign::SEMICOLON)?;
-    let vars = vars_of(alloc, &kind, &names)?;
+    let vars = vars_sharing(alloc, kind, &names)?;
     Ok((vars, end))
 }
 

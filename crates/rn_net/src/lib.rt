@@ -3,7 +3,6 @@
 
 mod constant_reader;
 mod constants;
-mod copying;
 mod cursor;
 mod declaration_reader;
 mod kind_reader;

@@ -3,6 +3,7 @@ use crate::constants::PConsts;
 use crate::kinds::{PKind, PKinds};
 use rn_inscript::{PInscription, PName};
 use rn_items::Items;
+use rn_shared::Shared;
 
 pub type PChannels = Items<PChannel>;
 
@@ -36,11 +37,11 @@ pub struct PNet {
     pub transitions: PTransitions,
 }
 
-/// One variable. A declaration of several names makes one for each of them.
+/// One variable. A declaration of several names makes one for each of them, and they share its kind.
 #[derive(Debug, Drop)]
 pub struct PVar {
     pub name: PName,
-    pub kind: PKind,
+    pub kind: Shared<PKind>,
 }
 
 /// A place with its initial tokens. Where the text has no kind, the kind is `[]` with the spot of

@@ -205,6 +205,17 @@ fn longest(rt: HostRuntime) -> Result<(), Fail> {
     Ok(())
 }
 
+// A copy of the kind for each variable would take more memory than there is.
+#[test]
+fn one_kind_for_many_variables(rt: HostRuntime) -> Result<(), Fail> {
+    let names = repeated(rt.alloc(), "net main { var x", ",x", 40_000)?;
+    let kind = repeated(rt.alloc(), ": [int", ",int", 40_000)?;
+    let text = format!(in rt.alloc(); "{names}{kind}]; }}")?;
+    let found = parts(rt.alloc(), text.as_str());
+    assert_eq!(&rt; found, Ok((40_001, 0, 0)));
+    Ok(())
+}
+
 // Whether the first token of the first place is this text.
 fn has_text(plain: &Plain, wanted: &str) -> bool {
     match plain.nets.get(0) {
