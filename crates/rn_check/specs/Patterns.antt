@@ -48,10 +48,11 @@ share_step _ _ = false
 abbrev pub share : Pattern → Pattern → Bool
 share = fold-Pattern (Pattern → Bool) (λ p q. share_step p (out-Pattern q))
 
--- the patterns of both, one by one
+-- the patterns of both, one by one. Past the end of the second ones each of the first is kept
 abbrev pub all_both : List (Pattern → Pattern) → List Pattern → List Pattern
+all_both [] patterns = []
+all_both (both ∷ boths) [] = both Pattern.Any ∷ all_both boths []
 all_both (both ∷ boths) (pattern ∷ patterns) = both pattern ∷ all_both boths patterns
-all_both _ _ = []
 
 -- one pattern beside another, with what the parts have in common with each pattern
 abbrev pub both_step : P.Pattern-F (Pattern → Pattern) → P.Pattern-F Pattern → Pattern

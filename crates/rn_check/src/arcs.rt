@@ -12,8 +12,8 @@ use crate::pattern::{Pattern, copy};
 use crate::seeing::{fits, see};
 use crate::sight::{Here, Sight};
 use rn_inscript::{PExpr, PForm, PName};
-use rn_items::Boxed;
 use rn_model::ArcKind;
+use rn_shared::Shared;
 use rn_value::NoMemory;
 use std::alloc::Global;
 
@@ -21,11 +21,11 @@ use std::alloc::Global;
 fn asked(alloc: Global, kind: ArcKind, place: &Pattern) -> Result<Pattern, NoMemory>
     ensures { IfOk result (λ p. p ≡ asked_of kind place.now) }
 {
-    let pattern = copy(alloc, place)?;
+    let pattern = copy(place)?;
     match kind {
-        ArcKind::FlexInput => Ok(Pattern::List(Boxed::new(alloc, pattern)?)),
-        ArcKind::FlexOutput => Ok(Pattern::List(Boxed::new(alloc, pattern)?)),
-        ArcKind::Clear => Ok(Pattern::List(Boxed::new(alloc, pattern)?)),
+        ArcKind::FlexInput => Ok(Pattern::List(Shared::new(alloc, pattern)?)),
+        ArcKind::FlexOutput => Ok(Pattern::List(Shared::new(alloc, pattern)?)),
+        ArcKind::Clear => Ok(Pattern::List(Shared::new(alloc, pattern)?)),
         _ => Ok(pattern),
     }
 }

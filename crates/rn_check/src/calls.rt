@@ -83,7 +83,6 @@ fn is_no_net(pattern: Option<&Pattern>) -> bool
 
 /// Tells what is broken in a creation, where its net is declared or not.
 pub(crate) fn see_creation(
-    alloc: Global,
     var: &PName,
     net: &PName,
     declared: bool,
@@ -93,7 +92,7 @@ pub(crate) fn see_creation(
     ensures { OnOk result (first.new.fault ≡ first_from first.old.fault
         (creation_faults (where_of here.now) var.now net.now declared)) }
 {
-    see_variable(alloc, &var.text, var.spot, here, first)?;
+    see_variable(&var.text, var.spot, here, first)?;
     first.tell_if(
         is_no_net(here.vars.pattern(&var.text)),
         Rule::Creation,

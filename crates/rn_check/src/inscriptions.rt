@@ -200,7 +200,7 @@ pub(crate) fn see_inscription(
         PInscribed::New { var, net } => {
             let here = elsewhere(known, stand);
             let declared = known.nets.number(&net.text).is_some();
-            Ok(see_creation(alloc, var, net, declared, &here, first)?)
+            Ok(see_creation(var, net, declared, &here, first)?)
         }
         PInscribed::Downlink {
             target,

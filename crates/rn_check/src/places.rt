@@ -14,13 +14,39 @@ use crate::first::First;
 use crate::kinds::{fits, see_const, see_kind};
 use crate::located::{Located, tell_past};
 use crate::names::declare_all;
-use crate::pattern::{Pattern, pattern_of};
+use crate::pattern::{Pattern, once, pattern_of};
 use crate::table::Declared;
 use rn_items::Items;
 use rn_model::limits::{MOST_INITIAL, MOST_PLACES, MOST_VARS};
-use rn_net::{PConst, PPlace, PVar};
+use rn_net::{PConst, PKind, PPlace, PVar};
 use rn_value::NoMemory;
 use std::alloc::Global;
+
+/// The pattern of a kind, which is shared with the last of these patterns where it is the same.
+fn pattern_after(alloc: Global, before: &[Pattern], kind: &PKind) -> Result<Pattern, NoMemory>
+    ensures { IfOk result (λ p. p ≡ pattern_of kind.now) }
+{
+    let pattern = pattern_of(alloc, kind)?;
+    match before.last() {
+        Some(last) => Ok(once(pattern, last)?),
+        None => Ok(pattern),
+    }
+}
+
+/// Tells what is broken in the kind of a variable, and gives its pattern.
+fn see_var(
+    alloc: Global,
+    var: &PVar,
+    before: &[Pattern],
+    first: &mut First,
+) -> Result<Pattern, NoMemory>
+    ensures told { OnOk result (first.new.fault ≡ first_from first.old.fault
+        (kind_faults var.now.kind)) }
+    ensures pattern { IfOk result (λ p. p ≡ pattern_of var.now.kind) }
+{
+    see_kind(var.kind.get(), first);
+    pattern_after(alloc, before, var.kind.get())
+}
 
 /// The variables of a net by their names, with the patterns of their kinds. What is broken in their
 /// declarations is told.
@@ -39,8 +65,8 @@ pub(crate) fn declare_vars(
     let table = declare_all(alloc, vars, MOST_VARS, first)?;
     let mut patterns = Vec::with_capacity(alloc, vars.len())?;
     for var in vars {
-        see_kind(&var.kind, first);
-        patterns.push(pattern_of(alloc, &var.kind)?)?;
+        let pattern = see_var(alloc, var, patterns.as_slice(), first)?;
+        patterns.push(pattern)?;
     }
     Ok(Declared {
         table,

@@ -14,9 +14,10 @@ use crate::first::First;
 use crate::pattern::{Pattern, Patterns, both_of, copy, share};
 use crate::sight::{Here, Sight};
 use rn_inscript::{PExpr, PForm};
-use rn_items::{Boxed, Items};
+use rn_items::Items;
 use rn_model::limits::MOST_PARTS;
 use rn_notation::Spot;
+use rn_shared::Shared;
 use rn_value::{NoMemory, Str};
 use std::alloc::Global;
 
@@ -33,7 +34,6 @@ pub(crate) fn fits(sight: &Sight, asked: &Pattern, first: &mut First) -> bool
 
 /// Tells what is wrong with a variable, and gives its kind.
 pub(crate) fn see_variable(
-    alloc: Global,
     name: &Str,
     spot: Spot,
     here: &Here,
@@ -48,7 +48,7 @@ pub(crate) fn see_variable(
         None => true,
     };
     let pattern = match here.vars.pattern(name) {
-        Some(pattern) => Some(copy(alloc, pattern)?),
+        Some(pattern) => Some(copy(pattern)?),
         None => None,
     };
     let known = pattern.is_some();
@@ -89,7 +89,7 @@ fn as_list(alloc: Global, elements: Sight) -> Result<Sight, NoMemory>
     Ok(Sight {
         spot: elements.spot,
         whole: elements.whole,
-        pattern: Pattern::List(Boxed::new(alloc, elements.pattern)?),
+        pattern: Pattern::List(Shared::new(alloc, elements.pattern)?),
     })
 }
 
@@ -104,7 +104,7 @@ fn are_whole(sights: &[Sight]) -> bool
     true
 }
 
-fn patterns_seen(alloc: Global, sights: Vec<Sight>) -> Result<Patterns, NoMemory>
+fn patterns_seen(alloc: Global, sights: Vec<Sight>) -> Result<Shared<Patterns>, NoMemory>
     ensures { IfOk result (λ ps. ps ≡ map (λ s. s.pattern) sights.items) }
 {
     let mut patterns = Vec::new(alloc);
@@ -112,7 +112,7 @@ fn patterns_seen(alloc: Global, sights: Vec<Sight>) -> Result<Patterns, NoMemory
         let Sight { pattern, .. } = sight;
         patterns.push(pattern)?;
     }
-    Ok(Items::from_vec(patterns))
+    Ok(Shared::new(alloc, Items::from_vec(patterns))?)
 }
 
 /// The tuple of these parts, of which too many are told at the first that is.
@@ -152,7 +152,7 @@ pub(crate) fn see(
     match &expr.form {
         PForm::Int(_) => Ok(Sight::whole(spot, Pattern::Int)),
         PForm::Text(_) => Ok(Sight::whole(spot, Pattern::Text)),
-        PForm::Name(name) => Ok(see_variable(alloc, name, spot, here, first)?),
+        PForm::Name(name) => Ok(see_variable(name, spot, here, first)?),
         PForm::This => Ok(Sight::whole(spot, Pattern::Net)),
         PForm::Step => {
             first.tell_if(!here.step_may, Rule::Actions, spot);

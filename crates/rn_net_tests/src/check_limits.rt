@@ -111,3 +111,14 @@ fn initial_tuple(rt: HostRuntime) -> Result<(), Fail> {
     assert_eq!(&rt; found, None);
     Ok(())
 }
+
+// A copy of the kind for each place where the variable stands would take more memory than there is.
+#[test]
+fn one_kind_at_many_places(rt: HostRuntime) -> Result<(), Fail> {
+    let kind = series(rt.alloc(), "net main { var x: [int", ",int", 30_000, "]; ")?;
+    let before = format!(in rt.alloc(); "{kind}place p; trans t {{ in p: [")?;
+    let text = series(rt.alloc(), before.as_str(), "x,", 30_000, "x]; } }")?;
+    let found = told(rt.alloc(), text.as_str())?;
+    assert_eq!(&rt; found, Some(C9(at(1, 84))));
+    Ok(())
+}

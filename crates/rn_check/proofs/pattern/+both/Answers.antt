@@ -4,14 +4,13 @@ use Rattle.std.proofs.lemmas.Grind.{common_steps}
 use Rattle.rn_check.proofs.PatternLemmas.{all_both_more, all_both_past}
 use Rattle.rn_check.proofs.pattern.+both.Goals as goal
 
-pub all_both-loop-i-preserved : goal.all_both-loop-i-preserved
-all_both-loop-i-preserved t c =
-    let step = all_both_more c.args.parts.now c.args.others.now c.loop-i.patterns.items c.loop-i.i
-    c.index-parts-i.result c.index-others-i.result (omega arith) (omega arith)
-    c.index-parts-i.is c.index-others-i.is in
-    grind (arith, common_steps, step)
+pub tuple_both-loop-i-preserved : goal.tuple_both-loop-i-preserved
+tuple_both-loop-i-preserved t c =
+    let more = all_both_more c.args.parts.now c.args.others.now c.loop-i.patterns.items c.loop-i.i
+    c.index-parts-i.result (omega arith) c.index-parts-i.is in
+    grind (arith, common_steps, more)
 
-pub all_both-returns : goal.all_both-returns
-all_both-returns t c =
+pub tuple_both-returns : goal.tuple_both-returns
+tuple_both-returns t c =
     let past = all_both_past c.args.parts.now c.args.others.now c.loop-i.i (omega arith) in
     grind (arith, common_steps, past)

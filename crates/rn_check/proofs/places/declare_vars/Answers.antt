@@ -22,11 +22,11 @@ loop-var-preserved c =
     record {
       patterns =
           c.in_ok-push.ensures.items
-          ∙ ap (λ p. c.loop-var.patterns.items ++ p ∷ []) c.in_ok-pattern_of.ensures
+          ∙ ap (λ p. c.loop-var.patterns.items ++ p ∷ []) c.in_ok-pattern.ensures.pattern
           ∙ ap (λ ps. ps ++ pattern_of x.kind ∷ []) c.loop-var.invariant.patterns
           ∙ sym (map_more (λ (x : PVar). pattern_of x.kind) xs i x c.loop-var-test.true c.var-item.is);
       told =
-          c.see_kind.ensures
+          c.in_ok-pattern.ensures.told
           ∙ ap (λ k. first_from k (kind_faults x.kind)) c.loop-var.invariant.told
           ∙ told_more (λ (v : PVar). kind_faults v.kind) xs i x c.declare_all.new.first.fault c.loop-var-test.true c.var-item.is;
     }
