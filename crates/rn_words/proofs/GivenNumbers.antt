@@ -1,6 +1,5 @@
 -- Accepted words give numbers within their limits.
 use Rattle.std.proofs.Common.{◌≡◌, ◌≤◌, ℕ, List, Option, Some, None, unwrap_or, refl, subst, arith}
-use Rattle.rn_model.specs.declared.log.Options.{Options}
 use Rattle.rn_model.specs.Good.{IsInLimits}
 use Rattle.rn_model.specs.Limits.{most_workers, most_steps, greatest_depth, greatest_sweep}
 use Rattle.rn_words.specs.declared.table.Verb.{Verb}
@@ -10,9 +9,8 @@ use Rattle.rn_words.specs.declared.table.Setting.{Setting}
 use Rattle.rn_words.specs.declared.table.Setting.TheVariants.{Workers, Steps, Depth, Sweep}
 use Rattle.rn_words.specs.declared.chosen.Chosen.{Chosen}
 use Rattle.rn_words.specs.declared.command.Command.{Command}
-use Rattle.rn_words.specs.declared.command.Command.TheVariants as command
 use Rattle.rn_words.specs.Choices.{nothing, with_given, options_of, command_of}
-use Rattle.rn_words.specs.Commands.{GivesOptions, FollowsVerb, WordsOk}
+use Rattle.rn_words.specs.Commands.{GivesOptions, FollowsVerb}
 use Rattle.rn_words.specs.Laws.{AcceptedAreWithinLimits, IsWithinLimits}
 use Rattle.rn_words.specs.Table.{least, most, most_copies}
 use Rattle.rn_words.specs.Values.{value_within}
