@@ -1,0 +1,15 @@
+//! Tests of the search.
+#![tactic(auto)]
+
+#[cfg(test)]
+mod calls;
+#[cfg(test)]
+mod fired;
+#[cfg(test)]
+mod marked;
+#[cfg(test)]
+mod orders;
+#[cfg(test)]
+mod told;
+#[cfg(test)]
+mod worked;
