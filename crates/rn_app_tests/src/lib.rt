@@ -6,6 +6,8 @@ mod app;
 #[cfg(test)]
 mod app_faults;
 #[cfg(test)]
+mod app_records;
+#[cfg(test)]
 mod calling;
 #[cfg(test)]
 mod given;
