@@ -12,23 +12,6 @@ fn recorded(alloc: Global, text: &[u8], record: &[u8]) -> Result<Vec<u8>, NoMemo
     Ok(input)
 }
 
-// Whether a replay of a record of the first net gives a status and leaves these bytes.
-fn replays(
-    alloc: Global,
-    line: &str,
-    record: &[u8],
-    status: u8,
-    wanted: (&[u8], &[u8]),
-) -> Result<bool, NoMemory> {
-    let text = recorded(alloc, FIRES_ONCE, record)?;
-    let call = Call {
-        line,
-        text: text.as_slice(),
-        ..WHOLE
-    };
-    gives(alloc, &call, status, wanted.0, wanted.1)
-}
-
 #[test]
 fn records(rt: HostRuntime) -> Result<(), Fail> {
     let table: [(&str, &[u8], u8, &[u8], &[u8]); 10] = [
@@ -74,8 +57,14 @@ fn records(rt: HostRuntime) -> Result<(), Fail> {
         ),
     ];
     for (line, record, status, out, err) in table {
+        let text = recorded(rt.alloc(), FIRES_ONCE, record)?;
+        let call = Call {
+            line,
+            text: text.as_slice(),
+            ..WHOLE
+        };
         assert!(rt;
-            replays(rt.alloc(), line, record, status, (out, err))?,
+            gives(rt.alloc(), &call, status, out, err)?,
             "{line} {record:?}"
         );
     }
