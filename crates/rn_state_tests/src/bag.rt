@@ -119,25 +119,40 @@ fn look_up(alloc: Global, words: &str, word: &str) -> Result<(u64, usize), NoMem
     Ok((bag.count(&sought), bag.first_from(&sought)))
 }
 
-/// Looks through the bag of 1, 3, 3 and 5 by index.
-fn by_index(rt: &impl Abort, bag: &Bag) {
-    assert_eq!(rt; bag.len(), 4);
-    assert!(rt; !bag.is_empty());
-    for (index, next, token) in [
+/// Looks through a bag by index: the first index with another token, and the token.
+fn by_index(rt: &impl Abort, bag: &Bag, rows: &[(usize, usize, Option<i64>)]) {
+    for (index, next, token) in rows {
+        assert_eq!(rt; bag.next_other(*index), *next, "after {index}");
+        let found = match bag.get(*index) {
+            Some(Value::Int(number)) => Some(*number),
+            _ => None,
+        };
+        assert_eq!(rt; found, *token, "at {index}");
+    }
+}
+
+/// Looks through bags of none, one, equal and different tokens.
+fn indexed(rt: &impl Abort, alloc: Global) -> Result<(), NoMemory> {
+    by_index(rt, &filled(alloc, "")?, &[(0, 0, None), (7, 0, None)]);
+    by_index(rt, &filled(alloc, "3")?, &[(0, 1, Some(3)), (1, 1, None)]);
+    let equal = [(0, 3, Some(3)), (2, 3, Some(3)), (3, 3, None)];
+    by_index(rt, &filled(alloc, "3 3 3")?, &equal);
+    let several = [
         (0, 1, Some(1)),
         (1, 3, Some(3)),
         (2, 3, Some(3)),
         (3, 4, Some(5)),
         (4, 4, None),
         (9, 4, None),
-    ] {
-        assert_eq!(rt; bag.next_other(index), next, "after {index}");
-        let found = match bag.get(index) {
-            Some(Value::Int(number)) => Some(*number),
-            _ => None,
-        };
-        assert_eq!(rt; found, token, "at {index}");
-    }
+    ];
+    by_index(rt, &filled(alloc, "5 3 1 3")?, &several);
+    Ok(())
+}
+
+/// How many tokens a bag has, and whether it says that there is none.
+fn size(alloc: Global, words: &str) -> Result<(usize, bool), NoMemory> {
+    let bag = filled(alloc, words)?;
+    Ok((bag.len(), bag.is_empty()))
 }
 
 #[test]
@@ -151,14 +166,19 @@ fn looked_up(rt: HostRuntime) -> Result<(), Fail> {
         ("1 3 3 5", "3", 2, 1),
         ("1 3 3 5", "4", 0, 3),
         ("1 3 3 5", "5", 1, 3),
+        ("1 3 3 5", "1", 1, 0),
+        ("3 3 3", "3", 3, 0),
+        ("3 3 3", "4", 0, 3),
         ("1 [1] [1] {1}", "[1]", 2, 1),
     ];
     for (words, word, count, first) in rows {
         let seen = look_up(alloc, words, word)?;
         assert_eq!(rt; seen, (count, first), "{word} in {words}");
     }
-    assert!(rt; Bag::new(alloc).is_empty());
-    by_index(&rt, &filled(alloc, "1 3 3 5")?);
+    for (words, count) in [("", 0), ("3", 1), ("3 3 3", 3), ("5 3 1 3", 4)] {
+        assert_eq!(rt; size(alloc, words)?, (count, count == 0), "{words}");
+    }
+    indexed(&rt, alloc)?;
     Ok(())
 }
 
@@ -172,6 +192,9 @@ fn all_there(rt: HostRuntime) -> Result<(), Fail> {
     let rows = [
         ("", "", true),
         ("", "1", false),
+        ("3", "3", true),
+        ("3", "3 3", false),
+        ("3 3 3", "3 3", true),
         ("1 3 3", "", true),
         ("1 3 3", "1", true),
         ("1 3 3", "3 3", true),
@@ -209,6 +232,9 @@ fn by_first_part(rt: HostRuntime) -> Result<(), Fail> {
         ("[13] [24] [12] [12]", "2", "[24]", 3, 4),
         ("[13] [24] [12] [12]", "5", "", 4, 4),
         ("", "1", "", 0, 0),
+        ("[12]", "1", "[12]", 0, 1),
+        ("[12]", "2", "", 1, 1),
+        ("[12] [12]", "1", "[12] [12]", 0, 2),
         ("1 [] [1] [11] [2] {1}", "1", "[1] [11]", 2, 4),
         ("1 [] [3] {1}", "1", "", 2, 2),
     ];

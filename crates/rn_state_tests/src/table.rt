@@ -1,5 +1,6 @@
 //! Tables that change, are copied and lose instances.
-ghost use Rattle.std.specs.Prelude.{◌≡◌, [], ◌∷◌, IfOk};
+ghost use Rattle.std.specs.Prelude.{◌≡◌, ◌<◌, [], ◌∷◌, length, IsTrue, IfOk};
+ghost use Rattle.rn_model.specs.Systems.{net_at};
 ghost use Rattle.rn_value.specs.declared.value.Value.TheVariants as Value;
 
 use crate::build::{first_table, make, net, of_nets, one, place, transition};
@@ -131,6 +132,97 @@ fn exchange(
     let change = exchanging(alloc, inst, taken, put)?;
     table.apply(system, &change)?;
     Ok(true)
+}
+
+/// The change that clears these of the first place of an instance, and makes the instance `made`, of
+/// a net, with more at its first place.
+fn renewing(
+    alloc: Global,
+    inst: u32,
+    cleared: Vals,
+    net: u32,
+    made: u32,
+    put: Vals,
+) -> Result<Change, NoMemory>
+    ensures { IfOk result (λ change. change ≡ record {
+      taken = [];
+      cleared = record { inst = inst; place = 0; values = cleared } ∷ [];
+      made = net ∷ [];
+      put = record { inst = made; place = 0; values = put } ∷ [];
+    }) }
+{
+    Ok(Change {
+        taken: Items::new(alloc),
+        cleared: row(alloc, inst, cleared)?,
+        made: one(alloc, net)?,
+        put: row(alloc, made, put)?,
+    })
+}
+
+/// Whether a net is there and has a place.
+fn has_place(system: &System, net: u32) -> bool
+    ensures inside { IsTrue result → net < length system.now.nets }
+    ensures place { IsTrue result → 0 < length (net_at system.now net).places }
+{
+    match system.nets.get(net as usize) {
+        None => false,
+        Some(net) => net.places.len() > 0,
+    }
+}
+
+/// Clears the first place of an instance and makes an instance of a net, with more at its first
+/// place, where that may come.
+fn renew(
+    alloc: Global,
+    table: &mut Table,
+    system: &System,
+    inst: u32,
+    net: u32,
+    put: &[i64],
+) -> Result<bool, NoMemory> {
+    let put = ints(alloc, put)?;
+    let Some(bag) = table.bag(inst, 0) else {
+        return Ok(false);
+    };
+    let cleared = bag.sorted_list()?;
+    let next = table.next();
+    if !has_place(system, net) || next > 20000 {
+        return Ok(false);
+    }
+    let change = renewing(alloc, inst, cleared, net, next, put)?;
+    table.apply(system, &change)?;
+    Ok(true)
+}
+
+/// Clears a place, makes two instances, and clears a place of the first of these.
+fn renews(
+    rt: &impl Abort,
+    alloc: Global,
+    system: &System,
+    table: &mut Table,
+) -> Result<(), NoMemory> {
+    assert!(rt; renew(alloc, table, system, 1, 0, &[9, 8])?);
+    assert!(rt; holds(alloc, table, 1, &[])?);
+    assert!(rt; holds(alloc, table, 2, &[7, 8, 9])?);
+    assert!(rt; renew(alloc, table, system, 2, 1, &[])?);
+    assert!(rt; holds(alloc, table, 2, &[])?);
+    assert!(rt; holds(alloc, table, 3, &[1, 2, 2])?);
+    assert_eq!(rt; table.next(), 4);
+    assert_eq!(rt; table.first_starting(2), Some(3));
+    assert!(rt; !renew(alloc, table, system, 4, 0, &[])?);
+    Ok(())
+}
+
+#[test]
+fn places_are_cleared(rt: HostRuntime) -> Result<(), Fail> {
+    let alloc = rt.alloc();
+    let system = system(alloc)?;
+    let mut table = first_table(alloc, &system)?;
+    let seen = table.snapshot()?;
+    renews(&rt, alloc, &system, &mut table)?;
+    assert!(rt; holds(alloc, &seen, 1, &[1, 2, 2])?);
+    assert_eq!(rt; kept(&seen)?, 1);
+    Ok(())
 }
 
 /// Changes the second table of three that were the same.
