@@ -8,8 +8,7 @@ ghost use Rattle.rn_fire.specs.Outcomes.{IsOutcome};
 
 use rn_acts::{Acted, act, change_of, gives_too_many};
 use rn_items::NoMemory;
-use rn_model::{Binding, FaultKind, System};
-use rn_record::named;
+use rn_model::{Binding, FaultKind, System, named};
 use rn_table::Change;
 use rn_value::Vals;
 use std::alloc::Global;

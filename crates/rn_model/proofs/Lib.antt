@@ -4,6 +4,7 @@ pub mod AskedValues
 pub mod BindingOrder
 pub mod ConditionsByComparisons
 pub mod CountsAfterFiring
+pub mod CreationKeys
 pub mod DeadInstances
 pub mod DefinedConditions
 pub mod DerivationLemmas
@@ -32,6 +33,7 @@ pub mod NextNumber
 pub mod NodesByPath
 pub mod NonePasses
 pub mod NumberedDemands
+pub mod NumberedInstances
 pub mod NumbersOfRuns
 pub mod OneLivePart
 pub mod OperandKinds

@@ -23,6 +23,8 @@ pub mod MarkingCodes
 pub mod MarkingLaws
 pub mod Markings
 pub mod Names
+pub mod NodeText
+pub mod Numbers
 pub mod Order
 pub mod OrderLaws
 pub mod RoundLaws

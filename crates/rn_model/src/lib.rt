@@ -10,6 +10,8 @@ mod laws;
 pub mod limits;
 mod live_laws;
 mod log;
+mod node_text;
+mod numbers;
 mod ordering;
 mod round_laws;
 mod sharing;
@@ -33,6 +35,8 @@ pub use laws::{
 };
 pub use live_laws::{live_part_is_unique, places_fit_by_arcs};
 pub use log::{Entries, Entry, FaultKind, MarkLine, MarkLines, Options, Reason, Told};
+pub use node_text::{write_instance, write_nodes};
+pub use numbers::named;
 pub use ordering::{binding_order_is_total, compare_bindings, same_binding};
 pub use round_laws::{forced_terms_are_own, items_come_in, more_items_force_more};
 pub use system::{

@@ -3,9 +3,10 @@ ghost use Rattle.std.specs.Prelude.{◌≡◌, ◌++◌, map, OnOk};
 ghost use Rattle.rn_print.specs.Pieces.{separated};
 ghost use Rattle.rn_print.specs.Constants.{constant_text};
 
-use crate::pieces::{put, put_int, put_quoted};
+use crate::pieces::{put, put_quoted};
 use rn_items::NoMemory;
 use rn_net::{PConst, PConstForm};
+use rn_value::write_int;
 use std::alloc::Global;
 
 #[cycle(constant)]
@@ -17,7 +18,7 @@ pub(crate) fn put_constant(
     ensures { OnOk result (out.new.items ≡ out.old.items ++ constant_text constant.now) }
 {
     match &constant.form {
-        PConstForm::Int(n) => put_int(alloc, *n, out),
+        PConstForm::Int(n) => write_int(alloc, *n, out),
         PConstForm::Text(text) => put_quoted(text, out),
         PConstForm::Tuple(items) => {
             put(b"[", out)?;

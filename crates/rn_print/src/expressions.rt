@@ -3,10 +3,11 @@ ghost use Rattle.std.specs.Prelude.{◌≡◌, ◌≤◌, ◌++◌, suc, OnOk};
 ghost use Rattle.rn_print.specs.Expressions.{operand_text, expr_text, exprs_text};
 ghost use Rattle.rn_print.specs.Expressions.{operator, strength};
 
-use crate::pieces::{put, put_int, put_quoted, put_text};
+use crate::pieces::{put, put_quoted, put_text};
 use rn_inscript::{PExpr, PForm};
 use rn_items::NoMemory;
 use rn_model::OpKind;
+use rn_value::write_int;
 use std::alloc::Global;
 
 // How tightly unary `-` binds: more than every operator.
@@ -47,7 +48,7 @@ fn put_operand(alloc: Global, expr: &PExpr, least: u8, out: &mut Vec<u8>) -> Res
     ensures { OnOk result (out.new.items ≡ out.old.items ++ operand_text expr.now least) }
 {
     match &expr.form {
-        PForm::Int(n) => put_int(alloc, *n, out),
+        PForm::Int(n) => write_int(alloc, *n, out),
         PForm::Text(text) => put_quoted(text, out),
         PForm::Name(name) => put_text(name, out),
         PForm::This => put(b"this", out),

@@ -1,8 +1,8 @@
-//! What canonical texts are put together from: bytes, numbers and texts in quotes.
+//! What canonical texts are put together from: bytes and texts in quotes.
 //!
 //! Each function appends its text, or a part of it where memory runs out.
 ghost use Rattle.std.specs.Prelude.{◌≡◌, ◌++◌, OnOk};
-ghost use Rattle.rn_value.specs.Text.{whole_number, escaped, quoted};
+ghost use Rattle.rn_value.specs.Text.{escaped, quoted};
 
 use rn_items::NoMemory;
 use rn_value::Str;
@@ -19,14 +19,6 @@ pub(crate) fn put_text(text: &Str, out: &mut Vec<u8>) -> Result<(), NoMemory>
     ensures { OnOk result (out.new.items ≡ out.old.items ++ text.now) }
 {
     put(text.as_str().as_bytes(), out)
-}
-
-pub(crate) fn put_int(alloc: Global, n: i64, out: &mut Vec<u8>) -> Result<(), NoMemory>
-    ensures { OnOk result (out.new.items ≡ out.old.items ++ whole_number n) }
-{
-    let text = n.to_string(alloc)?;
-    out.extend_from_slice(text.as_bytes())?;
-    Ok(())
 }
 
 pub(crate) fn put_quoted(text: &Str, out: &mut Vec<u8>) -> Result<(), NoMemory>

@@ -1,4 +1,2 @@
-pub mod CreationKeys
 pub mod EndedRuns
 pub mod NamesInOrder
-pub mod NumberedInstances

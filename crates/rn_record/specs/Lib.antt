@@ -1,4 +1,2 @@
-pub mod NodeText
-pub mod Numbers
 pub mod RecordText
 pub mod Writable

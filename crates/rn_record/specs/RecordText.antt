@@ -22,7 +22,7 @@ use Rattle.rn_model.specs.declared.log.MarkLine.{MarkLine}
 use Rattle.rn_model.specs.declared.log.Told.{Told}
 use Rattle.rn_model.specs.Systems.{net_at, transition_of}
 use Rattle.rn_model.specs.Firing.{named}
-use Rattle.rn_record.specs.NodeText.{instance_text, node_lines}
+use Rattle.rn_model.specs.NodeText.{instance_text, node_lines}
 
 -- the names of the nets of the instances that a node makes
 abbrev pub names_by : System → Node → List (List ℕ)

@@ -9,7 +9,7 @@ use Rattle.rn_model.specs.declared.log.Entry.{Entry}
 use Rattle.rn_model.specs.declared.log.Entry.TheVariants.{Fire, End}
 use Rattle.rn_model.specs.declared.log.Told.{Told}
 use Rattle.rn_model.specs.Firing.{creations_of}
-use Rattle.rn_record.specs.NodeText.{IsWritable}
+use Rattle.rn_model.specs.NodeText.{IsWritable}
 use Rattle.rn_record.specs.RecordText.{names_after, numbered_nodes, names_past, names_at_end}
 use Rattle.rn_record.specs.RecordText.{first_names}
 

@@ -7,10 +7,8 @@ ghost use Rattle.rn_record.specs.RecordText.{names_past, names_at_end};
 ghost use Rattle.rn_record.specs.Writable.{HasLines, HasEnd, HasEntry, HaveEntries};
 
 use crate::naming::{copy_names, push_made};
-use crate::node_text::{put_numeral, write_nodes};
-use crate::numbers::named;
-use rn_model::{Binding, Entry, FaultKind, Reason, System};
-use rn_value::{Names, NoMemory, Value, write_value};
+use rn_model::{Binding, Entry, FaultKind, Reason, System, named, write_nodes};
+use rn_value::{Names, NoMemory, Value, write_numeral, write_value};
 use std::alloc::Global;
 
 /// The lines of a binding's nodes. The instances that it makes get their names.
@@ -58,9 +56,9 @@ fn firing_lead(alloc: Global, step: u64, worker: u32) -> Result<Vec<u8>, NoMemor
     ensures { IfOk result (λ lead. lead.items ≡ firing_lead step worker) }
 {
     let mut lead = Vec::new(alloc);
-    put_numeral(alloc, step, &mut lead)?;
+    write_numeral(alloc, step, &mut lead)?;
     lead.extend_from_slice(b" w")?;
-    put_numeral(alloc, worker as u64, &mut lead)?;
+    write_numeral(alloc, worker as u64, &mut lead)?;
     lead.extend_from_slice(b" ")?;
     Ok(lead)
 }

@@ -5,11 +5,7 @@ mod entries;
 mod first;
 mod marks;
 mod naming;
-mod node_text;
-mod numbers;
 mod record;
 
 pub use first::write_first;
-pub use node_text::write_nodes;
-pub use numbers::named;
 pub use record::write_told;

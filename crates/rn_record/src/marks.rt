@@ -4,8 +4,7 @@ ghost use Rattle.rn_value.specs.Names.{AreNamed};
 ghost use Rattle.rn_model.specs.Systems.{net_at};
 ghost use Rattle.rn_record.specs.RecordText.{place_name, place_text, token_text, mark_text};
 
-use crate::node_text::{put_net_name, put_numeral};
-use rn_model::{MarkLine, System};
+use rn_model::{MarkLine, System, write_instance};
 use rn_value::{Names, NoMemory, Value, write_value};
 use std::alloc::Global;
 
@@ -46,10 +45,8 @@ fn put_place(
 ) -> Result<(), NoMemory>
     ensures { OnOk result (out.new.items ≡ out.old.items ++ place_text system.now line.now) }
 {
-    put_net_name(system, line.net, out)?;
-    out.extend_from_slice(b"[")?;
-    put_numeral(alloc, line.inst as u64, out)?;
-    out.extend_from_slice(b"].")?;
+    write_instance(alloc, system, line.net, line.inst, out)?;
+    out.extend_from_slice(b".")?;
     put_place_name(system, line, out)
 }
 

@@ -9,7 +9,7 @@ use Rattle.rn_value.specs.declared.value.Value.TheVariants as Value
 use Rattle.rn_model.specs.Firing.{renamed_step, renamed_value}
 use Rattle.rn_model.proofs.NamingRules.{renamed_value-Int, renamed_value-Inst}
 use Rattle.rn_model.proofs.PassingInstances.{only, only_step}
-use Rattle.rn_record.proofs.NumberedInstances.{renamed-List, renamed-Text, renamed-Tuple}
+use Rattle.rn_model.proofs.NumberedInstances.{renamed-List, renamed-Text, renamed-Tuple}
 
 -- Where each instance that passes returns, so does a value in which all pass.
 module _ (test : InstRef → Bool) (f g : InstRef → InstRef) (back : (i : InstRef) → test i ≡ true → g (f i) ≡ i) where

@@ -14,7 +14,7 @@ use Rattle.rn_lines.specs.NodeText.{NodeSaid, IsNode}
 use Rattle.rn_lookup.specs.declared.refusal.Refusal.{Refusal}
 use Rattle.rn_lookup.specs.Faults.{node_fault}
 use Rattle.rn_lookup.specs.Found.{node_is_called}
-use Rattle.rn_record.specs.NodeText.{node_text, node_line, node_lines}
+use Rattle.rn_model.specs.NodeText.{node_text, node_line, node_lines}
 use Rattle.rn_record.specs.RecordText.{names_by, names_after, binding_text, firing_lead}
 use Rattle.rn_told.specs.Bindings.{makers_of, told_node, told_binding}
 use Rattle.rn_told.specs.Called.{nets_by, nets_made}

@@ -27,12 +27,12 @@ use Rattle.rn_lookup.specs.declared.refusal.Refusal.TheVariants.{Form, Name}
 use Rattle.rn_lookup.specs.Faults.{is_there, has_names, given_fault, node_fault}
 use Rattle.rn_lookup.specs.Found.{number_from, net_said, transition_said, vars_due, values_fit, variables_fit}
 use Rattle.rn_lookup.specs.Found.{names_net, is_var, is_called, are_called, node_is_called}
-use Rattle.rn_record.specs.NodeText.{instance_text, var_name, all_given_text, node_text}
+use Rattle.rn_model.specs.NodeText.{instance_text, var_name, all_given_text, node_text}
 use Rattle.rn_value.specs.declared.value.Value.TheVariants as Value
 use Rattle.rn_lines.specs.ValueText.{IsRow, IsTail}
 use Rattle.rn_model.specs.Firing.{renamed_value}
 use Rattle.rn_model.proofs.NamingRules.{renamed_value-Int, renamed_value-Inst}
-use Rattle.rn_record.proofs.NumberedInstances.{renamed-Text, renamed-Tuple, renamed-List}
+use Rattle.rn_model.proofs.NumberedInstances.{renamed-Text, renamed-Tuple, renamed-List}
 use Rattle.rn_told.specs.Nodes.{Placed, placed_at}
 
 -- the names of the nets of instances

@@ -39,7 +39,7 @@ use Rattle.rn_lookup.specs.declared.refusal.Refusal.{Refusal}
 use Rattle.rn_lookup.specs.declared.refusal.Refusal.TheVariants.{Form, Name, Step}
 use Rattle.rn_lookup.specs.Faults.{has_place, mark_fault, tokens_fault}
 use Rattle.rn_lookup.specs.Found.{number_from, net_named, names_net, name_nets, net_said, place_said, place_named, is_called, are_called, tokens_are_called, node_is_called}
-use Rattle.rn_record.specs.NodeText.{instance_text}
+use Rattle.rn_model.specs.NodeText.{instance_text}
 use Rattle.rn_record.specs.RecordText.{binding_text, end_text, entry_text, entries_text, fault_line, firing_lead, first_names, mark_text, names_after, names_at_end, names_past, place_name, printed_line, token_text}
 use Rattle.rn_told.specs.Bindings.{told_binding}
 use Rattle.rn_told.specs.Called.{BadAt, count_of_called, nodes_fault, stop_fault}

@@ -17,7 +17,7 @@ use Rattle.rn_lines.specs.LineText.{IsLine, LineSaid}
 use Rattle.rn_lines.specs.NodeText.{IsNode, NodeSaid}
 use Rattle.rn_lookup.specs.Faults.{node_fault}
 use Rattle.rn_lookup.specs.Found.{node_is_called}
-use Rattle.rn_record.specs.NodeText.{node_line, node_lines, node_text}
+use Rattle.rn_model.specs.NodeText.{node_line, node_lines, node_text}
 use Rattle.rn_record.specs.RecordText.{firing_lead, names_by}
 use Rattle.rn_told.specs.Bindings.{makers_by, makers_of}
 use Rattle.rn_told.specs.Called.{nets_made}

@@ -29,7 +29,7 @@ use Rattle.rn_lines.specs.LineText.{LineSaid}
 use Rattle.rn_lines.specs.NodeText.{Given, NodeSaid}
 use Rattle.rn_lines.specs.ValueText.{most_brackets}
 use Rattle.rn_lookup.specs.Found.{net_of_made, node_is_called}
-use Rattle.rn_record.specs.NodeText.{IsWritable, node_lines}
+use Rattle.rn_model.specs.NodeText.{IsWritable, node_lines}
 use Rattle.rn_record.specs.RecordText.{binding_text, names_after, numbered_nodes}
 use Rattle.rn_record.specs.Writable.{HasLines}
 use Rattle.rn_told.specs.Bindings.{makers_of, told_binding, told_node, unnumbered}

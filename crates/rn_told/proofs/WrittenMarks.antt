@@ -26,7 +26,7 @@ use Rattle.rn_lookup.specs.declared.refusal.Refusal.{Refusal}
 use Rattle.rn_lookup.specs.declared.refusal.Refusal.TheVariants.{Form, Name}
 use Rattle.rn_lookup.specs.Faults.{has_place, mark_fault, tokens_fault}
 use Rattle.rn_lookup.specs.Found.{are_called, is_called, name_nets, names_net, net_of_made, net_said, place_named, place_said, tokens_are_called}
-use Rattle.rn_record.specs.NodeText.{instance_text}
+use Rattle.rn_model.specs.NodeText.{instance_text}
 use Rattle.rn_record.specs.RecordText.{mark_text, place_name, token_text}
 use Rattle.rn_told.specs.Lines.{lines_in}
 use Rattle.rn_told.specs.Marks.{Marked, fault_of_mark, mark_then, marks_from, told_mark}

@@ -33,7 +33,7 @@ use Rattle.rn_lines.specs.ValueText.{Said}
 use Rattle.rn_lookup.specs.declared.refusal.Refusal.TheVariants.{Form, Name}
 use Rattle.rn_lookup.specs.Faults.{given_fault, has_names, is_there, node_fault}
 use Rattle.rn_lookup.specs.Found.{are_called, fits_var, is_called, is_var, name_nets, names_net, net_named, net_of_made, net_said, node_is_called, transition_named, transition_said, values_fit, variables_fit, vars_due}
-use Rattle.rn_record.specs.NodeText.{IsWritable, all_given_text, instance_text, node_text, var_name}
+use Rattle.rn_model.specs.NodeText.{IsWritable, all_given_text, instance_text, node_text, var_name}
 use Rattle.rn_told.specs.Nodes.{Placed, placed_at}
 use Rattle.rn_told.specs.Readable.{IsReadable}
 use Rattle.rn_told.proofs.SpelledNodes.{names_for}

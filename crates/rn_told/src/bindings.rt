@@ -30,7 +30,7 @@ fn unnumbered(
 }
 
 #[cycle(telling)]
-#[tactic(auto, using(rn_record::proofs::NumberedInstances::renaming_rules))]
+#[tactic(auto, using(rn_model::proofs::NumberedInstances::renaming_rules))]
 fn told_value(
     alloc: Global,
     value: &Value,

@@ -40,7 +40,7 @@ use Rattle.rn_model.proofs.MarkingsOfRuns.{found_is_there}
 use Rattle.rn_model.proofs.NodesByPath.{node_at-path}
 use Rattle.rn_model.proofs.PassingInstances.{names_passing, only, only_step}
 use Rattle.rn_model.proofs.PutValues.{renamed_passes}
-use Rattle.rn_record.specs.NodeText.{IsWritable}
+use Rattle.rn_model.specs.NodeText.{IsWritable}
 
 -- Whether all instances of a value are within, by the test of each.
 module _ (last : ℕ) where

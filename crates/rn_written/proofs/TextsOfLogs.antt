@@ -22,7 +22,7 @@ use Rattle.rn_model.proofs.CountsAfterFiring.{next_after_firing}
 use Rattle.rn_model.proofs.InitialTokens.{initial_tokens_are_sound}
 use Rattle.rn_model.proofs.MarkingsOfRuns.{firings_keep_markings, initial_is_marking}
 use Rattle.rn_model.proofs.SoundAfter.{firings_keep_tokens_sound, firings_report_what_is_there}
-use Rattle.rn_record.specs.NodeText.{IsWritable}
+use Rattle.rn_model.specs.NodeText.{IsWritable}
 use Rattle.rn_record.specs.RecordText.{first_names, names_after, names_at_end, names_by}
 use Rattle.rn_record.specs.Writable.{HasLines, HaveEntries}
 use Rattle.rn_written.specs.Laws.{EnabledHaveLines, LogsHaveText}

@@ -1,18 +1,18 @@
 -- Instances are numbered by the keys of creations as by the creations.
-use Rattle.std.proofs.Common.{◌≡◌, ℕ, suc, List, [], ◌∷◌, length, map, refl, ap, ◌∙◌, ◌+◌}
+use Rattle.std.proofs.Common.{◌≡◌, ℕ, List, [], ◌∷◌, length, map, refl, ap, ◌∙◌, ◌+◌}
 use Rattle.std.specs.Prelude.{Bool, not, Some, None, cond, nat_lt}
 use Rattle.std.specs.List.{position_or_len}
 use Rattle.std.specs.Option.{option_map_or}
 use Rattle.std.proofs.lemmas.List.{length-map}
 use Rattle.rn_value.specs.declared.value.InstRef.{InstRef}
 use Rattle.rn_value.specs.declared.value.InstRef.TheVariants.{Old, New}
-use Rattle.rn_value.specs.declared.value.Value.{Value, out-Value, map-Value, fold_out-Value}
+use Rattle.rn_value.specs.declared.value.Value.{Value, fold_out-Value}
 use Rattle.rn_value.specs.declared.value.Value.TheVariants as Value
 use Rattle.rn_model.specs.declared.binding.Binding.{Binding}
 use Rattle.rn_model.specs.declared.system.System.{System}
-use Rattle.rn_record.specs.declared.numbers.MadeBy.{MadeBy}
+use Rattle.rn_model.specs.declared.numbers.MadeBy.{MadeBy}
 use Rattle.rn_model.specs.Firing.{Made, creations_of, numbered_inst, renamed_value, renamed_step, renamed_node, named}
-use Rattle.rn_record.specs.Numbers.{key_of, makes, numbered_by}
+use Rattle.rn_model.specs.Numbers.{key_of, makes, numbered_by}
 use Rattle.rn_model.proofs.NamingRules.{renamed_value-Int, renamed_value-Inst, renamed_value-Tuple, renamed_value-List}
 
 -- the parts of a value, each renamed

@@ -1,13 +1,14 @@
 //! The lines of the nodes of a binding.
 ghost use Rattle.std.specs.Prelude.{◌≡◌, ◌++◌, length, All, OnOk, OnErr, flat_map};
 ghost use Rattle.rn_value.specs.Names.{AreNamed};
-ghost use Rattle.rn_value.specs.Text.{numeral};
+ghost use Rattle.rn_value.specs.declared.value.InstRef.TheVariants.{Old};
 ghost use Rattle.rn_model.specs.Systems.{net_at, transition_of};
-ghost use Rattle.rn_record.specs.NodeText.{number_text, var_name, given_text, all_given_text};
-ghost use Rattle.rn_record.specs.NodeText.{node_text, node_line, node_lines, IsWritable};
+ghost use Rattle.rn_model.specs.NodeText.{instance_text, number_text, var_name};
+ghost use Rattle.rn_model.specs.NodeText.{given_text, all_given_text, node_text, node_line, node_lines, IsWritable};
 
-use rn_model::{Binding, Net, Node, System};
-use rn_value::{InstRef, Names, NoMemory, Value, write_value};
+use crate::binding::{Binding, Node};
+use crate::system::{Net, System};
+use rn_value::{InstRef, Names, NoMemory, Value, write_numeral, write_value};
 use std::alloc::Global;
 
 /// Appends a line for each node of a binding, as `main[1].t x=5 w=worker[2]`.
@@ -36,6 +37,24 @@ pub fn write_nodes(
         lead,
         &mut text,
     )?;
+    out.extend_from_slice(text.as_slice())?;
+    Ok(())
+}
+
+/// Appends an instance that exists, by the name of its net and its number, as `main[1]`.
+pub fn write_instance(
+    alloc: Global,
+    system: &System,
+    net: u32,
+    number: u32,
+    out: &mut Vec<u8>,
+) -> Result<(), NoMemory>
+    ensures ok { OnOk result (out.new.items
+        ≡ out.old.items ++ instance_text (net_at system.now net).name (Old number)) }
+    ensures err { OnErr result (out.new.items ≡ out.old.items) }
+{
+    let mut text = Vec::new(alloc);
+    put_instance(alloc, system, net, &InstRef::Old(number), &mut text)?;
     out.extend_from_slice(text.as_slice())?;
     Ok(())
 }
@@ -111,16 +130,30 @@ fn put_node(
     requires { IsWritable system.now names.now node.now }
     ensures { OnOk result (out.new.items ≡ out.old.items ++ node_text system.now names.now node.now) }
 {
-    put_net_name(system, node.net, out)?;
-    out.extend_from_slice(b"[")?;
-    put_number(alloc, &node.inst, out)?;
-    out.extend_from_slice(b"].")?;
+    put_instance(alloc, system, node.net, &node.inst, out)?;
+    out.extend_from_slice(b".")?;
     put_transition_name(system, node, out)?;
     put_values(alloc, system, node, names, out)
 }
 
-/// Appends the name of a net.
-pub(crate) fn put_net_name(system: &System, net: u32, out: &mut Vec<u8>) -> Result<(), NoMemory>
+fn put_instance(
+    alloc: Global,
+    system: &System,
+    net: u32,
+    inst: &InstRef,
+    out: &mut Vec<u8>,
+) -> Result<(), NoMemory>
+    ensures { OnOk result (out.new.items
+        ≡ out.old.items ++ instance_text (net_at system.now net).name inst.now) }
+{
+    put_net_name(system, net, out)?;
+    out.extend_from_slice(b"[")?;
+    put_number(alloc, inst, out)?;
+    out.extend_from_slice(b"]")?;
+    Ok(())
+}
+
+fn put_net_name(system: &System, net: u32, out: &mut Vec<u8>) -> Result<(), NoMemory>
     ensures { OnOk result (out.new.items ≡ out.old.items ++ (net_at system.now net).name) }
 {
     if let Some(net) = system.nets.get(net as usize) {
@@ -133,18 +166,9 @@ fn put_number(alloc: Global, inst: &InstRef, out: &mut Vec<u8>) -> Result<(), No
     ensures { OnOk result (out.new.items ≡ out.old.items ++ number_text inst.now) }
 {
     match inst {
-        InstRef::Old(number) => put_numeral(alloc, *number as u64, out),
+        InstRef::Old(number) => write_numeral(alloc, *number as u64, out),
         InstRef::New(_, _) => Ok(()),
     }
-}
-
-/// Appends the digits of a number.
-pub(crate) fn put_numeral(alloc: Global, n: u64, out: &mut Vec<u8>) -> Result<(), NoMemory>
-    ensures { OnOk result (out.new.items ≡ out.old.items ++ numeral n) }
-{
-    let text = n.to_string(alloc)?;
-    out.extend_from_slice(text.as_bytes())?;
-    Ok(())
 }
 
 fn put_transition_name(system: &System, node: &Node, out: &mut Vec<u8>) -> Result<(), NoMemory>

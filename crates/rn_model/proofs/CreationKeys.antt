@@ -1,9 +1,9 @@
 -- The keys of a node's creations, one after another.
-use Rattle.std.proofs.Common.{◌≡◌, ◌<◌, ◌+◌, ℕ, suc, List, [], ◌∷◌, ◌++◌, length, map, drop, sym, ap, ◌∙◌, append_assoc, add-one, drop-cons}
+use Rattle.std.proofs.Common.{◌≡◌, ◌<◌, ◌+◌, ℕ, List, [], ◌∷◌, ◌++◌, length, map, drop, sym, ap, ◌∙◌, append_assoc, add-one, drop-cons}
 use Rattle.std.specs.List.{enumerate_from}
-use Rattle.rn_record.specs.declared.numbers.MadeBy.{MadeBy}
+use Rattle.rn_model.specs.declared.numbers.MadeBy.{MadeBy}
 use Rattle.rn_model.specs.declared.system.Creation.{Creation}
-use Rattle.rn_record.specs.Numbers.{key_of}
+use Rattle.rn_model.specs.Numbers.{key_of}
 
 -- the keys of creations, the first with this index
 abbrev keys : List ℕ → ℕ → List Creation → List MadeBy

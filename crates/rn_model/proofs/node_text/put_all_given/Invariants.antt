@@ -1,6 +1,6 @@
 use Rattle.std.proofs.Common.{◌≡◌, ◌++◌, drop}
-use Rattle.rn_record.specs.NodeText.{all_given_text}
-use Rattle.rn_record.proofs.node_text.put_all_given.Given as goal
+use Rattle.rn_model.specs.NodeText.{all_given_text}
+use Rattle.rn_model.proofs.node_text.put_all_given.Given as goal
 
 -- what is written so far and the values to come are all
 abbrev pub invariant-loop-i : goal.invariant-loop-i

@@ -1,7 +1,7 @@
 use Rattle.std.proofs.Common.{◌≡◌, ℕ, List, [], ◌∷◌, ◌++◌, ap, ◌∙◌}
-use Rattle.rn_record.specs.declared.numbers.MadeBy.{MadeBy}
-use Rattle.rn_record.proofs.CreationKeys.{next_key}
-use Rattle.rn_record.proofs.numbers.put_made.Goals as goal
+use Rattle.rn_model.specs.declared.numbers.MadeBy.{MadeBy}
+use Rattle.rn_model.proofs.CreationKeys.{next_key}
+use Rattle.rn_model.proofs.numbers.put_made.Goals as goal
 
 pub loop-index-preserved : goal.loop-index-preserved
 loop-index-preserved c =

@@ -1,7 +1,7 @@
 use Rattle.std.proofs.Common.{◌≡◌, ◌++◌, drop, map}
 use Rattle.std.specs.List.{enumerate_from}
-use Rattle.rn_record.specs.Numbers.{key_of}
-use Rattle.rn_record.proofs.numbers.put_made.Given as goal
+use Rattle.rn_model.specs.Numbers.{key_of}
+use Rattle.rn_model.proofs.numbers.put_made.Given as goal
 
 -- the creations so far and those to come are all
 abbrev pub invariant-loop-index : goal.invariant-loop-index

@@ -4,7 +4,7 @@ use Rattle.std.specs.Option.{option_map_or}
 use Rattle.std.specs.Cmp.Lexicographic.{pointwise}
 use Rattle.rn_value.specs.declared.value.InstRef.{InstRef}
 use Rattle.rn_value.specs.declared.value.InstRef.TheVariants.{Old, New}
-use Rattle.rn_record.specs.declared.numbers.MadeBy.{MadeBy}
+use Rattle.rn_model.specs.declared.numbers.MadeBy.{MadeBy}
 use Rattle.rn_model.specs.Firing.{Made}
 
 -- what a creation is looked up by

@@ -2,9 +2,9 @@ use Rattle.std.proofs.Common.{◌≡◌, map, ap, ◌∙◌}
 use Rattle.std.specs.Prelude.{flat_map}
 use Rattle.std.proofs.lemmas.Result.{IfOk-weaker}
 use Rattle.rn_model.specs.Firing.{made_by, named, renamed_node}
-use Rattle.rn_record.specs.Numbers.{key_of, numbered_by}
-use Rattle.rn_record.proofs.NumberedInstances.{named_by_keys}
-use Rattle.rn_record.proofs.numbers.named.Goals as goal
+use Rattle.rn_model.specs.Numbers.{key_of, numbered_by}
+use Rattle.rn_model.proofs.NumberedInstances.{named_by_keys}
+use Rattle.rn_model.proofs.numbers.named.Goals as goal
 
 pub returns : goal.returns
 returns c =

@@ -3,10 +3,11 @@ ghost use Rattle.std.specs.Prelude.{◌≡◌, ◌+◌, ◌^◌, ◌≤◌, ◌+
 ghost use Rattle.std.specs.List.{enumerate_from, position_or_len};
 ghost use Rattle.rn_model.specs.Firing.{made_by, creations_of, named};
 ghost use Rattle.rn_model.specs.Firing.{renamed_value, renamed_node};
-ghost use Rattle.rn_record.specs.Numbers.{key_of, makes, numbered_by};
+ghost use Rattle.rn_model.specs.Numbers.{key_of, makes, numbered_by};
 
+use crate::binding::{Binding, Node};
+use crate::system::{Creation, System};
 use rn_items::Items;
-use rn_model::{Binding, Creation, Node, System};
 use rn_value::{InstRef, NoMemory, Path, Vals, Value, copy_inst, copy_text};
 use std::alloc::Global;
 
