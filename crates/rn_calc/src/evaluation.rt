@@ -161,7 +161,7 @@ fn evaluate_all<V: Values>(
     requires step { IfSome (V.env values.now).step (λ n. n ≤ greatest_step) }
     ensures { IfOk result (λ found. found ≡ worths (map worth exprs.now) (V.env values.now)) }
 {
-    let mut found = Vec::new(alloc);
+    let mut found = Vec::with_capacity(alloc, exprs.len())?;
     for expr in exprs {
         match evaluate(alloc, expr, values)? {
             Some(value) => found.push(value)?,

@@ -8,4 +8,4 @@ mod naming;
 mod record;
 
 pub use first::write_first;
-pub use record::write_told;
+pub use record::{write_run, write_told};

@@ -6,7 +6,7 @@ ghost use Rattle.rn_record.specs.Writable.{HasText};
 use crate::entries::put_entries;
 use crate::marks::put_marks;
 use crate::naming::first_names;
-use rn_model::{System, Told};
+use rn_model::{Entry, MarkLine, System, Told};
 use rn_value::NoMemory;
 use std::alloc::Global;
 
@@ -25,15 +25,28 @@ pub fn write_told(alloc: Global, system: &System, told: &Told) -> Result<Vec<u8>
     requires { HasText system.now told.now }
     ensures { IfOk result (λ text. text.items ≡ record_text system.now told.now) }
 {
-    let mut names = first_names(alloc)?;
-    let mut text = Vec::new(alloc);
-    put_entries(
+    write_run(
         alloc,
         system,
         told.entries.as_slice(),
-        &mut names,
-        &mut text,
-    )?;
-    put_marks(alloc, system, told.marks.as_slice(), &names, &mut text)?;
+        told.marks.as_slice(),
+    )
+}
+
+/// The text of the run of these entries and marks, as `write_told` gives it.
+pub fn write_run(
+    alloc: Global,
+    system: &System,
+    entries: &[Entry],
+    marks: &[MarkLine],
+) -> Result<Vec<u8>, NoMemory>
+    requires { HasText system.now (record { entries = entries.now; marks = marks.now }) }
+    ensures { IfOk result (λ text.
+        text.items ≡ record_text system.now (record { entries = entries.now; marks = marks.now })) }
+{
+    let mut names = first_names(alloc)?;
+    let mut text = Vec::new(alloc);
+    put_entries(alloc, system, entries, &mut names, &mut text)?;
+    put_marks(alloc, system, marks, &names, &mut text)?;
     Ok(text)
 }

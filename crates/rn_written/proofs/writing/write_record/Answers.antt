@@ -16,13 +16,13 @@ live_part-requires c =
     (is_marking c.args.state.now system.result.now table.result.now.marking system.ensures.system
     system.ensures.good table.ensures.stands)
 
-pub write_told-requires : goal.write_told-requires
-write_told-requires c =
+pub write_run-requires : goal.write_run-requires
+write_run-requires c =
     let system = c.system-system in
     let table = c.table-table in
     has_text c.args.state.now system.result.now table.result.now.marking system.ensures.system
     system.ensures.good table.ensures.stands c.in_ok-marks.marks c.in_ok-marks.ensures
-    c.in_ok-entries.entries (c.in_ok-entries.ensures ∙ c.entries.ensures.entries) c.entries.ensures.log
+    c.entries.result.now c.entries.ensures.entries c.entries.ensures.log
 
 pub returns : goal.returns
 returns c =
@@ -30,16 +30,16 @@ returns c =
     let system = c.system-system in
     let table = c.table-table in
     let marks = c.in_ok-marks.marks in
-    let entries = c.in_ok-entries.entries in
-    let are : entries ≡ logged s = c.in_ok-entries.ensures ∙ c.entries.ensures.entries in
+    let entries = c.entries.result.now in
+    let are : entries ≡ logged s = c.entries.ensures.entries in
     let live =
     live_at_end s system.result.now table.result.now.marking system.ensures.system
     system.ensures.good table.ensures.stands marks c.in_ok-marks.ensures in
-    IfOk-weaker c.write_told.result
+    IfOk-weaker c.write_run.result
     (λ text. text.items ≡ record_text system.result.now (record { entries = entries; marks = marks }))
     (λ text. IsRecordOf s text.items)
     (λ text is. record {
       marks = marks;
       live = live;
       text = is ∙ (λ i. record_text (system.ensures.system i) (record { entries = are i; marks = marks }));
-    }) c.write_told.ensures
+    }) c.write_run.ensures
