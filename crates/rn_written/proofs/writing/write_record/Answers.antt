@@ -1,8 +1,9 @@
 -- The table stands for the end of the log, so its live part is that of the end.
-use Rattle.std.proofs.Common.{◌≡◌, ◌∙◌}
+use Rattle.std.proofs.Common.{◌≡◌, sym, ◌∙◌, subst}
 use Rattle.std.proofs.lemmas.Result.{IfOk-weaker}
 use Rattle.rn_live.proofs.GoodPlaces.{good_places}
 use Rattle.rn_record.specs.RecordText.{record_text}
+use Rattle.rn_record.specs.Writable.{HasText}
 use Rattle.rn_fire.specs.States.{logged}
 use Rattle.rn_written.specs.Written.{IsRecordOf}
 use Rattle.rn_written.proofs.WrittenStates.{has_text, is_marking, live_at_end}
@@ -20,9 +21,11 @@ pub write_run-requires : goal.write_run-requires
 write_run-requires c =
     let system = c.system-system in
     let table = c.table-table in
-    has_text c.args.state.now system.result.now table.result.now.marking system.ensures.system
+    subst (λ marks. HasText system.result.now (record { entries = c.entries.result.now; marks = marks }))
+    (sym c.as_slice.ensures)
+    (has_text c.args.state.now system.result.now table.result.now.marking system.ensures.system
     system.ensures.good table.ensures.stands c.in_ok-marks.marks c.in_ok-marks.ensures
-    c.entries.result.now c.entries.ensures.entries c.entries.ensures.log
+    c.entries.result.now c.entries.ensures.entries c.entries.ensures.log)
 
 pub returns : goal.returns
 returns c =
@@ -36,10 +39,11 @@ returns c =
     live_at_end s system.result.now table.result.now.marking system.ensures.system
     system.ensures.good table.ensures.stands marks c.in_ok-marks.ensures in
     IfOk-weaker c.write_run.result
-    (λ text. text.items ≡ record_text system.result.now (record { entries = entries; marks = marks }))
+    (λ text. text.items ≡ record_text system.result.now (record { entries = entries; marks = c.as_slice.result.now }))
     (λ text. IsRecordOf s text.items)
     (λ text is. record {
       marks = marks;
       live = live;
-      text = is ∙ (λ i. record_text (system.ensures.system i) (record { entries = are i; marks = marks }));
+      text = is ∙ (λ i. record_text (system.ensures.system i)
+          (record { entries = are i; marks = c.as_slice.ensures i }));
     }) c.write_run.ensures
