@@ -15,6 +15,7 @@ mod NodesThere
 mod Offering
 mod Passing
 mod Pushing
+mod Settled
 mod Targets
 mod TokenLooks
 mod VarsOfForms

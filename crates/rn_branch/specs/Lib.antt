@@ -4,4 +4,5 @@ pub mod Forced
 pub mod Knowing
 pub mod Looks
 pub mod Making
+pub mod Settling
 pub mod Things

@@ -1,23 +1,23 @@
 //! A branch of a search: what is decided, and how it goes on.
 ghost use Rattle.std.specs.Prelude.{◌≡◌, ◌↔◌, IfOk, [], ◌++◌, ◌∷◌, IsTrue};
 ghost use Rattle.rn_growing.specs.Equations.{IsSolvable};
-ghost use Rattle.rn_growing.specs.Grown.{HasFewCreations, IsNew, Tries};
-ghost use Rattle.rn_growing.specs.Turns.{MayCome};
+ghost use Rattle.rn_growing.specs.Grown.{HasFewCreations};
 ghost use Rattle.rn_search.specs.Allowing.{Allows};
 ghost use Rattle.rn_search.specs.Points.{offered};
 ghost use Rattle.rn_search.specs.Solving.{Passes};
 ghost use Rattle.rn_search.specs.declared.point.Point.TheVariants as P;
 ghost use Rattle.rn_branch.specs.Branches.{AreHeadsIn, IsHeadIn};
+ghost use Rattle.rn_branch.specs.Settling.{IsNextOf};
 
 use crate::look::Look;
-use crate::looking::look_at_all;
 use crate::made::binding_of;
 use crate::parts::transition_in;
+use crate::settling::Settling;
 use rn_agree::{does_agree, has_shape};
 use rn_arcs::fits;
 use rn_binding::{Candidate, applications_of};
 use rn_choices::{Grows, Next};
-use rn_growing::{Decision, Growing, Way};
+use rn_growing::{Decision, Way};
 use rn_model::{Binding, System};
 use rn_search::{Point, Problem, copy_head};
 use rn_value::{NoMemory, Value};
@@ -28,7 +28,7 @@ use std::marker::Model;
 #[derive(Drop)]
 pub struct Branch<'a> {
     alloc: Global,
-    growing: Growing<'a>,
+    growing: Settling<'a>,
     first: usize,
 }
 
@@ -62,7 +62,7 @@ impl<'a> Branch<'a> {
     {
         Branch {
             alloc,
-            growing: Growing::open(alloc, system),
+            growing: Settling::open(alloc, system),
             first,
         }
     }
@@ -115,21 +115,6 @@ fn decision_at(
     }
 }
 
-// One more decision, where it can be satisfied.
-fn decide(alloc: Global, growing: &mut Growing<'_>, decision: Decision) -> Result<bool, NoMemory>
-    requires may_come { MayCome growing.old.system growing.old.decisions decision }
-    requires fresh { IsNew growing.old.decisions decision }
-    ensures tries { IfOk result (λ yes. Tries growing.old decision growing.new yes) }
-{
-    match decision {
-        Decision::Entered(head, caller) => growing.enter(alloc, head, caller),
-        Decision::Found(head, arc, value) => growing.find(alloc, head, arc, value),
-        Decision::Computed(head, site, way, value) => {
-            growing.compute(alloc, head, site, way, value)
-        }
-    }
-}
-
 // Whether a binding that is made of decisions is enabled.
 fn is_enabled(alloc: Global, problem: &Problem<'_>, binding: &Binding) -> Result<bool, NoMemory>
     ensures { IfOk result (λ yes. IsTrue yes ↔ Passes problem.now binding.now) }
@@ -143,6 +128,17 @@ fn is_enabled(alloc: Global, problem: &Problem<'_>, binding: &Binding) -> Result
         return Ok(false);
     }
     fits(alloc, system, problem.table(), binding)
+}
+
+// How the search goes on by a look.
+fn next_of(look: Look) -> Next<Point>
+    ensures { IsNextOf look result }
+{
+    match look {
+        Look::Done => Next::Done,
+        Look::Waits => Next::Stuck,
+        Look::Goes(next) => next,
+    }
 }
 
 impl<'a> Grows for Branch<'a> {
@@ -185,11 +181,8 @@ impl<'a> Grows for Branch<'a> {
         if self.growing.mark() == 0 {
             return Ok(Next::Forced(Point::Start));
         }
-        match look_at_all(self.alloc, problem, &self.growing, self.first)? {
-            Look::Done => Ok(Next::Done),
-            Look::Waits => Ok(Next::Stuck),
-            Look::Goes(next) => Ok(next),
-        }
+        let look = self.growing.look(self.alloc, problem, self.first)?;
+        Ok(next_of(look))
     }
 
     fn solution(
@@ -198,7 +191,7 @@ impl<'a> Grows for Branch<'a> {
         problem: &Problem<'a>,
     ) -> Result<Option<Candidate>, NoMemory> {
         let _system = problem.system();
-        let Some(binding) = binding_of(alloc, problem, &self.growing)? else {
+        let Some(binding) = binding_of(alloc, problem, self.growing.growing())? else {
             return Ok(None);
         };
         if !is_enabled(alloc, problem, &binding)? {
@@ -216,7 +209,7 @@ impl<'a> Grows for Branch<'a> {
         let _start = problem.start();
         let decisions = self.growing.decisions();
         match decision_at(self.alloc, problem, decisions, site, alternative)? {
-            Some(decision) => decide(self.alloc, &mut self.growing, decision),
+            Some(decision) => self.growing.decide(self.alloc, decision),
             None => Ok(false),
         }
     }

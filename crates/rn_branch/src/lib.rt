@@ -11,5 +11,6 @@ mod looking;
 mod made;
 mod parts;
 mod results;
+mod settling;
 
 pub use branch::Branch;

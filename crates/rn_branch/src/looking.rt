@@ -1,8 +1,10 @@
 //! Looking at all that is asked of a binding that grows.
-ghost use Rattle.std.specs.Prelude.{◌<◌, IfOk, length};
+ghost use Rattle.std.specs.Prelude.{◌≡◌, ◌<◌, IfOk, IsTrue, length};
+ghost use Rattle.rn_branch.specs.declared.look.Look.TheVariants as L;
 ghost use Rattle.rn_branch.specs.Branches.{IsBranchOf, IsLookedAt};
 ghost use Rattle.rn_branch.specs.Looks.{Looked};
-ghost use Rattle.rn_branch.specs.Things.{IsOfNode, IsOfEntry, IsOfEntries};
+ghost use Rattle.rn_branch.specs.Settling.{AreSettled, LookedOn};
+ghost use Rattle.rn_branch.specs.Things.{IsOfNode, IsOfEntry};
 
 use crate::arcs::look_at_arcs;
 use crate::best::{better, is_best};
@@ -64,24 +66,41 @@ fn look_at_node(
     look_within(alloc, problem, growing, node, head, transition, first)
 }
 
-/// Looks at all that is asked, and finds how it goes on best.
+// Whether all of the things looked at are decided.
+fn is_done(look: Look) -> bool
+    ensures { IsTrue result → look ≡ L.Done }
+{
+    match look {
+        Look::Done => true,
+        Look::Waits => false,
+        Look::Goes(_) => false,
+    }
+}
+
+/// Looks at all that is asked, and finds how it goes on best, and how many of the first decisions
+/// are settled. It begins after those that are known to be.
 pub(crate) fn look_at_all(
     alloc: Global,
     problem: &Problem<'_>,
     growing: &Growing<'_>,
     first: usize,
-) -> Result<Look, NoMemory>
-    requires { IsBranchOf problem.now growing.now }
-    ensures { IfOk result (λ look. Looked problem.now growing.now.decisions
-        (IsOfEntries growing.now.decisions (length growing.now.decisions)) look) }
+    from: usize,
+) -> Result<(Look, usize), NoMemory>
+    requires branch { IsBranchOf problem.now growing.now }
+    requires settled { AreSettled problem.now.system growing.now.decisions from }
+    ensures { IfOk result (λ looked. LookedOn problem.now growing.now.decisions looked.0 looked.1) }
 {
     let mut best = Look::Done;
-    for node in 0..growing.mark() {
+    let mut settled = from;
+    for node in from..growing.mark() {
         let look = look_at_node(alloc, problem, growing, node, first)?;
         best = better(best, look);
         if is_best(best) {
-            return Ok(best);
+            return Ok((best, settled));
+        }
+        if is_done(best) {
+            settled = node + 1;
         }
     }
-    Ok(best)
+    Ok((best, settled))
 }

@@ -29,7 +29,7 @@ returns-in-Some-clause-stands c =
     c.requires.stands c.decisions-decisions.result.now c.decisions-decisions.ensures
     c.start-start.ensures.starts c.args.site c.args.alternative
     c.requires.allows _ c.in_ok-decision.ensures c.in-Some.decision c.in-Some.is
-    c.decide.result c.decide.new.growing c.decide.ensures.tries
+    c.decide.result c.decide.new.self c.decide.ensures.tries
 
 pub returns-in-Some-clause-pushed : goal.returns-in-Some-clause-pushed
 returns-in-Some-clause-pushed c =
@@ -37,7 +37,7 @@ returns-in-Some-clause-pushed c =
     c.requires.stands c.decisions-decisions.result.now c.decisions-decisions.ensures
     c.start-start.ensures.starts c.args.site c.args.alternative
     c.requires.allows _ c.in_ok-decision.ensures c.in-Some.decision c.in-Some.is
-    c.decide.result c.decide.new.growing c.decide.ensures.tries
+    c.decide.result c.decide.new.self c.decide.ensures.tries
 
 pub returns-in-Some-clause-room : goal.returns-in-Some-clause-room
 returns-in-Some-clause-room c =
@@ -45,7 +45,7 @@ returns-in-Some-clause-room c =
     c.requires.stands c.decisions-decisions.result.now c.decisions-decisions.ensures
     c.start-start.ensures.starts c.args.site c.args.alternative
     c.requires.allows _ c.in_ok-decision.ensures c.in-Some.decision c.in-Some.is
-    c.decide.result c.decide.new.growing c.decide.ensures.tries
+    c.decide.result c.decide.new.self c.decide.ensures.tries
 
 pub returns-in-Some-clause-kept : goal.returns-in-Some-clause-kept
 returns-in-Some-clause-kept c =
@@ -53,7 +53,7 @@ returns-in-Some-clause-kept c =
     c.requires.stands c.decisions-decisions.result.now c.decisions-decisions.ensures
     c.start-start.ensures.starts c.args.site c.args.alternative
     c.requires.allows _ c.in_ok-decision.ensures c.in-Some.decision c.in-Some.is
-    c.decide.result c.decide.new.growing c.decide.ensures.tries
+    c.decide.result c.decide.new.self c.decide.ensures.tries
 
 pub returns-in-Some-clause-none : goal.returns-in-Some-clause-none
 returns-in-Some-clause-none c =
@@ -61,7 +61,7 @@ returns-in-Some-clause-none c =
     c.requires.stands c.decisions-decisions.result.now c.decisions-decisions.ensures
     c.start-start.ensures.starts c.args.site c.args.alternative
     c.requires.allows _ c.in_ok-decision.ensures c.in-Some.decision c.in-Some.is
-    c.decide.result c.decide.new.growing c.decide.ensures.tries
+    c.decide.result c.decide.new.self c.decide.ensures.tries
 
 pub returns-in-None-clause-none : goal.returns-in-None-clause-none
 returns-in-None-clause-none c = λ no.

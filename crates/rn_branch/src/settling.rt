@@ -1,0 +1,146 @@
+//! A binding that grows, with how many of its first decisions are settled.
+ghost use Rattle.std.specs.Prelude.{◌≡◌, ◌≤◌, [], IfOk, OnErr, length};
+ghost use Rattle.rn_growing.specs.Grown.{HasFewCreations, IsNew, Tries, first_decisions};
+ghost use Rattle.rn_growing.specs.Turns.{MayCome};
+ghost use Rattle.rn_branch.specs.Branches.{IsBranchOf};
+ghost use Rattle.rn_branch.specs.Looks.{Looked};
+ghost use Rattle.rn_branch.specs.Things.{IsOfEntries};
+
+use crate::look::Look;
+use crate::looking::look_at_all;
+use rn_growing::{Decision, Growing};
+use rn_model::System;
+use rn_search::Problem;
+use rn_value::NoMemory;
+use std::alloc::Global;
+use std::marker::Model;
+
+/// A binding that grows, with how many of its first decisions are settled, so that a look needn't
+/// begin with the first again.
+#[derive(Drop)]
+pub(crate) struct Settling<'a> {
+    growing: Growing<'a>,
+    settled: usize,
+
+    /// How many were settled before each decision.
+    before: Vec<usize>,
+}
+
+impl<'a> Model for Settling<'a> {
+    ghost use Rattle.rn_growing.specs.Grown.{Grown};
+    ghost use Rattle.rn_value.specs.contracts.value.Value as value;
+    ghost use Rattle.rn_value.specs.contracts.value.Kind as kind;
+    ghost use Rattle.rn_model.specs.contracts.expr.Expr as expr;
+    ghost use Rattle.rn_model.specs.contracts.expr.Cond as cond;
+    ghost use Rattle.rn_branch.specs.Settling.{KeepsSettled};
+    ghost use Rattle.std.specs.Coded.{codes};
+
+    ghost Value = { Grown };
+
+    ghost coded = { Prim.hlevel (
+      codes,
+      value.the_row.coded,
+      kind.the_row.coded,
+      expr.the_row.coded,
+      cond.the_row.coded,
+    ) };
+
+    ghost view = { λ s. s.growing };
+
+    ghost invariant = { λ s. KeepsSettled s.growing s.settled s.before.items };
+}
+
+impl<'a> Settling<'a> {
+    /// Nothing is decided. It takes no memory.
+    pub(crate) fn open(alloc: Global, system: &'a System) -> Settling<'a>
+        requires { HasFewCreations system.now }
+        ensures { result ≡ record { system = system.now; decisions = [] } }
+    {
+        Settling {
+            growing: Growing::open(alloc, system),
+            settled: 0,
+            before: Vec::new(alloc),
+        }
+    }
+
+    /// The binding.
+    pub(crate) fn growing(&self) -> &Growing<'a>
+        ensures { result.now ≡ self.now }
+    {
+        &self.growing
+    }
+
+    /// The decisions, the oldest first.
+    pub(crate) fn decisions(&self) -> &[Decision]
+        ensures { result.now ≡ self.now.decisions }
+    {
+        self.growing.decisions()
+    }
+
+    /// How many decisions there are.
+    pub(crate) fn mark(&self) -> usize
+        ensures { result ≡ length self.now.decisions }
+    {
+        self.growing.mark()
+    }
+
+    /// Looks at all that is asked and may not be decided, and keeps how many decisions are settled.
+    pub(crate) fn look(
+        &mut self,
+        alloc: Global,
+        problem: &Problem<'_>,
+        first: usize,
+    ) -> Result<Look, NoMemory>
+        requires { IsBranchOf problem.now self.old }
+        ensures looked { IfOk result (λ look. Looked problem.now self.old.decisions
+            (IsOfEntries self.old.decisions (length self.old.decisions)) look) }
+        ensures same { self.new ≡ self.old }
+    {
+        let looked = look_at_all(alloc, problem, &self.growing, first, self.settled)?;
+        self.settled = looked.1;
+        Ok(looked.0)
+    }
+
+    /// One more decision, where it can be satisfied.
+    pub(crate) fn decide(&mut self, alloc: Global, decision: Decision) -> Result<bool, NoMemory>
+        requires may_come { MayCome self.old.system self.old.decisions decision }
+        requires fresh { IsNew self.old.decisions decision }
+        ensures tries { IfOk result (λ yes. Tries self.old decision self.new yes) }
+    {
+        self.before.reserve(1)?;
+        if !decide(alloc, &mut self.growing, decision)? {
+            return Ok(false);
+        }
+        self.before.push(self.settled)?;
+        Ok(true)
+    }
+
+    /// Takes back the decisions that came after so many.
+    pub(crate) fn undo(&mut self, count: usize)
+        requires { count ≤ length self.old.decisions }
+        ensures { self.new ≡ first_decisions count self.old }
+    {
+        if count >= self.before.len() {
+            return;
+        }
+        self.settled = self.before[count];
+        self.before.truncate(count);
+        self.growing.undo(count);
+    }
+}
+
+// One more decision, where it can be satisfied.
+fn decide(alloc: Global, growing: &mut Growing<'_>, decision: Decision) -> Result<bool, NoMemory>
+    requires may_come { MayCome growing.old.system growing.old.decisions decision }
+    requires fresh { IsNew growing.old.decisions decision }
+    ensures tries { IfOk result (λ yes. Tries growing.old decision growing.new yes) }
+    ensures err { OnErr result (growing.new ≡ growing.old) }
+{
+    match decision {
+        Decision::Entered(head, caller) => growing.enter(alloc, head, caller),
+        Decision::Found(head, arc, value) => growing.find(alloc, head, arc, value),
+        Decision::Computed(head, site, way, value) => {
+            growing.compute(alloc, head, site, way, value)
+        }
+    }
+}
