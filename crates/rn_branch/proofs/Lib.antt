@@ -2,6 +2,7 @@ mod BranchSteps
 mod CallLooks
 mod DecidedThings
 mod GoingOn
+mod GuardLooks
 mod KnownValues
 mod ListsBeside
 mod LookSteps

@@ -1,10 +1,11 @@
--- The operator applications of a transition: what stands there, and their variables.
+-- The operator applications and guards of a transition: what stands there, and the variables.
 use Rattle.std.proofs.Common.{◌≡◌, ℕ, ◌+◌, true, List, [], ◌∷◌, ◌++◌, map, length}
 use Rattle.std.proofs.Common.{refl, sym, subst, arith}
 use Rattle.std.specs.Prelude.{Contains, Some, slice_get, flat_map, filter, not}
 use Rattle.std.specs.List.{AllByRecursion, concat, enumerate_from}
 use Rattle.std.proofs.lemmas.List.Elements.{All-contains, All-from_recursion}
 use Rattle.std.proofs.lemmas.List.Elements.{Contains-append_left, Contains-append_right}
+use Rattle.rn_model.specs.declared.expr.Cond.{Cond}
 use Rattle.rn_model.specs.declared.expr.Expr.{Expr}
 use Rattle.rn_model.specs.declared.expr.Expr.TheVariants as E
 use Rattle.rn_model.specs.declared.system.NetArc.{NetArc}
@@ -152,6 +153,14 @@ module _ (t : Transition) where
       in_uplink e
       (Contains-append_left (sides ++ guarded) (uplink_args t) e
       (Contains-append_left sides guarded e there))
+
+  pub guard_searched : (guard : Cond) (e : Expr) → Contains t.guards guard →
+      Contains (guard_exprs guard) e → Contains (searched_exprs t) e
+  guard_searched guard e there side =
+      in_uplink e
+      (Contains-append_left (sides ++ guarded) (uplink_args t) e
+      (Contains-append_right sides guarded e
+      (contained_flat guard_exprs t.guards guard e there side)))
 
   in_called : (e : Expr) → Contains called e → Contains (searched_exprs t) e
   in_called e there =

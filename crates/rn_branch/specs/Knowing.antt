@@ -1,12 +1,14 @@
 -- What is known of the variables of an expression.
 use Rattle.std.specs.Prelude.{ℕ, ◌≡◌, List, Option, Some, None, map, All}
 use Rattle.rn_value.specs.declared.value.Value.{Value}
+use Rattle.rn_model.specs.declared.expr.Cond.{Cond}
 use Rattle.rn_model.specs.declared.expr.Expr.{Expr}
 use Rattle.rn_model.specs.Evaluation.{Env}
 use Rattle.rn_model.specs.Systems.{vars_in}
 use Rattle.rn_growing.specs.declared.decision.Head.{Head}
 use Rattle.rn_growing.specs.Grown.{Grown}
 use Rattle.rn_branch.specs.declared.known.Known.{Known}
+use Rattle.rn_branch.specs.Guards.{KnowsGuard, vars_of_guard}
 pub use Rattle.rn_branch.specs.Forced.{IsVarForcedTo, IsVarForcedIn, Knows, IsKnownValue, IsKnownToken}
 
 -- what known values are read as
@@ -22,3 +24,8 @@ ArePairsOf g path vars pairs =
 abbrev pub KnowsVars : Grown → Head → Expr → Option Known → Type 0
 KnowsVars g head e None = ¬ All (IsVarForcedIn g head.path) (vars_in e)
 KnowsVars g head e (Some known) = Knows g head e (known_env known)
+
+-- the values of the variables of a guard, or none where one isn't forced
+abbrev pub KnowsGuardVars : Grown → Head → Cond → Option Known → Type 0
+KnowsGuardVars g head guard None = ¬ All (IsVarForcedIn g head.path) (vars_of_guard guard)
+KnowsGuardVars g head guard (Some known) = KnowsGuard g head guard (known_env known)

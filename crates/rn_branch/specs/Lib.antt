@@ -1,6 +1,7 @@
 pub mod Branches
 pub mod Calling
 pub mod Forced
+pub mod Guards
 pub mod Knowing
 pub mod Looks
 pub mod Making

@@ -1,12 +1,13 @@
-//! What is known of the variables of an expression.
+//! What is known of the variables of an expression, or of a guard.
 ghost use Rattle.std.specs.Prelude.{IfOk, MatchOption, All};
 ghost use Rattle.rn_branch.specs.Forced.{IsVarForcedIn};
-ghost use Rattle.rn_branch.specs.Knowing.{ArePairsOf, KnowsVars};
+ghost use Rattle.rn_branch.specs.Knowing.{ArePairsOf, KnowsVars, KnowsGuardVars};
 
+use crate::guard_vars::put_guard;
 use rn_binding::put_vars;
 use rn_calc::Values;
 use rn_growing::{Growing, Head};
-use rn_model::Expr;
+use rn_model::{Cond, Expr};
 use rn_value::{InstRef, NoMemory, Value};
 use std::alloc::Global;
 
@@ -72,6 +73,26 @@ pub(crate) fn known_in<'a>(
 {
     let mut vars = Vec::new(alloc);
     put_vars(expr, &mut vars)?;
+    match values_of(alloc, growing, head.path.as_slice(), vars.as_slice())? {
+        Some(pairs) => Ok(Some(Known {
+            this: &head.inst,
+            pairs,
+        })),
+        None => Ok(None),
+    }
+}
+
+/// What is known of the variables of a guard of a node, or `None` where one isn't forced.
+pub(crate) fn known_in_guard<'a>(
+    alloc: Global,
+    growing: &Growing<'_>,
+    head: &'a Head,
+    guard: &Cond,
+) -> Result<Option<Known<'a>>, NoMemory>
+    ensures { IfOk result (λ known. KnowsGuardVars growing.now head.now guard.now known) }
+{
+    let mut vars = Vec::new(alloc);
+    put_guard(guard, &mut vars)?;
     match values_of(alloc, growing, head.path.as_slice(), vars.as_slice())? {
         Some(pairs) => Ok(Some(Known {
             this: &head.inst,

@@ -5,6 +5,8 @@ mod arcs;
 mod best;
 mod branch;
 mod calls;
+mod guard_vars;
+mod guards;
 mod known;
 mod look;
 mod looking;

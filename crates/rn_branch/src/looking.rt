@@ -9,9 +9,11 @@ ghost use Rattle.rn_branch.specs.Things.{IsOfNode, IsOfEntry};
 use crate::arcs::look_at_arcs;
 use crate::best::{better, is_best};
 use crate::calls::look_at_calls;
+use crate::guards::has_false_guard;
 use crate::look::Look;
 use crate::parts::transition_in;
 use crate::results::look_at_results;
+use rn_choices::Next;
 use rn_growing::{Decision, Growing, Head};
 use rn_model::Transition;
 use rn_search::Problem;
@@ -32,6 +34,9 @@ fn look_within(
     ensures { IfOk result (λ look. Looked problem.now growing.now.decisions
         (IsOfNode head.now) look) }
 {
+    if has_false_guard(alloc, problem, growing, node, head, transition)? {
+        return Ok(Look::Goes(Next::Stuck));
+    }
     let results = look_at_results(alloc, problem, growing, node, head, transition)?;
     if is_best(results) {
         return Ok(results);
