@@ -1,0 +1,6 @@
+pub mod Elements
+pub mod KeptTables
+pub mod SeenEntries
+pub mod SeenStates
+pub mod Tallying
+pub mod ThreadSafety

@@ -1,0 +1,191 @@
+-- What is so after the entries that a worker has seen, and in a later state.
+use Rattle.std.proofs.Common.{◌≡◌, ℕ, ◌+◌, ◌-◌, ◌<◌, ◌≤◌, List, [], length, refl, sym, ap, ◌∙◌, subst, arith}
+use Rattle.std.specs.Prelude.{◌↔◌, Option, Some, None, Result, Ok, Err, Bool, true, false, MatchBool, Contains, IfOk, IfSome, IsNone}
+use Rattle.std.proofs.lemmas.List.{length-append}
+use Rattle.rn_items.specs.declared.memory.NoMemory.{NoMemory}
+use Rattle.rn_model.specs.declared.binding.Binding.{Binding}
+use Rattle.rn_model.specs.declared.log.Entry.{Entry}
+use Rattle.rn_model.specs.declared.system.System.{System}
+use Rattle.rn_model.specs.Markings.{Marking}
+use Rattle.rn_model.proofs.EnablingLemmas.{not_in_nil}
+use Rattle.rn_model.specs.Enabling.{DeadAt, Enabled}
+use Rattle.rn_model.specs.Liveness.{IsLive}
+use Rattle.rn_model.specs.SoundTokens.{HasSoundTokens}
+use Rattle.rn_model.specs.declared.log.Options.{Options}
+use Rattle.rn_model.specs.Limits.{most_steps}
+use Rattle.rn_model.specs.Runs.{Run, end_of}
+use Rattle.rn_model.proofs.SoundRuns.{dead_stay_dead_in_runs, runs_end_sound}
+use Rattle.rn_model.proofs.StandingTables.{as_in_table, tables_enable_the_same, tables_have_the_same_live}
+use Rattle.rn_channel.specs.declared.uplinks.Uplinks.{Uplinks}
+use Rattle.rn_channel.specs.Uplinks.{AreUplinksOf}
+use Rattle.rn_desk.specs.Entries.{StartsWith}
+use Rattle.rn_found.proofs.FitTokens.{standing_tokens_fit}
+use Rattle.rn_live.proofs.GoodPlaces.{good_places}
+use Rattle.rn_fire.specs.declared.setup.Setup.{Setup}
+use Rattle.rn_fire.specs.States.{State, IsState, firings_in, logged}
+use Rattle.rn_worker.specs.declared.considering.Plan.{Plan}
+use Rattle.rn_worker.specs.declared.looking.Sight.{Sight}
+use Rattle.rn_worker.specs.Seen.{GoesOn, Shows, marking_after}
+use Rattle.rn_worker.specs.Plans.{AreDeadAt, FitsIn, GrowsBy, HasNoneLive, IsFoundAt, IsPlanAt, IsToSearch, Knows, WasFound}
+use Rattle.rn_worker.proofs.SeenEntries.{fired_then, going_count, had_seen, taken}
+
+-- what a search answers, and a list of none
+pub found_at : (system : System) (depth : ℕ) (m : Marking) (found : Option Binding) →
+    IfSome found (λ b. Enabled system m b depth) → IsNone found ↔ DeadAt system m depth →
+    IsFoundAt system depth m found
+found_at system depth m (Some b) enabled none = enabled
+found_at system depth m None enabled none = none.0 refl
+
+pub none_listed : (system : System) (m : Marking) (numbers : List ℕ) → numbers ≡ [] →
+    AreDeadAt system m numbers
+none_listed system m numbers none n listed =
+    absurd (not_in_nil n (subst (λ ns. Contains ns n) none listed))
+
+-- What a snapshot shows.
+module _ (setup : Setup) (es : List Entry) (v : Sight) (shown : Shows setup es v) where
+  abbrev m : Marking
+  m = marking_after setup es
+
+  tokens_sound : HasSoundTokens setup.system m
+  tokens_sound = runs_end_sound setup.system setup.options.depth (firings_in es) shown.good shown.log.run
+
+  -- it may be searched
+  pub to_search : (uplinks : Uplinks) → AreUplinksOf setup.system uplinks →
+      IsToSearch setup.system uplinks v.table
+  to_search uplinks own = record {
+    good = shown.good;
+    own = own;
+    of_system = shown.of_system;
+    tokens = standing_tokens_fit setup.system v.table.marking m tokens_sound shown.stands;
+    few = good_places setup.system v.table.marking shown.good shown.stands.form;
+  }
+
+  -- what is found there is so after the entries
+  found_after : (found : Option Binding) →
+      IsFoundAt setup.system setup.options.depth v.table.marking found →
+      IsFoundAt setup.system setup.options.depth m found
+  found_after (Some b) enabled =
+      (tables_enable_the_same setup.system v.table.marking m b setup.options.depth tokens_sound shown.stands).0
+      enabled
+  found_after None dead = λ b enabled.
+      dead b
+      ((tables_enable_the_same setup.system v.table.marking m b setup.options.depth tokens_sound shown.stands).1
+      enabled)
+
+  dead_after : (numbers : List ℕ) → AreDeadAt setup.system v.table.marking numbers →
+      AreDeadAt setup.system m numbers
+  dead_after numbers dead n listed =
+      let here = dead n listed in
+      let there = here.0 in (
+        (there.0, as_in_table setup.system v.table.marking m shown.stands n there.0 there.1),
+        λ live. here.1
+            ((tables_have_the_same_live setup.system v.table.marking m shown.stands n).1 live),
+      )
+
+  pub knows : (p : Plan) → IsPlanAt setup.system setup.options.depth v.table p → Knows setup es p
+  knows p plan = (found_after p.found plan.0, dead_after p.dead.items plan.1)
+
+  -- the entries are no more than the limit
+  pub few_seen : length es ≤ setup.options.steps
+  few_seen =
+      let count = going_count es shown.going in
+      let few = shown.log.steps in
+      omega (arith, count, few)
+
+  pub never_many : length es ≤ most_steps
+  never_many =
+      let few = few_seen in
+      let most = shown.limits.steps in
+      omega (arith, few, most)
+
+  -- nor were those before
+  pub few_before : (before : List Entry) → StartsWith es before → length before ≤ length es
+  few_before before begins =
+      let all = ap length begins.1 ∙ length-append before begins.0 in omega (arith, all)
+
+-- The same of a system and its options.
+module _ (setup : Setup) (system : System) (options : Options)
+    (same : setup ≡ record { system = system; options = options }) (es : List Entry) (v : Sight)
+    (shown : Shows setup es v) where
+  abbrev own : Setup
+  own = record { system = system; options = options }
+
+  own_shown : Shows own es v
+  own_shown = subst (λ x. Shows x es v) same shown
+
+  pub searched_by : (uplinks : Uplinks) → AreUplinksOf system uplinks →
+      IsToSearch system uplinks v.table
+  searched_by uplinks are = to_search own es v own_shown uplinks are
+
+  pub known_by : (r : Result Plan NoMemory) → IfOk r (IsPlanAt system options.depth v.table) →
+      IfOk r (Knows setup es)
+  known_by (Ok p) plan = subst (λ x. Knows x es p) (sym same) (knows own es v own_shown p plan)
+  known_by (Err refused) plan = tt
+
+  pub steps_left : (before after : List Entry) → StartsWith es before → length es < length after →
+      ((options.steps + 2) - length after) < ((options.steps + 2) - length before)
+  steps_left before after begins later =
+      let few = few_seen own es v own_shown in
+      let first = few_before own es v own_shown before begins in
+      omega (arith, few, first, later)
+
+-- A later state.
+module _ (t : State) (is : IsState t) (es : List Entry) (begins : StartsWith (logged t) es)
+    (going : GoesOn es) where
+  still_found : (found : Option Binding) →
+      IsFoundAt t.setup.system t.setup.options.depth (marking_after t.setup es) found →
+      WasFound t (length es) found
+  still_found (Some b) enabled = (
+    record { shape = enabled.shape; agrees = enabled.agrees; derived = enabled.derived },
+    record {
+      firings = had_seen t es begins going;
+      enabled =
+          subst (λ fs. Enabled t.setup.system (end_of t.setup.system fs) b t.setup.options.depth)
+          (sym (taken t es begins going)) enabled;
+    },
+  )
+  still_found None dead = record {
+    firings = had_seen t es begins going;
+    dead =
+        subst (λ fs. DeadAt t.setup.system (end_of t.setup.system fs) t.setup.options.depth)
+        (sym (taken t es begins going)) dead;
+  }
+
+  still_dead : (numbers : List ℕ) → AreDeadAt t.setup.system (marking_after t.setup es) numbers →
+      HasNoneLive t numbers
+  still_dead numbers dead n listed live =
+      let system = t.setup.system in
+      let then = fired_then t es begins in
+      let here = dead n listed in
+      dead_stay_dead_in_runs system t.setup.options.depth (firings_in es) (firings_in begins.0) is.good
+      (subst (Run system t.setup.options.depth) then is.log.run) n here.0 here.1
+      (subst (λ fs. IsLive system (end_of system fs) n) then live)
+
+  pub fits_in : (setup : Setup) → t.setup ≡ setup → (p : Plan) → Knows setup es p →
+      FitsIn t (length es) p
+  fits_in setup same p known =
+      let own = subst (λ x. Knows x es p) (sym same) known in
+      (still_found p.found own.0, still_dead p.dead.items own.1)
+
+  pub fits : (setup : Setup) → t.setup ≡ setup → (seen : ℕ) → seen ≡ length es →
+      (r : Result Plan NoMemory) → IfOk r (Knows setup es) → IfOk r (FitsIn t seen)
+  fits setup same seen count (Ok p) known =
+      subst (λ k. FitsIn t k p) (sym count) (fits_in setup same p known)
+  fits setup same seen count (Err refused) known = tt
+
+-- A worker's own entries, and its tally.
+pub own_counted : (fired : Bool) (own looked after : List Entry) (t u : ℕ) → t ≡ length own →
+    looked ≡ own → GrowsBy fired looked after → MatchBool fired (u ≡ t + 1) (u ≡ t) →
+    u ≡ length after
+own_counted true own looked after t u are same grows counted =
+    let all = ap length same in omega (arith, are, all, grows, counted)
+own_counted false own looked after t u are same grows counted =
+    let all = ap length same in let more = ap length grows in omega (arith, are, all, more, counted)
+
+pub own_within : (fired : Bool) (own looked after : List Entry) (n k l : ℕ) → length own ≤ n →
+    n ≤ k → k < l → looked ≡ own → GrowsBy fired looked after → length after ≤ l
+own_within true own looked after n k l within begins later same grows =
+    let all = ap length same in omega (arith, within, begins, later, all, grows)
+own_within false own looked after n k l within begins later same grows =
+    let all = ap length same in let more = ap length grows in
+    omega (arith, within, begins, later, all, more)

@@ -1,0 +1,18 @@
+-- What was found after the entries that were seen fits the state.
+use Rattle.std.proofs.Common.{◌≡◌, ap, sym, ◌∙◌, subst}
+use Rattle.rn_desk.specs.Entries.{StartsWith}
+use Rattle.rn_desk.specs.Passes.{fixed_of, seen}
+use Rattle.rn_fire.specs.declared.setup.Setup.{Setup}
+use Rattle.rn_fire.specs.States.{State, IsState, logged}
+use Rattle.rn_worker.proofs.SeenStates.{fits}
+use Rattle.rn_worker.proofs.acting.act.Goals as goal
+
+pub act_on-done-requires-clause-plan : goal.act_on-done-requires-clause-plan
+act_on-done-requires-clause-plan g c =
+    let t : State = c.state-state.result.now in
+    let es = seen c.args.pass.now in
+    let setup : Setup = fixed_of (λ s. s.setup) c.args.desk.now in
+    let begins : StartsWith (logged t) es = subst (λ s. StartsWith (logged s) es) (sym c.state-state.ensures.value) c.take-turn.ensures.entries in
+    let same : t.setup ≡ setup = ap (λ s. s.setup) c.state-state.ensures.value ∙ c.take-turn.ensures.fixed in
+    let is : IsState t = c.length-length.ensures.state in
+    fits t is es begins c.requires.going setup same c.args.looked c.requires.looked c.args.plan.now c.requires.knows

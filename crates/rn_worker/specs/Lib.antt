@@ -1,0 +1,4 @@
+pub mod Ends
+pub mod Plans
+pub mod Posts
+pub mod Seen

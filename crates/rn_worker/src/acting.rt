@@ -1,0 +1,136 @@
+//! A worker's second turn: it commits what it found.
+ghost use Rattle.std.specs.Prelude.{◌≡◌, ◌≤◌, ◌<◌, [], None, IfOk, length};
+ghost use Rattle.rn_model.specs.Limits.{most_workers};
+ghost use Rattle.rn_desk.specs.Passes.{fixed_of, number, seen, mine, IsOf, HasNoTurn};
+ghost use Rattle.rn_fire.specs.Ends.{MayGoOn};
+ghost use Rattle.rn_fire.specs.States.{logged};
+ghost use Rattle.rn_worker.specs.Seen.{KeepsLog, GoesOn, StaysOrEnds};
+ghost use Rattle.rn_worker.specs.Plans.{AddsOwn, DropsNone, FitsIn, GrowsBy, HasNoneLive, Knows, WasFound};
+
+use crate::considering::Plan;
+use crate::tally::Done;
+use rn_desk::{Desk, Kept, Pass};
+use rn_fire::{Commit, SimState};
+use rn_items::NoMemory;
+use rn_table::Table;
+use std::alloc::Global;
+use std::sync::Wait;
+
+// How many of these instances are kept.
+fn count_kept(table: &Table, numbers: &[u32]) -> u64
+    ensures { result ≤ length numbers.now }
+{
+    let mut count = 0;
+    for number in numbers {
+        if table.net_of(*number).is_some() {
+            count += 1;
+        }
+    }
+    count
+}
+
+// Drops instances that aren't live, and returns how many of them were kept.
+fn drop_listed(state: &mut SimState, numbers: &[u32]) -> u64
+    requires { HasNoneLive state.old numbers.now }
+    ensures kept { KeepsLog state.old state.new }
+    ensures none { numbers.now ≡ [] → result ≡ 0 }
+{
+    if numbers.is_empty() {
+        return 0;
+    }
+    let count = count_kept(state.table(), numbers);
+    state.sweep(numbers);
+    count
+}
+
+// Commits what was found, or that nothing was. Returns whether a firing was added. Without memory
+// the log ends.
+fn commit_plan(alloc: Global, state: &mut SimState, worker: u32, seen: u64, plan: &Plan) -> bool
+    requires worker { (1 ≤ worker) × (worker ≤ most_workers) }
+    requires going { state.old.ended ≡ None }
+    requires below { MayGoOn state.old }
+    requires found { WasFound state.old seen plan.now.found }
+    ensures added { AddsOwn worker result state.old state.new }
+    ensures later { seen < length (logged state.new) }
+{
+    let Some(candidate) = &plan.found else {
+        state.commit_none(seen);
+        return false;
+    };
+    match state.commit(alloc, worker, candidate, seen) {
+        Commit::Fired { step: _ } => true,
+        Commit::NoMemory => {
+            state.end_memory();
+            false
+        }
+        _ => false,
+    }
+}
+
+// Drops what was listed, and commits what was found, where the log hasn't ended.
+fn act_on(
+    alloc: Global,
+    state: &mut SimState,
+    worker: u32,
+    seen: u64,
+    plan: &Result<Plan, NoMemory>,
+) -> Done
+    requires worker { (1 ≤ worker) × (worker ≤ most_workers) }
+    requires seen { seen ≤ length state.old.fired }
+    requires plan { IfOk plan.now (FitsIn state.old seen) }
+    ensures added { AddsOwn worker result.fired state.old state.new }
+    ensures later { seen < length (logged state.new) }
+    ensures swept { DropsNone plan.now → result.swept ≡ 0 }
+{
+    let swept = match plan {
+        Ok(plan) => drop_listed(state, plan.dead.as_slice()),
+        Err(_) => 0,
+    };
+    state.end_steps();
+    if state.has_ended() {
+        return Done {
+            fired: false,
+            swept,
+        };
+    }
+    let fired = match plan {
+        Ok(plan) => commit_plan(alloc, state, worker, seen, plan),
+        Err(_) => {
+            state.end_memory();
+            false
+        }
+    };
+    Done { fired, swept }
+}
+
+/// Takes a turn and acts.
+pub(crate) fn act<R: Wait>(
+    rt: &R,
+    alloc: Global,
+    desk: &Desk<SimState>,
+    pass: &mut Pass<SimState>,
+    worker: u32,
+    looked: u64,
+    plan: &Result<Plan, NoMemory>,
+) -> Done
+    requires here { IsOf ⟦<SimState as Kept>⟧.fixed desk.now pass.old }
+    requires free { HasNoTurn pass.old }
+    requires worker { (1 ≤ worker) × (worker ≤ most_workers) }
+    requires number { number pass.old ≡ worker }
+    requires going { GoesOn (seen pass.old) }
+    requires looked { looked ≡ length (seen pass.old) }
+    requires knows { IfOk plan.now (Knows (fixed_of ⟦<SimState as Kept>⟧.fixed desk.now) (seen pass.old)) }
+    ensures here { IsOf ⟦<SimState as Kept>⟧.fixed desk.now pass.new }
+    ensures free { HasNoTurn pass.new }
+    ensures number { number pass.new ≡ number pass.old }
+    ensures later { length (seen pass.old) < length (seen pass.new) }
+    ensures mine { GrowsBy result.fired (mine pass.old) (mine pass.new) }
+    ensures swept { DropsNone plan.now → result.swept ≡ 0 }
+{
+    let mut turn = desk.take(rt, pass);
+    let state = turn.state();
+    let _length = state.length();
+    let done = act_on(alloc, state, worker, looked, plan);
+    desk.give(pass, turn);
+    done
+}

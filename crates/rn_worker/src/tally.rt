@@ -1,0 +1,46 @@
+//! What each worker did.
+ghost use Rattle.std.specs.Prelude.{◌≡◌, ◌<◌, ◌+◌, ◌^◌, MatchBool, false};
+
+use rn_items::Items;
+
+/// How many firings a worker authored, and how many instances it dropped during the run.
+#[derive(Drop)]
+pub struct Tally {
+    pub worker: u32,
+    pub fired: u64,
+    pub swept: u64,
+}
+
+/// Those of all workers, in the order of their numbers.
+pub type Tallies = Items<Tally>;
+
+/// What came of a worker's second turn: whether it fired, and how many instances it dropped.
+#[derive(Clone, Copy)]
+pub(crate) struct Done {
+    pub fired: bool,
+    pub swept: u64,
+}
+
+impl Tally {
+    /// Counts what came of a turn.
+    pub(crate) fn count(&mut self, done: Done)
+        requires { self.old.fired + 1 < 2 ^ 64 }
+        ensures worker { self.new.worker ≡ self.old.worker }
+        ensures fired { MatchBool done.fired (self.new.fired ≡ self.old.fired + 1)
+            (self.new.fired ≡ self.old.fired) }
+        ensures swept { self.old.swept ≡ 0 → done.swept ≡ 0 → self.new.swept ≡ 0 }
+    {
+        if done.fired {
+            self.fired += 1;
+        }
+        self.swept = self.swept.saturating_add(done.swept);
+    }
+}
+
+/// Whether a worker that has fired so often, and did so just now, lists what may be dropped: after each
+/// so many firings, and never where that is 0.
+pub(crate) fn is_due(just_now: bool, fired: u64, every: u32) -> bool
+    ensures { every ≡ 0 → result ≡ false }
+{
+    just_now && every != 0 && fired % every as u64 == 0
+}

@@ -1,0 +1,118 @@
+//! All workers, side by side.
+ghost use Rattle.std.specs.Prelude.{◌≡◌, ◌≢◌, ◌<◌, ◌≤◌, ◌+◌, None, IfOk, length};
+ghost use Rattle.rn_model.specs.Good.{Good, IsInLimits};
+ghost use Rattle.rn_model.specs.Limits.{most_workers};
+ghost use Rattle.rn_channel.specs.Uplinks.{AreUplinksOf};
+ghost use Rattle.rn_desk.specs.Numbered.{EachAt};
+ghost use Rattle.rn_worker.specs.Ends.{AreOfWorkers, IsTallyOf, KeepsJustLive};
+ghost use Rattle.rn_worker.specs.Posts.{IsAtWork, IsDone, IsOfSetup};
+
+use crate::dropping::drop_dead;
+use crate::gate::Gate;
+use crate::posts::{Post, parted, posts_of};
+use crate::tally::Tallies;
+use crate::worker::work;
+use rn_channel::Uplinks;
+use rn_desk::{Closed, Desk, close, open_desk};
+use rn_fire::{SimState, open_state};
+use rn_items::{Items, NoMemory};
+use rn_model::{Options, System};
+use std::alloc::Global;
+use std::sync::{Arc, Wait};
+use std::thread;
+use std::thread::Threads;
+
+/// The state in which all workers left a run, and what each did.
+#[derive(Drop)]
+pub struct Finished {
+    pub state: SimState,
+    pub tallies: Tallies,
+}
+
+// Each worker in a thread of its own where one can be made.
+fn all_work<R: Threads + Wait + Sync, G: Gate + Sync>(
+    rt: &R,
+    alloc: Global,
+    desk: &Desk<SimState>,
+    system: &System,
+    uplinks: &Uplinks,
+    gate: &G,
+    options: &Options,
+    posts: &mut [Post],
+)
+    requires count { (0 < length posts.old) × (length posts.old ≤ most_workers) }
+    requires back { EachAt (IsAtWork desk.now) posts.old }
+    requires fixed { IsOfSetup desk.now system.now options.now }
+    requires own { AreUplinksOf system.now uplinks.now }
+    ensures { EachAt (IsDone desk.now options.now.sweep_every) posts.new }
+{
+    let threads = posts.len();
+    thread::for_each_mut(
+        rt,
+        posts,
+        threads,
+        &|i: usize, post: &mut Post|
+            requires number { i < most_workers }
+            requires back { IsAtWork desk.now (i + 1) post.old }
+            requires fixed { IsOfSetup desk.now system.now options.now }
+            requires own { AreUplinksOf system.now uplinks.now }
+            ensures { IsDone desk.entry.now options.entry.now.sweep_every (i + 1) post.new }
+        {
+            work(
+                rt,
+                alloc,
+                desk,
+                &mut post.pass,
+                system,
+                uplinks,
+                gate,
+                options,
+                &mut post.tally,
+            )
+        },
+    );
+}
+
+/// Runs a system by its number of workers until the log of its run has ended, and drops what isn't
+/// live then.
+pub fn run_workers<R: Threads + Wait + Sync, G: Gate + Sync>(
+    rt: &R,
+    alloc: Global,
+    system: Arc<System>,
+    options: Options,
+    gate: &G,
+) -> Result<Finished, NoMemory>
+    requires good { Good system.value }
+    requires limits { IsInLimits options }
+    ensures setup { IfOk result (λ f.
+        f.state.setup ≡ record { system = system.value; options = options }) }
+    ensures ended { IfOk result (λ f. f.state.ended ≢ None) }
+    ensures count { IfOk result (λ f. length f.tallies ≡ options.workers) }
+    ensures tallies { IfOk result (λ f.
+        EachAt (IsTallyOf f.state.fired options.sweep_every) f.tallies) }
+    ensures workers { IfOk result (λ f. AreOfWorkers options.workers f.state.fired) }
+    ensures live { IfOk result (λ f. KeepsJustLive f.state) }
+{
+    let uplinks = Uplinks::new(alloc, &system)?;
+    let state = open_state(alloc, Arc::try_clone(&system)?, options)?;
+    let (desk, passes) = open_desk(alloc, state, options.workers)?;
+    let mut posts = posts_of(alloc, &desk, passes)?;
+    all_work(
+        rt,
+        alloc,
+        &desk,
+        &system,
+        &uplinks,
+        gate,
+        &options,
+        posts.as_mut_slice(),
+    );
+    let (passes, tallies) = parted(alloc, posts)?;
+    let Closed { mut state } = close(desk, passes);
+    let _length = state.length();
+    drop_dead(alloc, &mut state)?;
+    Ok(Finished {
+        state,
+        tallies: Items::from_vec(tallies),
+    })
+}
