@@ -3,6 +3,7 @@ mod CallLooks
 mod DecidedThings
 mod GoingOn
 mod GuardLooks
+mod InhibitorLooks
 mod KnownValues
 mod ListsBeside
 mod LookSteps

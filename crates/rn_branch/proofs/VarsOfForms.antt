@@ -1,6 +1,6 @@
 -- The operator applications and guards of a transition: what stands there, and the variables.
 use Rattle.std.proofs.Common.{◌≡◌, ℕ, ◌+◌, true, List, [], ◌∷◌, ◌++◌, map, length}
-use Rattle.std.proofs.Common.{refl, sym, subst, arith}
+use Rattle.std.proofs.Common.{refl, sym, ap, subst, arith}
 use Rattle.std.specs.Prelude.{Contains, Some, slice_get, flat_map, filter, not}
 use Rattle.std.specs.List.{AllByRecursion, concat, enumerate_from}
 use Rattle.std.proofs.lemmas.List.Elements.{All-contains, All-from_recursion}
@@ -10,7 +10,7 @@ use Rattle.rn_model.specs.declared.expr.Expr.{Expr}
 use Rattle.rn_model.specs.declared.expr.Expr.TheVariants as E
 use Rattle.rn_model.specs.declared.system.NetArc.{NetArc}
 use Rattle.rn_model.specs.declared.system.ArcKind.{ArcKind}
-use Rattle.rn_model.specs.declared.system.ArcKind.TheVariants.{Input, Test, Reserve}
+use Rattle.rn_model.specs.declared.system.ArcKind.TheVariants.{Input, Test, Reserve, Inhibit}
 use Rattle.rn_model.specs.declared.system.Downlink.{Downlink}
 use Rattle.rn_model.specs.declared.system.Transition.{Transition}
 use Rattle.rn_model.specs.Systems.{vars_in, is_output, uplink_args}
@@ -174,6 +174,16 @@ module _ (t : Transition) where
       (contained_mapped (λ (arc : NetArc). arc.inscription)
       (filter (λ arc. not (is_output arc.kind)) t.arcs) x
       (in_filter (λ arc. not (is_output arc.kind)) t.arcs x there (no_output x.kind finds)))
+
+  pub inhibitor_searched : (x : NetArc) → Contains t.arcs x → x.kind ≡ Inhibit →
+      Contains (searched_exprs t) x.inscription
+  inhibitor_searched x there kind =
+      Contains-append_right (((sides ++ guarded) ++ uplink_args t) ++ called) inscribed
+      x.inscription
+      (contained_mapped (λ (arc : NetArc). arc.inscription)
+      (filter (λ arc. not (is_output arc.kind)) t.arcs) x
+      (in_filter (λ arc. not (is_output arc.kind)) t.arcs x there
+      (ap (λ z. not (is_output z)) kind)))
 
   arg_searched : (i : ℕ) (d : Downlink) → slice_get t.downlinks i ≡ Some d → (e : Expr) →
       Contains d.args e → Contains (searched_exprs t) e

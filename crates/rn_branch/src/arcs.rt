@@ -17,8 +17,8 @@ use rn_search::{Point, Problem};
 use rn_value::{NoMemory, Value};
 use std::alloc::Global;
 
-// The value of an expression of a node, where its variables are forced and it has one.
-fn known_value(
+/// The value of an expression of a node, where its variables are forced and it has one.
+pub(crate) fn known_value(
     alloc: Global,
     growing: &Growing<'_>,
     head: &Head,
@@ -37,8 +37,8 @@ fn begin_at(first: usize, of: usize) -> usize {
     if of == 0 { 0 } else { first % of }
 }
 
-// The arc of an index.
-fn arc_at(transition: &Transition, k: usize) -> &NetArc
+/// The arc of an index.
+pub(crate) fn arc_at(transition: &Transition, k: usize) -> &NetArc
     requires { k < length transition.now.arcs }
     ensures { slice_get transition.now.arcs k ≡ Some result.now }
 {

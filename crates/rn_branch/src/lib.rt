@@ -7,6 +7,7 @@ mod branch;
 mod calls;
 mod guard_vars;
 mod guards;
+mod inhibitors;
 mod known;
 mod look;
 mod looking;

@@ -10,6 +10,7 @@ use crate::arcs::look_at_arcs;
 use crate::best::{better, is_best};
 use crate::calls::look_at_calls;
 use crate::guards::has_false_guard;
+use crate::inhibitors::has_held_inhibitor;
 use crate::look::Look;
 use crate::parts::transition_in;
 use crate::results::look_at_results;
@@ -35,6 +36,9 @@ fn look_within(
         (IsOfNode head.now) look) }
 {
     if has_false_guard(alloc, problem, growing, node, head, transition)? {
+        return Ok(Look::Goes(Next::Stuck));
+    }
+    if has_held_inhibitor(alloc, problem, growing, node, head, transition)? {
         return Ok(Look::Goes(Next::Stuck));
     }
     let results = look_at_results(alloc, problem, growing, node, head, transition)?;

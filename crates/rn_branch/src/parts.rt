@@ -1,5 +1,6 @@
 //! Parts of a system and of decisions, looked up.
-ghost use Rattle.std.specs.Prelude.{◌≡◌, ◌<◌, length};
+ghost use Rattle.std.specs.Prelude.{◌≡◌, ◌<◌, ◌↔◌, IsTrue, length};
+ghost use Rattle.rn_model.specs.declared.system.ArcKind.TheVariants.{Inhibit};
 ghost use Rattle.rn_model.specs.Derivation.{finds_token, finds_values};
 ghost use Rattle.rn_model.specs.Systems.{net_at};
 ghost use Rattle.rn_growing.specs.Decisions.{transition_in};
@@ -33,4 +34,11 @@ pub(crate) fn finds_values(kind: ArcKind) -> bool
         kind,
         ArcKind::Input | ArcKind::Test | ArcKind::Reserve | ArcKind::Clear
     )
+}
+
+/// Whether an arc is an inhibitor arc.
+pub(crate) fn is_inhibitor(kind: ArcKind) -> bool
+    ensures { IsTrue result ↔ (kind ≡ Inhibit) }
+{
+    matches!(kind, ArcKind::Inhibit)
 }
