@@ -6,6 +6,8 @@ mod calls;
 #[cfg(test)]
 mod fired;
 #[cfg(test)]
+mod guards;
+#[cfg(test)]
 mod marked;
 #[cfg(test)]
 mod orders;
