@@ -1,6 +1,6 @@
 -- The numbers of names that are declared without fault.
 use Rattle.std.proofs.Common.{◌≡◌, ℕ, zero, suc, ◌+◌, ◌<◌, Bool, false, cond, ◌||◌, ◌&&◌, not, List, [], ◌∷◌, ◌++◌}
-use Rattle.std.proofs.Common.{length, map, take, get_or, nat_eq, Option, Some, refl, sym, ap, ◌∙◌, subst, arith}
+use Rattle.std.proofs.Common.{length, map, take, get_or, nat_eq, Option, Some, zero-add, refl, sym, ap, ◌∙◌, subst, arith}
 use Rattle.std.proofs.Math.Path.{fun_ext}
 use Rattle.std.specs.Prelude.{nat_le, position, string_bytes}
 use Rattle.std.specs.declared.alloc.Global.{Global}
@@ -17,11 +17,13 @@ use Rattle.rn_model.specs.Limits.{longest_name}
 use Rattle.rn_check.specs.declared.fault.Rule.TheVariants as Rule
 use Rattle.rn_check.specs.Faults.{broken_if}
 use Rattle.rn_check.specs.Declarations.{kind_part, parts_faults}
-use Rattle.rn_check.specs.Names.{same_name, number_from, name_faults, names_faults}
+use Rattle.rn_check.specs.Names.{same_name, number_among, name_faults, names_faults}
+use Rattle.rn_check.specs.Tables.{or_number, with_name}
 use Rattle.rn_check.specs.Systems.{channel_from, same_channel, channel_faults, channels_faults}
 use Rattle.rn_check.specs.NumbersFound.{key_of, is_key}
 use Rattle.rn_check.proofs.Faultless.{both_nil, unbroken}
 use Rattle.rn_check.proofs.DeclaredNames.{short_and_new}
+use Rattle.rn_check.proofs.NameLemmas.{push}
 use Rattle.rn_check.proofs.ToldLemmas.{map_more}
 
 any_map : {A B : Type 0} (test : B → Bool) (f : A → B) (xs : List A) →
@@ -60,6 +62,15 @@ put_more f eq test keys after key made put same is new =
     ∙ map-append f keys (key ∷ [])
     ∙ ap (λ y. map f keys ++ y ∷ []) is
 
+-- the same of a set of texts
+pub text_put : (keys after : List (String Global)) (key : String Global) (name : List ℕ) →
+    string_bytes key ≡ name → after ≡ insert_key string_eq keys key →
+    list_any (λ declared. same_name declared name) (all_texts keys) ≡ false →
+    all_texts after ≡ all_texts keys ++ name ∷ []
+text_put keys after key name is put new =
+    put_more string_bytes string_eq (λ declared. same_name declared name) keys after key name put
+    (λ k. nat_list_eq_equiv.symm (string_bytes key) (string_bytes k) ∙ ap (same_name (string_bytes k)) is) is new
+
 -- what a set finds by a test is what is found among what its keys stand for
 pub position_map : {A B : Type 0} (f : A → B) (test : B → Bool) (n : ℕ) (xs : List A) →
     position_from (λ x. test (f x)) n xs ≡ position_from test n (map f xs)
@@ -71,12 +82,18 @@ pub found_at : {A B : Type 0} (f : A → B) (test : B → Bool) (keys : List A) 
 found_at f test keys found is =
     is ∙ position_from-zero (λ k. test (f k)) keys ∙ position_map f test 0 keys
 
-pub number_is : (n : ℕ) (names : List (List ℕ)) (name : List ℕ) →
-    position_from (same_name name) n names ≡ number_from n names name
-number_is n [] name = refl
-number_is n (x ∷ names) name =
-    ap (λ b. cond b (Some n) (position_from (same_name name) (n + 1) names)) (nat_list_eq_equiv.symm name x)
-    ∙ ap (λ o. cond (same_name x name) (Some n) o) (number_is (n + 1) names name)
+-- what a table finds with one more name at the end
+pub found_with : (found more : List ℕ → Option ℕ) (names after : List (List ℕ)) (name : List ℕ) (number : ℕ) →
+    number ≡ length names → after ≡ names ++ name ∷ [] →
+    ((other : List ℕ) → found other ≡ number_among names other) →
+    ((other : List ℕ) → more other ≡ with_name found name number other) →
+    (other : List ℕ) → more other ≡ number_among after other
+found_with found more names after name number count put old step other =
+    step other
+    ∙ ap (λ o. or_number o (same_name name other) number) (old other)
+    ∙ ap (or_number (number_among names other) (same_name name other)) (count ∙ sym (zero-add (length names)))
+    ∙ sym (push 0 names name other)
+    ∙ ap (λ ns. number_among ns other) (sym put)
 
 pub channel_is : (n : ℕ) (channels : List PChannel) (name : List ℕ) (count : ℕ) →
     position_from (is_key name count) n (map key_of channels) ≡ channel_from n channels name count
@@ -100,21 +117,15 @@ new_name get before (y ∷ ys) (suc i) x h is none =
     (sym (append_assoc before ((get y).text ∷ []) (map (λ y. (get y).text) (take i ys))))
     ∙ new_name get (before ++ (get y).text ∷ []) ys i x (omega arith) is both.1
 
--- the names so far, and one more
-pub name_more : {X : Type 0} (get : X → PName) (xs : List X) (i : ℕ) (x : X)
-    (names more : List (List ℕ)) (text : List ℕ) → i < length xs → x ≡ get_or xs i x →
+-- the next name is new among the names so far
+pub name_is_new : {X : Type 0} (get : X → PName) (xs : List X) (i : ℕ) (x : X)
+    (names : List (List ℕ)) (text : List ℕ) → i < length xs → x ≡ get_or xs i x →
     names_faults [] (map get xs) ≡ [] → names ≡ map (λ y. (get y).text) (take i xs) →
-    text ≡ (get x).text →
-    (list_any (λ declared. same_name declared text) names ≡ false → more ≡ names ++ text ∷ []) →
-    more ≡ map (λ y. (get y).text) (take (i + 1) xs)
-name_more get xs i x names more text h is none before named put =
-    put
-    (ap (λ t. list_any (λ declared. same_name declared t) names) named
+    text ≡ (get x).text → list_any (λ declared. same_name declared text) names ≡ false
+name_is_new get xs i x names text h is none before named =
+    ap (λ t. list_any (λ declared. same_name declared t) names) named
     ∙ ap (list_any (λ declared. same_name declared (get x).text)) before
-    ∙ new_name get [] xs i x h is none)
-    ∙ ap (λ t. names ++ t ∷ []) named
-    ∙ ap (λ ns. ns ++ (get x).text ∷ []) before
-    ∙ sym (map_more (λ y. (get y).text) xs i x h is)
+    ∙ new_name get [] xs i x h is none
 
 abbrev IsNew : List PChannel → PChannel → Type 0
 IsNew before c = list_any (is_key c.name.text (length c.kinds)) (map key_of before) ≡ false

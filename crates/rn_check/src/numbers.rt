@@ -7,6 +7,7 @@ ghost use Rattle.rn_check.specs.Numbering.{number_in};
 ghost use Rattle.rn_check.specs.NumbersFound.{is_key, key_of, channel_by};
 
 use crate::names::Named;
+use crate::table::Table;
 use indexmap::IndexSet;
 use rn_net::PChannel;
 use rn_value::{NoMemory, Str};
@@ -14,17 +15,26 @@ use std::alloc::Global;
 use std::marker::Model;
 
 /// Names, which contracts see as their list. The number of a name is its index.
+///
+/// The set numbers them, and the table finds their numbers. It compares names in order, so that it
+/// finds one among names with equal hashes as fast as among others.
 #[derive(Drop)]
 pub(crate) struct Names {
     names: IndexSet<String>,
+    numbers: Table,
 }
 
 impl Model for Names {
-    ghost use Rattle.std.specs.Prelude.{List, ℕ, map, string_bytes};
+    ghost use Rattle.std.specs.Prelude.{◌≡◌, List, ℕ, map, string_bytes};
+    ghost use Rattle.rn_check.specs.Names.{number_among};
+    ghost use Rattle.rn_check.specs.Tables.{found_in};
 
     ghost Value = { List (List ℕ) };
 
     ghost view = { λ names. map string_bytes names.names.keys };
+
+    ghost invariant = { λ names. (name : List ℕ) →
+        found_in names.numbers name ≡ number_among (map string_bytes names.names.keys) name };
 }
 
 impl Names {
@@ -33,16 +43,23 @@ impl Names {
     {
         Names {
             names: IndexSet::new(alloc),
+            numbers: Table::new(alloc),
         }
     }
 
-    /// Puts a name at the end, if it isn't there.
-    fn put(&mut self, alloc: Global, name: &Str) -> Result<(), NoMemory>
-        ensures { OnOk result (list_any (λ declared. same_name declared name.now) self.old ≡ false →
-            self.new ≡ self.old ++ name.now ∷ []) }
+    /// These names, and another at the end.
+    fn with(self, alloc: Global, name: &Str) -> Result<Names, NoMemory>
+        requires { list_any (λ declared. same_name declared name.now) self ≡ false }
+        ensures { IfOk result (λ names. names ≡ self ++ name.now ∷ []) }
     {
-        self.names.insert(String::from_str(alloc, name.as_str())?)?;
-        Ok(())
+        let Names {
+            mut names,
+            mut numbers,
+        } = self;
+        let number = names.len();
+        names.insert(String::from_str(alloc, name.as_str())?)?;
+        numbers.declare(alloc, name, number)?;
+        Ok(Names { names, numbers })
     }
 
     /// The number of a name, and 0 where it isn't there.
@@ -50,7 +67,7 @@ impl Names {
         requires { length self.now < 2 ^ 32 }
         ensures { result ≡ number_in self.now name.now }
     {
-        match self.names.get_index_of(name.as_str()) {
+        match self.numbers.number(name) {
             Some(number) => number as u32,
             None => 0,
         }
@@ -64,7 +81,7 @@ pub(crate) fn names_of<T: Named>(alloc: Global, items: &[T]) -> Result<Names, No
 {
     let mut names = Names::new(alloc);
     for item in items {
-        names.put(alloc, &item.name().text)?;
+        names = names.with(alloc, &item.name().text)?;
     }
     Ok(names)
 }
