@@ -1,6 +1,6 @@
 -- The first of faults: none of them counts before it, and there is one alone.
 use Rattle.std.proofs.Common.{◌≡◌, ℕ, zero, suc, Bool, true, false, ◌&&◌, ◌||◌, List, [], ◌∷◌, get_or}
-use Rattle.std.proofs.Common.{refl, sym, ap, ◌∙◌, subst, Some, None, arith, cond, ◌⊎◌, inl, inr}
+use Rattle.std.proofs.Common.{refl, sym, ap, ◌∙◌, subst, Option, Some, None, arith, cond, ◌⊎◌, inl, inr}
 use Rattle.std.specs.Prelude.{nat_lt, nat_eq, Contains, ◌↔◌}
 use Rattle.std.proofs.lemmas.Bool.Decides.{nat_tests}
 use Rattle.rn_check.specs.declared.fault.Rule.{Rule}
@@ -180,3 +180,32 @@ first_iff faults f = (first_is faults f, back faults)
         let some : (g : Fault) × (first_from (Some x) xs ≡ Some g) = stays x xs in
         let other : IsFirstOf (x ∷ xs) some.0 = first_is (x ∷ xs) some.0 some.1 in
         some.1 ∙ ap Some (same_fault some.0 f (is.first some.0 other.there) (other.first f is.there))
+
+settled : (f : Fault) (faults : List Fault) →
+    ((other : Fault) → Contains faults other → counts_before other f ≡ false) →
+    first_from (Some f) faults ≡ Some f
+settled f [] none = refl
+settled f (x ∷ xs) none =
+    ap (λ b. first_from (cond b (Some x) (Some f)) xs) (none x (here x xs))
+    ∙ settled f xs (λ other c. none other (there x other xs c))
+
+again_after : (known : Fault) (faults : List Fault) →
+    first_from (first_from (Some known) faults) faults ≡ first_from (Some known) faults
+again_after known faults =
+    let some : (f : Fault) × (first_from (Some known) faults ≡ Some f) = stays known faults in
+    ap (λ k. first_from k faults) some.1
+    ∙ settled some.0 faults (first_among known faults some.0 some.1).others ∙ sym some.1
+
+again_itself : (x : Fault) (xs : List Fault) →
+    first_from (first_from (Some x) xs) (x ∷ xs) ≡ first_from (Some x) xs
+again_itself x xs =
+    let some : (f : Fault) × (first_from (Some x) xs ≡ Some f) = stays x xs in
+    let all : IsFirstOf (x ∷ xs) some.0 = first_is (x ∷ xs) some.0 some.1 in
+    ap (λ k. first_from k (x ∷ xs)) some.1 ∙ settled some.0 (x ∷ xs) all.first ∙ sym some.1
+
+-- what was told once adds nothing when it is told again
+pub told_again : (known : Option Fault) (faults : List Fault) →
+    first_from (first_from known faults) faults ≡ first_from known faults
+told_again None [] = refl
+told_again None (x ∷ xs) = again_itself x xs
+told_again (Some known) faults = again_after known faults

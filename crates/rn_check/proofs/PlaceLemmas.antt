@@ -1,5 +1,5 @@
 -- What is declared with a kind, and what is told of places.
-use Rattle.std.proofs.Common.{◌≡◌, ℕ, List, [], ◌∷◌, ◌++◌, map, refl, sym, ap, ◌∙◌, Option}
+use Rattle.std.proofs.Common.{◌≡◌, ℕ, ◌+◌, ◌-◌, length-append, List, [], ◌∷◌, ◌++◌, length, map, refl, sym, ap, ◌∙◌, arith, Option, Some}
 use Rattle.std.specs.Prelude.{flat_map, slice_get, not}
 use Rattle.std.specs.Option.{option_and_then}
 use Rattle.std.proofs.lemmas.Simd.{map-map}
@@ -65,3 +65,15 @@ place_told place pattern known is =
     ap (λ p. first_from (first_from known (kind_faults place.kind)) (flat_map (token_faults p) place.initial ++ past)) is
     ∙ first_from-append (flat_map (token_faults (pattern_of place.kind)) place.initial) past (first_from known (kind_faults place.kind))
     ∙ told_of_three (kind_faults place.kind) (flat_map (token_faults (pattern_of place.kind)) place.initial) past known
+
+last_at : (before : List Pattern) (p : Pattern) → slice_get (before ++ p ∷ []) (length before) ≡ Some p
+last_at [] p = refl
+last_at (q ∷ before) p = last_at before p
+
+-- a pattern that was put at the end is the last
+pub last_more : (before : List Pattern) (p : Pattern) →
+    slice_get (before ++ p ∷ []) (length (before ++ p ∷ []) - 1) ≡ Some p
+last_more before p =
+    let size : length (before ++ p ∷ []) ≡ length before + 1 = length-append before (p ∷ []) in
+    let at : length (before ++ p ∷ []) - 1 ≡ length before = omega (arith, size) in
+    ap (slice_get (before ++ p ∷ [])) at ∙ last_at before p

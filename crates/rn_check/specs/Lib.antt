@@ -20,3 +20,4 @@ pub mod SpelledForms
 pub mod Parts
 pub mod NumbersFound
 pub mod OccurringParts
+pub mod SeenBefore

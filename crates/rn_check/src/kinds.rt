@@ -1,5 +1,5 @@
 //! Kinds and constants: what is broken in them is told.
-ghost use Rattle.std.specs.Prelude.{◌≡◌, map, flat_map};
+ghost use Rattle.std.specs.Prelude.{◌≡◌, IsTrue, map, flat_map};
 ghost use Rattle.std.specs.List.{list_all};
 ghost use Rattle.rn_check.specs.Faults.{first_from, past_limit};
 ghost use Rattle.rn_check.specs.Patterns.{pattern_of};
@@ -32,6 +32,44 @@ pub(crate) fn see_kinds(kinds: &[PKind], first: &mut First)
         see_kind(kind, first);
     }
     tell_past(kinds, MOST_PARTS, first);
+}
+
+/// Whether two kinds are the same, at the same spots. Of two declarations in a text they never are.
+#[cycle(same)]
+pub(crate) fn same(a: &PKind, b: &PKind) -> bool
+    ensures { IsTrue result → a.now ≡ b.now }
+{
+    if a.spot.line != b.spot.line || a.spot.column != b.spot.column {
+        return false;
+    }
+    match &a.form {
+        PKindForm::Int => matches!(&b.form, PKindForm::Int),
+        PKindForm::Text => matches!(&b.form, PKindForm::Text),
+        PKindForm::Tuple(parts) => match &b.form {
+            PKindForm::Tuple(others) => all_same(parts.as_slice(), others.as_slice()),
+            _ => false,
+        },
+        PKindForm::List(part) => match &b.form {
+            PKindForm::List(other) => same(part.get(), other.get()),
+            _ => false,
+        },
+        PKindForm::Net => matches!(&b.form, PKindForm::Net),
+    }
+}
+
+#[cycle(same)]
+fn all_same(parts: &[PKind], others: &[PKind]) -> bool
+    ensures { IsTrue result → parts.now ≡ others.now }
+{
+    if parts.len() != others.len() {
+        return false;
+    }
+    for i in 0..parts.len() {
+        if !same(&parts[i], &others[i]) {
+            return false;
+        }
+    }
+    true
 }
 
 /// Tells what is broken in a constant.

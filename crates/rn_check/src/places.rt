@@ -1,20 +1,21 @@
 //! Variables and places: what is broken in their declarations is told.
-ghost use Rattle.std.specs.Prelude.{◌≡◌, ◌++◌, ℕ, List, OnOk, IfOk, map, flat_map};
+ghost use Rattle.std.specs.Prelude.{◌≡◌, ◌-◌, ◌++◌, ℕ, List, Some, OnOk, IfOk, IfSome, map, flat_map};
 ghost use Rattle.std.specs.Option.{option_and_then};
-ghost use Rattle.std.specs.Prelude.{slice_get};
+ghost use Rattle.std.specs.Prelude.{slice_get, length, option_copied, option_map};
 ghost use Rattle.rn_model.specs.Limits.{most_vars, most_places, most_initial};
 ghost use Rattle.rn_check.specs.Faults.{first_from, past_limit};
 ghost use Rattle.rn_check.specs.Patterns.{pattern_of};
 ghost use Rattle.rn_check.specs.Names.{number_among, declared_faults};
 ghost use Rattle.rn_check.specs.Declarations.{kind_faults, place_faults, token_faults, const_part};
+ghost use Rattle.rn_check.specs.SeenBefore.{WasSeen};
 ghost use Rattle.rn_check.specs.Sights.{pattern_in};
 
 use crate::fault::Rule;
 use crate::first::First;
-use crate::kinds::{fits, see_const, see_kind};
+use crate::kinds::{fits, same, see_const, see_kind};
 use crate::located::{Located, tell_past};
 use crate::names::declare_all;
-use crate::pattern::{Pattern, once, pattern_of};
+use crate::pattern::{Pattern, copy, once, pattern_of};
 use crate::table::Declared;
 use rn_items::Items;
 use rn_model::limits::{MOST_INITIAL, MOST_PLACES, MOST_VARS};
@@ -33,19 +34,47 @@ fn pattern_after(alloc: Global, before: &[Pattern], kind: &PKind) -> Result<Patt
     }
 }
 
-/// Tells what is broken in the kind of a variable, and gives its pattern.
+/// The last of these patterns, where a variable has the kind of the one before it.
+fn pattern_again(
+    var: &PVar,
+    before: Option<&PVar>,
+    patterns: &[Pattern],
+) -> Result<Option<Pattern>, NoMemory>
+    ensures { IfOk result (λ again. IfSome again (λ p.
+        (option_map (λ v. v.kind) (option_copied before.entry) ≡ Some var.now.kind)
+        × (slice_get patterns.now (length patterns.now - 1) ≡ Some p))) }
+{
+    let Some(before) = before else {
+        return Ok(None);
+    };
+    if !same(before.kind.get(), var.kind.get()) {
+        return Ok(None);
+    }
+    match patterns.last() {
+        Some(last) => Ok(Some(copy(last)?)),
+        None => Ok(None),
+    }
+}
+
+/// Tells what is broken in the kind of a variable, and gives its pattern. Where that is the kind of
+/// the variable before it, all was told, and its pattern is there.
 fn see_var(
     alloc: Global,
     var: &PVar,
-    before: &[Pattern],
+    before: Option<&PVar>,
+    patterns: &[Pattern],
     first: &mut First,
 ) -> Result<Pattern, NoMemory>
+    requires { IfSome (option_copied before) (WasSeen first.old.fault patterns.now) }
     ensures told { OnOk result (first.new.fault ≡ first_from first.old.fault
         (kind_faults var.now.kind)) }
     ensures pattern { IfOk result (λ p. p ≡ pattern_of var.now.kind) }
 {
+    if let Some(pattern) = pattern_again(var, before, patterns)? {
+        return Ok(pattern);
+    }
     see_kind(var.kind.get(), first);
-    pattern_after(alloc, before, var.kind.get())
+    pattern_after(alloc, patterns, var.kind.get())
 }
 
 /// The variables of a net by their names, with the patterns of their kinds. What is broken in their
@@ -64,9 +93,11 @@ pub(crate) fn declare_vars(
 {
     let table = declare_all(alloc, vars, MOST_VARS, first)?;
     let mut patterns = Vec::with_capacity(alloc, vars.len())?;
+    let mut before = None;
     for var in vars {
-        let pattern = see_var(alloc, var, patterns.as_slice(), first)?;
+        let pattern = see_var(alloc, var, before, patterns.as_slice(), first)?;
         patterns.push(pattern)?;
+        before = Some(var);
     }
     Ok(Declared {
         table,

@@ -1,7 +1,7 @@
 -- One more, and the end of all.
-use Rattle.std.proofs.Common.{◌∙◌, ap, sym, map, ◌++◌, ◌∷◌, []}
+use Rattle.std.proofs.Common.{◌∙◌, ap, sym, map, ◌++◌, ◌∷◌, [], ◌-◌, length, Some}
 use Rattle.std.proofs.lemmas.List.{take_all}
-use Rattle.std.specs.Prelude.{flat_map}
+use Rattle.std.specs.Prelude.{flat_map, slice_get}
 use Rattle.rn_model.specs.Limits.{most_vars}
 use Rattle.rn_net.specs.declared.plain.PVar.{PVar}
 use Rattle.rn_check.specs.Faults.{first_from}
@@ -9,9 +9,10 @@ use Rattle.rn_check.specs.Patterns.{pattern_of}
 use Rattle.rn_check.specs.Names.{declared_faults}
 use Rattle.rn_check.specs.Tables.{found_in}
 use Rattle.rn_check.specs.Declarations.{kind_faults}
+use Rattle.rn_check.proofs.FirstLemmas.{told_again}
 use Rattle.rn_check.proofs.SightLemmas.{first_from-append}
 use Rattle.rn_check.proofs.ToldLemmas.{told_more, map_more}
-use Rattle.rn_check.proofs.PlaceLemmas.{pattern_found}
+use Rattle.rn_check.proofs.PlaceLemmas.{pattern_found, last_more}
 use Rattle.rn_check.proofs.places.declare_vars.Goals as goal
 
 pub loop-var-preserved : goal.loop-var-preserved
@@ -25,6 +26,17 @@ loop-var-preserved c =
           ∙ ap (λ p. c.loop-var.patterns.items ++ p ∷ []) c.in_ok-pattern.ensures.pattern
           ∙ ap (λ ps. ps ++ pattern_of x.kind ∷ []) c.loop-var.invariant.patterns
           ∙ sym (map_more (λ (x : PVar). pattern_of x.kind) xs i x c.loop-var-test.true c.var-item.is);
+      seen =
+          record {
+            told =
+                ap (λ k. first_from k (kind_faults x.kind)) c.in_ok-pattern.ensures.told
+                ∙ told_again c.loop-var.first.fault (kind_faults x.kind)
+                ∙ sym c.in_ok-pattern.ensures.told;
+            pattern =
+                ap (λ ps. slice_get ps (length ps - 1)) c.in_ok-push.ensures.items
+                ∙ last_more c.loop-var.patterns.items c.in_ok-pattern.pattern
+                ∙ ap Some c.in_ok-pattern.ensures.pattern;
+          };
       told =
           c.in_ok-pattern.ensures.told
           ∙ ap (λ k. first_from k (kind_faults x.kind)) c.loop-var.invariant.told
