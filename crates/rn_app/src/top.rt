@@ -31,27 +31,42 @@ use rn_answer::{
 use rn_commands::{answer_laws, enabled, parts_laws, replay, run, run_workload};
 use rn_outside::{Sink, Source};
 use rn_words::{Command, words_laws};
+use rn_worker::Gate;
 use std::alloc::Global;
+use std::sync::Wait;
+use std::thread::Threads;
 
 // What a command comes to on its input.
-fn work(alloc: Global, command: Command, bytes: &[u8]) -> Result<Answer, Stopped>
+fn work<R: Threads + Wait + Sync, G: Gate + Sync>(
+    rt: &R,
+    alloc: Global,
+    command: Command,
+    bytes: &[u8],
+    gate: &G,
+) -> Result<Answer, Stopped>
     requires given { (words : List (List ℕ)) × WordsOk words command }
     requires few { length bytes.now ≤ longest_text }
     ensures { Concludes (ComesTo command bytes.now) result }
 {
     words_laws();
     match command {
-        Command::Run(options) => run(alloc, options, bytes),
+        Command::Run(options) => run(rt, alloc, options, bytes, gate),
         Command::Check => check(alloc, bytes),
         Command::Print => print(alloc, bytes),
         Command::Enabled(depth) => enabled(alloc, depth, bytes),
         Command::Replay(options) => replay(alloc, options, bytes),
-        Command::Gen(copies, options) => run_workload(alloc, copies, options),
+        Command::Gen(copies, options) => run_workload(rt, alloc, copies, options, gate),
     }
 }
 
 // What the words come to: the command is read, then its input, and then it is done.
-fn answer<I: Source>(alloc: Global, words: &[String], input: &mut I) -> Result<Answer, Stopped>
+fn answer<R: Threads + Wait + Sync, I: Source, G: Gate + Sync>(
+    rt: &R,
+    alloc: Global,
+    words: &[String],
+    input: &mut I,
+    gate: &G,
+) -> Result<Answer, Stopped>
     // What is answered, or refused, is what the words and the input come to; or a read failed, or
     // memory ran out.
     ensures comes { ComesOrStops (map string_bytes words.now) (I.left input.old) (I.left input.new)
@@ -76,18 +91,20 @@ fn answer<I: Source>(alloc: Global, words: &[String], input: &mut I) -> Result<A
     words_laws();
     let command = command_of(alloc, words)?;
     let bytes = input_of(alloc, &command, input)?;
-    work(alloc, command, bytes.as_slice())
+    work(rt, alloc, command, bytes.as_slice(), gate)
 }
 
 /// Does all that the program does: it accepts the words, reads the input, does the command, and
-/// writes what it comes to. `words` are those after the program's name. It returns one of the
-/// statuses of the crate.
-pub fn renew_top<I: Source, O: Sink, E: Sink>(
+/// writes what it comes to. `words` are those after the program's name. The workers of a run call
+/// `gate` between a search and its commit. It returns one of the statuses of the crate.
+pub fn renew_top<R: Threads + Wait + Sync, I: Source, O: Sink, E: Sink, G: Gate + Sync>(
+    rt: &R,
     alloc: Global,
     words: &[String],
     input: &mut I,
     out: &mut O,
     err: &mut E,
+    gate: &G,
 ) -> u8
     // A run that is written is a true run of the net text that was read: with this status the log
     // ended as dead or at the step limit, and with that one in a firing that is undefined.
@@ -175,7 +192,7 @@ pub fn renew_top<I: Source, O: Sink, E: Sink>(
     input_laws();
     parts_laws();
     answer_laws();
-    match answer(alloc, words, input) {
+    match answer(rt, alloc, words, input, gate) {
         Ok(answer) => write_answer(out, err, &answer),
         Err(Stopped::Refused(answer)) => write_answer(out, err, &answer),
         Err(Stopped::ReadFault) => write_line(err, b"read fault\n", READ_FAULT),

@@ -8,8 +8,8 @@ const TWO_TOKENS: &[u8] = b"net main { var x: int; place p: int = 1, 2; trans t 
 fn runs(rt: HostRuntime) -> Result<(), Fail> {
     let table: [(&str, &[u8], u8, &[u8], &[u8]); 8] = [
         (RUN, FIRES_ONCE, 0, ITS_RUN, b""),
-        ("run --workers 2", FIRES_ONCE, 0, ITS_RUN, b""),
-        ("run --drop 1", FIRES_ONCE, 0, ITS_RUN, b""),
+        ("run --workers=1", FIRES_ONCE, 0, ITS_RUN, b""),
+        ("run --drop 1 --workers 1", FIRES_ONCE, 0, ITS_RUN, b""),
         (
             "run --steps 0",
             FIRES_ONCE,
@@ -52,7 +52,7 @@ fn runs(rt: HostRuntime) -> Result<(), Fail> {
             ..WHOLE
         };
         assert!(rt;
-            gives(rt.alloc(), &call, status, out, err)?,
+            gives(&rt, rt.alloc(), &call, status, out, err)?,
             "{line} {text:?}"
         );
     }
@@ -100,7 +100,7 @@ fn texts_that_are_checked_and_printed(rt: HostRuntime) -> Result<(), Fail> {
             ..WHOLE
         };
         assert!(rt;
-            gives(rt.alloc(), &call, status, out, err)?,
+            gives(&rt, rt.alloc(), &call, status, out, err)?,
             "{line} {text:?}"
         );
     }
@@ -155,7 +155,7 @@ fn bindings_and_workloads(rt: HostRuntime) -> Result<(), Fail> {
             ..WHOLE
         };
         assert!(rt;
-            gives(rt.alloc(), &call, status, out, err)?,
+            gives(&rt, rt.alloc(), &call, status, out, err)?,
             "{line} {text:?}"
         );
     }

@@ -2,8 +2,11 @@
 use crate::calling::{Call, FIRES_ONCE, ITS_RUN, RUN, WHOLE, gives, make, sink, status};
 use rn_items::NoMemory;
 use rn_outside::{Source, SourceFailed};
+use rn_worker::NoGate;
 use std::alloc::Global;
+use std::sync::Wait;
 use std::test::Fail;
+use std::thread::Threads;
 
 // The text of a net with blanks after it, up to a length.
 fn spaced(alloc: Global, length: usize) -> Result<Vec<u8>, NoMemory> {
@@ -28,7 +31,7 @@ fn a_text_has_at_most_its_limit(rt: HostRuntime) -> Result<(), Fail> {
             ..WHOLE
         };
         assert!(rt;
-            gives(rt.alloc(), &call, status, out, err)?,
+            gives(&rt, rt.alloc(), &call, status, out, err)?,
             "{line} {length}"
         );
     }
@@ -42,17 +45,18 @@ fn is_long(out: &[u8]) -> bool {
         && out.ends_with(b" [] [] []\n")
 }
 
-fn runs_long(alloc: Global) -> Result<bool, NoMemory> {
+fn runs_long<R: Threads + Wait + Sync>(rt: &R, alloc: Global) -> Result<bool, NoMemory> {
     let text = b"net main { place p; trans t { out p; } }";
     let mut out = sink(alloc, 1000, &[])?;
     let mut err = sink(alloc, 1000, &[])?;
-    let status = make(alloc, &Call { text, ..WHOLE }, &mut out, &mut err)?;
+    let call = Call { text, ..WHOLE };
+    let status = make(rt, alloc, &call, &mut out, &mut err, &NoGate)?;
     Ok(status == 0 && is_long(out.held()))
 }
 
 #[test]
 fn runs_end_after_a_thousand_firings(rt: HostRuntime) -> Result<(), Fail> {
-    assert!(rt; runs_long(rt.alloc())?);
+    assert!(rt; runs_long(&rt, rt.alloc())?);
     Ok(())
 }
 
@@ -82,7 +86,8 @@ impl Source for Counting {
 
 // Whether words give a status and this line after so many reads of a source with so many bytes, of
 // which so many are left then.
-fn reads(
+fn reads<R: Threads + Wait + Sync>(
+    rt: &R,
     alloc: Global,
     line: &str,
     bytes: (usize, usize),
@@ -96,7 +101,7 @@ fn reads(
     };
     let mut out = sink(alloc, 100, &[])?;
     let mut err = sink(alloc, 100, &[])?;
-    let found = status(alloc, line, &mut input, &mut out, &mut err)?;
+    let found = status(rt, alloc, line, &mut input, &mut out, &mut err, &NoGate)?;
     Ok(found == wanted && input.reads == reads && input.left == bytes.1 && err.held() == wanted_err)
 }
 
@@ -119,7 +124,7 @@ fn other_words_read_nothing(rt: HostRuntime) -> Result<(), Fail> {
     ];
     for (line, bytes, status, count, err) in table {
         assert!(rt;
-            reads(rt.alloc(), line, bytes, status, count, err)?,
+            reads(&rt, rt.alloc(), line, bytes, status, count, err)?,
             "{line}"
         );
     }
@@ -224,7 +229,7 @@ fn faults(rt: HostRuntime) -> Result<(), Fail> {
     ];
     for (call, status, out, err) in table {
         assert!(rt;
-            gives(rt.alloc(), &call, status, out, err)?,
+            gives(&rt, rt.alloc(), &call, status, out, err)?,
             "{status} {out:?}"
         );
     }

@@ -2,7 +2,9 @@
 use crate::calling::{Call, FIRES_ONCE, ITS_RUN, WHOLE, gives};
 use rn_items::NoMemory;
 use std::alloc::Global;
+use std::sync::Wait;
 use std::test::Fail;
+use std::thread::Threads;
 
 // The input of `replay`: a net text, and after a line `---` a record.
 fn recorded(alloc: Global, text: &[u8], record: &[u8]) -> Result<Vec<u8>, NoMemory> {
@@ -64,7 +66,7 @@ fn records(rt: HostRuntime) -> Result<(), Fail> {
             ..WHOLE
         };
         assert!(rt;
-            gives(rt.alloc(), &call, status, out, err)?,
+            gives(&rt, rt.alloc(), &call, status, out, err)?,
             "{line} {record:?}"
         );
     }
@@ -117,7 +119,10 @@ fn records_of_other_texts(rt: HostRuntime) -> Result<(), Fail> {
             text,
             ..WHOLE
         };
-        assert!(rt; gives(rt.alloc(), &call, status, out, err)?, "{text:?}");
+        assert!(rt;
+            gives(&rt, rt.alloc(), &call, status, out, err)?,
+            "{text:?}"
+        );
     }
     Ok(())
 }

@@ -3,7 +3,10 @@ use crate::given::words_of;
 use rn_app::renew_top;
 use rn_items::NoMemory;
 use rn_outside::{MemSink, MemSource, Source};
+use rn_worker::{Gate, NoGate};
 use std::alloc::Global;
+use std::sync::Wait;
+use std::thread::Threads;
 
 /// The words of a call, its input, which of its reads and of the writes to `out` and `err` fail, and
 /// how many bytes a write takes at most.
@@ -47,31 +50,36 @@ fn source(alloc: Global, call: &Call<'_>) -> Result<MemSource, NoMemory> {
     Ok(MemSource::new(call.text.to_vec(alloc)?, fails))
 }
 
-/// The status of a call with these words.
-pub(crate) fn status<S: Source>(
+/// The status of a call with these words, whose workers call this gate.
+pub(crate) fn status<R: Threads + Wait + Sync, S: Source, G: Gate + Sync>(
+    rt: &R,
     alloc: Global,
     line: &str,
     input: &mut S,
     out: &mut MemSink,
     err: &mut MemSink,
+    gate: &G,
 ) -> Result<u8, NoMemory> {
     let words = words_of(alloc, line)?;
-    Ok(renew_top(alloc, words.as_slice(), input, out, err))
+    Ok(renew_top(rt, alloc, words.as_slice(), input, out, err, gate))
 }
 
 /// The status of a call, and what it leaves on two sinks.
-pub(crate) fn make(
+pub(crate) fn make<R: Threads + Wait + Sync, G: Gate + Sync>(
+    rt: &R,
     alloc: Global,
     call: &Call<'_>,
     out: &mut MemSink,
     err: &mut MemSink,
+    gate: &G,
 ) -> Result<u8, NoMemory> {
     let mut input = source(alloc, call)?;
-    status(alloc, call.line, &mut input, out, err)
+    status(rt, alloc, call.line, &mut input, out, err, gate)
 }
 
 /// Whether a call gives a status and leaves these bytes.
-pub(crate) fn gives(
+pub(crate) fn gives<R: Threads + Wait + Sync>(
+    rt: &R,
     alloc: Global,
     call: &Call<'_>,
     status: u8,
@@ -80,6 +88,6 @@ pub(crate) fn gives(
 ) -> Result<bool, NoMemory> {
     let mut out = sink(alloc, call.most, call.out_fails)?;
     let mut err = sink(alloc, call.most, call.err_fails)?;
-    let found = make(alloc, call, &mut out, &mut err)?;
+    let found = make(rt, alloc, call, &mut out, &mut err, &NoGate)?;
     Ok(found == status && out.held() == wanted_out && err.held() == wanted_err)
 }

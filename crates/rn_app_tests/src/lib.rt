@@ -8,6 +8,8 @@ mod app_faults;
 #[cfg(test)]
 mod app_records;
 #[cfg(test)]
+mod app_workers;
+#[cfg(test)]
 mod calling;
 #[cfg(test)]
 mod given;

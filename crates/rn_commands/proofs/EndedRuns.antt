@@ -1,14 +1,12 @@
 -- States whose run has ended.
-use Rattle.std.proofs.Common.{◌≡◌, ◌-◌, ℕ, suc, List, length, sym, ap, ◌∙◌, subst, arith}
+use Rattle.std.proofs.Common.{◌≡◌, ◌-◌, ℕ, suc, List, length, sym, ap, ◌∙◌, subst}
 use Rattle.std.specs.Prelude.{◌↔◌, All, Contains, Some}
 use Rattle.std.specs.List.Sorted.{IsStrictlyIncreasing}
-use Rattle.std.proofs.lemmas.List.Elements.{All-weaker}
 use Rattle.rn_model.specs.declared.system.System.{System}
 use Rattle.rn_model.specs.declared.log.Options.{Options}
 use Rattle.rn_model.specs.declared.log.Reason.{Reason}
-use Rattle.rn_model.specs.Good.{IsInLimits}
 use Rattle.rn_model.specs.Liveness.{IsLive, LivePart, Stands}
-use Rattle.rn_model.specs.Runs.{Firing, Log, end_of, entries_of}
+use Rattle.rn_model.specs.Runs.{Log, end_of, entries_of}
 use Rattle.rn_model.proofs.StandingTables.{tables_have_the_same_live}
 use Rattle.rn_table.specs.Tables.{Kept}
 use Rattle.rn_record.specs.RecordText.{record_text}
@@ -18,18 +16,8 @@ use Rattle.rn_gen.specs.Workload.{workload}
 use Rattle.rn_answer.specs.declared.answer.Answer.{Answer}
 use Rattle.rn_answer.specs.NetTexts.{Accepted}
 use Rattle.rn_commands.specs.Ends.{IsWrittenBy, end_message, end_status}
-use Rattle.rn_commands.specs.Running.{AreOfWorkerOne}
 use Rattle.rn_commands.specs.Runs.{IsOfWorkers, RunsTo, run_text}
 use Rattle.rn_commands.specs.Workloads.{CountsLive, GensTo, IsTalliedBy, tally_text}
-
--- worker 1 is one of the workers
-one_of_them : (options : Options) (fs : List Firing) → IsInLimits options → AreOfWorkerOne fs →
-    All (IsOfWorkers options.workers) fs
-one_of_them options fs limits one =
-    All-weaker (λ f. f.worker ≡ 1) (IsOfWorkers options.workers)
-    (λ f is.
-    let least = limits.workers.0 in
-    (omega (arith, is), omega (arith, is, least))) fs one
 
 -- the instances that are live in its table are those that are at its end
 pub counts_live : (s : State) (system : System) (table : Kept) (numbers : List ℕ) (count : ℕ) →
@@ -49,8 +37,8 @@ counts_live s system table numbers count same stands ascending live counted = re
 
 -- Of a state whose setup is this.
 module _ (system : System) (options : Options) (s : State) (a : Answer)
-    (setup : s.setup ≡ record { system = system; options = options }) (limits : IsInLimits options)
-    (one : AreOfWorkerOne s.fired) where
+    (setup : s.setup ≡ record { system = system; options = options })
+    (own : All (IsOfWorkers options.workers) s.fired) where
   its_log : (reason : Reason) → Log s.setup.system s.setup.options s.fired (Some reason) →
       Log system options s.fired (Some reason)
   its_log reason log =
@@ -68,7 +56,7 @@ module _ (system : System) (options : Options) (s : State) (a : Answer)
           system = system;
           accepted = accepted;
           firings = s.fired;
-          workers = one_of_them options s.fired limits one;
+          workers = own;
           log = its_log reason closed.2;
           marks = record_is.marks;
           live = subst (λ (x : Setup). LivePart x.system (end_of x.system s.fired) record_is.marks) setup
@@ -94,7 +82,7 @@ module _ (system : System) (options : Options) (s : State) (a : Answer)
         system = system;
         accepted = accepted;
         firings = s.fired;
-        workers = one_of_them options s.fired limits one;
+        workers = own;
         reason = reason;
         log = its_log reason
             (subst (λ r. Log s.setup.system s.setup.options s.fired (Some r)) same closed.2);

@@ -1,10 +1,6 @@
 pub mod EndedRuns
 pub mod FirstBindings
-pub mod KeptTables
 pub mod LastReasons
 pub mod OneAnswer
 pub mod PartLemmas
 pub mod ReplayLemmas
-pub mod StatesToSearch
-pub mod StepLemmas
-pub mod UnderWay

@@ -1,5 +1,4 @@
 pub mod Ends
-pub mod Running
 pub mod Runs
 pub mod Bindings
 pub mod Parts

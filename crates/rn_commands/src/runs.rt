@@ -7,13 +7,16 @@ ghost use Rattle.rn_answer.specs.NetTexts.{RefusesNet};
 ghost use Rattle.rn_answer.specs.Refusing.{Concludes};
 ghost use Rattle.rn_commands.specs.Runs.{RunsTo};
 
-use crate::running::run_alone;
+use crate::running::run_system;
 use rn_answer::{Answer, DONE, FAULTED, NO_MEMORY, Stopped, number_line, system_of};
 use rn_fire::SimState;
 use rn_items::{Items, NoMemory};
 use rn_model::{Entry, FaultKind, Options, Reason};
+use rn_worker::Gate;
 use rn_written::write_record;
 use std::alloc::Global;
+use std::sync::Wait;
+use std::thread::Threads;
 
 // The line of a firing that is undefined, which would have been the one with this number.
 fn fault_line(alloc: Global, cause: FaultKind, step: u64) -> Result<Items<u8>, NoMemory>
@@ -59,11 +62,17 @@ fn written(alloc: Global, state: &SimState) -> Result<Answer, NoMemory>
 }
 
 /// What `run` comes to on this net text, with these options.
-pub fn run(alloc: Global, options: Options, bytes: &[u8]) -> Result<Answer, Stopped>
+pub fn run<R: Threads + Wait + Sync, G: Gate + Sync>(
+    rt: &R,
+    alloc: Global,
+    options: Options,
+    bytes: &[u8],
+    gate: &G,
+) -> Result<Answer, Stopped>
     requires { IsInLimits options }
     ensures { Concludes (λ a. RefusesNet bytes.now a ⊎ RunsTo options bytes.now a) result }
 {
     let system = system_of(alloc, bytes)?;
-    let state = run_alone(alloc, system, options)?;
+    let state = run_system(rt, alloc, system, options, gate)?;
     Ok(written(alloc, &state)?)
 }

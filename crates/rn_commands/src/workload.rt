@@ -9,7 +9,7 @@ ghost use Rattle.rn_answer.specs.Refusing.{Concludes};
 ghost use Rattle.rn_commands.specs.Workloads.{counted_line, GensTo, IsTallyOf, IsTalliedBy};
 
 use crate::ends::fired_count;
-use crate::running::run_alone;
+use crate::running::run_system;
 use crate::runs::closed_by;
 use rn_answer::{Answer, Stopped, system_of};
 use rn_fire::SimState;
@@ -17,7 +17,10 @@ use rn_gen::gen_text;
 use rn_items::{Items, NoMemory};
 use rn_live::live;
 use rn_model::{Entry, FaultKind, Options, Reason, System};
+use rn_worker::Gate;
 use std::alloc::Global;
+use std::sync::Wait;
+use std::thread::Threads;
 
 // Appends a word and a number, as `steps 10`.
 fn put_counted(alloc: Global, word: &[u8], count: u64, text: &mut Vec<u8>) -> Result<(), NoMemory>
@@ -90,12 +93,18 @@ fn workload_system(alloc: Global, copies: u32) -> Result<System, NoMemory>
 }
 
 /// What `gen` comes to for so many workers, with these options.
-pub fn run_workload(alloc: Global, copies: u32, options: Options) -> Result<Answer, Stopped>
+pub fn run_workload<R: Threads + Wait + Sync, G: Gate + Sync>(
+    rt: &R,
+    alloc: Global,
+    copies: u32,
+    options: Options,
+    gate: &G,
+) -> Result<Answer, Stopped>
     requires copies { (1 ≤ copies) × (copies ≤ 10000) }
     requires limits { IsInLimits options }
     ensures { Concludes (GensTo copies options) result }
 {
     let system = workload_system(alloc, copies)?;
-    let state = run_alone(alloc, system, options)?;
+    let state = run_system(rt, alloc, system, options, gate)?;
     Ok(tallied(alloc, &state)?)
 }

@@ -8,7 +8,7 @@ use Rattle.rn_app.proofs.WordsAndInput.{few_bytes, no_read, no_read_words, nothi
 use Rattle.rn_app.proofs.top.answer.Goals as goal
 
 pub work-requires-clause-few : goal.work-requires-clause-few
-work-requires-clause-few g c =
+work-requires-clause-few g c κs within =
     let same : c.as_slice.result.now ≡ c.in_ok-bytes.bytes.items = search rules in
     subst (λ (bytes : List ℕ). length bytes ≤ 67108864) (sym same)
     (few_bytes c.in_ok-command.command c.in_ok-bytes.bytes.items (longest_input c.in_ok-command.command) refl (λ none. (c.in_ok-bytes.ensures.inputless none).1) (λ limit is. (c.in_ok-bytes.ensures.all limit is).1))

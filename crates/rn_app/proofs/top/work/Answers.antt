@@ -3,16 +3,17 @@ use Rattle.rn_words.specs.Laws.{IsWithinLimits}
 use Rattle.rn_app.proofs.top.work.Goals as goal
 
 pub run-requires : goal.run-requires
-run-requires c = subst IsWithinLimits c.in-Run.is (c.words_laws.ensures.limits c.requires.given.0 c.args.command c.requires.given.1)
+run-requires g c =
+    (c.type_bounds.sync-R, (c.type_bounds.sync-G, subst IsWithinLimits c.in-Run.is (c.words_laws.ensures.limits c.requires.given.0 c.args.command c.requires.given.1)))
 
 pub enabled-requires : goal.enabled-requires
-enabled-requires c = subst IsWithinLimits c.in-Enabled.is (c.words_laws.ensures.limits c.requires.given.0 c.args.command c.requires.given.1)
+enabled-requires g c = subst IsWithinLimits c.in-Enabled.is (c.words_laws.ensures.limits c.requires.given.0 c.args.command c.requires.given.1)
 
 pub replay-requires-clause-limits : goal.replay-requires-clause-limits
-replay-requires-clause-limits c = subst IsWithinLimits c.in-Replay.is (c.words_laws.ensures.limits c.requires.given.0 c.args.command c.requires.given.1)
+replay-requires-clause-limits g c = subst IsWithinLimits c.in-Replay.is (c.words_laws.ensures.limits c.requires.given.0 c.args.command c.requires.given.1)
 
 pub run_workload-requires-clause-copies : goal.run_workload-requires-clause-copies
-run_workload-requires-clause-copies c = (subst IsWithinLimits c.in-Gen.is (c.words_laws.ensures.limits c.requires.given.0 c.args.command c.requires.given.1)).0
+run_workload-requires-clause-copies g c κs within = (subst IsWithinLimits c.in-Gen.is (c.words_laws.ensures.limits c.requires.given.0 c.args.command c.requires.given.1)).0
 
 pub run_workload-requires-clause-limits : goal.run_workload-requires-clause-limits
-run_workload-requires-clause-limits c = (subst IsWithinLimits c.in-Gen.is (c.words_laws.ensures.limits c.requires.given.0 c.args.command c.requires.given.1)).1
+run_workload-requires-clause-limits g c κs within = (subst IsWithinLimits c.in-Gen.is (c.words_laws.ensures.limits c.requires.given.0 c.args.command c.requires.given.1)).1

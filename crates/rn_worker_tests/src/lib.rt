@@ -1,0 +1,7 @@
+//! Tests of workers.
+#![tactic(auto)]
+
+#[cfg(test)]
+mod nets;
+#[cfg(test)]
+mod runs;

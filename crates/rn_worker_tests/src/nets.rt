@@ -1,0 +1,50 @@
+//! Runs of net texts by several workers.
+ghost use Rattle.std.specs.Prelude.{◌≡◌, ◌≤◌, IfOk};
+ghost use Rattle.rn_model.specs.Good.{Good, IsInLimits};
+ghost use Rattle.rn_model.specs.Limits.{greatest_sweep, most_workers};
+
+use rn_check::check_system;
+use rn_model::{Options, System};
+use rn_net::read_system;
+use rn_worker::{Finished, Gate, run_workers};
+use std::alloc::Global;
+use std::sync::{Arc, Wait};
+use std::test::Fail;
+use std::thread::Threads;
+
+fn system_of(alloc: Global, text: &[u8]) -> Result<Arc<System>, Fail>
+    ensures { IfOk result (λ system. Good system.value) }
+{
+    let plain = read_system(alloc, text)?;
+    let system = check_system(alloc, plain)?;
+    Ok(Arc::new(alloc, system)?)
+}
+
+fn options_of(workers: u32, sweep_every: u32) -> Options
+    requires workers { (1 ≤ workers) × (workers ≤ most_workers) }
+    requires sweep { sweep_every ≤ greatest_sweep }
+    ensures { IsInLimits result }
+{
+    Options {
+        workers,
+        steps: 1000,
+        depth: 4,
+        sweep_every,
+    }
+}
+
+/// A net text, run by so many workers. Each drops instances after so many firings of its own.
+pub(crate) fn run_text<R: Threads + Wait + Sync, G: Gate + Sync>(
+    rt: &R,
+    alloc: Global,
+    text: &[u8],
+    workers: u32,
+    sweep_every: u32,
+    gate: &G,
+) -> Result<Finished, Fail>
+    requires workers { (1 ≤ workers) × (workers ≤ most_workers) }
+    requires sweep { sweep_every ≤ greatest_sweep }
+{
+    let system = system_of(alloc, text)?;
+    Ok(run_workers(rt, alloc, system, options_of(workers, sweep_every), gate)?)
+}

@@ -1,0 +1,99 @@
+//! What threads leave: workers that meet between search and commit, and instances that are dropped
+//! during a run.
+use crate::nets::run_text;
+use rn_gen::gen_text;
+use rn_model::{Entry, Reason};
+use rn_worker::{Finished, MeetGate, NoGate};
+use std::test::Fail;
+
+// Two tokens that either worker may take.
+const TWO: &[u8] = b"net main { var x: int; place p: int = 1, 2; trans t { in p: x; } }";
+
+// It makes 300 instances of which no token holds one.
+const MAKES: &[u8] = b"net main { var x: net; var k: int; place c: int = 0;
+  trans t { in c: k; guard k < 300; out c: k + 1; x: new w; } }
+net w { place p; }";
+
+fn first_worker(finished: &Finished) -> u32 {
+    match finished.state.entries().first() {
+        Some(Entry::Fire { worker, .. }) => *worker,
+        _ => 0,
+    }
+}
+
+fn is_dead(finished: &Finished) -> bool {
+    matches!(
+        finished.state.entries().last(),
+        Some(Entry::End(Reason::Dead))
+    )
+}
+
+fn fired(finished: &Finished) -> u64 {
+    let mut all: u64 = 0;
+    for tally in finished.tallies.as_slice() {
+        all = all.saturating_add(tally.fired);
+    }
+    all
+}
+
+fn swept(finished: &Finished) -> u64 {
+    let mut all: u64 = 0;
+    for tally in finished.tallies.as_slice() {
+        all = all.saturating_add(tally.swept);
+    }
+    all
+}
+
+#[test]
+fn two_workers_meet(rt: HostRuntime) -> Result<(), Fail> {
+    let gate = MeetGate::new(100_000_000);
+    let finished = run_text(&rt, rt.alloc(), TWO, 2, 0, &gate)?;
+    assert!(rt; gate.met());
+    assert!(rt; first_worker(&finished) == 2 && is_dead(&finished));
+    assert_eq!(rt; finished.state.length(), 3);
+    Ok(())
+}
+
+#[test]
+fn one_worker_meets_none(rt: HostRuntime) -> Result<(), Fail> {
+    let gate = MeetGate::new(10);
+    let finished = run_text(&rt, rt.alloc(), TWO, 1, 0, &gate)?;
+    assert!(rt; !gate.met());
+    assert!(rt; first_worker(&finished) == 1 && is_dead(&finished));
+    assert_eq!(rt; finished.state.length(), 3);
+    Ok(())
+}
+
+#[test]
+fn instances_are_dropped(rt: HostRuntime) -> Result<(), Fail> {
+    for (workers, sweep_every) in [(1, 1), (4, 7), (4, 0), (64, 2)] {
+        let finished = run_text(&rt, rt.alloc(), MAKES, workers, sweep_every, &NoGate)?;
+        let dropped = swept(&finished);
+        let kept = finished.state.table().instances()?;
+        assert!(rt;
+            fired(&finished) == 300 && is_dead(&finished),
+            "{workers} workers"
+        );
+        assert!(rt; kept.len() == 1, "{workers} workers");
+        assert!(rt; dropped <= 300, "{workers} workers");
+        assert!(rt; (dropped > 0) == (sweep_every > 0), "{workers} workers");
+    }
+    Ok(())
+}
+
+// The workload makes an instance for each copy and lets it go. So each is dropped once it isn't live
+// any more, and `main` is left.
+#[test]
+fn a_workload_is_dropped(rt: HostRuntime) -> Result<(), Fail> {
+    for (copies, sweep_every, least, most) in [(1, 1, 1, 1), (1, 0, 0, 0), (3, 2, 0, 3)] {
+        let text = gen_text(rt.alloc(), copies)?;
+        let finished = run_text(&rt, rt.alloc(), text.as_slice(), 1, sweep_every, &NoGate)?;
+        let dropped = swept(&finished);
+        let kept = finished.state.table().instances()?;
+        assert_eq!(rt; fired(&finished), 5 * copies as u64);
+        assert!(rt; is_dead(&finished), "{copies} copies");
+        assert!(rt; kept.as_slice() == [1].as_slice(), "{copies} copies");
+        assert!(rt; least <= dropped && dropped <= most, "{copies} copies");
+    }
+    Ok(())
+}
