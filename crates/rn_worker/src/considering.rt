@@ -9,6 +9,7 @@ use rn_found::Finding;
 use rn_items::NoMemory;
 use rn_live::garbage;
 use rn_model::System;
+use rn_value::InstRef;
 use std::alloc::Global;
 
 /// What a worker found: a binding that was enabled, or `None` where none was; and instances that
@@ -42,28 +43,65 @@ pub(crate) fn plan_at(
     Ok(Plan { found, dead })
 }
 
-/// Where a worker begins to search, after so many entries: an instance, a transition and a token
-/// of its own.
-pub(crate) fn start_of(worker: u32, seen: u64, instances: u32) -> u64 {
+// A number of a worker's own after so many entries, below 2^24.
+fn mixed(worker: u32, seen: u64) -> u64 {
     let mixed = (worker as u64)
         .wrapping_mul(11400714819323198485)
         .wrapping_add(seen.wrapping_mul(15111042398283466643));
-    let number = (mixed / 4294967296) % (instances as u64 + 1);
-    let others = (mixed % 16777216) * 1048576;
-    others + number
+    (mixed / 1048576) % 16777216
 }
 
-/// The finding with which a worker goes on: its own after it fired, and else a new one, which begins
-/// where it is told.
+// The start that these say to a search: a token, a transition and an instance.
+fn start_at(token: u64, transition: u64, number: u64) -> u64 {
+    token
+        .wrapping_mul(1099511627776)
+        .wrapping_add((transition % 1048576) * 1048576)
+        .wrapping_add(number % 1048576)
+}
+
+/// Where a worker begins to search: at tokens of its own.
+pub(crate) fn start_of(worker: u32) -> u64 {
+    start_at(mixed(worker, 0), 0, 0)
+}
+
+/// Where a worker goes on that found something and came too late: with the same transition of the
+/// same instance, at other tokens. After each second time in a row with the next transition, since
+/// perhaps there is one token that all want.
+pub(crate) fn start_beside(
+    worker: u32,
+    seen: u64,
+    late: u64,
+    plan: &Result<Plan, NoMemory>,
+) -> Option<u64> {
+    let Ok(plan) = plan else {
+        return None;
+    };
+    let Some(candidate) = &plan.found else {
+        return None;
+    };
+    let node = candidate.binding().nodes.as_slice().first()?;
+    let InstRef::Old(number) = node.inst else {
+        return None;
+    };
+    let transition = (node.transition as u64).wrapping_add(late / 2);
+    Some(start_at(mixed(worker, seen), transition, number as u64))
+}
+
+/// The finding with which a worker goes on: its own after it fired or found nothing, and else a new
+/// one, which begins where it is told.
 pub(crate) fn finding_after(
     alloc: Global,
     finding: Finding,
     fired: bool,
-    elsewhere: u64,
+    beside: Option<u64>,
 ) -> Finding {
-    if fired {
-        finding
-    } else {
-        Finding::new(alloc, elsewhere)
+    match beside {
+        Some(start) if !fired => Finding::new(alloc, start),
+        _ => finding,
     }
+}
+
+/// How often in a row a worker fired nothing.
+pub(crate) fn late_after(late: u64, fired: bool) -> u64 {
+    if fired { 0 } else { late.saturating_add(1) }
 }

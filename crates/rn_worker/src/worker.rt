@@ -6,7 +6,7 @@ ghost use Rattle.rn_desk.specs.Passes.{fixed_of, number, seen, mine, IsOf, HasNo
 ghost use Rattle.rn_worker.specs.Seen.{HasEnded};
 
 use crate::acting::act;
-use crate::considering::{finding_after, plan_at, start_of};
+use crate::considering::{finding_after, late_after, plan_at, start_beside, start_of};
 use crate::gate::Gate;
 use crate::looking::look;
 use crate::tally::{Tally, is_due};
@@ -21,8 +21,8 @@ use std::sync::Wait;
 /// Fires until the log has ended. Each round takes two turns: in one the worker takes a snapshot, in
 /// the other it commits what it found there, and in between it searches with no turn held.
 ///
-/// Where it doesn't come to fire, it begins its next search elsewhere. Without memory it ends the
-/// log.
+/// Where it comes too late to fire what it found, it begins its next search with other tokens.
+/// Without memory it ends the log.
 pub fn work<R: Wait, G: Gate + Sync>(
     rt: &R,
     alloc: Global,
@@ -55,11 +55,11 @@ pub fn work<R: Wait, G: Gate + Sync>(
     ensures swept { options.now.sweep_every ≡ 0 → tally.new.swept ≡ 0 }
 {
     let worker = tally.worker;
-    let mut finding = Finding::new(alloc, start_of(worker, 0, 0));
+    let mut finding = Finding::new(alloc, start_of(worker));
     let mut due = false;
+    let mut late = 0;
     while let Some(sight) = look(rt, desk, pass) {
         let seen = sight.seen;
-        let elsewhere = start_of(worker, seen, sight.table.next());
         let plan = plan_at(
             alloc,
             system,
@@ -69,10 +69,12 @@ pub fn work<R: Wait, G: Gate + Sync>(
             sight,
             due,
         );
+        let beside = start_beside(worker, seen, late, &plan);
         gate.between(worker, seen);
         let done = act(rt, alloc, desk, pass, worker, seen, &plan);
         tally.count(done);
         due = is_due(done.fired, tally.fired, options.sweep_every);
-        finding = finding_after(alloc, finding, done.fired, elsewhere);
+        finding = finding_after(alloc, finding, done.fired, beside);
+        late = late_after(late, done.fired);
     }
 }
