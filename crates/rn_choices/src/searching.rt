@@ -1,4 +1,4 @@
-//! The search: steps forward, going back to the newest choice, and its two public calls.
+//! The search: steps forward, going back to the newest choice, and its public calls.
 
 ghost use Rattle.std.specs.Prelude.{◌≡◌, ◌+◌, ◌<◌, ◌≤◌, ◌++◌, ◌∷◌, ◌⊎◌, ◌↔◌, [], ℕ, length, take};
 ghost use Rattle.std.specs.Prelude.{true, false, IsTrue, IfOk, IfSome, IfNone, IsSome, IsNone};
@@ -9,6 +9,7 @@ ghost use Rattle.rn_choices.specs.Steps.{Goes, Shrinks};
 ghost use Rattle.rn_choices.specs.Leading.{IsOnly, NoneLeads, Says};
 ghost use Rattle.rn_choices.specs.declared.next.Next.TheVariants.{Forced, Choose};
 
+use crate::asked::{Asked, ToTheEnd};
 use crate::choice::{Choice, start_at, turn_round};
 use crate::grows::Grows;
 use crate::next::Next;
@@ -211,13 +212,15 @@ fn step<G: Grows>(
     }
 }
 
-// Goes on, from decisions that are live, to the next solution.
-fn next_found<G: Grows>(
+// Goes on, from decisions that are live, to the next solution. Before each step it asks whether it
+// goes on.
+fn next_found<G: Grows, A: Asked>(
     alloc: Global,
     problem: &G::Problem,
     state: &mut G,
     choices: &mut Choices<G::Site>,
-) -> Result<Option<G::Solution>, NoMemory>
+    asked: &A,
+) -> Result<Option<G::Solution>, A::Halt>
     requires stands { G.stands problem.now state.old }
     requires set { Stand (G.offers problem.now) (G.allows problem.now)
         (G.decisions problem.now state.old) choices.old }
@@ -240,12 +243,32 @@ fn next_found<G: Grows>(
         (G.decisions problem.now state.old) choices.old s → ⊥)) }
 {
     'steps: loop {
+        asked.go_on()?;
         match step(alloc, problem, state, choices)? {
             Step::Found(solution) => return Ok(Some(solution)),
             Step::Over => return Ok(None),
             Step::Moved => {}
         }
     }
+}
+
+/// A solution, or `None` exactly where there is none, as `find`. Before each step it asks whether it
+/// goes on; where it doesn't, that says nothing of solutions.
+pub fn find_while<G: Grows, A: Asked>(
+    alloc: Global,
+    problem: &G::Problem,
+    state: &mut G,
+    choices: &mut Choices<G::Site>,
+    asked: &A,
+) -> Result<Option<G::Solution>, A::Halt>
+    requires { G.stands problem.now state.old }
+    ensures found { IfOk result (λ found. IfSome found (λ s. G.leads problem.now [] s)) }
+    ensures none { IfOk result (λ found. IsNone found ↔ NoneLeads (G.leads problem.now) []) }
+    ensures stands { IfOk result (λ _. G.stands problem.now state.new) }
+{
+    state.undo(problem, 0);
+    choices.clear();
+    next_found(alloc, problem, state, choices, asked)
 }
 
 /// A solution, or `None` exactly where there is none. Decisions made before are taken back first.
@@ -261,9 +284,7 @@ pub fn find<G: Grows>(
     ensures none { IfOk result (λ found. IsNone found ↔ NoneLeads (G.leads problem.now) []) }
     ensures stands { IfOk result (λ _. G.stands problem.now state.new) }
 {
-    state.undo(problem, 0);
-    choices.clear();
-    next_found(alloc, problem, state, choices)
+    find_while(alloc, problem, state, choices, &ToTheEnd)
 }
 
 /// All solutions, each once, in no stated order. Decisions made before are taken back first.
@@ -283,7 +304,7 @@ pub fn all<G: Grows>(
     state.undo(problem, 0);
     choices.clear();
     let mut found = Vec::new(alloc);
-    'solutions: while let Some(solution) = next_found(alloc, problem, state, choices)? {
+    'solutions: while let Some(solution) = next_found(alloc, problem, state, choices, &ToTheEnd)? {
         found.push(solution)?;
         if !go_back(problem, state, choices)? {
             return Ok(found);

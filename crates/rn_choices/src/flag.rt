@@ -1,0 +1,54 @@
+//! A flag by which others stop a search.
+
+use crate::asked::Asked;
+use rn_items::NoMemory;
+use std::sync::atomic::{AtomicBool, Ordering};
+
+/// Why a search that may be stopped ends without an answer.
+#[derive(Clone, Copy, Debug, PartialEq, Eq)]
+pub enum Halt {
+    NoMemory,
+    /// The flag was raised.
+    Stopped,
+}
+
+impl From<NoMemory> for Halt {
+    fn from(_error: NoMemory) -> Halt {
+        Halt::NoMemory
+    }
+}
+
+/// A flag that threads share. Once it is raised, searches that ask it end.
+#[derive(Drop)]
+pub struct Flag {
+    raised: AtomicBool,
+}
+
+impl Flag {
+    /// A flag that isn't raised.
+    pub fn new() -> Flag {
+        Flag {
+            raised: AtomicBool::new(false),
+        }
+    }
+
+    /// Raises it, for good.
+    pub fn raise(&self) {
+        self.raised.store(true, Ordering::SeqCst);
+    }
+
+    pub fn is_raised(&self) -> bool {
+        self.raised.load(Ordering::SeqCst)
+    }
+}
+
+impl Asked for Flag {
+    type Halt = Halt;
+
+    fn go_on(&self) -> Result<(), Halt> {
+        if self.is_raised() {
+            return Err(Halt::Stopped);
+        }
+        Ok(())
+    }
+}
