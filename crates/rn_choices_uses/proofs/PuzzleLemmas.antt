@@ -2,6 +2,8 @@
 use Rattle.std.proofs.Common.{◌≡◌, ℕ, ◌<◌, List, [], ◌∷◌, ◌++◌, length, slice_index, subst, sym}
 use Rattle.std.proofs.Common.{◌∙◌, ap, refl, arith, append_assoc}
 use Rattle.std.proofs.lemmas.List.{append-nil, get_or_at}
+use Rattle.std.specs.Prelude.{Option, Result, Ok, Err, IfOk, IsNone, ◌↔◌}
+use Rattle.rn_choices.specs.Leading.{NoneLeads}
 use Rattle.rn_choices_uses.specs.declared.puzzle.Clash.{Clash}
 use Rattle.rn_choices_uses.specs.Puzzles.{IsSolution, Leads}
 
@@ -36,3 +38,14 @@ goes_on_alone sizes clashes ds s within alone led =
     let below = goes.1 in
     let first : goes.0 ≡ 0 = omega arith in
     subst (λ a. Leads sizes clashes (ds ++ a ∷ []) s) first goes.2
+
+-- there is no solution exactly where none begins with no numbers
+pub none_solved : {E : Type 0} (sizes : List ℕ) (clashes : List Clash)
+    (answer : Result (Option (List ℕ)) E) →
+    IfOk answer (λ found. IsNone found ↔ NoneLeads (Leads sizes clashes) []) →
+    IfOk answer (λ found. IsNone found ↔ ((s : List ℕ) → IsSolution sizes clashes s → ⊥))
+none_solved sizes clashes (Ok found) is = (
+  λ none s solution. is.0 none s (solution, (s, refl)),
+  λ none. is.1 (λ s led. none s led.0),
+)
+none_solved sizes clashes (Err halt) is = tt

@@ -4,7 +4,7 @@ ghost use Rattle.std.specs.Prelude.{◌≡◌, ◌↔◌, ◌≢◌, ◌<◌, Li
 ghost use Rattle.std.specs.Prelude.{IfOk, IfSome, IsNone, length, slice_index};
 ghost use Rattle.rn_choices_uses.specs.Puzzles.{IsSolution, Clashes};
 
-use rn_choices::{Choices, Grows, Next};
+use rn_choices::{Asked, Choices, Grows, Next, ToTheEnd};
 use rn_items::{Items, NoMemory};
 use std::alloc::Global;
 
@@ -141,12 +141,27 @@ pub fn solve<'a>(
     ensures none { IfOk result (λ found. IsNone found
         ↔ ((s : List ℕ) → IsSolution puzzle.entry.sizes.now puzzle.entry.clashes.now s → ⊥)) }
 {
+    solve_while(alloc, &ToTheEnd, puzzle, starts)
+}
+
+/// A solution of the puzzle, where there is one, as `solve`. It asks whether it goes on.
+pub fn solve_while<'a, A: Asked>(
+    alloc: Global,
+    asked: &A,
+    puzzle: Puzzle<'a>,
+    starts: &'a [usize],
+) -> Result<Option<Items<usize>>, A::Halt>
+    ensures found { IfOk result (λ found. IfSome found (λ s.
+        IsSolution puzzle.entry.sizes.now puzzle.entry.clashes.now s)) }
+    ensures none { IfOk result (λ found. IsNone found
+        ↔ ((s : List ℕ) → IsSolution puzzle.entry.sizes.now puzzle.entry.clashes.now s → ⊥)) }
+{
     let mut filling = Filling {
         values: Vec::new(alloc),
         starts,
     };
     let mut choices = Choices::new(alloc);
-    rn_choices::find(alloc, &puzzle, &mut filling, &mut choices)
+    rn_choices::find_while(alloc, &puzzle, &mut filling, &mut choices, asked)
 }
 
 /// All solutions of the puzzle, each once.

@@ -1,6 +1,7 @@
 //! Small puzzles, and one with many choices.
 
-use crate::{Clash, Puzzle, solutions, solve};
+use crate::{Clash, Puzzle, solutions, solve, solve_while};
+use rn_choices::{Flag, Halt};
 use std::test::Fail;
 
 #[test]
@@ -59,6 +60,29 @@ fn all_found(rt: HostRuntime) -> Result<(), Fail> {
     assert_eq!(rt; found[0].as_slice(), [0, 0, 0].as_slice());
     assert_eq!(rt; found[1].as_slice(), [0, 0, 1].as_slice());
     assert_eq!(rt; found[2].as_slice(), [1, 0, 0].as_slice());
+    Ok(())
+}
+
+#[test]
+fn stopped(rt: HostRuntime) -> Result<(), Fail> {
+    let alloc = rt.alloc();
+    let solved = Puzzle {
+        sizes: &[2, 2],
+        clashes: &[],
+    };
+    let unsolved = Puzzle {
+        sizes: &[2, 0],
+        clashes: &[],
+    };
+    let stop = Flag::new();
+    let found = solve_while(alloc, &stop, solved, &[])?.ok_or("none")?;
+    assert_eq!(rt; found.as_slice(), [0, 0].as_slice());
+    assert!(rt; solve_while(alloc, &stop, unsolved, &[])?.is_none());
+    stop.raise();
+    for puzzle in [solved, unsolved] {
+        let answer = solve_while(alloc, &stop, puzzle, &[]);
+        assert!(rt; matches!(answer, Err(Halt::Stopped)));
+    }
     Ok(())
 }
 
