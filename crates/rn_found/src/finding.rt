@@ -15,7 +15,7 @@ use crate::starts::{may_start, transition_count};
 use rn_binding::Candidate;
 use rn_branch::Branch;
 use rn_channel::Uplinks;
-use rn_choices::Choices;
+use rn_choices::{Asked, Choices, Flag, Halt, ToTheEnd};
 use rn_model::System;
 use rn_search::Point;
 use rn_table::Table;
@@ -31,15 +31,16 @@ pub struct Finding {
 }
 
 // A binding that starts with a transition of an instance, where a firing may start by it.
-fn find_from(
+fn find_from<A: Asked>(
     alloc: Global,
+    asked: &A,
     marked: Marked<'_>,
     choices: &mut Choices<Point>,
     number: u32,
     net: u32,
     transition: u32,
     token: usize,
-) -> Result<Option<Candidate>, NoMemory>
+) -> Result<Option<Candidate>, A::Halt>
     requires searched { IsSearchable marked.system.now marked.uplinks.now
         marked.table.now }
     requires net { net_of marked.table.now.marking number ≡ Some net }
@@ -54,13 +55,14 @@ fn find_from(
     }
     let problem = problem_at(alloc, marked, number, net, transition);
     let mut branch = Branch::open(alloc, marked.system, token);
-    let found = rn_choices::find(alloc, &problem, &mut branch, choices)?;
+    let found = rn_choices::find_while(alloc, &problem, &mut branch, choices, asked)?;
     Ok(found)
 }
 
 // A binding that starts with one of some transitions of an instance.
-fn find_among(
+fn find_among<A: Asked>(
     alloc: Global,
+    asked: &A,
     marked: Marked<'_>,
     choices: &mut Choices<Point>,
     number: u32,
@@ -68,7 +70,7 @@ fn find_among(
     from: u32,
     to: u32,
     token: usize,
-) -> Result<Option<(u32, Candidate)>, NoMemory>
+) -> Result<Option<(u32, Candidate)>, A::Halt>
     requires searched { IsSearchable marked.system.now marked.uplinks.now
         marked.table.now }
     requires net { net_of marked.table.now.marking number ≡ Some net }
@@ -80,7 +82,7 @@ fn find_among(
         (start_of number net t))) }
 {
     for t in from..to {
-        if let Some(found) = find_from(alloc, marked, choices, number, net, t, token)? {
+        if let Some(found) = find_from(alloc, asked, marked, choices, number, net, t, token)? {
             return Ok(Some((t, found)));
         }
     }
@@ -88,14 +90,15 @@ fn find_among(
 }
 
 // A binding that starts with an instance, by the transitions from one on, round.
-fn find_at(
+fn find_at<A: Asked>(
     alloc: Global,
+    asked: &A,
     marked: Marked<'_>,
     choices: &mut Choices<Point>,
     number: u32,
     first: u32,
     token: usize,
-) -> Result<Option<(u32, Candidate)>, NoMemory>
+) -> Result<Option<(u32, Candidate)>, A::Halt>
     requires { IsSearchable marked.system.now marked.uplinks.now
         marked.table.now }
     ensures found { IfOk result (λ found. IfSome found (λ f. Enabled marked.entry.system.now
@@ -108,10 +111,12 @@ fn find_at(
     };
     let count = transition_count(marked.system, net);
     let first = first.min(count);
-    if let Some(found) = find_among(alloc, marked, choices, number, net, first, count, token)? {
+    if let Some(found) = find_among(
+        alloc, asked, marked, choices, number, net, first, count, token,
+    )? {
         return Ok(Some(found));
     }
-    let found = find_among(alloc, marked, choices, number, net, 0, first, token)?;
+    let found = find_among(alloc, asked, marked, choices, number, net, 0, first, token)?;
     Ok(found)
 }
 
@@ -125,13 +130,14 @@ impl Finding {
     }
 
     // A binding that starts with an instance of a number below an end and not below another.
-    fn find_between(
+    fn find_between<A: Asked>(
         &mut self,
         alloc: Global,
+        asked: &A,
         marked: Marked<'_>,
         from: u32,
         end: u32,
-    ) -> Result<Option<Candidate>, NoMemory>
+    ) -> Result<Option<Candidate>, A::Halt>
         requires { IsSearchable marked.system.now marked.uplinks.now
             marked.table.now }
         ensures found { IfOk result (λ found. IfSome found (λ b. Enabled marked.entry.system.now
@@ -148,7 +154,15 @@ impl Finding {
             }
             let first = self.hint.first_of(number);
             let token = self.hint.token;
-            let found = find_at(alloc, marked, &mut self.choices, number, first, token)?;
+            let found = find_at(
+                alloc,
+                asked,
+                marked,
+                &mut self.choices,
+                number,
+                first,
+                token,
+            )?;
             if let Some((transition, found)) = found {
                 self.hint = self.hint.after(number, transition);
                 return Ok(Some(found));
@@ -156,6 +170,41 @@ impl Finding {
             next = number + 1;
         }
         Ok(None)
+    }
+
+    // A binding that is enabled, or `None` exactly where none is within the depth. Each search from
+    // a start asks whether it goes on.
+    fn find_while<A: Asked>(
+        &mut self,
+        alloc: Global,
+        asked: &A,
+        system: &System,
+        uplinks: &Uplinks,
+        table: &Table,
+        depth: u32,
+    ) -> Result<Option<Candidate>, A::Halt>
+        requires good { Good system.now }
+        requires own { AreUplinksOf system.now uplinks.now }
+        requires table { IsTableOf system.now table.now }
+        requires tokens { HasFitTokens system.now table.now.marking }
+        ensures found { IfOk result (λ found. IfSome found
+            (λ b. Enabled system.now table.now.marking b depth)) }
+        ensures none { IfOk result (λ found. IsNone found
+            ↔ DeadAt system.now table.now.marking depth) }
+    {
+        let marked = Marked {
+            system,
+            uplinks,
+            table,
+            depth,
+        };
+        let from = self.hint.number;
+        let end = table.next();
+        if let Some(found) = self.find_between(alloc, asked, marked, from, end)? {
+            return Ok(Some(found));
+        }
+        let found = self.find_between(alloc, asked, marked, 0, from)?;
+        Ok(found)
     }
 
     /// A binding that is enabled, or `None` exactly where none is within the depth.
@@ -176,19 +225,30 @@ impl Finding {
         ensures none { IfOk result (λ found. IsNone found
             ↔ DeadAt system.now table.now.marking depth) }
     {
-        let marked = Marked {
-            system,
-            uplinks,
-            table,
-            depth,
-        };
-        let from = self.hint.number;
-        let end = table.next();
-        if let Some(found) = self.find_between(alloc, marked, from, end)? {
-            return Ok(Some(found));
-        }
-        let found = self.find_between(alloc, marked, 0, from)?;
-        Ok(found)
+        self.find_while(alloc, &ToTheEnd, system, uplinks, table, depth)
+    }
+
+    /// The same, unless the flag stops it: where a search finds it raised, that says nothing of
+    /// bindings. The searcher may be used again.
+    pub fn find_unless(
+        &mut self,
+        alloc: Global,
+        stop: &Flag,
+        system: &System,
+        uplinks: &Uplinks,
+        table: &Table,
+        depth: u32,
+    ) -> Result<Option<Candidate>, Halt>
+        requires good { Good system.now }
+        requires own { AreUplinksOf system.now uplinks.now }
+        requires table { IsTableOf system.now table.now }
+        requires tokens { HasFitTokens system.now table.now.marking }
+        ensures found { IfOk result (λ found. IfSome found
+            (λ b. Enabled system.now table.now.marking b depth)) }
+        ensures none { IfOk result (λ found. IsNone found
+            ↔ DeadAt system.now table.now.marking depth) }
+    {
+        self.find_while(alloc, stop, system, uplinks, table, depth)
     }
 }
 

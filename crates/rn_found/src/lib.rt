@@ -11,3 +11,4 @@ mod starts;
 pub use every::{all_bindings, least};
 pub use finding::{Finding, find};
 pub use laws::tokens_fit;
+pub use rn_choices::{Flag, Halt};

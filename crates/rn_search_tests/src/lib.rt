@@ -12,6 +12,8 @@ mod marked;
 #[cfg(test)]
 mod orders;
 #[cfg(test)]
+mod stopped;
+#[cfg(test)]
 mod told;
 #[cfg(test)]
 mod worked;

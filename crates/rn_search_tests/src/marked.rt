@@ -31,13 +31,13 @@ fn has(all: &[Candidate], found: &Candidate) -> bool {
         .any(|b| same_binding(b.binding(), found.binding()))
 }
 
-// Whether the first of these bindings is this, or there is none of both.
-fn is_first(all: &[Candidate], least: &Option<Candidate>) -> bool {
-    match all.first() {
-        None => least.is_none(),
-        Some(first) => match least {
+/// Whether both are one binding, or both are none.
+pub(crate) fn is_same(one: Option<&Candidate>, other: &Option<Candidate>) -> bool {
+    match one {
+        None => other.is_none(),
+        Some(one) => match other {
             None => false,
-            Some(least) => same_binding(first.binding(), least.binding()),
+            Some(other) => same_binding(one.binding(), other.binding()),
         },
     }
 }
@@ -78,7 +78,7 @@ fn agree(
     requires tokens { HasFitTokens system.now table.now.marking }
 {
     let first = least(alloc, system, uplinks, table, depth)?;
-    if !is_first(all, &first) {
+    if !is_same(all.first(), &first) {
         return Ok(false);
     }
     for start in [0, 1, 1099513724929] {

@@ -4,7 +4,7 @@ use Rattle.rn_found.proofs.StartingBindings.{one_more}
 use Rattle.rn_found.proofs.finding.find_among.Goals as goal
 
 pub loop-t-preserved : goal.loop-t-preserved
-loop-t-preserved c =
+loop-t-preserved g c =
     one_more
     (λ k. IsNoStart c.args.marked.system.now c.args.marked.table.now.marking c.args.marked.depth
     (start_of c.args.number c.args.net k))
@@ -12,4 +12,4 @@ loop-t-preserved c =
     (rw c.in_default.is at c.in_ok-found.ensures.none)
 
 pub returns-clause-none : goal.returns-clause-none
-returns-clause-none c = λ k least below. c.loop-t.invariant k least (omega arith)
+returns-clause-none g c = λ k least below. c.loop-t.invariant k least (omega arith)

@@ -5,14 +5,14 @@ use Rattle.rn_found.proofs.StartingBindings.{none_round, none_where_absent}
 use Rattle.rn_found.proofs.finding.find_at.Goals as goal
 
 pub returns-in_default-clause-none : goal.returns-in_default-clause-none
-returns-in_default-clause-none c =
+returns-in_default-clause-none g c =
     let absent : net_of c.args.marked.table.now.marking c.args.number ≡ None
     = sym c.net_of.ensures ∙ c.in_default.is in
     none_where_absent c.args.marked.system.now c.args.marked.table.now.marking
     c.args.marked.depth c.args.number absent
 
 pub returns-clause-none : goal.returns-clause-none
-returns-clause-none c =
+returns-clause-none g c =
     let is : net_of c.args.marked.table.now.marking c.args.number ≡ Some c.in-Some.net
     = sym c.net_of.ensures ∙ c.in-Some.is in
     none_round c.args.marked.system.now c.args.marked.table.now.marking c.args.marked.depth

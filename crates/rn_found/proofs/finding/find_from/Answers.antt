@@ -6,20 +6,20 @@ use Rattle.rn_found.specs.Starting.{IsNoStart}
 use Rattle.rn_found.proofs.Branches.{found_enabled, none_found, opened_at}
 use Rattle.rn_found.proofs.finding.find_from.Goals as goal
 
-pub find-requires : goal.find-requires
-find-requires c =
+pub find_while-requires : goal.find_while-requires
+find_while-requires g c =
     opened_at c.problem_at-problem.result c.args.marked.system.now c.open-branch.result
     (sym (ap (λ (p : Sought). p.system) c.problem_at-problem.ensures)) c.open-branch.ensures
 
 pub returns-clause-found : goal.returns-clause-found
-returns-clause-found c =
+returns-clause-found g c =
     let found = c.in_ok-found.found in
     subst (λ (p : Sought). IfSome found (λ b. Enabled p.system p.marking b p.depth))
     c.problem_at-problem.ensures
     (found_enabled c.problem_at-problem.result found c.in_ok-found.ensures.found)
 
 pub returns-clause-none : goal.returns-clause-none
-returns-clause-none c =
+returns-clause-none g c =
     let found = c.in_ok-found.found in
     subst (λ (p : Sought). IfNone found (IsNoStart p.system p.marking p.depth p.start))
     c.problem_at-problem.ensures

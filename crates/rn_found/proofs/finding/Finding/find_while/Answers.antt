@@ -1,10 +1,10 @@
 use Rattle.std.proofs.Common.{rules, subst}
 use Rattle.rn_found.specs.Starting.{IsSearchable}
 use Rattle.rn_found.proofs.StartingBindings.{AreNoStartsBetween, found_all_round}
-use Rattle.rn_found.proofs.finding.Finding.find.Goals as goal
+use Rattle.rn_found.proofs.finding.Finding.find_while.Goals as goal
 
 pub returns-clause-none : goal.returns-clause-none
-returns-clause-none c =
+returns-clause-none g c =
     let system = c.args.system.now in
     let table = c.args.table.now in
     let from = c.args.self.now.hint.number in
