@@ -18,6 +18,18 @@ pub struct Choice<S> {
     pub tried: usize,
 }
 
+impl<S> Choice<S> {
+    /// The alternative after the one that was tried last, round.
+    pub fn following(&self) -> usize
+        ensures { 0 < self.now.of → result < self.now.of }
+    {
+        match self.first.wrapping_add(self.tried).checked_rem(self.of) {
+            Some(alternative) => alternative,
+            None => 0,
+        }
+    }
+}
+
 /// The alternative that is tried as the `turn`-th of `of`, from 0.
 pub fn turn_round(first: usize, of: usize, turn: usize) -> usize
     requires first { first ≤ of }

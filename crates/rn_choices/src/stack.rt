@@ -1,6 +1,6 @@
 //! The stack of choices.
 
-ghost use Rattle.std.specs.Prelude.{◌≡◌, [], ◌∷◌, OnOk, MatchOption};
+ghost use Rattle.std.specs.Prelude.{◌≡◌, [], ◌∷◌, OnOk, IfNone, MatchOption};
 
 use crate::choice::Choice;
 use rn_items::NoMemory;
@@ -49,6 +49,13 @@ impl<T: Drop> Stack<T> {
     {
         self.items.push(item)?;
         Ok(())
+    }
+
+    /// What was pushed before all else that is there.
+    pub fn oldest(&self) -> Option<&T>
+        ensures { IfNone result (self.now ≡ []) }
+    {
+        self.items.first()
     }
 
     /// Takes the newest away.

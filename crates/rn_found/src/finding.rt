@@ -164,7 +164,7 @@ impl Finding {
                 token,
             )?;
             if let Some((transition, found)) = found {
-                self.hint = self.hint.after(number, transition);
+                self.hint = self.hint.after(number, transition, self.choices.oldest());
                 return Ok(Some(found));
             }
             next = number + 1;

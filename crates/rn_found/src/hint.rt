@@ -1,4 +1,6 @@
 //! Where a search begins.
+use rn_choices::Choice;
+use rn_search::Point;
 
 /// Where a search begins: at the instance of a number, by a transition of it, and each choice of a
 /// token with one of them. It goes on from there, round.
@@ -30,12 +32,21 @@ impl Hint {
     }
 
     /// Where the next search begins, after a binding was found that starts with this transition of
-    /// this instance.
-    pub(crate) fn after(self, number: u32, transition: u32) -> Hint {
+    /// this instance: behind the token that was taken by the first choice, where there was one.
+    pub(crate) fn after(
+        self,
+        number: u32,
+        transition: u32,
+        choice: Option<&Choice<Point>>,
+    ) -> Hint {
+        let token = match choice {
+            Some(choice) => choice.following(),
+            None => self.token,
+        };
         Hint {
             number,
             transition,
-            token: self.token.wrapping_add(1),
+            token,
         }
     }
 }
