@@ -9,8 +9,9 @@ use crate::kept::Kept;
 use std::hint::spin_loop;
 use std::sync::Wait;
 
-/// How often a worker that waits looks before it sleeps.
-const LOOKS: u32 = 200;
+/// How often a worker that waits looks before it sleeps: for about as long as sleeping and waking
+/// would take.
+const LOOKS: u32 = 2_000;
 
 impl<S: Kept> Desk<S> {
     /// Draws a ticket, waits until it is served, and takes the state out. It looks some times and
