@@ -1,5 +1,7 @@
 //! Whether a search goes on.
 
+ghost use Rattle.std.specs.Prelude.{IfErr};
+
 use rn_items::NoMemory;
 
 /// What a search asks before each of its steps: whether it goes on.
@@ -7,8 +9,12 @@ pub trait Asked {
     /// Why a search ends without an answer.
     type Halt: From<NoMemory> + Drop;
 
+    /// It may end a search for this reason.
+    ghost halts: { Self.Halt → Type 0 };
+
     /// An error where the search has to end.
-    fn go_on(&self) -> Result<(), Self::Halt>;
+    fn go_on(&self) -> Result<(), Self::Halt>
+        ensures { IfErr result (λ halt. halts halt) };
 }
 
 /// It never ends a search, which so ends without an answer only where it has no memory.
@@ -17,6 +23,8 @@ pub struct ToTheEnd;
 
 impl Asked for ToTheEnd {
     type Halt = NoMemory;
+
+    ghost halts = { λ _. ⊥ };
 
     fn go_on(&self) -> Result<(), NoMemory> {
         Ok(())

@@ -1,5 +1,7 @@
 //! A flag by which others stop a search.
 
+ghost use Rattle.std.specs.Prelude.{◌≡◌};
+
 use crate::asked::Asked;
 use rn_items::NoMemory;
 use std::sync::atomic::{AtomicBool, Ordering};
@@ -43,7 +45,11 @@ impl Flag {
 }
 
 impl Asked for Flag {
+    ghost use Rattle.rn_choices.specs.declared.flag.Halt.TheVariants.{Stopped};
+
     type Halt = Halt;
+
+    ghost halts = { λ halt. halt ≡ Stopped };
 
     fn go_on(&self) -> Result<(), Halt> {
         if self.is_raised() {
