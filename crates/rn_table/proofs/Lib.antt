@@ -1,13 +1,15 @@
 pub mod ChangeLemmas
 pub mod CursorLemmas
+pub mod DirLemmas
 pub mod EditedLemmas
 pub mod FiringLemmas
 pub mod InstanceLemmas
 pub mod LawLemmas
 pub mod LeafLemmas
 pub mod ListLemmas
+pub mod OneLeafLemmas
 pub mod RemovalLemmas
 pub mod StartingLemmas
 pub mod StepLemmas
 pub mod TableLemmas
-pub mod UndoLemmas
+pub mod ThreadSafety

@@ -11,6 +11,7 @@ use Rattle.std.specs.Prelude.{All}
 use Rattle.rn_value.specs.Order.{value_cmp}
 use Rattle.rn_model.specs.declared.system.Place.{Place}
 use Rattle.rn_model.specs.declared.system.System.{System}
+use Rattle.rn_model.specs.Limits.{greatest_instance}
 use Rattle.rn_model.specs.Lists.{ordered_values}
 use Rattle.rn_model.specs.Systems.{may_start}
 use Rattle.rn_model.proofs.ValueLists.{ordered_values_ascend}
@@ -223,7 +224,7 @@ page_more next ls l is held kept starting size =
     }
 
 -- one more instance in the last page
-pub grown_table : (next n : ℕ) (ls : List Leaf) (i : ℕ) (y : Leaf) → IsTable next ls → length ls ≡ page_of next + 1 → i + 1 ≡ length ls → n ≡ next + 1 → n ≤ 1000001 → IsLeaf i y → AllByRecursion (λ x. x.number < n) y.held → IsTable n (set ls i y)
+pub grown_table : (next n : ℕ) (ls : List Leaf) (i : ℕ) (y : Leaf) → IsTable next ls → length ls ≡ page_of next + 1 → i + 1 ≡ length ls → n ≡ next + 1 → n ≤ greatest_instance + 1 → IsLeaf i y → AllByRecursion (λ x. x.number < n) y.held → IsTable n (set ls i y)
 grown_table next n ls i y is size last is_n most new below =
     let same = length-set ls i y in
     record {

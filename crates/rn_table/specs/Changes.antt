@@ -7,6 +7,7 @@ use Rattle.rn_model.specs.declared.system.System.{System}
 use Rattle.rn_model.specs.Lists.{IsWithin, ordered_values, without_each}
 use Rattle.rn_model.specs.Markings.{Instance, Marking, fresh_instance, instance_at, tokens_at}
 use Rattle.rn_model.specs.Firing.{changed_instance}
+use Rattle.rn_model.specs.Limits.{greatest_instance}
 use Rattle.rn_table.specs.declared.change.Row.{Row}
 use Rattle.rn_table.specs.declared.change.Change.{Change}
 
@@ -65,4 +66,4 @@ pub record MayCome (system : System) (change : Change) (m : Marking) : Type 0 wh
   pub taken : ArePlaced (with_made system change.made m) change.taken
   pub cleared : ArePlaced (with_made system change.made m) change.cleared
   pub put : ArePlaced (with_made system change.made m) change.put
-  pub room : m.next + length change.made ≤ 1000001
+  pub room : m.next + length change.made ≤ greatest_instance + 1

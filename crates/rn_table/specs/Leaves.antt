@@ -1,6 +1,7 @@
 -- Pages of a table, each with the words beside it.
 use Rattle.std.specs.Prelude.{ℕ, zero, suc, ◌≡◌, ◌<◌, ◌≤◌, ◌+◌, ◌-◌, ◌*◌, ◌/◌, ◌%◌, Bool, true, ⊤}
 use Rattle.std.specs.Prelude.{List, [], ◌∷◌, ◌++◌, length, filter, flat_map, refl}
+use Rattle.std.specs.Prelude.{slice_index_or}
 use Rattle.std.specs.Prelude.{Option, Some, find, nat_eq}
 use Rattle.std.specs.Prelude.{not}
 use Rattle.std.specs.Coded.{Coded, code_by, coded×, coded_ℕ, coded_list}
@@ -11,6 +12,8 @@ use Rattle.rn_model.specs.Markings.{Instance}
 use Rattle.rn_model.specs.MarkingCodes.{instance_code}
 use Rattle.rn_bag.specs.Slots.{there_from}
 use Rattle.rn_bag.specs.Words.{has_bit}
+use Rattle.rn_model.specs.Limits.{greatest_instance}
+use Rattle.rn_table.specs.declared.leaf.Words.{Words}
 
 -- a page with the words beside it: the instances that it holds, which of its 64 numbers are kept, and
 -- which may start
@@ -33,6 +36,26 @@ bit_of n = (n - 1) % 64
 -- the index of the page of a number
 abbrev pub page_of : ℕ → ℕ
 page_of n = (n - 1) / 64
+
+-- what a page holds, where this is the word of its kept numbers: a page without kept instances counts
+-- as given up, even where it is still there
+abbrev pub held_if : ℕ → List Instance → List Instance
+held_if zero h = []
+held_if (suc w) h = h
+
+-- a page with its words
+abbrev pub leaf_with : List Instance → ℕ → ℕ → Leaf
+leaf_with h w s = record { held = held_if w h; kept = w; starting = s }
+
+-- pages with these words, where the page of an index holds what the function says
+abbrev pub leaves_by : (ℕ → List Instance) → List Words → List Leaf
+leaves_by h [] = []
+leaves_by h (w ∷ ws) = leaf_with (h 0) w.kept w.starting ∷ leaves_by (λ i. h (suc i)) ws
+
+-- What the page of an index holds, of directories of 32 pages each. A page that isn't there holds
+-- nothing.
+abbrev pub held_at : List (List (List Instance)) → ℕ → List Instance
+held_at ds i = slice_index_or (slice_index_or ds (i / 32) []) (i % 32) []
 
 -- whether a word has the number of an instance
 abbrev pub has_number : ℕ → Instance → Bool
@@ -98,6 +121,6 @@ pub record IsTable (next : ℕ) (ls : List Leaf) : Type 0 where
   pub leaves : AreLeaves 0 ls
   pub below : AllByRecursion (λ l. AllByRecursion (λ i. i.number < next) l.held) ls
   pub first : 1 ≤ next
-  pub most : next ≤ 1000001
+  pub most : next ≤ greatest_instance + 1
   pub roomy : next ≤ 64 * length ls + 1
   pub tight : 64 * length ls ≤ next + 63

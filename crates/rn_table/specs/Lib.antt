@@ -1,6 +1,6 @@
 pub mod Changes
 pub mod Laws
+pub mod LeafSteps
 pub mod Leaves
 pub mod Steps
 pub mod Tables
-pub mod Undo

@@ -3,16 +3,17 @@
 
 mod bags;
 mod change;
+mod dir;
 mod edits;
 mod instance;
 mod laws;
 mod leaf;
+mod leaves;
 mod nets;
 mod page;
 mod pages;
 mod sharing;
 mod table;
-mod undo;
 
 pub use change::{Change, Nums, Row, Rows};
 pub use laws::{

@@ -1,10 +1,11 @@
 //! A page: up to 64 instances, each behind a pointer that copies share.
 ghost use Rattle.std.specs.Prelude.{◌≡◌, ◌<◌, ◌≤◌, [], ◌∷◌, ◌++◌, length, take, drop, map, filter, slice_index_or, nat_eq, false, Some, IfOk, IfSome, IfNone, OnOk, OnErr};
 ghost use Rattle.std.specs.List.{AllByRecursion};
-ghost use Rattle.std.specs.Option.{option_copied};
+ghost use Rattle.std.specs.Option.{option_copied, option_map_or};
 ghost use Rattle.rn_model.specs.Markings.{Instance};
 ghost use Rattle.rn_bag.specs.Words.{has_bit};
-ghost use Rattle.rn_table.specs.Leaves.{Ascending, bit_of, has_number, numbered};
+ghost use Rattle.rn_table.specs.Leaves.{Ascending, bit_of, has_number, held_if, numbered};
+ghost use Rattle.rn_table.specs.LeafSteps.{Grows, Steps};
 ghost use Rattle.rn_table.specs.Steps.{after_step};
 
 use crate::edits::Edit;
@@ -154,6 +155,76 @@ fn edit_instance(alloc: Global, inst: &mut Arc<Inst>, edit: &Edit<'_>) -> Result
     let mut copied = inst.copy()?;
     copied.edit(alloc, edit)?;
     *inst = Arc::new(alloc, copied)?;
+    Ok(())
+}
+
+/// One more instance in a page: in place where nothing shares it, and else in a copy of what is kept. A
+/// page without kept instances is given up.
+pub(crate) fn add_shared(
+    alloc: Global,
+    page: &mut Option<Arc<Page>>,
+    kept: u64,
+    inst: Inst,
+) -> Result<(), NoMemory>
+    ensures { OnOk result (Grows kept inst (held_if kept (option_map_or (λ p. p.value) page.old [])) (option_map_or (λ p. p.value) page.new [])) }
+{
+    if kept == 0 {
+        *page = Some(Arc::new(alloc, Page::of_one(alloc, inst)?)?);
+        return Ok(());
+    }
+    match page {
+        None => {
+            *page = Some(Arc::new(alloc, Page::of_one(alloc, inst)?)?);
+            Ok(())
+        }
+        Some(shared) => add_to(alloc, shared, kept, inst),
+    }
+}
+
+fn add_to(alloc: Global, page: &mut Arc<Page>, kept: u64, inst: Inst) -> Result<(), NoMemory>
+    ensures { OnOk result (Grows kept inst page.old.value page.new.value) }
+{
+    if let Some(own) = Arc::get_mut(page) {
+        return own.add(alloc, inst);
+    }
+    let mut copied = page.copy_kept(alloc, kept)?;
+    copied.add(alloc, inst)?;
+    *page = Arc::new(alloc, copied)?;
+    Ok(())
+}
+
+/// One token is taken from a place of an instance of a page or put there.
+pub(crate) fn edit_shared(
+    alloc: Global,
+    page: &mut Option<Arc<Page>>,
+    kept: u64,
+    edit: &Edit<'_>,
+) -> Result<(), NoMemory>
+    requires { Ascending (option_map_or (λ p. p.value) page.old []) }
+    ensures { OnOk result (Steps kept edit.now (option_map_or (λ p. p.value) page.old []) (option_map_or (λ p. p.value) page.new [])) }
+{
+    match page {
+        None => Ok(()),
+        Some(shared) => edit_page(alloc, shared, kept, edit),
+    }
+}
+
+/// The same of a page: in place where nothing shares it, and else in a copy of what is kept.
+fn edit_page(
+    alloc: Global,
+    page: &mut Arc<Page>,
+    kept: u64,
+    edit: &Edit<'_>,
+) -> Result<(), NoMemory>
+    requires { Ascending page.old.value }
+    ensures { OnOk result (Steps kept edit.now page.old.value page.new.value) }
+{
+    if let Some(own) = Arc::get_mut(page) {
+        return own.edit(alloc, edit);
+    }
+    let mut copied = page.copy_kept(alloc, kept)?;
+    copied.edit(alloc, edit)?;
+    *page = Arc::new(alloc, copied)?;
     Ok(())
 }
 

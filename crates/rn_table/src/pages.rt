@@ -6,13 +6,13 @@ ghost use Rattle.rn_table.specs.Changes.{new_from};
 ghost use Rattle.rn_table.specs.Leaves.{Ascending, HasSortedPlaces, IsTable, instances_in, page_of, starting_from};
 ghost use Rattle.rn_table.specs.Steps.{after_step, after_steps};
 ghost use Rattle.rn_table.specs.Tables.{started};
-ghost use Rattle.rn_table.specs.Undo.{Undoes};
+ghost use Rattle.rn_model.specs.Limits.{greatest_instance};
 
 use crate::edits::Edit;
 use crate::instance::Inst;
-use crate::leaf::{Leaf, bit};
+use crate::leaf::bit;
+use crate::leaves::Leaves;
 use crate::nets::{places_of, starts};
-use crate::undo::{Saved, save};
 use rn_bag::words;
 use rn_items::NoMemory;
 use rn_model::System;
@@ -25,13 +25,13 @@ pub(crate) fn leaf_of(number: u32) -> usize
 }
 
 /// The first number from this one on that may start.
-pub(crate) fn first_start(leaves: &[Leaf], from: u32) -> Option<u32>
+pub(crate) fn first_start(leaves: &Leaves, from: u32) -> Option<u32>
     requires { 64 * length leaves.now < 2 ^ 32 }
     ensures { result ≡ find (λ n. nat_le from n) (starting_from 0 leaves.now) }
 {
     let mut index = bit(from);
     for at in leaf_of(from)..leaves.len() {
-        let found = leaves[at].first_start(index);
+        let found = words::first_from(leaves.starting(at), index);
         if found < words::ROOM {
             return Some((64 * at + found + 1) as u32);
         }
@@ -41,79 +41,64 @@ pub(crate) fn first_start(leaves: &[Leaf], from: u32) -> Option<u32>
 }
 
 /// The last page has room for the next number from now on.
-fn make_room(leaves: &mut Vec<Leaf>, next: u32) -> Result<(), NoMemory>
-    requires { IsTable next leaves.old.items }
-    ensures table { IsTable next leaves.new.items }
-    ensures size { OnOk result (length leaves.new.items ≡ page_of next + 1) }
-    ensures instances { instances_in leaves.new.items ≡ instances_in leaves.old.items }
-    ensures starting { starting_from 0 leaves.new.items ≡ starting_from 0 leaves.old.items }
-    ensures more { length leaves.old.items ≤ length leaves.new.items }
-    ensures first { (n : ℕ) → n ≤ length leaves.old.items → take n leaves.new.items ≡ take n leaves.old.items }
+fn make_room(leaves: &mut Leaves, next: u32) -> Result<(), NoMemory>
+    requires { IsTable next leaves.old }
+    ensures table { OnOk result (IsTable next leaves.new) }
+    ensures size { OnOk result (length leaves.new ≡ page_of next + 1) }
+    ensures instances { OnOk result (instances_in leaves.new ≡ instances_in leaves.old) }
+    ensures starting { OnOk result (starting_from 0 leaves.new ≡ starting_from 0 leaves.old) }
 {
     if leaves.len() != leaf_of(next) {
         return Ok(());
     }
-    leaves.push(Leaf::new())?;
+    leaves.push()?;
     Ok(())
 }
 
 /// One more instance, with the initial tokens of its net.
-fn add_one(
-    leaves: &mut Vec<Leaf>,
-    saved: &mut Vec<Saved>,
-    system: &System,
-    next: u32,
-    net: u32,
-) -> Result<(), NoMemory>
-    requires table { IsTable next leaves.old.items }
-    requires room { next ≤ 1000000 }
-    ensures undo { Undoes saved.old.items saved.new.items leaves.old.items leaves.new.items }
-    ensures table { OnOk result (IsTable (next + 1) leaves.new.items) }
-    ensures instances { OnOk result (instances_in leaves.new.items ≡ instances_in leaves.old.items ++ fresh_instance system.now next net ∷ []) }
-    ensures starting { OnOk result (starting_from 0 leaves.new.items ≡ starting_from 0 leaves.old.items ++ started system.now next (net ∷ [])) }
+fn add_one(leaves: &mut Leaves, system: &System, next: u32, net: u32) -> Result<(), NoMemory>
+    requires table { IsTable next leaves.old }
+    requires room { next ≤ greatest_instance }
+    ensures table { OnOk result (IsTable (next + 1) leaves.new) }
+    ensures instances { OnOk result (instances_in leaves.new ≡ instances_in leaves.old ++ fresh_instance system.now next net ∷ []) }
+    ensures starting { OnOk result (starting_from 0 leaves.new ≡ starting_from 0 leaves.old ++ started system.now next (net ∷ [])) }
 {
-    let alloc = *leaves.allocator();
+    let alloc = leaves.allocator();
     let inst = Inst::fresh(alloc, next, net, places_of(system, net))?;
     make_room(leaves, next)?;
     let last = leaves.len() - 1;
-    save(leaves.as_slice(), saved, last)?;
-    let leaf = &mut leaves[last];
-    leaf.add(alloc, inst, starts(system, net))?;
+    leaves.add(last, inst, starts(system, net))?;
     Ok(())
 }
 
 /// Instances of these nets, with the next numbers.
 pub(crate) fn add_all(
-    leaves: &mut Vec<Leaf>,
-    saved: &mut Vec<Saved>,
+    leaves: &mut Leaves,
     system: &System,
     next: u32,
     made: &[u32],
 ) -> Result<(), NoMemory>
-    requires table { IsTable next leaves.old.items }
-    requires room { next + length made.now ≤ 1000001 }
-    ensures undo { Undoes saved.old.items saved.new.items leaves.old.items leaves.new.items }
-    ensures table { OnOk result (IsTable (next + length made.now) leaves.new.items) }
-    ensures instances { OnOk result (instances_in leaves.new.items ≡ instances_in leaves.old.items ++ new_from system.now next made.now) }
-    ensures starting { OnOk result (starting_from 0 leaves.new.items ≡ starting_from 0 leaves.old.items ++ started system.now next made.now) }
+    requires table { IsTable next leaves.old }
+    requires room { next + length made.now ≤ greatest_instance + 1 }
+    ensures table { OnOk result (IsTable (next + length made.now) leaves.new) }
+    ensures instances { OnOk result (instances_in leaves.new ≡ instances_in leaves.old ++ new_from system.now next made.now) }
+    ensures starting { OnOk result (starting_from 0 leaves.new ≡ starting_from 0 leaves.old ++ started system.now next made.now) }
 {
     let mut number = next;
     for net in made {
-        add_one(leaves, saved, system, number, *net)?;
+        add_one(leaves, system, number, *net)?;
         number += 1;
     }
     Ok(())
 }
 
 /// One token is taken from a place of an instance or put there.
-fn edit_one(leaves: &mut Vec<Leaf>, saved: &mut Vec<Saved>, edit: &Edit<'_>) -> Result<(), NoMemory>
-    requires { (n : ℕ) × IsTable n leaves.old.items }
-    ensures undo { Undoes saved.old.items saved.new.items leaves.old.items leaves.new.items }
-    ensures table { OnOk result ((n : ℕ) → IsTable n leaves.old.items → IsTable n leaves.new.items) }
-    ensures instances { OnOk result (instances_in leaves.new.items ≡ map (after_step edit.now) (instances_in leaves.old.items)) }
-    ensures starting { OnOk result (starting_from 0 leaves.new.items ≡ starting_from 0 leaves.old.items) }
+fn edit_one(leaves: &mut Leaves, edit: &Edit<'_>) -> Result<(), NoMemory>
+    requires { (n : ℕ) × IsTable n leaves.old }
+    ensures table { OnOk result ((n : ℕ) → IsTable n leaves.old → IsTable n leaves.new) }
+    ensures instances { OnOk result (instances_in leaves.new ≡ map (after_step edit.now) (instances_in leaves.old)) }
+    ensures starting { OnOk result (starting_from 0 leaves.new ≡ starting_from 0 leaves.old) }
 {
-    let alloc = *leaves.allocator();
     let at = leaf_of(edit.inst);
     if at >= leaves.len() {
         return Ok(());
@@ -121,50 +106,40 @@ fn edit_one(leaves: &mut Vec<Leaf>, saved: &mut Vec<Saved>, edit: &Edit<'_>) -> 
     if edit.inst == 0 {
         return Ok(());
     }
-    save(leaves.as_slice(), saved, at)?;
-    let leaf = &mut leaves[at];
-    leaf.edit(alloc, edit)?;
+    leaves.edit(at, edit)?;
     Ok(())
 }
 
 /// The same of each of these tokens, one after another.
-fn edit_all(
-    leaves: &mut Vec<Leaf>,
-    saved: &mut Vec<Saved>,
-    edits: &[Edit<'_>],
-) -> Result<(), NoMemory>
-    requires { (n : ℕ) × IsTable n leaves.old.items }
-    ensures undo { Undoes saved.old.items saved.new.items leaves.old.items leaves.new.items }
-    ensures table { OnOk result ((n : ℕ) → IsTable n leaves.old.items → IsTable n leaves.new.items) }
-    ensures instances { OnOk result (instances_in leaves.new.items ≡ after_steps edits.now (instances_in leaves.old.items)) }
-    ensures starting { OnOk result (starting_from 0 leaves.new.items ≡ starting_from 0 leaves.old.items) }
+fn edit_all(leaves: &mut Leaves, edits: &[Edit<'_>]) -> Result<(), NoMemory>
+    requires { (n : ℕ) × IsTable n leaves.old }
+    ensures table { OnOk result ((n : ℕ) → IsTable n leaves.old → IsTable n leaves.new) }
+    ensures instances { OnOk result (instances_in leaves.new ≡ after_steps edits.now (instances_in leaves.old)) }
+    ensures starting { OnOk result (starting_from 0 leaves.new ≡ starting_from 0 leaves.old) }
 {
     for edit in edits {
-        edit_one(leaves, saved, edit)?;
+        edit_one(leaves, edit)?;
     }
     Ok(())
 }
 
-/// New instances come, and then each of these tokens is taken or put. Each page that changes is saved
-/// before.
+/// New instances come, and then each of these tokens is taken or put.
 pub(crate) fn change_all(
-    leaves: &mut Vec<Leaf>,
-    saved: &mut Vec<Saved>,
+    leaves: &mut Leaves,
     system: &System,
     next: u32,
     made: &[u32],
     edits: &[Edit<'_>],
 ) -> Result<(), NoMemory>
-    requires table { IsTable next leaves.old.items }
-    requires room { next + length made.now ≤ 1000001 }
-    ensures undo { Undoes saved.old.items saved.new.items leaves.old.items leaves.new.items }
-    ensures table { OnOk result (IsTable (next + length made.now) leaves.new.items) }
-    ensures instances { OnOk result (instances_in leaves.new.items ≡ after_steps edits.now (instances_in leaves.old.items ++ new_from system.now next made.now)) }
-    ensures ascending { OnOk result (Ascending (instances_in leaves.old.items ++ new_from system.now next made.now)) }
-    ensures sorted { OnOk result (AllByRecursion HasSortedPlaces (instances_in leaves.old.items ++ new_from system.now next made.now)) }
-    ensures starting { OnOk result (starting_from 0 leaves.new.items ≡ starting_from 0 leaves.old.items ++ started system.now next made.now) }
+    requires table { IsTable next leaves.old }
+    requires room { next + length made.now ≤ greatest_instance + 1 }
+    ensures table { OnOk result (IsTable (next + length made.now) leaves.new) }
+    ensures instances { OnOk result (instances_in leaves.new ≡ after_steps edits.now (instances_in leaves.old ++ new_from system.now next made.now)) }
+    ensures ascending { OnOk result (Ascending (instances_in leaves.old ++ new_from system.now next made.now)) }
+    ensures sorted { OnOk result (AllByRecursion HasSortedPlaces (instances_in leaves.old ++ new_from system.now next made.now)) }
+    ensures starting { OnOk result (starting_from 0 leaves.new ≡ starting_from 0 leaves.old ++ started system.now next made.now) }
 {
-    add_all(leaves, saved, system, next, made)?;
-    edit_all(leaves, saved, edits)?;
+    add_all(leaves, system, next, made)?;
+    edit_all(leaves, edits)?;
     Ok(())
 }

@@ -5,6 +5,7 @@ ghost use Rattle.std.specs.List.Sorted.{IsSorted, IsStrictlyIncreasing};
 ghost use Rattle.rn_value.specs.Order.{value_cmp};
 ghost use Rattle.rn_model.specs.declared.system.System.{System};
 ghost use Rattle.rn_model.specs.Markings.{Instance, IsThere, initial_marking, instance_at, net_of};
+ghost use Rattle.rn_model.specs.Limits.{greatest_instance};
 ghost use Rattle.rn_table.specs.Changes.{MayCome, changed};
 ghost use Rattle.rn_table.specs.Leaves.{stays};
 ghost use Rattle.rn_table.specs.Tables.{IsTableOf, started};
@@ -12,11 +13,10 @@ ghost use Rattle.rn_table.specs.Tables.{IsTableOf, started};
 use crate::change::Change;
 use crate::edits::edits_of;
 use crate::instance::Inst;
-use crate::leaf::Leaf;
+use crate::leaves::Leaves;
 use crate::nets::main_net_of;
 use crate::page::Page;
 use crate::pages::{add_all, change_all, first_start, leaf_of};
-use crate::undo::restore;
 use rn_bag::Bag;
 use rn_items::NoMemory;
 use rn_model::System;
@@ -31,7 +31,7 @@ use std::sync::Arc;
 #[derive(Drop)]
 pub struct Table {
     next: u32,
-    leaves: Vec<Leaf>,
+    leaves: Leaves,
 }
 
 impl Model for Table {
@@ -42,9 +42,9 @@ impl Model for Table {
 
     ghost coded = { kept_code };
 
-    ghost view = { λ t. record { marking = record { next = t.next; instances = instances_in t.leaves.items }; starting = starting_from 0 t.leaves.items } };
+    ghost view = { λ t. record { marking = record { next = t.next; instances = instances_in t.leaves }; starting = starting_from 0 t.leaves } };
 
-    ghost invariant = { λ t. IsTable t.next t.leaves.items };
+    ghost invariant = { λ t. IsTable t.next t.leaves };
 }
 
 impl Table {
@@ -55,8 +55,8 @@ impl Table {
         ensures of_system { IfOk result (λ table. IsTableOf system.now table) }
     {
         let main = main_net_of(system) as u32;
-        let mut leaves = Vec::new(alloc);
-        add_all(&mut leaves, &mut Vec::new(alloc), system, 1, &[main])?;
+        let mut leaves = Leaves::new(alloc);
+        add_all(&mut leaves, system, 1, &[main])?;
         Ok(Table { next: 2, leaves })
     }
 
@@ -64,20 +64,16 @@ impl Table {
     pub fn snapshot(&self) -> Result<Table, NoMemory>
         ensures { IfOk result (λ table. table ≡ self.now) }
     {
-        let mut leaves = Vec::with_capacity(*self.leaves.allocator(), self.leaves.len())?;
-        for leaf in self.leaves.as_slice() {
-            leaves.push(leaf.copy()?)?;
-        }
         Ok(Table {
             next: self.next,
-            leaves,
+            leaves: self.leaves.copy()?,
         })
     }
 
     /// The number that the next instance gets. All kept ones are below it.
     pub fn next(&self) -> u32
         ensures number { result ≡ self.now.marking.next }
-        ensures most { result ≤ 1000001 }
+        ensures most { result ≤ greatest_instance + 1 }
         ensures below { All (λ i. (0 < i.number) × (i.number < result)) self.now.marking.instances }
         ensures ascending { IsStrictlyIncreasing (map (λ i. i.number) self.now.marking.instances) }
         ensures sorted { All (λ i. All (λ tokens. IsSorted value_cmp tokens) i.places) self.now.marking.instances }
@@ -93,7 +89,7 @@ impl Table {
         if at >= self.leaves.len() {
             return None;
         }
-        self.leaves[at].get(number)
+        self.leaves.leaf(at).get(number)
     }
 
     /// The net of an instance, where it is kept.
@@ -125,7 +121,7 @@ impl Table {
         if at >= self.leaves.len() {
             return None;
         }
-        self.leaves[at].page()
+        self.leaves.leaf(at).page()
     }
 
     /// The first of the kept instances from this number on whose net has a transition without uplink.
@@ -133,16 +129,16 @@ impl Table {
     pub fn first_starting(&self, from: u32) -> Option<u32>
         ensures { result ≡ find (λ n. nat_le from n) self.now.starting }
     {
-        first_start(self.leaves.as_slice(), from)
+        first_start(&self.leaves, from)
     }
 
     /// The numbers of the kept instances, ascending.
     pub fn instances(&self) -> Result<Vec<u32>, NoMemory>
         ensures { IfOk result (λ numbers. numbers.items ≡ map (λ i. i.number) self.now.marking.instances) }
     {
-        let mut numbers = Vec::new(*self.leaves.allocator());
-        for leaf in self.leaves.as_slice() {
-            leaf.append_to(&mut numbers)?;
+        let mut numbers = Vec::new(self.leaves.allocator());
+        for at in 0..self.leaves.len() {
+            self.leaves.leaf(at).append_to(&mut numbers)?;
         }
         Ok(numbers)
     }
@@ -159,23 +155,11 @@ impl Table {
         ensures of_system { OnOk result (IsTableOf system.now self.old → IsTableOf system.now self.new) }
         ensures err { OnErr result (self.new ≡ self.old) }
     {
-        let alloc = *self.leaves.allocator();
         let made = change.made.as_slice();
-        let edits = edits_of(alloc, change)?;
-        let pages = self.leaves.len();
-        let mut saved = Vec::new(alloc);
-        let done = change_all(
-            &mut self.leaves,
-            &mut saved,
-            system,
-            self.next,
-            made,
-            edits.as_slice(),
-        );
-        if done.is_err() {
-            restore(&mut self.leaves, saved, pages);
-            return Err(NoMemory);
-        }
+        let edits = edits_of(self.leaves.allocator(), change)?;
+        let mut leaves = self.leaves.copy()?;
+        change_all(&mut leaves, system, self.next, made, edits.as_slice())?;
+        self.leaves = leaves;
         self.next += made.len() as u32;
         Ok(())
     }
@@ -205,7 +189,6 @@ impl Table {
         if number == 0 {
             return;
         }
-        let leaf = &mut self.leaves[at];
-        leaf.drop_one(number);
+        self.leaves.drop_one(at, number);
     }
 }

@@ -2,14 +2,12 @@ use Rattle.std.proofs.Common.{◌≡◌, ◌+◌, ◌++◌, drop}
 use Rattle.rn_table.specs.Changes.{new_from}
 use Rattle.rn_table.specs.Leaves.{IsTable, instances_in, starting_from}
 use Rattle.rn_table.specs.Tables.{started}
-use Rattle.rn_table.specs.Undo.{Undoes}
 use Rattle.rn_table.proofs.pages.add_all.Given as goal
 
 abbrev pub invariant-loop-net : goal.invariant-loop-net
 invariant-loop-net l = record {
   number : l.number ≡ l.next + l.net-index;
-  undo : Undoes l.initial.saved.items l.saved.items l.initial.leaves.items l.leaves.items;
-  table : IsTable l.number l.leaves.items;
-  instances : instances_in l.leaves.items ++ new_from l.system l.number (drop l.net-index l.made) ≡ instances_in l.initial.leaves.items ++ new_from l.system l.next l.made;
-  starting : starting_from 0 l.leaves.items ++ started l.system l.number (drop l.net-index l.made) ≡ starting_from 0 l.initial.leaves.items ++ started l.system l.next l.made;
+  table : IsTable l.number l.leaves;
+  instances : instances_in l.leaves ++ new_from l.system l.number (drop l.net-index l.made) ≡ instances_in l.initial.leaves ++ new_from l.system l.next l.made;
+  starting : starting_from 0 l.leaves ++ started l.system l.number (drop l.net-index l.made) ≡ starting_from 0 l.initial.leaves ++ started l.system l.next l.made;
 }

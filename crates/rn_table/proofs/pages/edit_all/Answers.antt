@@ -1,4 +1,4 @@
-use Rattle.std.proofs.Common.{◌≡◌, ◌∷◌, ◌+◌, drop, sym, ap, ◌∙◌, arith}
+use Rattle.std.proofs.Common.{◌≡◌, ◌∷◌, ◌+◌, drop, sym, ap, ◌∙◌}
 use Rattle.std.proofs.lemmas.List.{drop_more}
 use Rattle.rn_table.specs.Leaves.{instances_in}
 use Rattle.rn_table.specs.Steps.{after_steps}
@@ -12,11 +12,8 @@ loop-edit-preserved c =
     let k = c.loop-edit.edit-index in
     let edits = c.args.edits.now in
     let first : drop k edits ≡ c.edit-item.result ∷ drop (k + 1) edits = drop_more edits k c.edit-item.result c.loop-edit-test.true ∙ ap (λ s. s ∷ drop (k + 1) edits) (sym c.edit-item.is) in
-    let before = c.loop-edit.invariant.undo in
-    let after = c.in_ok-edit_one.ensures.undo in
     record {
-      undo = record { more = omega (arith, before.more, after.more); back = λ n inside. after.back n (omega (arith, inside, before.more)) ∙ before.back n inside };
       table = λ n is. c.in_ok-edit_one.ensures.table n (c.loop-edit.invariant.table n is);
-      instances = ap (after_steps (drop (k + 1) edits)) c.in_ok-edit_one.ensures.instances ∙ ap (λ ss. after_steps ss (instances_in c.loop-edit.leaves.items)) (sym first) ∙ c.loop-edit.invariant.instances;
+      instances = ap (after_steps (drop (k + 1) edits)) c.in_ok-edit_one.ensures.instances ∙ ap (λ ss. after_steps ss (instances_in c.loop-edit.leaves)) (sym first) ∙ c.loop-edit.invariant.instances;
       starting = c.in_ok-edit_one.ensures.starting ∙ c.loop-edit.invariant.starting;
     }
