@@ -359,6 +359,44 @@ fn pages_are_filled(rt: HostRuntime) -> Result<(), Fail> {
     Ok(())
 }
 
+/// A table of 2,050 instances, of which two stand in the second directory.
+fn two_directories(alloc: Global, system: &System) -> Result<Table, NoMemory> {
+    let mut table = first_table(alloc, system)?;
+    for _ in 1..2050 {
+        make(alloc, &mut table, system, 0)?;
+    }
+    Ok(table)
+}
+
+/// Changes an instance of the second directory, and then removes what stands there.
+fn changes_second(
+    rt: &impl Abort,
+    alloc: Global,
+    system: &System,
+    table: &mut Table,
+    seen: &Table,
+) -> Result<(), NoMemory> {
+    assert!(rt; exchange(alloc, table, system, 2050, 7, &[8])?);
+    assert!(rt; holds(alloc, table, 2050, &[8])?);
+    assert!(rt; holds(alloc, seen, 2050, &[7])?);
+    assert!(rt; holds(alloc, table, 2049, &[7])?);
+    table.remove_all(&[2049, 2050]);
+    assert_eq!(rt; (held(table, 31), held(table, 32)), (64, 0));
+    assert_eq!(rt; (held(seen, 31), held(seen, 32)), (64, 2));
+    Ok(())
+}
+
+#[test]
+fn directories_are_filled(rt: HostRuntime) -> Result<(), Fail> {
+    let alloc = rt.alloc();
+    let system = system(alloc)?;
+    let mut table = two_directories(alloc, &system)?;
+    let seen = table.snapshot()?;
+    changes_second(&rt, alloc, &system, &mut table, &seen)?;
+    assert_eq!(rt; (kept(&table)?, kept(&seen)?), (2048, 2050));
+    Ok(())
+}
+
 /// Removes one instance from the first page, and all of the second.
 fn gives_up(rt: &impl Abort, table: &mut Table) {
     table.remove_all(&[65, 3]);

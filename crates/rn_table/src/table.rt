@@ -26,8 +26,9 @@ use std::sync::Arc;
 
 /// The kept instances with their nets and tokens, and the number that the next instance gets.
 ///
-/// Instances stand in pages of 64. A copy shares the pages, a changed page the instances that didn't
-/// change, and a changed instance its other places.
+/// Instances stand in pages of 64, and pages in directories of 32. A copy shares the directories, a
+/// changed directory its other pages, a changed page the instances that didn't change, and a changed
+/// instance its other places.
 #[derive(Drop)]
 pub struct Table {
     next: u32,
@@ -146,8 +147,8 @@ impl Table {
     /// New instances come with their initial tokens, what is taken and cleared goes, and what is put
     /// comes.
     ///
-    /// A page that it touches, an instance and a bag are copied first. What is put where it is taken
-    /// touches nothing.
+    /// It changes a copy, which takes the table's place last. A directory that it touches, a page, an
+    /// instance and a bag are copied first. What is put where it is taken touches nothing.
     pub fn apply(&mut self, system: &System, change: &Change) -> Result<(), NoMemory>
         requires { MayCome system.now change.now self.old.marking }
         ensures marking { OnOk result (self.new.marking ≡ changed system.now change.now self.old.marking) }
