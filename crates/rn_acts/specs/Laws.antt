@@ -8,6 +8,7 @@ use Rattle.rn_model.specs.Demands.{taken_at, cleared_at}
 use Rattle.rn_model.specs.Enabling.{Enabled}
 use Rattle.rn_model.specs.Firing.{creations_of, named}
 use Rattle.rn_model.specs.Good.{Good}
+use Rattle.rn_model.specs.Limits.{greatest_instance}
 use Rattle.rn_model.specs.Liveness.{Stands}
 use Rattle.rn_model.specs.Markings.{Marking, IsMarking}
 use Rattle.rn_model.specs.SoundTokens.{HasSoundTokens}
@@ -45,5 +46,5 @@ abbrev pub FiringsMayCome : Type 0
 FiringsMayCome = (system : System) (table m : Marking) (b : Binding) (depth : ℕ)
     (change : Change) → Good system → IsMarking system m → HasSoundTokens system m →
     Stands system table m → Enabled system m b depth → IsOfFiring system b table.next change →
-    table.next + length (creations_of system b) ≤ 1000001 →
+    table.next + length (creations_of system b) ≤ greatest_instance + 1 →
     MayCome system change table × LeavesNew change table.next

@@ -4,6 +4,7 @@ use Rattle.std.specs.Prelude.{ℕ, ◌≡◌, ◌+◌, ◌≤◌, false, List, l
 use Rattle.rn_value.specs.declared.value.Value.{Value}
 use Rattle.rn_model.specs.declared.system.System.{System}
 use Rattle.rn_model.specs.declared.binding.Binding.{Binding}
+use Rattle.rn_model.specs.Limits.{greatest_instance}
 use Rattle.rn_model.specs.Markings.{Marking}
 use Rattle.rn_model.specs.Firing.{Effects, effects, fire, creations_of, marking_after, named, too_many}
 use Rattle.rn_table.specs.Changes.{changed}
@@ -21,7 +22,7 @@ pub record FiresBy (system : System) (b : Binding) (next step : ℕ) (outs : Lis
   pub are : effects system b next step ≡ Some acts
   pub printed : outs ≡ acts.outs
   pub few : too_many next (length (creations_of system b)) ≡ false
-  pub low : next + length (creations_of system b) ≤ 1000001
+  pub low : next + length (creations_of system b) ≤ greatest_instance + 1
   pub of : IsOfFiring system b next change
   pub after : (m : Marking) → LeavesNew change m.next →
       changed system change m
