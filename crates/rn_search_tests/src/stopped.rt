@@ -50,14 +50,11 @@ fn rows(rt: HostRuntime) -> Result<(), Fail> {
     ];
     for text in rows {
         let stop = Flag::new();
-        assert!(rt; matches!(finds_same_first(rt.alloc(), &stop, text)?, Ok(true)));
+        let not_raised = finds_same_first(rt.alloc(), &stop, text)?;
+        assert!(rt; matches!(not_raised, Ok(true)));
         stop.raise();
-        assert!(rt;
-            matches!(
-                finds_same_first(rt.alloc(), &stop, text)?,
-                Err(Halt::Stopped)
-            )
-        );
+        let raised = finds_same_first(rt.alloc(), &stop, text)?;
+        assert!(rt; matches!(raised, Err(Halt::Stopped)));
     }
     Ok(())
 }
