@@ -44,7 +44,7 @@ fn last_state<S: Kept>(desk: Desk<S>, whole: DeskSeat<S>) -> S
     ensures parts { Every (PartFits S.author (S.entries result)) (parts_of whole.me.0) }
     ensures others { (n : ℕ) → seats_of desk < n → authored S.author n (S.entries result) ≡ [] }
 {
-    let Desk { table } = desk;
+    let Desk { table, doors: _ } = desk;
     let mut closed = table.close_with(whole);
     let state = closed.take(STATE);
     closed.free();

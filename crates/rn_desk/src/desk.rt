@@ -1,6 +1,7 @@
 //! The desk, a worker's pass, and its turn.
 ghost use Rattle.std.specs.Prelude.{◌≡◌, ◌≤◌};
 
+use crate::doors::Doors;
 use crate::kept::Kept;
 use crate::rule::{Board, DeskSeat};
 
@@ -20,6 +21,7 @@ mod turns;
 #[derive(Drop)]
 pub struct Desk<S: Kept> {
     pub(crate) table: Board<S>,
+    pub(crate) doors: Doors,
     pub(crate) ghost words: { table.shared.table_id.words ≡ 3 },
     pub(crate) ghost slots: { table.shared.table_id.slots ≡ 1 },
     pub(crate) ghost seats: { 1 ≤ table.shared.key.seats },

@@ -3,6 +3,7 @@
 
 mod closing;
 mod desk;
+mod doors;
 mod kept;
 mod kinds;
 mod lent;

@@ -5,6 +5,7 @@ ghost use Rattle.rn_desk.specs.Steps.{maker};
 ghost use Rattle.rn_desk.specs.Passes.{seats_of, fixed_of, IsFresh};
 
 use crate::desk::{Desk, Pass};
+use crate::doors::Doors;
 use crate::kept::Kept;
 use crate::rule::{DeskSeat, MOST_SEATS};
 use crate::view::About;
@@ -51,8 +52,9 @@ fn lay<S: Kept>(alloc: Global, state: S, seats: u32) -> Result<(Desk<S>, DeskSea
     };
     let mut slots = Vec::new(alloc);
     slots.push(Some(state))?;
+    let doors = Doors::new(alloc)?;
     match Table::new(alloc, &[0, 0, 0], slots, &about) {
-        Ok((table, maker)) => Ok((Desk { table }, maker)),
+        Ok((table, maker)) => Ok((Desk { table, doors }, maker)),
         Err(_) => Err(NoMemory),
     }
 }

@@ -15,7 +15,7 @@ const LOOKS: u32 = 2_000;
 
 impl<S: Kept> Desk<S> {
     /// Draws a ticket, waits until it is served, and takes the state out. It looks some times and
-    /// then sleeps until a turn is passed on. It may wait forever.
+    /// then sleeps until its ticket is called. It may wait forever.
     pub fn take<R: Wait>(&self, rt: &R, pass: &mut Pass<S>) -> Turn<S>
         requires here { IsOf S.fixed self.now pass.old }
         requires free { HasNoTurn pass.old }
@@ -68,6 +68,6 @@ impl<S: Kept> Desk<S> {
         self.count_entry(&mut pass.seat, length, &full);
         self.put_state_back(&mut pass.seat, full);
         self.pass_turn_on(&mut pass.seat);
-        self.wake_those_who_wait();
+        self.call_who_waits();
     }
 }
