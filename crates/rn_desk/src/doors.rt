@@ -1,5 +1,5 @@
-//! Doors at which workers sleep until their ticket is served. Each ticket has one, and no two that
-//! are out at once have the same, so whoever passes the turn on wakes no one else.
+//! Doors at which workers sleep until their ticket is called. Each ticket has one, and no two tickets
+//! that are out at once have the same, so that a call wakes no one else.
 ghost use Rattle.std.specs.Prelude.{◌≡◌, ◌<◌};
 
 use atomic_table::{Play, Table, TableRule};
@@ -7,7 +7,7 @@ use rn_items::NoMemory;
 use std::alloc::Global;
 use std::sync::Wait;
 
-/// Nothing is promised of doors: who comes in looks at the ticket that is served.
+/// Nothing is promised of doors: whoever comes in looks at the ticket that is served.
 struct NoRule;
 
 impl TableRule<(), (), ()> for NoRule {
@@ -23,7 +23,13 @@ impl Play<(), ()> for NoRule {
 /// How many doors there are: as many as a desk has seats at most.
 const DOORS: u64 = 64;
 
-/// A word for each door: the ticket that was called there last.
+/// The word of a door that is open.
+const OPEN: u64 = 0;
+
+/// The word of a door that is shut: somebody sleeps there, or is about to.
+const SHUT: u64 = 1;
+
+/// A word for each door.
 #[derive(Drop)]
 pub(crate) struct Doors {
     table: Table<(), (), (), NoRule, Global>,
@@ -38,31 +44,37 @@ fn door_of(ticket: u64) -> usize
 }
 
 impl Doors {
-    /// No ticket was called yet.
+    /// All doors are open.
     pub(crate) fn new(alloc: Global) -> Result<Doors, NoMemory> {
-        match Table::of_words(alloc, &[0; 64], &()) {
+        match Table::of_words(alloc, &[OPEN; 64], &()) {
             Ok((table, _seat)) => Ok(Doors { table }),
             Err(_) => Err(NoMemory),
         }
     }
 
-    /// The ticket that was called last at the door of a ticket.
-    pub(crate) fn called(&self, ticket: u64) -> u64 {
-        self.table.shared.peek(door_of(ticket))
+    /// Shuts the door of a ticket.
+    pub(crate) fn shut(&self, ticket: u64) {
+        self.set(door_of(ticket), SHUT);
     }
 
-    /// Sleeps at the door of a ticket until that is called, where none was called since the look. It
-    /// may return for no reason.
-    pub(crate) fn sleep<R: Wait>(&self, rt: &R, ticket: u64, called: u64) {
-        self.table
-            .shared
-            .park(rt, door_of(ticket), (called % (1 << 32)) as u32);
+    /// Sleeps at the door of a ticket while it is shut. It may return for no reason.
+    pub(crate) fn sleep<R: Wait>(&self, rt: &R, ticket: u64) {
+        self.table.shared.park(rt, door_of(ticket), SHUT as u32);
     }
 
-    /// Calls a ticket, and wakes the worker that sleeps at its door.
-    pub(crate) fn call(&self, ticket: u64) {
+    /// Opens the door of a ticket, and wakes the worker that sleeps there.
+    pub(crate) fn open(&self, ticket: u64) {
         let door = door_of(ticket);
-        let (_last, _seat) = self.table.shared.swap_new_seat::<NoRule>(door, ticket);
-        self.table.shared.wake_all(door);
+        if self.set(door, OPEN) == SHUT {
+            self.table.shared.wake_all(door);
+        }
+    }
+
+    // Writes a door's word, and returns what it was.
+    fn set(&self, door: usize, word: u64) -> u64
+        requires { door < 64 }
+    {
+        let (was, _seat) = self.table.shared.swap_new_seat::<NoRule>(door, word);
+        was
     }
 }

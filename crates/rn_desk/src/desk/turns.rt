@@ -9,13 +9,13 @@ use crate::kept::Kept;
 use std::hint::spin_loop;
 use std::sync::Wait;
 
-/// How often a worker that waits looks before it sleeps: for about as long as sleeping and waking
-/// would take.
+/// How often a worker whose ticket is served soon looks before it sleeps: for about as long as
+/// sleeping and waking would take.
 const LOOKS: u32 = 2_000;
 
 impl<S: Kept> Desk<S> {
-    /// Draws a ticket, waits until it is served, and takes the state out. It looks some times and
-    /// then sleeps until its ticket is called. It may wait forever.
+    /// Draws a ticket, waits until it is served, and takes the state out. Where it is
+    /// served soon it looks some times, and else it sleeps until it is called. It may wait forever.
     pub fn take<R: Wait>(&self, rt: &R, pass: &mut Pass<S>) -> Turn<S>
         requires here { IsOf S.fixed self.now pass.old }
         requires free { HasNoTurn pass.old }
@@ -39,7 +39,7 @@ impl<S: Kept> Desk<S> {
                 let length = state.length();
                 return Turn { state, length };
             }
-            if looks < LOOKS {
+            if looks < LOOKS && self.is_near(ticket) {
                 looks += 1;
                 spin_loop();
             } else {
