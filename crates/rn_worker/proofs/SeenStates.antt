@@ -1,8 +1,8 @@
 -- What is so after the entries that a worker has seen, and in a later state.
-use Rattle.std.proofs.Common.{◌≡◌, ℕ, ◌+◌, ◌-◌, ◌<◌, ◌≤◌, List, [], length, refl, sym, ap, ◌∙◌, subst, arith}
+use Rattle.std.proofs.Common.{◌≡◌, ℕ, ◌+◌, ◌*◌, ◌-◌, ◌<◌, ◌≤◌, List, [], length, cond, refl, sym, ap, ◌∙◌, subst, arith}
 use Rattle.std.specs.Prelude.{◌↔◌, Option, Some, None, Result, Ok, Err, Bool, true, false, MatchBool, Contains, IfOk, IfSome, IsNone}
 use Rattle.std.proofs.lemmas.List.{length-append}
-use Rattle.rn_items.specs.declared.memory.NoMemory.{NoMemory}
+use Rattle.rn_choices.specs.declared.flag.Halt.{Halt}
 use Rattle.rn_model.specs.declared.binding.Binding.{Binding}
 use Rattle.rn_model.specs.declared.log.Entry.{Entry}
 use Rattle.rn_model.specs.declared.system.System.{System}
@@ -98,11 +98,6 @@ module _ (setup : Setup) (es : List Entry) (v : Sight) (shown : Shows setup es v
       let most = shown.limits.steps in
       omega (arith, few, most)
 
-  -- nor were those before
-  pub few_before : (before : List Entry) → StartsWith es before → length before ≤ length es
-  few_before before begins =
-      let all = ap length begins.1 ∙ length-append before begins.0 in omega (arith, all)
-
 -- The same of a system and its options.
 module _ (setup : Setup) (system : System) (options : Options)
     (same : setup ≡ record { system = system; options = options }) (es : List Entry) (v : Sight)
@@ -117,17 +112,13 @@ module _ (setup : Setup) (system : System) (options : Options)
       IsToSearch system uplinks v.table
   searched_by uplinks are = to_search own es v own_shown uplinks are
 
-  pub known_by : (r : Result Plan NoMemory) → IfOk r (IsPlanAt system options.depth v.table) →
+  pub known_by : (r : Result Plan Halt) → IfOk r (IsPlanAt system options.depth v.table) →
       IfOk r (Knows setup es)
   known_by (Ok p) plan = subst (λ x. Knows x es p) (sym same) (knows own es v own_shown p plan)
-  known_by (Err refused) plan = tt
+  known_by (Err halt) plan = tt
 
-  pub steps_left : (before after : List Entry) → StartsWith es before → length es < length after →
-      ((options.steps + 2) - length after) < ((options.steps + 2) - length before)
-  steps_left before after begins later =
-      let few = few_seen own es v own_shown in
-      let first = few_before own es v own_shown before begins in
-      omega (arith, few, first, later)
+  pub few_by : length es ≤ options.steps
+  few_by = few_seen own es v own_shown
 
 -- A later state.
 module _ (t : State) (is : IsState t) (es : List Entry) (begins : StartsWith (logged t) es)
@@ -168,24 +159,41 @@ module _ (t : State) (is : IsState t) (es : List Entry) (begins : StartsWith (lo
       (still_found p.found own.0, still_dead p.dead.items own.1)
 
   pub fits : (setup : Setup) → t.setup ≡ setup → (seen : ℕ) → seen ≡ length es →
-      (r : Result Plan NoMemory) → IfOk r (Knows setup es) → IfOk r (FitsIn t seen)
+      (r : Result Plan Halt) → IfOk r (Knows setup es) → IfOk r (FitsIn t seen)
   fits setup same seen count (Ok p) known =
       subst (λ k. FitsIn t k p) (sym count) (fits_in setup same p known)
-  fits setup same seen count (Err refused) known = tt
+  fits setup same seen count (Err halt) known = tt
+
+-- who begins with entries has no fewer
+pub never_fewer : (es before : List Entry) → StartsWith es before → length before ≤ length es
+never_fewer es before begins =
+    let all = ap length begins.1 ∙ length-append before begins.0 in omega (arith, all)
+
+-- A round sees an entry more, or was stopped; then the next one isn't.
+pub rounds_end : (stopped before : Bool) (steps old turned new : ℕ) → old ≤ steps → old ≤ turned →
+    turned ≤ new → (stopped ≡ false → old < turned) → (before ≡ true → stopped ≡ true → ⊥) →
+    2 * ((steps + 2) - new) + cond stopped 0 1 < 2 * ((steps + 2) - old) + cond before 0 1
+rounds_end true true steps old turned new few later then more never = absurd (never refl refl)
+rounds_end true false steps old turned new few later then more never =
+    omega (arith, few, later, then)
+rounds_end false true steps old turned new few later then more never =
+    let grows = more refl in omega (arith, few, grows, then)
+rounds_end false false steps old turned new few later then more never =
+    let grows = more refl in omega (arith, few, grows, then)
 
 -- A worker's own entries, and its tally.
-pub own_counted : (fired : Bool) (own looked after : List Entry) (t u : ℕ) → t ≡ length own →
-    looked ≡ own → GrowsBy fired looked after → MatchBool fired (u ≡ t + 1) (u ≡ t) →
-    u ≡ length after
-own_counted true own looked after t u are same grows counted =
-    let all = ap length same in omega (arith, are, all, grows, counted)
-own_counted false own looked after t u are same grows counted =
-    let all = ap length same in let more = ap length grows in omega (arith, are, all, more, counted)
+pub own_counted : (fired : Bool) (own after : List Entry) (t u : ℕ) → t ≡ length own →
+    GrowsBy fired own after → MatchBool fired (u ≡ t + 1) (u ≡ t) → u ≡ length after
+own_counted true own after t u are grows counted = omega (arith, are, grows, counted)
+own_counted false own after t u are grows counted =
+    let more = ap length grows in omega (arith, are, more, counted)
 
-pub own_within : (fired : Bool) (own looked after : List Entry) (n k l : ℕ) → length own ≤ n →
-    n ≤ k → k < l → looked ≡ own → GrowsBy fired looked after → length after ≤ l
-own_within true own looked after n k l within begins later same grows =
-    let all = ap length same in omega (arith, within, begins, later, all, grows)
-own_within false own looked after n k l within begins later same grows =
-    let all = ap length same in let more = ap length grows in
-    omega (arith, within, begins, later, all, more)
+pub own_within : (stopped fired : Bool) (own after : List Entry) (n k l : ℕ) → length own ≤ n →
+    n ≤ k → k ≤ l → (stopped ≡ false → n < k) → (stopped ≡ true → fired ≡ false) →
+    GrowsBy fired own after → length after ≤ l
+own_within true true own after n k l within turned later more never grows =
+    let none = never refl in absurd (let no : ⊥ = cc in no)
+own_within false true own after n k l within turned later more never grows =
+    let longer = more refl in omega (arith, within, longer, later, grows)
+own_within stopped false own after n k l within turned later more never grows =
+    let same = ap length grows in omega (arith, within, turned, later, same)

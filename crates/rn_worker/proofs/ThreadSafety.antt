@@ -8,6 +8,7 @@ use Rattle.std.proofs.MapsCrossing as maps
 use Rattle.atomic_table.proofs.shared.Seat.TheSendSync as seat
 use Rattle.rn_items.proofs.items.Items.TheSendSync as items
 use Rattle.rn_channel.specs.contracts.uplinks.Uplinks as uplinks
+use Rattle.rn_choices.specs.contracts.flag.Flag as flag
 use Rattle.rn_desk.specs.contracts.desk.Desk as desk
 use Rattle.rn_desk.proofs.desk.Desk.TheSendSync as desk_safe
 use Rattle.rn_model.specs.contracts.log.Entry as entry
@@ -33,8 +34,11 @@ options_sync = search (sendable, crosses) depth 40 fits 20000
 pub desk_sync : IsSync (desk.the_row state.the_row entry.the_row setup.the_row kept.ghosts)
 desk_sync = search (desk_safe.the_sync, state_send, sendable, crosses) depth 40 fits 20000
 
--- a closure over seven captures may be shared where each of these may
-pub closure_sync : (name : List ℕ) (A B C D E F G : RattleType) →
-    IsSync A → IsSync B → IsSync C → IsSync D → IsSync E → IsSync F → IsSync G →
-    IsSync (TupleAt name (A ∷ B ∷ C ∷ D ∷ E ∷ F ∷ G ∷ []))
-closure_sync name A B C D E F G a b c d e f g = search sendable depth 40 fits 20000
+pub flag_sync : IsSync flag.the_row
+flag_sync = search (sendable, crosses) depth 40 fits 20000
+
+-- a closure over eight captures may be shared where each of these may
+pub closure_sync : (name : List ℕ) (A B C D E F G H : RattleType) →
+    IsSync A → IsSync B → IsSync C → IsSync D → IsSync E → IsSync F → IsSync G → IsSync H →
+    IsSync (TupleAt name (A ∷ B ∷ C ∷ D ∷ E ∷ F ∷ G ∷ H ∷ []))
+closure_sync name A B C D E F G H a b c d e f g h = search sendable depth 40 fits 20000

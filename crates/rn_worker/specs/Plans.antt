@@ -1,7 +1,8 @@
 -- What a worker found outside its turns, and what it adds in one.
 use Rattle.std.specs.Prelude.{ℕ, ◌≡◌, ◌<◌, ◌^◌, ◌+◌, Bool, true, false, List, [], ◌∷◌, ◌++◌, Option, Some, None}
 use Rattle.std.specs.Prelude.{Result, Ok, Err, Contains, length, ⊤}
-use Rattle.rn_items.specs.declared.memory.NoMemory.{NoMemory}
+use Rattle.rn_choices.specs.declared.flag.Halt.{Halt}
+use Rattle.rn_choices.specs.declared.flag.Halt.TheVariants.{Stopped}
 use Rattle.rn_model.specs.declared.binding.Binding.{Binding}
 use Rattle.rn_model.specs.declared.log.Entry.{Entry}
 use Rattle.rn_model.specs.declared.system.System.{System}
@@ -54,10 +55,14 @@ Knows setup entries p =
     IsFoundAt setup.system setup.options.depth (marking_after setup entries) p.found
     × AreDeadAt setup.system (marking_after setup entries) p.dead.items
 
+-- the search was stopped
+abbrev pub WasStopped : {A : Type 0} → Result A Halt → Type 0
+WasStopped r = r ≡ Err Stopped
+
 -- no instances are to be dropped
-abbrev pub DropsNone : Result Plan NoMemory → Type 0
+abbrev pub DropsNone : Result Plan Halt → Type 0
 DropsNone (Ok p) = p.dead.items ≡ []
-DropsNone (Err refused) = ⊤
+DropsNone (Err halt) = ⊤
 
 -- none of these is live at the end of the log
 abbrev pub HasNoneLive : State → List ℕ → Type 0

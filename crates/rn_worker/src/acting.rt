@@ -1,20 +1,28 @@
-//! A worker's second turn: it commits what it found.
-ghost use Rattle.std.specs.Prelude.{◌≡◌, ◌≤◌, ◌<◌, [], None, IfOk, length};
+//! A worker's turn: it commits what it found, and looks again.
+ghost use Rattle.std.specs.Prelude.{◌≡◌, ◌≤◌, ◌<◌, [], None, false, IfOk, IfSome, length};
 ghost use Rattle.rn_model.specs.Limits.{most_workers};
 ghost use Rattle.rn_desk.specs.Passes.{fixed_of, number, seen, mine, IsOf, HasNoTurn};
 ghost use Rattle.rn_fire.specs.Ends.{MayGoOn};
 ghost use Rattle.rn_fire.specs.States.{logged};
-ghost use Rattle.rn_worker.specs.Seen.{KeepsLog, GoesOn, StaysOrEnds};
-ghost use Rattle.rn_worker.specs.Plans.{AddsOwn, DropsNone, FitsIn, GrowsBy, HasNoneLive, Knows, WasFound};
+ghost use Rattle.rn_worker.specs.Seen.{KeepsLog, GoesOn, Shows, StaysOrEnds};
+ghost use Rattle.rn_worker.specs.Plans.{AddsOwn, DropsNone, FitsIn, GrowsBy, HasNoneLive, Knows, WasFound, WasStopped};
 
 use crate::considering::Plan;
+use crate::looking::{Sight, sight_below};
 use crate::tally::Done;
 use rn_desk::{Desk, Kept, Pass};
 use rn_fire::{Commit, SimState};
-use rn_items::NoMemory;
+use rn_found::Halt;
 use rn_table::Table;
 use std::alloc::Global;
 use std::sync::Wait;
+
+/// What came of a turn: what the worker did, and what it saw then, where it looked.
+#[derive(Drop)]
+pub(crate) struct Acted {
+    pub done: Done,
+    pub sight: Option<Sight>,
+}
 
 // How many of these instances are kept.
 fn count_kept(table: &Table, numbers: &[u32]) -> u64
@@ -67,19 +75,22 @@ fn commit_plan(alloc: Global, state: &mut SimState, worker: u32, seen: u64, plan
     }
 }
 
-// Drops what was listed, and commits what was found, where the log hasn't ended.
+// Drops what was listed, and commits what was found, where the log hasn't ended. Of a search that was
+// stopped nothing is known, and all stays but for an end at the step limit.
 fn act_on(
     alloc: Global,
     state: &mut SimState,
     worker: u32,
     seen: u64,
-    plan: &Result<Plan, NoMemory>,
+    plan: &Result<Plan, Halt>,
 ) -> Done
     requires worker { (1 ≤ worker) × (worker ≤ most_workers) }
     requires seen { seen ≤ length state.old.fired }
     requires plan { IfOk plan.now (FitsIn state.old seen) }
     ensures added { AddsOwn worker result.fired state.old state.new }
-    ensures later { seen < length (logged state.new) }
+    ensures later { seen ≤ length (logged state.new) }
+    ensures more { ¬ WasStopped plan.now → seen < length (logged state.new) }
+    ensures stopped { WasStopped plan.now → result.fired ≡ false }
     ensures swept { DropsNone plan.now → result.swept ≡ 0 }
 {
     let swept = match plan {
@@ -95,15 +106,17 @@ fn act_on(
     }
     let fired = match plan {
         Ok(plan) => commit_plan(alloc, state, worker, seen, plan),
-        Err(_) => {
+        Err(Halt::NoMemory) => {
             state.end_memory();
             false
         }
+        Err(Halt::Stopped) => false,
     };
     Done { fired, swept }
 }
 
-/// Takes a turn and acts.
+/// Takes a turn and acts. Where the log then goes on below the step limit, and there is memory for it,
+/// it takes the next snapshot too.
 pub(crate) fn act<R: Wait>(
     rt: &R,
     alloc: Global,
@@ -111,8 +124,9 @@ pub(crate) fn act<R: Wait>(
     pass: &mut Pass<SimState>,
     worker: u32,
     looked: u64,
-    plan: &Result<Plan, NoMemory>,
-) -> Done
+    steps: u32,
+    plan: &Result<Plan, Halt>,
+) -> Acted
     requires here { IsOf ⟦<SimState as Kept>⟧.fixed desk.now pass.old }
     requires free { HasNoTurn pass.old }
     requires worker { (1 ≤ worker) × (worker ≤ most_workers) }
@@ -120,17 +134,29 @@ pub(crate) fn act<R: Wait>(
     requires going { GoesOn (seen pass.old) }
     requires looked { looked ≡ length (seen pass.old) }
     requires knows { IfOk plan.now (Knows (fixed_of ⟦<SimState as Kept>⟧.fixed desk.now) (seen pass.old)) }
+
+    // The pass.
     ensures here { IsOf ⟦<SimState as Kept>⟧.fixed desk.now pass.new }
     ensures free { HasNoTurn pass.new }
     ensures number { number pass.new ≡ number pass.old }
-    ensures later { length (seen pass.old) < length (seen pass.new) }
-    ensures mine { GrowsBy result.fired (mine pass.old) (mine pass.new) }
-    ensures swept { DropsNone plan.now → result.swept ≡ 0 }
+    ensures later { length (seen pass.old) ≤ length (seen pass.new) }
+    ensures more { ¬ WasStopped plan.now → length (seen pass.old) < length (seen pass.new) }
+
+    // What it did.
+    ensures mine { GrowsBy result.done.fired (mine pass.old) (mine pass.new) }
+    ensures stopped { WasStopped plan.now → result.done.fired ≡ false }
+    ensures swept { DropsNone plan.now → result.done.swept ≡ 0 }
+
+    // What it saw then.
+    ensures some { IfSome result.sight (Shows (fixed_of ⟦<SimState as Kept>⟧.fixed desk.now)
+        (seen pass.new)) }
+    ensures below { IfSome result.sight (λ v. v.seen < steps) }
 {
     let mut turn = desk.take(rt, pass);
     let state = turn.state();
     let _length = state.length();
     let done = act_on(alloc, state, worker, looked, plan);
+    let sight = sight_below(state, steps);
     desk.give(pass, turn);
-    done
+    Acted { done, sight }
 }

@@ -1,26 +1,84 @@
 //! What a worker does between its turns: it searches its snapshot.
-ghost use Rattle.std.specs.Prelude.{◌≡◌, IfOk, false};
-ghost use Rattle.rn_worker.specs.Plans.{DropsNone, IsPlanAt, IsToSearch};
+ghost use Rattle.std.specs.Prelude.{◌≡◌, ◌↔◌, ◌<◌, ◌^◌, ℕ, [], Some, IfOk, IfSome, IsNone, false, true, length};
+ghost use Rattle.rn_model.specs.Enabling.{DeadAt, Enabled};
+ghost use Rattle.rn_model.specs.Markings.{Instance, instance_at};
+ghost use Rattle.rn_worker.specs.Plans.{AreDeadAt, DropsNone, IsPlanAt, IsToSearch, WasStopped};
 
 use crate::looking::Sight;
 use rn_binding::Candidate;
 use rn_channel::Uplinks;
-use rn_found::Finding;
+use rn_found::{Finding, Flag, Halt};
 use rn_items::NoMemory;
 use rn_live::garbage;
 use rn_model::System;
+use rn_table::Table;
 use rn_value::InstRef;
 use std::alloc::Global;
 
-/// What a worker found: a binding that was enabled, or `None` where none was; and instances that
-/// weren't live.
+/// What a worker found: a binding that was enabled, or `None` where none was; instances that weren't
+/// live; and how many were, where it listed those.
 #[derive(Drop)]
 pub(crate) struct Plan {
     pub found: Option<Candidate>,
     pub dead: Vec<u32>,
+    pub live: Option<u64>,
 }
 
-/// Searches a snapshot, and lists what isn't live there where that is due.
+// How many of a table's instances are left without so many.
+fn count_without(table: &Table, dead: usize) -> Result<u64, NoMemory> {
+    let all = table.instances()?.len();
+    Ok(all.saturating_sub(dead) as u64)
+}
+
+// The instances of a table that aren't live, and how many are, where that is due.
+fn listed_at(
+    alloc: Global,
+    system: &System,
+    table: &Table,
+    due: bool,
+) -> Result<(Vec<u32>, Option<u64>), NoMemory>
+    requires { (n : ℕ) (i : Instance) →
+        instance_at table.now.marking n ≡ Some i → length i.places < 2 ^ 32 }
+    ensures dead { IfOk result (λ r. AreDeadAt system.now table.now.marking r.0.items) }
+    ensures none { IfOk result (λ r. due ≡ false → r.0.items ≡ []) }
+{
+    if !due {
+        return Ok((Vec::new(alloc), None));
+    }
+    let dead = garbage(alloc, system, table)?;
+    let live = count_without(table, dead.len())?;
+    Ok((dead, Some(live)))
+}
+
+// Searches a table. Unless it is to be searched whole, the search ends where the flag is raised.
+fn find_at(
+    alloc: Global,
+    system: &System,
+    uplinks: &Uplinks,
+    depth: u32,
+    finding: &mut Finding,
+    table: &Table,
+    stop: &Flag,
+    whole: bool,
+) -> Result<Option<Candidate>, Halt>
+    requires { IsToSearch system.now uplinks.now table.now }
+    ensures found { IfOk result (λ found. IfSome found
+        (λ b. Enabled system.now table.now.marking b depth)) }
+    ensures none { IfOk result (λ found. IsNone found
+        ↔ DeadAt system.now table.now.marking depth) }
+    ensures whole { whole ≡ true → ¬ WasStopped result }
+{
+    if !whole {
+        return finding.find_unless(alloc, stop, system, uplinks, table, depth);
+    }
+    match finding.find(alloc, system, uplinks, table, depth) {
+        Ok(found) => Ok(found),
+        Err(_) => Err(Halt::NoMemory),
+    }
+}
+
+/// Searches a snapshot, and lists what isn't live there where that is due. Unless the snapshot is to be
+/// searched whole, the search ends where the flag is raised.
 pub(crate) fn plan_at(
     alloc: Global,
     system: &System,
@@ -29,18 +87,36 @@ pub(crate) fn plan_at(
     finding: &mut Finding,
     sight: Sight,
     due: bool,
-) -> Result<Plan, NoMemory>
+    stop: &Flag,
+    whole: bool,
+) -> Result<Plan, Halt>
     requires { IsToSearch system.now uplinks.now sight.table }
     ensures plan { IfOk result (IsPlanAt system.now depth sight.table) }
     ensures none { due ≡ false → DropsNone result }
+    ensures whole { whole ≡ true → ¬ WasStopped result }
 {
-    let dead = if due {
-        garbage(alloc, system, &sight.table)?
-    } else {
-        Vec::new(alloc)
+    let Ok((dead, live)) = listed_at(alloc, system, &sight.table, due) else {
+        return Err(Halt::NoMemory);
     };
-    let found = finding.find(alloc, system, uplinks, &sight.table, depth)?;
-    Ok(Plan { found, dead })
+    let table = &sight.table;
+    let found = find_at(alloc, system, uplinks, depth, finding, table, stop, whole)?;
+    Ok(Plan { found, dead, live })
+}
+
+/// Whether the search was stopped.
+pub(crate) fn was_stopped(plan: &Result<Plan, Halt>) -> bool
+    ensures yes { result ≡ true → WasStopped plan.now }
+    ensures no { result ≡ false → ¬ WasStopped plan.now }
+{
+    matches!(plan, Err(Halt::Stopped))
+}
+
+/// How many instances were live, where a worker listed those that weren't.
+pub(crate) fn live_then(plan: &Result<Plan, Halt>) -> Option<u64> {
+    match plan {
+        Ok(plan) => plan.live,
+        Err(_) => None,
+    }
 }
 
 // A number of a worker's own after so many entries, below 2^24.
@@ -71,7 +147,7 @@ pub(crate) fn start_beside(
     worker: u32,
     seen: u64,
     late: u64,
-    plan: &Result<Plan, NoMemory>,
+    plan: &Result<Plan, Halt>,
 ) -> Option<u64> {
     let Ok(plan) = plan else {
         return None;

@@ -7,6 +7,7 @@ mod dropping;
 mod gate;
 mod looking;
 mod meeting;
+mod pacing;
 mod posts;
 mod tally;
 mod worker;

@@ -14,7 +14,7 @@ pub struct Tally {
 /// Those of all workers, in the order of their numbers.
 pub type Tallies = Items<Tally>;
 
-/// What came of a worker's second turn: whether it fired, and how many instances it dropped.
+/// What a worker did in a turn: whether it fired, and how many instances it dropped.
 #[derive(Clone, Copy)]
 pub(crate) struct Done {
     pub fired: bool,
@@ -22,7 +22,7 @@ pub(crate) struct Done {
 }
 
 impl Tally {
-    /// Counts what came of a turn.
+    /// Counts what was done in a turn.
     pub(crate) fn count(&mut self, done: Done)
         requires { self.old.fired + 1 < 2 ^ 64 }
         ensures worker { self.new.worker ≡ self.old.worker }
@@ -35,12 +35,4 @@ impl Tally {
         }
         self.swept = self.swept.saturating_add(done.swept);
     }
-}
-
-/// Whether a worker that has fired so often, and did so just now, lists what may be dropped: after each
-/// so many firings, and never where that is 0.
-pub(crate) fn is_due(just_now: bool, fired: u64, every: u32) -> bool
-    ensures { every ≡ 0 → result ≡ false }
-{
-    just_now && every != 0 && fired % every as u64 == 0
 }

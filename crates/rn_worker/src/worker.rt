@@ -5,21 +5,25 @@ ghost use Rattle.rn_channel.specs.Uplinks.{AreUplinksOf};
 ghost use Rattle.rn_desk.specs.Passes.{fixed_of, number, seen, mine, IsOf, HasNoTurn};
 ghost use Rattle.rn_worker.specs.Seen.{HasEnded};
 
-use crate::acting::act;
-use crate::considering::{finding_after, late_after, plan_at, start_beside, start_of};
+use crate::acting::{Acted, act};
+use crate::considering::{
+    finding_after, late_after, live_then, plan_at, start_beside, start_of, was_stopped,
+};
 use crate::gate::Gate;
-use crate::looking::look;
-use crate::tally::{Tally, is_due};
+use crate::looking::{look, look_on};
+use crate::pacing::Pace;
+use crate::tally::Tally;
 use rn_channel::Uplinks;
 use rn_desk::{Desk, Kept, Pass};
 use rn_fire::SimState;
-use rn_found::Finding;
+use rn_found::{Finding, Flag};
 use rn_model::{Options, System};
 use std::alloc::Global;
 use std::sync::Wait;
 
-/// Fires until the log has ended. Each round takes two turns: in one the worker takes a snapshot, in
-/// the other it commits what it found there, and in between it searches with no turn held.
+/// Fires until the log has ended. In its first turn the worker takes a snapshot. Then each round takes
+/// one turn: the worker searches its snapshot with no turn held, and in the turn it commits what it found
+/// and takes the next snapshot. Only where it gets none there, it looks by a turn of its own.
 ///
 /// Where it comes too late to fire what it found, it begins its next search with other tokens.
 /// Without memory it ends the log.
@@ -54,27 +58,87 @@ pub fn work<R: Wait, G: Gate + Sync>(
     ensures fired { tally.new.fired ≡ length (mine pass.new) }
     ensures swept { options.now.sweep_every ≡ 0 → tally.new.swept ≡ 0 }
 {
+    let stop = Flag::new();
+    work_while(
+        rt, alloc, desk, pass, system, uplinks, gate, options, &stop, tally,
+    )
+}
+
+/// The same, with a flag that all workers share. Who has seen the log's end raises it, and the others'
+/// searches end then.
+///
+/// Nothing rests on that. A worker whose search was stopped though the log goes on searches its next
+/// snapshot whole.
+pub(crate) fn work_while<R: Wait, G: Gate + Sync>(
+    rt: &R,
+    alloc: Global,
+    desk: &Desk<SimState>,
+    pass: &mut Pass<SimState>,
+    system: &System,
+    uplinks: &Uplinks,
+    gate: &G,
+    options: &Options,
+    stop: &Flag,
+    tally: &mut Tally,
+)
+    requires here { IsOf ⟦<SimState as Kept>⟧.fixed desk.now pass.old }
+    requires free { HasNoTurn pass.old }
+    requires worker { number pass.old ≡ tally.old.worker }
+    requires numbered { (1 ≤ number pass.old) × (number pass.old ≤ most_workers) }
+    requires new { (mine pass.old ≡ []) × (tally.old.fired ≡ 0) × (tally.old.swept ≡ 0) }
+    requires fixed { fixed_of ⟦<SimState as Kept>⟧.fixed desk.now
+        ≡ record { system = system.now; options = options.now } }
+    requires own { AreUplinksOf system.now uplinks.now }
+
+    // The pass.
+    ensures here { IsOf ⟦<SimState as Kept>⟧.fixed desk.now pass.new }
+    ensures free { HasNoTurn pass.new }
+    ensures number { number pass.new ≡ number pass.old }
+    ensures ended { HasEnded (seen pass.new) }
+
+    // The tally.
+    ensures worker { tally.new.worker ≡ tally.old.worker }
+    ensures fired { tally.new.fired ≡ length (mine pass.new) }
+    ensures swept { options.now.sweep_every ≡ 0 → tally.new.swept ≡ 0 }
+{
     let worker = tally.worker;
     let mut finding = Finding::new(alloc, start_of(worker));
-    let mut due = false;
+    let mut pace = Pace::new();
     let mut late = 0;
-    while let Some(sight) = look(rt, desk, pass) {
-        let seen = sight.seen;
+    let mut stopped = false;
+    let mut sight = look(rt, desk, pass);
+    while let Some(now) = sight {
+        let seen = now.seen;
+        let due = pace.is_due(options.sweep_every);
         let plan = plan_at(
             alloc,
             system,
             uplinks,
             options.depth,
             &mut finding,
-            sight,
+            now,
             due,
+            stop,
+            stopped,
         );
         let beside = start_beside(worker, seen, late, &plan);
         gate.between(worker, seen);
-        let done = act(rt, alloc, desk, pass, worker, seen, &plan);
+        let Acted { done, sight: left } = act(
+            rt,
+            alloc,
+            desk,
+            pass,
+            worker,
+            seen,
+            options.steps,
+            &plan,
+        );
         tally.count(done);
-        due = is_due(done.fired, tally.fired, options.sweep_every);
+        pace = pace.after(live_then(&plan), done.fired);
         finding = finding_after(alloc, finding, done.fired, beside);
         late = late_after(late, done.fired);
+        stopped = was_stopped(&plan);
+        sight = look_on(rt, desk, pass, left);
     }
+    stop.raise();
 }

@@ -11,10 +11,11 @@ use crate::dropping::drop_dead;
 use crate::gate::Gate;
 use crate::posts::{Post, parted, posts_of};
 use crate::tally::Tallies;
-use crate::worker::work;
+use crate::worker::work_while;
 use rn_channel::Uplinks;
 use rn_desk::{Closed, Desk, close, open_desk};
 use rn_fire::{SimState, open_state};
+use rn_found::Flag;
 use rn_items::{Items, NoMemory};
 use rn_model::{Options, System};
 use std::alloc::Global;
@@ -38,6 +39,7 @@ fn all_work<R: Threads + Wait + Sync, G: Gate + Sync>(
     uplinks: &Uplinks,
     gate: &G,
     options: &Options,
+    stop: &Flag,
     posts: &mut [Post],
 )
     requires count { (0 < length posts.old) × (length posts.old ≤ most_workers) }
@@ -58,7 +60,7 @@ fn all_work<R: Threads + Wait + Sync, G: Gate + Sync>(
             requires own { AreUplinksOf system.now uplinks.now }
             ensures { IsDone desk.entry.now options.entry.now.sweep_every (i + 1) post.new }
         {
-            work(
+            work_while(
                 rt,
                 alloc,
                 desk,
@@ -67,6 +69,7 @@ fn all_work<R: Threads + Wait + Sync, G: Gate + Sync>(
                 uplinks,
                 gate,
                 options,
+                stop,
                 &mut post.tally,
             )
         },
@@ -97,6 +100,7 @@ pub fn run_workers<R: Threads + Wait + Sync, G: Gate + Sync>(
     let state = open_state(alloc, Arc::try_clone(&system)?, options)?;
     let (desk, passes) = open_desk(alloc, state, options.workers)?;
     let mut posts = posts_of(alloc, &desk, passes)?;
+    let stop = Flag::new();
     all_work(
         rt,
         alloc,
@@ -105,6 +109,7 @@ pub fn run_workers<R: Threads + Wait + Sync, G: Gate + Sync>(
         &uplinks,
         gate,
         &options,
+        &stop,
         posts.as_mut_slice(),
     );
     let (passes, tallies) = parted(alloc, posts)?;

@@ -14,6 +14,12 @@ const MAKES: &[u8] = b"net main { var x: net; var k: int; place c: int = 0;
   trans t { in c: k; guard k < 300; out c: k + 1; x: new w; } }
 net w { place p; }";
 
+// It makes 100 instances that it keeps, and then 100 of which no token holds one.
+const KEEPS: &[u8] = b"net main { var x: net; var k: int; place c: int = 0; place held: net;
+  trans keep { in c: k; guard k < 100; out c: k + 1; out held: x; x: new w; }
+  trans lose { in c: k; guard 100 <= k && k < 200; out c: k + 1; x: new w; } }
+net w { place p; }";
+
 fn first_worker(finished: &Finished) -> u32 {
     match finished.state.entries().first() {
         Some(Entry::Fire { worker, .. }) => *worker,
@@ -77,6 +83,21 @@ fn instances_are_dropped(rt: HostRuntime) -> Result<(), Fail> {
         assert!(rt; kept.len() == 1, "{workers} workers");
         assert!(rt; dropped <= 300, "{workers} workers");
         assert!(rt; (dropped > 0) == (sweep_every > 0), "{workers} workers");
+    }
+    Ok(())
+}
+
+// Where many instances are live, a worker lists more rarely what may be dropped: here first after each
+// firing, and in the end after 12, an eighth of the 101 that are live, so after its firings 101, 113, ..
+// 197. With 64 it does so after 64, 128 and 192. What is lost later isn't dropped during the run.
+#[test]
+fn many_live_instances_are_listed_rarely(rt: HostRuntime) -> Result<(), Fail> {
+    for (sweep_every, during) in [(1, 97), (64, 92), (0, 0)] {
+        let finished = run_text(&rt, rt.alloc(), KEEPS, 1, sweep_every, &NoGate)?;
+        let kept = finished.state.table().instances()?;
+        assert_eq!(rt; fired(&finished), 200);
+        assert!(rt; kept.len() == 101, "after {sweep_every}");
+        assert_eq!(rt; swept(&finished), during);
     }
     Ok(())
 }

@@ -1,0 +1,84 @@
+-- What is shown by each snapshot, and one round.
+use Rattle.std.proofs.Common.{◌≡◌, ◌≤◌, ◌∙◌, length, ap, sym, subst, arith}
+use Rattle.std.specs.Prelude.{IfSome}
+use Rattle.rn_desk.specs.Passes.{fixed_of, mine, seen}
+use Rattle.rn_fire.specs.declared.setup.Setup.{Setup}
+use Rattle.rn_worker.specs.Seen.{Shows}
+use Rattle.rn_worker.proofs.SeenStates.{few_by, known_by, never_fewer, never_many, own_counted, own_within, rounds_end, searched_by}
+use Rattle.rn_worker.proofs.worker.work_while.Goals as goal
+
+pub plan_at-plan-requires : goal.plan_at-plan-requires
+plan_at-plan-requires g c =
+    let setup : Setup = fixed_of (λ s. s.setup) c.args.desk.now in
+    let es = seen c.loop-sight.pass in
+    let shown : Shows setup es c.in-Some.now = subst (λ o. IfSome o (Shows setup es)) c.in-Some.is c.loop-sight.invariant.some in
+    searched_by setup c.args.system.now c.args.options.now c.requires.fixed es c.in-Some.now shown
+    c.args.uplinks.now c.requires.own
+
+pub act-left-requires-clause-going : goal.act-left-requires-clause-going
+act-left-requires-clause-going g c =
+    let setup : Setup = fixed_of (λ s. s.setup) c.args.desk.now in
+    let es = seen c.loop-sight.pass in
+    let shown : Shows setup es c.in-Some.now = subst (λ o. IfSome o (Shows setup es)) c.in-Some.is c.loop-sight.invariant.some in
+    shown.going
+
+pub act-left-requires-clause-looked : goal.act-left-requires-clause-looked
+act-left-requires-clause-looked g c =
+    let setup : Setup = fixed_of (λ s. s.setup) c.args.desk.now in
+    let es = seen c.loop-sight.pass in
+    let shown : Shows setup es c.in-Some.now = subst (λ o. IfSome o (Shows setup es)) c.in-Some.is c.loop-sight.invariant.some in
+    shown.count
+
+pub act-left-requires-clause-knows : goal.act-left-requires-clause-knows
+act-left-requires-clause-knows g c =
+    let setup : Setup = fixed_of (λ s. s.setup) c.args.desk.now in
+    let es = seen c.loop-sight.pass in
+    let shown : Shows setup es c.in-Some.now = subst (λ o. IfSome o (Shows setup es)) c.in-Some.is c.loop-sight.invariant.some in
+    known_by setup c.args.system.now c.args.options.now c.requires.fixed es c.in-Some.now shown
+    c.plan_at-plan.result c.plan_at-plan.ensures.plan
+
+pub count-requires : goal.count-requires
+count-requires g c =
+    let setup : Setup = fixed_of (λ s. s.setup) c.args.desk.now in
+    let es = seen c.loop-sight.pass in
+    let shown : Shows setup es c.in-Some.now = subst (λ o. IfSome o (Shows setup es)) c.in-Some.is c.loop-sight.invariant.some in
+    let few = never_many setup es c.in-Some.now shown in
+    let fired = c.loop-sight.invariant.fired in
+    let within = c.loop-sight.invariant.within in
+    omega (arith, few, fired, within)
+
+pub loop-sight-smaller : goal.loop-sight-smaller
+loop-sight-smaller g c =
+    let setup : Setup = fixed_of (λ s. s.setup) c.args.desk.now in
+    let es = seen c.loop-sight.pass in
+    let shown : Shows setup es c.in-Some.now = subst (λ o. IfSome o (Shows setup es)) c.in-Some.is c.loop-sight.invariant.some in
+    let did = c.act-left.ensures in
+    let was = c.was_stopped-stopped.ensures in
+    rounds_end c.was_stopped-stopped.result c.loop-sight.stopped c.args.options.now.steps (length es) (length (seen c.act-left.new.pass)) (length (seen c.look_on-sight.new.pass))
+    (few_by setup c.args.system.now c.args.options.now c.requires.fixed es c.in-Some.now shown)
+    did.later (never_fewer (seen c.look_on-sight.new.pass) (seen c.act-left.new.pass) c.look_on-sight.ensures.entries)
+    (λ goes. did.more (was.no goes))
+    (λ whole halts. c.plan_at-plan.ensures.whole whole (was.yes halts))
+
+pub loop-sight-preserved : goal.loop-sight-preserved
+loop-sight-preserved g c =
+    let before = c.loop-sight.invariant in
+    let did = c.act-left.ensures in
+    let was = c.was_stopped-stopped.ensures in
+    let then = c.look_on-sight.ensures in
+    let own = mine c.loop-sight.pass in
+    let after = mine c.act-left.new.pass in
+    let fewer = never_fewer (seen c.look_on-sight.new.pass) (seen c.act-left.new.pass) then.entries in
+    record {
+      here = then.here;
+      free = then.free;
+      number = then.number ∙ did.number ∙ before.number;
+      worker = c.count.ensures.worker ∙ before.worker;
+      fired = own_counted c.act-left.result.done.fired own after _ _ before.fired did.mine c.count.ensures.fired ∙ ap length (sym then.mine);
+      within = subst (λ es. length es ≤ length (seen c.look_on-sight.new.pass)) (sym then.mine)
+          (own_within c.was_stopped-stopped.result c.act-left.result.done.fired own after _ _ _ before.within did.later fewer
+          (λ goes. did.more (was.no goes)) (λ halts. did.stopped (was.yes halts)) did.mine);
+      swept = λ none. c.count.ensures.swept (before.swept none) (did.swept (c.plan_at-plan.ensures.none (c.is_due-due.ensures none)));
+      some = then.some;
+      none = then.none;
+    }
