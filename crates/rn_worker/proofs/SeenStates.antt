@@ -9,37 +9,56 @@ use Rattle.rn_model.specs.declared.system.System.{System}
 use Rattle.rn_model.specs.Markings.{Marking}
 use Rattle.rn_model.proofs.EnablingLemmas.{not_in_nil}
 use Rattle.rn_model.specs.Enabling.{DeadAt, Enabled}
-use Rattle.rn_model.specs.Liveness.{IsLive}
+use Rattle.rn_model.specs.Liveness.{IsLive, Stands}
 use Rattle.rn_model.specs.SoundTokens.{HasSoundTokens}
 use Rattle.rn_model.specs.declared.log.Options.{Options}
 use Rattle.rn_model.specs.Limits.{most_steps}
-use Rattle.rn_model.specs.Runs.{Run, end_of}
+use Rattle.rn_model.specs.Runs.{Log, Run, end_of, entries_of}
 use Rattle.rn_model.proofs.SoundRuns.{dead_stay_dead_in_runs, runs_end_sound}
 use Rattle.rn_model.proofs.StandingTables.{as_in_table, tables_enable_the_same, tables_have_the_same_live}
 use Rattle.rn_channel.specs.declared.uplinks.Uplinks.{Uplinks}
 use Rattle.rn_channel.specs.Uplinks.{AreUplinksOf}
 use Rattle.rn_desk.specs.Entries.{StartsWith}
+use Rattle.rn_table.specs.Tables.{IsTableOf}
 use Rattle.rn_found.proofs.FitTokens.{standing_tokens_fit}
 use Rattle.rn_live.proofs.GoodPlaces.{good_places}
 use Rattle.rn_fire.specs.declared.setup.Setup.{Setup}
 use Rattle.rn_fire.specs.States.{State, IsState, firings_in, logged}
+use Rattle.rn_fire.proofs.EntryLemmas.{firings_of}
 use Rattle.rn_worker.specs.declared.considering.Plan.{Plan}
 use Rattle.rn_worker.specs.declared.looking.Sight.{Sight}
-use Rattle.rn_worker.specs.Seen.{GoesOn, Shows, marking_after}
-use Rattle.rn_worker.specs.Plans.{AreDeadAt, FitsIn, GrowsBy, HasNoneLive, IsFoundAt, IsPlanAt, IsToSearch, Knows, WasFound}
+use Rattle.rn_worker.specs.Seen.{GoesOn, IsSightOf, Shows, marking_after}
+use Rattle.rn_worker.specs.Plans.{AddsOwn, AreDeadAt, FitsIn, GrowsBy, HasNoneLive, IsFoundAt, IsPlanAt, IsToSearch, Knows, WasFound}
 use Rattle.rn_worker.proofs.SeenEntries.{fired_then, going_count, had_seen, taken}
 
--- what a search answers, and a list of none
-pub found_at : (system : System) (depth : ℕ) (m : Marking) (found : Option Binding) →
-    IfSome found (λ b. Enabled system m b depth) → IsNone found ↔ DeadAt system m depth →
-    IsFoundAt system depth m found
-found_at system depth m (Some b) enabled none = enabled
-found_at system depth m None enabled none = none.0 refl
+-- what is seen of a state whose log goes on
+pub shows : (t : State) (v : Sight) (setup : Setup) (es : List Entry) → IsSightOf t v →
+    t.setup ≡ setup → es ≡ logged t → Shows setup es v
+shows t v setup es (is, going, table, count) same are =
+    let firings : firings_in es ≡ t.fired = ap firings_in are ∙ firings_of t.fired t.ended in
+    subst (λ x. Shows x es v) same
+    (record {
+      good = is.good;
+      limits = is.limits;
+      going = are ∙ ap (entries_of t.fired) going ∙ ap (λ fs. entries_of fs None) (sym firings);
+      log = subst (λ fs. Log t.setup.system t.setup.options fs None) (sym firings)
+          (subst (Log t.setup.system t.setup.options t.fired) going is.log);
+      stands = subst (λ k. Stands t.setup.system k.marking (marking_after t.setup es)) (sym table)
+          (subst (λ fs. Stands t.setup.system t.table.marking (end_of t.setup.system fs))
+          (sym firings) is.stands);
+      of_system = subst (IsTableOf t.setup.system) (sym table) is.of_system;
+      count = count ∙ ap length (sym are);
+    })
 
-pub none_listed : (system : System) (m : Marking) (numbers : List ℕ) → numbers ≡ [] →
-    AreDeadAt system m numbers
-none_listed system m numbers none n listed =
-    absurd (not_in_nil n (subst (λ ns. Contains ns n) none listed))
+pub shows_some : (o : Option Sight) (t : State) (setup : Setup) (es : List Entry) →
+    IfSome o (IsSightOf t) → t.setup ≡ setup → es ≡ logged t → IfSome o (Shows setup es)
+shows_some None t setup es is same are = tt
+shows_some (Some v) t setup es is same are = shows t v setup es is same are
+
+pub kept_setup : (worker : ℕ) (fired : Bool) (old new : State) → AddsOwn worker fired old new →
+    new.setup ≡ old.setup
+kept_setup worker true old new adds = adds.0
+kept_setup worker false old new stays = stays.0
 
 -- What a snapshot shows.
 module _ (setup : Setup) (es : List Entry) (v : Sight) (shown : Shows setup es v) where
@@ -180,20 +199,3 @@ rounds_end false true steps old turned new few later then more never =
     let grows = more refl in omega (arith, few, grows, then)
 rounds_end false false steps old turned new few later then more never =
     let grows = more refl in omega (arith, few, grows, then)
-
--- A worker's own entries, and its tally.
-pub own_counted : (fired : Bool) (own after : List Entry) (t u : ℕ) → t ≡ length own →
-    GrowsBy fired own after → MatchBool fired (u ≡ t + 1) (u ≡ t) → u ≡ length after
-own_counted true own after t u are grows counted = omega (arith, are, grows, counted)
-own_counted false own after t u are grows counted =
-    let more = ap length grows in omega (arith, are, more, counted)
-
-pub own_within : (stopped fired : Bool) (own after : List Entry) (n k l : ℕ) → length own ≤ n →
-    n ≤ k → k ≤ l → (stopped ≡ false → n < k) → (stopped ≡ true → fired ≡ false) →
-    GrowsBy fired own after → length after ≤ l
-own_within true true own after n k l within turned later more never grows =
-    let none = never refl in absurd (let no : ⊥ = cc in no)
-own_within false true own after n k l within turned later more never grows =
-    let longer = more refl in omega (arith, within, longer, later, grows)
-own_within stopped false own after n k l within turned later more never grows =
-    let same = ap length grows in omega (arith, within, turned, later, same)

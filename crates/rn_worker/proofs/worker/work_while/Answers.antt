@@ -15,20 +15,6 @@ plan_at-plan-requires g c =
     searched_by setup c.args.system.now c.args.options.now c.requires.fixed es c.in-Some.now shown
     c.args.uplinks.now c.requires.own
 
-pub act-left-requires-clause-going : goal.act-left-requires-clause-going
-act-left-requires-clause-going g c =
-    let setup : Setup = fixed_of (λ s. s.setup) c.args.desk.now in
-    let es = seen c.loop-sight.pass in
-    let shown : Shows setup es c.in-Some.now = subst (λ o. IfSome o (Shows setup es)) c.in-Some.is c.loop-sight.invariant.some in
-    shown.going
-
-pub act-left-requires-clause-looked : goal.act-left-requires-clause-looked
-act-left-requires-clause-looked g c =
-    let setup : Setup = fixed_of (λ s. s.setup) c.args.desk.now in
-    let es = seen c.loop-sight.pass in
-    let shown : Shows setup es c.in-Some.now = subst (λ o. IfSome o (Shows setup es)) c.in-Some.is c.loop-sight.invariant.some in
-    shown.count
-
 pub act-left-requires-clause-knows : goal.act-left-requires-clause-knows
 act-left-requires-clause-knows g c =
     let setup : Setup = fixed_of (λ s. s.setup) c.args.desk.now in
@@ -59,26 +45,3 @@ loop-sight-smaller g c =
     did.later (never_fewer (seen c.look_on-sight.new.pass) (seen c.act-left.new.pass) c.look_on-sight.ensures.entries)
     (λ goes. did.more (was.no goes))
     (λ whole halts. c.plan_at-plan.ensures.whole whole (was.yes halts))
-
-pub loop-sight-preserved : goal.loop-sight-preserved
-loop-sight-preserved g c =
-    let before = c.loop-sight.invariant in
-    let did = c.act-left.ensures in
-    let was = c.was_stopped-stopped.ensures in
-    let then = c.look_on-sight.ensures in
-    let own = mine c.loop-sight.pass in
-    let after = mine c.act-left.new.pass in
-    let fewer = never_fewer (seen c.look_on-sight.new.pass) (seen c.act-left.new.pass) then.entries in
-    record {
-      here = then.here;
-      free = then.free;
-      number = then.number ∙ did.number ∙ before.number;
-      worker = c.count.ensures.worker ∙ before.worker;
-      fired = own_counted c.act-left.result.done.fired own after _ _ before.fired did.mine c.count.ensures.fired ∙ ap length (sym then.mine);
-      within = subst (λ es. length es ≤ length (seen c.look_on-sight.new.pass)) (sym then.mine)
-          (own_within c.was_stopped-stopped.result c.act-left.result.done.fired own after _ _ _ before.within did.later fewer
-          (λ goes. did.more (was.no goes)) (λ halts. did.stopped (was.yes halts)) did.mine);
-      swept = λ none. c.count.ensures.swept (before.swept none) (did.swept (c.plan_at-plan.ensures.none (c.is_due-due.ensures none)));
-      some = then.some;
-      none = then.none;
-    }
