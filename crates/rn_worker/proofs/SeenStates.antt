@@ -1,13 +1,12 @@
 -- What is so after the entries that a worker has seen, and in a later state.
-use Rattle.std.proofs.Common.{◌≡◌, ℕ, ◌+◌, ◌*◌, ◌-◌, ◌<◌, ◌≤◌, List, [], length, cond, refl, sym, ap, ◌∙◌, subst, arith}
-use Rattle.std.specs.Prelude.{◌↔◌, Option, Some, None, Result, Ok, Err, Bool, true, false, MatchBool, Contains, IfOk, IfSome, IsNone}
+use Rattle.std.proofs.Common.{◌≡◌, ℕ, ◌+◌, ◌*◌, ◌-◌, ◌<◌, ◌≤◌, List, length, cond, refl, sym, ap, ◌∙◌, subst, arith}
+use Rattle.std.specs.Prelude.{Option, Some, None, Result, Ok, Err, Bool, true, false, Contains, IfOk, IfSome}
 use Rattle.std.proofs.lemmas.List.{length-append}
 use Rattle.rn_choices.specs.declared.flag.Halt.{Halt}
 use Rattle.rn_model.specs.declared.binding.Binding.{Binding}
 use Rattle.rn_model.specs.declared.log.Entry.{Entry}
 use Rattle.rn_model.specs.declared.system.System.{System}
 use Rattle.rn_model.specs.Markings.{Marking}
-use Rattle.rn_model.proofs.EnablingLemmas.{not_in_nil}
 use Rattle.rn_model.specs.Enabling.{DeadAt, Enabled}
 use Rattle.rn_model.specs.Liveness.{IsLive, Stands}
 use Rattle.rn_model.specs.SoundTokens.{HasSoundTokens}
@@ -28,7 +27,7 @@ use Rattle.rn_fire.proofs.EntryLemmas.{firings_of}
 use Rattle.rn_worker.specs.declared.considering.Plan.{Plan}
 use Rattle.rn_worker.specs.declared.looking.Sight.{Sight}
 use Rattle.rn_worker.specs.Seen.{GoesOn, IsSightOf, Shows, marking_after}
-use Rattle.rn_worker.specs.Plans.{AddsOwn, AreDeadAt, FitsIn, GrowsBy, HasNoneLive, IsFoundAt, IsPlanAt, IsToSearch, Knows, WasFound}
+use Rattle.rn_worker.specs.Plans.{AddsOwn, AreDeadAt, FitsIn, HasNoneLive, IsFoundAt, IsPlanAt, IsToSearch, Knows, WasFound}
 use Rattle.rn_worker.proofs.SeenEntries.{fired_then, going_count, had_seen, taken}
 
 -- what is seen of a state whose log goes on

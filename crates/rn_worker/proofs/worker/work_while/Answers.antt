@@ -1,10 +1,10 @@
 -- What is shown by each snapshot, and one round.
-use Rattle.std.proofs.Common.{◌≡◌, ◌≤◌, ◌∙◌, length, ap, sym, subst, arith}
+use Rattle.std.proofs.Common.{length, subst, arith}
 use Rattle.std.specs.Prelude.{IfSome}
-use Rattle.rn_desk.specs.Passes.{fixed_of, mine, seen}
+use Rattle.rn_desk.specs.Passes.{fixed_of, seen}
 use Rattle.rn_fire.specs.declared.setup.Setup.{Setup}
 use Rattle.rn_worker.specs.Seen.{Shows}
-use Rattle.rn_worker.proofs.SeenStates.{few_by, known_by, never_fewer, never_many, own_counted, own_within, rounds_end, searched_by}
+use Rattle.rn_worker.proofs.SeenStates.{few_by, known_by, never_fewer, never_many, rounds_end, searched_by}
 use Rattle.rn_worker.proofs.worker.work_while.Goals as goal
 
 pub plan_at-plan-requires : goal.plan_at-plan-requires
