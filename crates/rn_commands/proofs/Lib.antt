@@ -1,3 +1,4 @@
+pub mod AcceptedWorkloads
 pub mod EndedRuns
 pub mod FirstBindings
 pub mod LastReasons

@@ -1,8 +1,11 @@
--- The input of `replay` has one net text and one record, and a record has one answer.
-use Rattle.std.specs.Prelude.{ℕ, ◌≡◌, List}
+-- The input of `replay` has one net text and one record, a record has one answer, and the text that
+-- `gen` runs is accepted.
+use Rattle.std.specs.Prelude.{ℕ, ◌≡◌, ◌≤◌, List}
 use Rattle.rn_model.specs.declared.system.System.{System}
 use Rattle.rn_model.specs.declared.log.Options.{Options}
+use Rattle.rn_gen.specs.Workload.{workload}
 use Rattle.rn_answer.specs.declared.answer.Answer.{Answer}
+use Rattle.rn_answer.specs.NetTexts.{Accepted}
 use Rattle.rn_commands.specs.Parts.{HasParts}
 use Rattle.rn_commands.specs.Replaying.{RecordTo}
 
@@ -15,3 +18,8 @@ OneParting = (bytes net rest other_net other_rest : List ℕ) → HasParts bytes
 abbrev pub OneAnswerToRecord : Type 0
 OneAnswerToRecord = (system : System) (options : Options) (bytes : List ℕ) (a b : Answer) →
     RecordTo system options bytes a → RecordTo system options bytes b → a ≡ b
+
+-- The workload text of 10,000 workers at most is a net text.
+abbrev pub WorkloadsAreAccepted : Type 0
+WorkloadsAreAccepted = (copies : ℕ) → copies ≤ 10000 →
+    (system : System) × Accepted (workload copies) system

@@ -1,6 +1,7 @@
-//! What `replay` comes to is one answer.
-ghost use Rattle.rn_commands.specs.Laws.{OneAnswerToRecord, OneParting};
+//! What `replay` comes to is one answer, and the text that `gen` runs is accepted.
+ghost use Rattle.rn_commands.specs.Laws.{OneAnswerToRecord, OneParting, WorkloadsAreAccepted};
 
+use rn_gen::workload_laws;
 use rn_replay::replay_laws;
 use rn_told::record_laws;
 
@@ -15,4 +16,11 @@ pub fn answer_laws()
 {
     record_laws();
     replay_laws();
+}
+
+/// The text that `gen` runs is a net text, for each number of workers.
+pub fn gen_laws()
+    ensures { WorkloadsAreAccepted }
+{
+    workload_laws();
 }

@@ -10,7 +10,7 @@ mod runs;
 mod workload;
 
 pub use bindings::enabled;
-pub use laws::{answer_laws, parts_laws};
+pub use laws::{answer_laws, gen_laws, parts_laws};
 pub use replays::replay;
 pub use runs::run;
 pub use workload::run_workload;

@@ -6,6 +6,7 @@ ghost use Rattle.rn_gen.specs.Workload.{workload};
 ghost use Rattle.rn_commands.specs.Ends.{end_line};
 ghost use Rattle.rn_answer.specs.NetTexts.{Accepted};
 ghost use Rattle.rn_answer.specs.Refusing.{Concludes};
+ghost use Rattle.rn_answer.specs.declared.stopped.Stopped.TheVariants.{NoMemory as Memory};
 ghost use Rattle.rn_commands.specs.Workloads.{counted_line, GensTo, IsTallyOf, IsTalliedBy};
 
 use crate::ends::fired_count;
@@ -13,7 +14,7 @@ use crate::running::run_system;
 use crate::runs::closed_by;
 use rn_answer::{Answer, Stopped, system_of};
 use rn_fire::SimState;
-use rn_gen::gen_text;
+use rn_gen::{gen_text, workload_laws};
 use rn_items::{Items, NoMemory};
 use rn_live::live;
 use rn_model::{Entry, FaultKind, Options, Reason, System};
@@ -80,15 +81,26 @@ fn tallied(alloc: Global, state: &SimState) -> Result<Answer, NoMemory>
     })
 }
 
-// The system of the workload text of so many workers.
+// Memory ran out, where that is why a call stopped.
+fn out_of_memory(stopped: Stopped) -> NoMemory
+    requires { stopped ≡ Memory }
+{
+    match stopped {
+        Stopped::NoMemory => NoMemory,
+        Stopped::Refused(_) | Stopped::ReadFault => unreachable!(),
+    }
+}
+
+// The system of the workload text of so many workers, which is never refused.
 fn workload_system(alloc: Global, copies: u32) -> Result<System, NoMemory>
     requires copies { (1 ≤ copies) × (copies ≤ 10000) }
     ensures { IfOk result (λ system. Accepted (workload copies) system × Good system) }
 {
+    workload_laws();
     let text = gen_text(alloc, copies)?;
     match system_of(alloc, text.as_slice()) {
         Ok(system) => Ok(system),
-        Err(_) => Err(NoMemory),
+        Err(stopped) => Err(out_of_memory(stopped)),
     }
 }
 

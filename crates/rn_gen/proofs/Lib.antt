@@ -1,0 +1,9 @@
+mod Accepted
+mod Atoms
+mod Checks
+mod Forms
+mod Phrases
+mod Rules
+mod Spelling
+mod Streams
+mod Texts

@@ -1,8 +1,10 @@
 //! The workload text: a net system with a given number of workers, for measuring.
 #![tactic(auto)]
 
+mod laws;
 #[cfg(test)]
 mod tests;
 mod text;
 
+pub use laws::workload_laws;
 pub use text::{MOST_WORKERS, gen_text};
