@@ -1,6 +1,6 @@
 -- What is so after the entries that a worker has seen, and in a later state.
 use Rattle.std.proofs.Common.{◌≡◌, ℕ, ◌+◌, ◌*◌, ◌-◌, ◌<◌, ◌≤◌, List, length, cond, refl, sym, ap, ◌∙◌, subst, arith}
-use Rattle.std.specs.Prelude.{Option, Some, None, Result, Ok, Err, Bool, true, false, Contains, IfOk, IfSome}
+use Rattle.std.specs.Prelude.{Option, Some, None, Result, Ok, Err, Bool, true, false, IfOk, IfSome}
 use Rattle.std.proofs.lemmas.List.{length-append}
 use Rattle.rn_choices.specs.declared.flag.Halt.{Halt}
 use Rattle.rn_model.specs.declared.binding.Binding.{Binding}

@@ -16,7 +16,7 @@ use Rattle.rn_model.specs.contracts.log.Options as options
 use Rattle.rn_fire.specs.contracts.setup.Setup as setup
 use Rattle.rn_fire.specs.contracts.kept.SimStateKept.TheImpl as kept
 use Rattle.rn_fire.specs.contracts.state.SimState as state
-use Rattle.rn_fire.proofs.ThreadSafety.{state_sends, system_sync}
+use Rattle.rn_fire.proofs.ThreadSafety.{state_sends}
 use Rattle.rn_worker.specs.contracts.posts.Post as post
 
 pub state_send : IsSend state.the_row
