@@ -1,4 +1,4 @@
--- The workload text spells its plain form, and is the canonical text of it.
+-- The workload text spells its plain form, with the spots of its tokens.
 use Rattle.std.proofs.Common.{◌≡◌, ℕ, ℤ, pos, ◌≤◌, true, List, [], ◌∷◌, ◌++◌, map, length, get_or, decimal, refl, sym, ap, ◌∙◌, subst, arith, append-nil, length-append}
 use Rattle.std.specs.List.{flat_map}
 use Rattle.std.proofs.lemmas.Fmt.{length-decimal-le_succ}
