@@ -32,9 +32,20 @@ pub(crate) fn known_value(
     evaluate(alloc, expr, &known)
 }
 
+/// From this number on, the number of the token with which choices begin says a share: so many of as
+/// many parts of all tokens stand before that one.
+pub const SHARES: usize = 16_777_216;
+
 // With which of so many alternatives to begin.
 fn begin_at(first: usize, of: usize) -> usize {
-    if of == 0 { 0 } else { first % of }
+    if of == 0 {
+        return 0;
+    }
+    if first < SHARES {
+        return first % of;
+    }
+    let share = (first - SHARES) % SHARES;
+    (share.wrapping_mul(of) / SHARES) % of
 }
 
 /// The arc of an index.

@@ -54,8 +54,8 @@ impl<'a> Model for Branch<'a> {
 }
 
 impl<'a> Branch<'a> {
-    /// Nothing is decided. Choices of a token begin with this one of them, round. It takes no
-    /// memory.
+    /// Nothing is decided. Choices of a token begin with this one of them, round, or from `SHARES` on
+    /// with this share of them. It takes no memory.
     pub fn open(alloc: Global, system: &'a System, first: usize) -> Branch<'a>
         requires { HasFewCreations system.now }
         ensures { result ≡ record { system = system.now; decisions = [] } }

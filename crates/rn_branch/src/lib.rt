@@ -16,4 +16,5 @@ mod parts;
 mod results;
 mod settling;
 
+pub use arcs::SHARES;
 pub use branch::Branch;

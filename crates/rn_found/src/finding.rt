@@ -129,6 +129,14 @@ impl Finding {
         }
     }
 
+    /// One of so many searchers, of a number from 1 on: it begins with its own share of the tokens.
+    pub fn of_share(alloc: Global, number: u32, count: u32) -> Finding {
+        Finding {
+            choices: Choices::new(alloc),
+            hint: Hint::of_share(number, count),
+        }
+    }
+
     // A binding that starts with an instance of a number below an end and not below another.
     fn find_between<A: Asked>(
         &mut self,

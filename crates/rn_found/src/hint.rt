@@ -1,4 +1,5 @@
 //! Where a search begins.
+use rn_branch::SHARES;
 use rn_choices::Choice;
 use rn_search::Point;
 
@@ -19,6 +20,18 @@ impl Hint {
             number: (start % 1048576) as u32,
             transition: (start / 1048576 % 1048576) as u32,
             token: (start / 1048576 / 1048576) as usize,
+        }
+    }
+
+    /// What one of so many searchers begins with, of a number from 1 on: the first transition of the
+    /// first instance, and its own share of the tokens.
+    pub(crate) fn of_share(number: u32, count: u32) -> Hint {
+        let before = (number as usize).saturating_sub(1).wrapping_mul(SHARES);
+        let share = before.checked_div(count as usize).unwrap_or(0);
+        Hint {
+            number: 0,
+            transition: 0,
+            token: SHARES.wrapping_add(share),
         }
     }
 

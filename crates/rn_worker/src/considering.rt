@@ -135,11 +135,6 @@ fn start_at(token: u64, transition: u64, number: u64) -> u64 {
         .wrapping_add(number % 1048576)
 }
 
-/// Where a worker begins to search: at tokens of its own.
-pub(crate) fn start_of(worker: u32) -> u64 {
-    start_at(mixed(worker, 0), 0, 0)
-}
-
 /// Where a worker goes on that found something and came too late: with the same transition of the
 /// same instance, at other tokens. After each second time in a row with the next transition, since
 /// perhaps there is one token that all want.

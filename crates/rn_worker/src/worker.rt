@@ -7,7 +7,7 @@ ghost use Rattle.rn_worker.specs.Seen.{HasEnded};
 
 use crate::acting::{Acted, act};
 use crate::considering::{
-    finding_after, late_after, live_then, plan_at, start_beside, start_of, was_stopped,
+    finding_after, late_after, live_then, plan_at, start_beside, was_stopped,
 };
 use crate::gate::Gate;
 use crate::looking::{look, look_on};
@@ -102,7 +102,7 @@ pub(crate) fn work_while<R: Wait, G: Gate + Sync>(
     ensures swept { options.now.sweep_every ≡ 0 → tally.new.swept ≡ 0 }
 {
     let worker = tally.worker;
-    let mut finding = Finding::new(alloc, start_of(worker));
+    let mut finding = Finding::of_share(alloc, worker, options.workers);
     let mut pace = Pace::new();
     let mut late = 0;
     let mut stopped = false;
