@@ -15,6 +15,10 @@ pub enum Halt {
 }
 
 impl From<NoMemory> for Halt {
+    ghost use Rattle.rn_choices.specs.declared.flag.Halt.TheVariants.{NoMemory as OutOfMemory};
+
+    ghost from_gives = { λ _ halt. halt ≡ OutOfMemory };
+
     fn from(_error: NoMemory) -> Halt {
         Halt::NoMemory
     }
