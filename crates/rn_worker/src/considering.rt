@@ -16,7 +16,7 @@ use rn_value::InstRef;
 use std::alloc::Global;
 
 /// What a worker found: a binding that was enabled, or `None` where none was; instances that weren't
-/// live; and how many were, where it listed those.
+/// live; and how many were, with their tokens, where it listed those.
 #[derive(Drop)]
 pub(crate) struct Plan {
     pub found: Option<Candidate>,
@@ -24,13 +24,34 @@ pub(crate) struct Plan {
     pub live: Option<u64>,
 }
 
-// How many of a table's instances are left without so many.
-fn count_without(table: &Table, dead: usize) -> Result<u64, NoMemory> {
-    let all = table.instances()?.len();
-    Ok(all.saturating_sub(dead) as u64)
+// One for an instance and one for each of its tokens.
+fn size_of(table: &Table, n: u32) -> u64 {
+    let mut size: u64 = 1;
+    for place in 0..u32::MAX {
+        let Some(bag) = table.bag(n, place) else {
+            break;
+        };
+        size = size.saturating_add(bag.len() as u64);
+    }
+    size
 }
 
-// The instances of a table that aren't live, and how many are, where that is due.
+// How many of a table's instances are left without these, which ascend, and tokens with them.
+fn size_without(table: &Table, dead: &[u32]) -> Result<u64, NoMemory> {
+    let mut size: u64 = 0;
+    let mut gone = 0;
+    let all = table.instances()?;
+    for n in all.as_slice() {
+        if gone < dead.len() && dead[gone] == *n {
+            gone += 1;
+        } else {
+            size = size.saturating_add(size_of(table, *n));
+        }
+    }
+    Ok(size)
+}
+
+// The instances of a table that aren't live, and how much is, where that is due.
 fn listed_at(
     alloc: Global,
     system: &System,
@@ -46,7 +67,7 @@ fn listed_at(
         return Ok((Vec::new(alloc), None));
     }
     let dead = garbage(alloc, system, table)?;
-    let live = count_without(table, dead.len())?;
+    let live = size_without(table, dead.as_slice())?;
     Ok((dead, Some(live)))
 }
 
@@ -111,7 +132,7 @@ pub(crate) fn was_stopped(plan: &Result<Plan, Halt>) -> bool
     matches!(plan, Err(Halt::Stopped))
 }
 
-/// How many instances were live, where a worker listed those that weren't.
+/// How many instances and tokens were live, where a worker listed the instances that weren't.
 pub(crate) fn live_then(plan: &Result<Plan, Halt>) -> Option<u64> {
     match plan {
         Ok(plan) => plan.live,

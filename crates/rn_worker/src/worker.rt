@@ -109,7 +109,7 @@ pub(crate) fn work_while<R: Wait, G: Gate + Sync>(
     let mut sight = look(rt, desk, pass);
     while let Some(now) = sight {
         let seen = now.seen;
-        let due = pace.is_due(options.sweep_every);
+        let due = pace.is_due(options.sweep_every, now.table.next());
         let plan = plan_at(
             alloc,
             system,
