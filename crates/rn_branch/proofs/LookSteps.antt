@@ -1,13 +1,19 @@
 -- What looks at several things say of all of them.
-use Rattle.std.proofs.Common.{◌<◌, ◌⊎◌, List, length, sym, subst, inl, inr}
+use Rattle.std.proofs.Common.{◌≡◌, ℕ, ◌<◌, ◌⊎◌, List, [], ◌∷◌, ◌++◌, length, sym, subst, inl}
+use Rattle.std.proofs.Common.{inr, arith}
+use Rattle.rn_choices.specs.declared.next.Next.{Next}
+use Rattle.rn_choices.specs.declared.next.Next.TheVariants.{Choose}
 use Rattle.rn_model.specs.declared.system.System.{System}
 use Rattle.rn_growing.specs.declared.decision.Decision.{Decision}
-use Rattle.rn_search.specs.Sought.{Sought}
+use Rattle.rn_search.specs.declared.point.Point.{Point}
+use Rattle.rn_search.specs.Points.{offers}
+use Rattle.rn_search.specs.Sought.{Sought, Leads}
 use Rattle.rn_search.specs.Ending.{IsAsked, IsDecided}
 use Rattle.rn_search.proofs.Ends.{may_is_asked}
 use Rattle.rn_branch.specs.declared.look.Look.{Look}
 use Rattle.rn_branch.specs.declared.look.Look.TheVariants.{Done, Waits, Goes}
-use Rattle.rn_branch.specs.Looks.{AreAllDecided, AreAllClosed, Looked, IsBetter, Urges}
+use Rattle.rn_branch.specs.Looks.{AreAllDecided, AreAllClosed, GoesOn, IsAmong, Looked, IsBetter}
+use Rattle.rn_branch.specs.Looks.{Urges}
 
 -- whatever is asked of all of these things is of one of these or of one of those
 abbrev pub AreCovered : System → List Decision → (Decision → Type 0) → (Decision → Type 0) →
@@ -77,3 +83,23 @@ module _ (sought : Sought) (ds : List Decision) (some : 0 < length ds) where
           | inl first ↦ subst (Looked sought ds All) (sym first) one
           | inr second ↦ subst (Looked sought ds All) (sym second) two
         ]
+
+-- where each may be tried, and one leads on, the search goes on with so many of them
+pub goes_on_among : (sought : Sought) (ds : List Decision) (point : Point) (of : ℕ)
+    (next : Next Point) → ((first : ℕ) → GoesOn sought ds (Choose point of first)) →
+    IsAmong point of next → GoesOn sought ds next
+goes_on_among sought ds point of next all (inl (none, is)) =
+    subst (GoesOn sought ds) (sym is) (λ b leads.
+    let low = ((all 0).1 b leads).1 in
+    let no : ⊥ = omega (arith, low, none) in no)
+goes_on_among sought ds point of next all (inr (inl (one, is))) =
+    subst (GoesOn sought ds) (sym is) (
+      (all 0).0 0 (omega (arith, one)),
+      λ b leads.
+          let by = (all 0).1 b leads in
+          let low = by.1 in
+          let zeroth : by.0 ≡ 0 = omega (arith, low, one) in
+          subst (λ a. Leads sought (ds ++ offers sought ds point a ∷ []) b) zeroth by.2,
+    )
+goes_on_among sought ds point of next all (inr (inr (first, is))) =
+    subst (GoesOn sought ds) (sym is) (all first)

@@ -1,12 +1,18 @@
 -- Looks at the arcs of a node.
-use Rattle.std.proofs.Common.{◌≡◌, ℕ, ◌+◌, ◌<◌, true, false, List, [], ◌∷◌}
+use Rattle.std.proofs.Common.{◌≡◌, ℕ, ◌+◌, ◌-◌, ◌<◌, ◌≤◌, true, false, List, [], ◌∷◌, map}
 use Rattle.std.proofs.Common.{◌++◌, refl, sym, ap, ◌∙◌, subst, arith}
-use Rattle.std.specs.Prelude.{Some, None, Contains, option_and_then, option_map, slice_get}
+use Rattle.std.specs.Prelude.{Some, None, Contains, All, option_and_then, option_map, slice_get}
 use Rattle.std.specs.Prelude.{unwrap_or}
-use Rattle.std.specs.List.{list_any}
+use Rattle.std.specs.List.{concat, list_any}
+use Rattle.std.proofs.lemmas.List.Elements.{All-contains, All-contains_itself}
+use Rattle.std.proofs.lemmas.List.Elements.{Contains-append_left}
 use Rattle.rn_value.specs.declared.value.InstRef.{InstRef}
 use Rattle.rn_value.specs.declared.value.InstRef.TheVariants.{Old, New}
 use Rattle.rn_value.specs.declared.value.Value.{Value}
+use Rattle.rn_value.specs.declared.value.Value.TheVariants as Value
+use Rattle.rn_bag.specs.Cuts.{has_first}
+use Rattle.rn_model.specs.declared.expr.Expr.{Expr}
+use Rattle.rn_model.specs.declared.expr.Expr.TheVariants as Expr
 use Rattle.rn_model.specs.declared.binding.Binding.{Binding}
 use Rattle.rn_model.specs.declared.system.ArcKind.{ArcKind}
 use Rattle.rn_model.specs.declared.system.ArcKind.TheVariants.{Input, Test, Reserve}
@@ -16,7 +22,11 @@ use Rattle.rn_model.specs.declared.system.Transition.{Transition}
 use Rattle.rn_model.specs.Derivation.{finds_token, finds_values}
 use Rattle.rn_model.specs.Markings.{Instance, instance_at, tokens}
 use Rattle.rn_model.specs.SoundTokens.{holds_new}
+use Rattle.rn_model.specs.Systems.{vars_in}
+use Rattle.rn_model.proofs.AskedValues.{same_itself}
+use Rattle.rn_model.proofs.DerivationLemmas.{vars_in-Tuple}
 use Rattle.rn_model.proofs.EnablingLemmas.{not_in_nil}
+use Rattle.rn_model.proofs.Rounds.{all_more}
 use Rattle.rn_choices.specs.declared.next.Next.TheVariants.{Stuck, Forced, Choose}
 use Rattle.rn_growing.specs.declared.decision.Head.{Head}
 use Rattle.rn_growing.specs.declared.decision.Decision.{Decision}
@@ -38,10 +48,10 @@ use Rattle.rn_search.specs.Sought.{Sought, Leads}
 use Rattle.rn_search.proofs.Allowed.{tokens_are_allowed, lists_are_allowed}
 use Rattle.rn_search.proofs.Alternatives.{first_is, first_once, from_map}
 use Rattle.rn_search.proofs.Following.{is_decision, last_on}
-use Rattle.rn_search.proofs.Narrowed.{known_token_is_it}
+use Rattle.rn_search.proofs.Narrowed.{known_first_part, known_token_is_it}
 use Rattle.rn_search.proofs.Offered.{tokens_are_offered, lists_are_offered}
 use Rattle.rn_branch.specs.Branches.{IsLookedAt}
-use Rattle.rn_branch.specs.Knowing.{IsKnownToken}
+use Rattle.rn_branch.specs.Knowing.{IsKnownToken, IsKnownTokenFirst}
 use Rattle.rn_branch.specs.Looks.{AreAllDecided, GoesOn}
 use Rattle.rn_branch.specs.Things.{FindsToken, IsOnArc}
 use Rattle.rn_branch.proofs.DecidedThings.{was_found}
@@ -71,6 +81,21 @@ old_at sought (Old n) place v fit there =
           (λ (i : Instance). slice_get i.places place) o) []) v) none there))
       | Some i ↦ λ is. (fit n i.net place v (ap (option_map (λ (i : Instance). i.net)) is) there).1
     ] refl
+
+-- a tuple begins with its first part
+begins_with : (v : Value) (rest : List Value) → has_first v (Value.Tuple (v ∷ rest)) ≡ true
+begins_with v rest = rw (Value.outs-Tuple (v ∷ rest)) (same_itself v)
+
+-- the variables of its first part are those of a tuple
+part_vars : (vars : List ℕ) (part : Expr) (parts : List Expr) →
+    All (Contains vars) (vars_in (Expr.Tuple (part ∷ parts))) →
+    All (Contains vars) (vars_in part)
+part_vars vars part parts all =
+    all_more (Contains (vars_in part)) (Contains vars) (vars_in part) (λ y occurs.
+    All-contains (Contains vars) (vars_in (Expr.Tuple (part ∷ parts))) y all
+    (subst (λ ys. Contains ys y) (sym (vars_in-Tuple (part ∷ parts)))
+    (Contains-append_left (vars_in part) (concat (map vars_in parts)) y occurs)))
+    (All-contains_itself (vars_in part))
 
 module _ (sought : Sought) (g : Grown) (node : ℕ) (head : Head) (t : Transition)
     (looked : IsLookedAt sought g node head t) (k : ℕ) where
@@ -165,24 +190,20 @@ module _ (sought : Sought) (g : Grown) (node : ℕ) (head : Head) (t : Transitio
           (by.0, within, by.2),
     )
 
-    -- where the value of the inscription is known, that is the token that is found
-    token_is : (b : Binding) (a : ℕ) (v : Value) → IsKnownToken g head t k v →
-        LeadsBy sought g.decisions (P.Token node k 0) a b → first_token held_there a ≡ Some v
-    token_is b a v known_value leads =
-        let value = known_value x open_arc.there in
-        let env = value.0 in
-        let its = arc_there x open_arc.there in
-        let vars = vars_searched sought g node head t looked x.inscription
-        (inscription_searched sought g node head t looked x
-        (at_in t.arcs k x open_arc.there) open_arc.token) in
-        let known = known_by sought g node head t looked x.inscription env vars value.1 in
-        let finds : FindsBy sought g.decisions node k x a b = record {
-          turns = looked.branch.sound.turns;
-          some = some sought g node head t looked;
-          arc = its;
-          leads = leads;
-        } in
-        let there = known_token_is_it sought g.decisions node k x a b env v finds known value.2 in
+    -- an alternative that leads on is a token that the arc finds, the first of its value
+    finds_by : (b : Binding) (a : ℕ) → LeadsBy sought g.decisions (P.Token node k 0) a b →
+        FindsBy sought g.decisions node k x a b
+    finds_by b a leads = record {
+      turns = looked.branch.sound.turns;
+      some = some sought g node head t looked;
+      arc = arc_there x open_arc.there;
+      leads = leads;
+    }
+
+    first_there : (b : Binding) (a : ℕ) (v : Value) →
+        LeadsBy sought g.decisions (P.Token node k 0) a b → slice_get held_there a ≡ Some v →
+        first_token held_there a ≡ Some v
+    first_there b a v leads there =
         let last = last_on sought.system b g.decisions leads.follows.0
         (offers sought g.decisions (P.Token node k 0) a) leads.follows.1 in
         let d = is_decision sought.system b sought.depth leads.enabled.shape
@@ -196,6 +217,57 @@ module _ (sought : Sought) (g : Grown) (node : ℕ) (head : Head) (t : Transitio
         (first_token held_there a) d.0 offered_is in
         let first = first_is held_there a w.0 w.1 in
         w.1 ∙ ap Some (some_equal w.0 v (sym first.0 ∙ there))
+
+    -- the variables of the inscription are the transition's
+    its_vars : All (Contains t.vars) (vars_in x.inscription)
+    its_vars = vars_searched sought g node head t looked x.inscription
+        (inscription_searched sought g node head t looked x
+        (at_in t.arcs k x open_arc.there) open_arc.token)
+
+    -- where the value of the inscription is known, that is the token that is found
+    token_is : (b : Binding) (a : ℕ) (v : Value) → IsKnownToken g head t k v →
+        LeadsBy sought g.decisions (P.Token node k 0) a b → first_token held_there a ≡ Some v
+    token_is b a v known_value leads =
+        let value = known_value x open_arc.there in
+        let known = known_by sought g node head t looked x.inscription value.0 its_vars value.1 in
+        first_there b a v leads
+        (known_token_is_it sought g.decisions node k x a b value.0 v (finds_by b a leads) known
+        value.2)
+
+    -- where that of its first part is, a tuple with that first part is found
+    first_part_is : (b : Binding) (a : ℕ) (v : Value) → IsKnownTokenFirst g head t k v →
+        LeadsBy sought g.decisions (P.Token node k 0) a b → (rest : List Value) ×
+        (slice_get held_there a ≡ Some (Value.Tuple (v ∷ rest)))
+    first_part_is b a v known_first leads =
+        let part = known_first x open_arc.there in
+        let tuple = part.1.1 in
+        let value = part.1.2 in
+        let vars = part_vars t.vars part.0 part.1.0
+        (subst (λ e. All (Contains t.vars) (vars_in e)) tuple its_vars) in
+        let known = known_by sought g node head t looked part.0 value.0 vars value.1 in
+        known_first_part sought g.decisions node k x a b value.0 part.0 part.1.0 v
+        (finds_by b a leads) tuple known value.2
+
+    -- so one of these may be tried
+    pub chooses_first : (v : Value) (start end of first : ℕ) → IsKnownTokenFirst g head t k v →
+        ((i : ℕ) (w : Value) → slice_get held_there i ≡ Some w → has_first v w ≡ true →
+        (start ≤ i) × (i < end)) → of ≡ end - start →
+        GoesOn sought g.decisions (Choose (P.Token node k start) of first)
+    chooses_first v start end of first known within is = (
+      λ a less. tokens_are_allowed sought g.decisions node k start a may_find,
+      λ b leads.
+          let by = tokens_are_offered sought g.decisions b node k x leads
+          (arc_there x open_arc.there) open_arc.token in
+          let tuple = first_part_is b by.0 v known by.2 in
+          let here = within by.0 (Value.Tuple (v ∷ tuple.0)) tuple.1 (begins_with v tuple.0) in
+          let low = here.0 in
+          let high = here.1 in
+          let place : 0 + by.0 ≡ start + (by.0 - start) = omega (arith, low) in (
+            by.0 - start,
+            omega (arith, is, low, high),
+            subst (λ i. Leads sought (g.decisions ++ found_at i ∷ []) b) place by.2,
+          ),
+    )
 
     -- so where it is a token of the place, that is found,
     pub forces_token : (v : Value) (from : ℕ) → IsKnownToken g head t k v →

@@ -1,7 +1,8 @@
 -- Which variables of a node are forced, and what is known of expressions by them.
-use Rattle.std.specs.Prelude.{ℕ, ◌≡◌, List, Some, None, slice_get, Contains}
+use Rattle.std.specs.Prelude.{ℕ, ◌≡◌, List, ◌∷◌, Some, None, slice_get, Contains}
 use Rattle.rn_value.specs.declared.value.Value.{Value}
 use Rattle.rn_model.specs.declared.expr.Expr.{Expr}
+use Rattle.rn_model.specs.declared.expr.Expr.TheVariants as Expr
 use Rattle.rn_model.specs.declared.system.NetArc.{NetArc}
 use Rattle.rn_model.specs.declared.system.Transition.{Transition}
 use Rattle.rn_model.specs.Evaluation.{Env, worth}
@@ -33,3 +34,13 @@ IsKnownValue g head e v = (env : Env) × Knows g head e env × (worth e env ≡ 
 abbrev pub IsKnownToken : Grown → Head → Transition → ℕ → Value → Type 0
 IsKnownToken g head t k v = (x : NetArc) → slice_get t.arcs k ≡ Some x →
     IsKnownValue g head x.inscription v
+
+-- an expression is a tuple, and the value of its first part is known
+abbrev pub IsKnownFirst : Grown → Head → Expr → Value → Type 0
+IsKnownFirst g head e v = (part : Expr) × ((parts : List Expr) × (e ≡ Expr.Tuple (part ∷ parts))
+    × IsKnownValue g head part v)
+
+-- the inscription of a node's arc is such a tuple
+abbrev pub IsKnownTokenFirst : Grown → Head → Transition → ℕ → Value → Type 0
+IsKnownTokenFirst g head t k v = (x : NetArc) → slice_get t.arcs k ≡ Some x →
+    IsKnownFirst g head x.inscription v

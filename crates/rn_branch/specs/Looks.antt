@@ -1,7 +1,8 @@
 -- What a look at some things says.
-use Rattle.std.specs.Prelude.{◌≡◌, ◌⊎◌, List}
+use Rattle.std.specs.Prelude.{ℕ, ◌≡◌, ◌⊎◌, List}
 use Rattle.rn_choices.specs.Leading.{Says}
 use Rattle.rn_choices.specs.declared.next.Next.{Next}
+use Rattle.rn_choices.specs.declared.next.Next.TheVariants.{Stuck, Forced, Choose}
 use Rattle.rn_model.specs.declared.system.System.{System}
 use Rattle.rn_growing.specs.declared.decision.Decision.{Decision}
 use Rattle.rn_growing.specs.Turns.{MayCome}
@@ -46,3 +47,9 @@ IsBetter (Goes next) _ result = result ≡ Goes next
 -- it goes on
 abbrev pub Urges : Look → Type 0
 Urges look = (next : Next Point) × (look ≡ Goes next)
+
+-- how the search goes on with one of so many alternatives: where there is none it is stuck, one is
+-- forced, and of several one is chosen
+abbrev pub IsAmong : Point → ℕ → Next Point → Type 0
+IsAmong point of next = ((of ≡ 0) × (next ≡ Stuck)) ⊎ (((of ≡ 1) × (next ≡ Forced point))
+    ⊎ ((first : ℕ) × (next ≡ Choose point of first)))

@@ -1,10 +1,12 @@
 //! Looking at the arcs of a node.
 ghost use Rattle.std.specs.Prelude.{◌≡◌, ◌<◌, IfOk, IfSome, Some, length, slice_get};
 ghost use Rattle.rn_branch.specs.Branches.{IsLookedAt};
-ghost use Rattle.rn_branch.specs.Knowing.{IsKnownToken, IsKnownValue};
+ghost use Rattle.rn_branch.specs.Knowing.{IsKnownToken, IsKnownTokenFirst, IsKnownValue};
+ghost use Rattle.rn_branch.specs.Knowing.{IsKnownFirst};
 ghost use Rattle.rn_branch.specs.Looks.{Looked};
 ghost use Rattle.rn_branch.specs.Things.{IsOnArc, IsOnArcs, FindsToken};
 
+use crate::among::among;
 use crate::best::{better, is_best};
 use crate::known::known_in;
 use crate::look::Look;
@@ -32,20 +34,23 @@ pub(crate) fn known_value(
     evaluate(alloc, expr, &known)
 }
 
-/// From this number on, the number of the token with which choices begin says a share: so many of as
-/// many parts of all tokens stand before that one.
-pub const SHARES: usize = 16_777_216;
-
-// With which of so many alternatives to begin.
-fn begin_at(first: usize, of: usize) -> usize {
-    if of == 0 {
-        return 0;
+// The value of the first part of an expression, where that is a tuple, the variables of the part are
+// forced, and it has one.
+fn known_first_part(
+    alloc: Global,
+    growing: &Growing<'_>,
+    head: &Head,
+    expr: &Expr,
+) -> Result<Option<Value>, NoMemory>
+    ensures { IfOk result (λ value. IfSome value (λ v. IsKnownFirst growing.now head.now expr.now v)) }
+{
+    let Expr::Tuple(parts) = expr else {
+        return Ok(None);
+    };
+    match parts.as_slice() {
+        [part, ..] => known_value(alloc, growing, head, part),
+        [] => Ok(None),
     }
-    if first < SHARES {
-        return first % of;
-    }
-    let share = (first - SHARES) % SHARES;
-    (share.wrapping_mul(of) / SHARES) % of
 }
 
 /// The arc of an index.
@@ -79,6 +84,29 @@ fn with_token(
     }
 }
 
+// Goes on with one of the tokens of an arc whose first part is known.
+fn with_first(
+    problem: &Problem<'_>,
+    growing: &Growing<'_>,
+    node: usize,
+    head: &Head,
+    transition: &Transition,
+    k: usize,
+    part: &Value,
+    first: usize,
+) -> Look
+    requires at { IsLookedAt problem.now growing.now node head.now transition.now }
+    requires token { FindsToken growing.now.decisions head.now transition.now k }
+    requires known { IsKnownTokenFirst growing.now head.now transition.now k part.now }
+    ensures { Looked problem.now growing.now.decisions (IsOnArc head.now k) result }
+{
+    let _ = head;
+    let _ = transition;
+    let range = problem.range_of_first(growing.decisions(), node, k, part);
+    let of = range.end - range.start;
+    Look::Goes(among(Point::Token(node, k, range.start), of, first))
+}
+
 // Looks for the token of an arc.
 fn look_for_token(
     alloc: Global,
@@ -99,9 +127,12 @@ fn look_for_token(
     if let Some(value) = known_value(alloc, growing, head, &arc.inscription)? {
         return Ok(with_token(problem, growing, node, head, transition, k, &value));
     }
+    if let Some(part) = known_first_part(alloc, growing, head, &arc.inscription)? {
+        return Ok(with_first(problem, growing, node, head, transition, k, &part, first));
+    }
     let point = Point::Token(node, k, 0);
     let of = problem.alternatives(growing.decisions(), point);
-    Ok(Look::Goes(Next::Choose(point, of, begin_at(first, of))))
+    Ok(Look::Goes(among(point, of, first)))
 }
 
 // Looks at one of them.

@@ -1,6 +1,7 @@
 //! A branch of a search for enabled bindings: what is decided so far, and how it goes on.
 #![tactic(auto)]
 
+mod among;
 mod arcs;
 mod best;
 mod branch;
@@ -16,5 +17,5 @@ mod parts;
 mod results;
 mod settling;
 
-pub use arcs::SHARES;
+pub use among::SHARES;
 pub use branch::Branch;

@@ -1,10 +1,12 @@
 //! What the alternatives of a point mean, and how many there are.
-ghost use Rattle.std.specs.Prelude.{◌≡◌, ◌<◌, ◌^◌, [], Some, IfOk, List, OnSome, ℕ, slice_get};
-ghost use Rattle.std.specs.Prelude.{Contains, IfSome, IfNone};
+ghost use Rattle.std.specs.Prelude.{◌≡◌, ◌<◌, ◌^◌, [], Some, IfOk, List, OnSome, ℕ, slice_get, length};
+ghost use Rattle.std.specs.Prelude.{Contains, IfSome, IfNone, IsTrue, ◌≤◌, ◌↔◌};
 ghost use Rattle.std.specs.Prelude.{unwrap_or};
 ghost use Rattle.std.specs.Option.{option_copied};
+ghost use Rattle.rn_bag.specs.Cuts.{has_first};
 ghost use Rattle.rn_growing.specs.Decisions.{transition_in};
 ghost use Rattle.rn_growing.specs.declared.decision.Decision.{Decision as Decided};
+ghost use Rattle.rn_value.specs.declared.value.Value.{Value as Token};
 ghost use Rattle.rn_search.specs.Offering.{alternatives, answers};
 ghost use Rattle.rn_search.specs.Points.{child, instance_of, net_called, node_of};
 ghost use Rattle.rn_search.specs.Points.{first_token, offered, tokens_of};
@@ -20,6 +22,7 @@ use rn_items::Items;
 use rn_model::Downlink;
 use rn_value::{InstRef, NoMemory, Value, copy};
 use std::alloc::Global;
+use std::ops::Range;
 
 impl<'a> Problem<'a> {
     /// The node of the decision at an index, or the start.
@@ -216,6 +219,29 @@ impl<'a> Problem<'a> {
         match self.tokens_of(head, arc) {
             Some(bag) => index_of(bag, token),
             None => None,
+        }
+    }
+
+    /// The indices at which the tuples with this first part stand in the place of a node's arc. It
+    /// takes no memory.
+    pub fn range_of_first(
+        &self,
+        decisions: &[Decision],
+        node: usize,
+        arc: usize,
+        first: &Value,
+    ) -> Range<usize>
+        ensures order { result.start ≤ result.end }
+        ensures bound { result.end
+            ≤ length (tokens_of self.now (node_of self.now decisions.now node) arc) }
+        ensures exact { (k : ℕ) (v : Token) →
+            slice_get (tokens_of self.now (node_of self.now decisions.now node) arc) k ≡ Some v →
+            (IsTrue (has_first first.now v) ↔ ((result.start ≤ k) × (k < result.end))) }
+    {
+        let head = self.node_of(decisions, node);
+        match self.tokens_of(head, arc) {
+            Some(bag) => bag.range_of_first(first),
+            None => 0..0,
         }
     }
 

@@ -10,6 +10,8 @@ mod guards;
 #[cfg(test)]
 mod marked;
 #[cfg(test)]
+mod narrowed;
+#[cfg(test)]
 mod orders;
 #[cfg(test)]
 mod stopped;

@@ -6,7 +6,8 @@ use Rattle.rn_model.specs.declared.system.NetArc.{NetArc}
 use Rattle.rn_growing.proofs.Growth.{some_equal}
 use Rattle.rn_search.specs.declared.point.Point.TheVariants as P
 use Rattle.rn_search.specs.Offering.{alternatives}
-use Rattle.rn_branch.specs.Knowing.{IsKnownValue}
+use Rattle.rn_branch.specs.Knowing.{IsKnownFirst, IsKnownValue}
+use Rattle.rn_branch.proofs.LookSteps.{goes_on_among}
 use Rattle.rn_branch.proofs.TokenLooks.{chooses_token}
 use Rattle.rn_branch.proofs.arcs.look_for_token.Goals as goal
 
@@ -23,11 +24,21 @@ with_token-requires-clause-known c x at =
     (subst (λ o. IfSome o (λ v. IsKnownValue c.args.growing.now c.args.head.now
     c.arc_at-arc.result.now.inscription v)) c.in-Some.is c.in_ok-value.ensures)
 
+pub with_first-requires-clause-known : goal.with_first-requires-clause-known
+with_first-requires-clause-known c x at =
+    subst (λ (y : NetArc). IsKnownFirst c.args.growing.now c.args.head.now y.inscription
+    c.in-Some-2.part)
+    (some_equal c.arc_at-arc.result.now x (sym c.arc_at-arc.ensures ∙ at))
+    (subst (λ o. IfSome o (λ v. IsKnownFirst c.args.growing.now c.args.head.now
+    c.arc_at-arc.result.now.inscription v)) c.in-Some-2.is c.in_ok-part.ensures)
+
 pub returns : goal.returns
 returns c =
-    chooses_token c.args.problem.now c.args.growing.now c.args.node c.args.head.now
-    c.args.transition.now c.requires.at c.args.k c.requires.token c.alternatives-of.result
-    c.begin_at.result
-    (c.alternatives-of.ensures.count
+    let count = c.alternatives-of.ensures.count
     ∙ ap (λ ds. alternatives c.args.problem.now ds (P.Token c.args.node c.args.k 0))
-    c.decisions.ensures)
+    c.decisions.ensures in
+    goes_on_among c.args.problem.now c.args.growing.now.decisions
+    (P.Token c.args.node c.args.k 0) c.alternatives-of.result c.among.result
+    (λ first. chooses_token c.args.problem.now c.args.growing.now c.args.node c.args.head.now
+    c.args.transition.now c.requires.at c.args.k c.requires.token c.alternatives-of.result first
+    count) c.among.ensures
