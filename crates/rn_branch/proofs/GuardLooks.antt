@@ -1,18 +1,17 @@
 -- The guards of a node that is looked at: their variables, and where none of them may fail.
 use Rattle.std.proofs.Common.{◌≡◌, ℕ, List, [], ◌∷◌, ◌++◌, refl, sym, ap, ◌∙◌, subst, inl, inr}
 use Rattle.std.proofs.Math.Path.{fun_ext}
-use Rattle.std.specs.Prelude.{Some, None, Contains, flat_map, map}
+use Rattle.std.specs.Prelude.{Some, None, Contains, flat_map}
 use Rattle.std.proofs.lemmas.List.Concat.{flat_map-append}
 use Rattle.std.proofs.lemmas.List.Elements.{Contains-append_cases, Contains-append_left}
 use Rattle.std.proofs.lemmas.List.Elements.{Contains-append_right}
-use Rattle.std.proofs.lemmas.List.Folds.{flat_map-map}
 use Rattle.rn_choices.specs.declared.next.Next.TheVariants.{Stuck}
 use Rattle.rn_value.specs.declared.value.Value.{Value}
 use Rattle.rn_model.specs.declared.expr.Expr.{Expr}
-use Rattle.rn_model.specs.declared.expr.Cond.{Cond, fold_out-Cond}
+use Rattle.rn_model.specs.declared.expr.Cond.{Cond}
 use Rattle.rn_model.specs.declared.system.Transition.{Transition}
 use Rattle.rn_model.specs.Evaluation.{Env}
-use Rattle.rn_model.specs.Good.{Comparison, comparisons_step, comparisons_in, guard_exprs}
+use Rattle.rn_model.specs.Good.{Comparison, comparisons_in, guard_exprs}
 use Rattle.rn_model.specs.Lists.{value_beside}
 use Rattle.rn_model.specs.Systems.{vars_in}
 use Rattle.rn_model.proofs.AskedValues.{contained_flat, flat_source}
@@ -29,6 +28,7 @@ use Rattle.rn_branch.specs.Guards.{comparisons_of, vars_of_comparison, vars_of_s
 use Rattle.rn_branch.specs.Guards.{vars_of_guard, KnowsGuard, IsKnownUntrue}
 use Rattle.rn_branch.specs.Knowing.{ArePairsOf}
 use Rattle.rn_branch.specs.Looks.{GoesOn}
+use Rattle.rn_branch.proofs.EquatedTokens.{guard_comparisons}
 use Rattle.rn_branch.proofs.KnownValues.{has_its_value}
 use Rattle.rn_branch.proofs.LookedAt.{some, node_is, entered, known_by, vars_searched}
 use Rattle.rn_branch.proofs.VarsOfForms.{guard_searched}
@@ -42,12 +42,7 @@ flat_nested g f (x ∷ xs) =
 -- the variables of a guard are those of its lists
 pub guard_vars : (guard : Cond) → vars_of_guard guard ≡ flat_map (flat_map vars_of_simple) guard.any
 guard_vars guard =
-    ap (flat_map vars_of_comparison)
-    (fold_out-Cond (List Comparison) (List Comparison) comparisons_step
-    (λ cond. flat_map (λ list. flat_map (λ c. c) list) cond.any) guard
-    ∙ flat_map-map (λ list. flat_map (λ c. c) list) (map comparisons_of) guard.any
-    ∙ ap (λ f. flat_map f guard.any)
-    (fun_ext (λ list. flat_map-map (λ c. c) comparisons_of list)))
+    ap (flat_map vars_of_comparison) (guard_comparisons guard)
     ∙ flat_nested vars_of_comparison (flat_map comparisons_of) guard.any
     ∙ ap (λ f. flat_map f guard.any)
     (fun_ext (λ list. flat_nested vars_of_comparison comparisons_of list))

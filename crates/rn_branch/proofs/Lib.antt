@@ -1,6 +1,7 @@
 mod BranchSteps
 mod CallLooks
 mod DecidedThings
+mod EquatedTokens
 mod GoingOn
 mod GuardLooks
 mod InhibitorLooks

@@ -1,11 +1,12 @@
 -- Looks at the arcs of a node.
 use Rattle.std.proofs.Common.{◌≡◌, ℕ, ◌+◌, ◌-◌, ◌<◌, ◌≤◌, true, false, List, [], ◌∷◌, map}
-use Rattle.std.proofs.Common.{◌++◌, refl, sym, ap, ◌∙◌, subst, arith}
-use Rattle.std.specs.Prelude.{Some, None, Contains, All, option_and_then, option_map, slice_get}
+use Rattle.std.proofs.Common.{◌++◌, refl, sym, ap, ◌∙◌, subst, inl, inr, ◌⊎◌, arith}
+use Rattle.std.specs.Prelude.{Option, Some, None, Contains, All, option_and_then, option_map, slice_get}
 use Rattle.std.specs.Prelude.{unwrap_or}
 use Rattle.std.specs.List.{concat, list_any}
 use Rattle.std.proofs.lemmas.List.Elements.{All-contains, All-contains_itself}
 use Rattle.std.proofs.lemmas.List.Elements.{Contains-append_left}
+use Rattle.std.proofs.lemmas.Option.{slice_get-get_or}
 use Rattle.rn_value.specs.declared.value.InstRef.{InstRef}
 use Rattle.rn_value.specs.declared.value.InstRef.TheVariants.{Old, New}
 use Rattle.rn_value.specs.declared.value.Value.{Value}
@@ -40,7 +41,7 @@ use Rattle.rn_growing.proofs.NewThings.{new_finds}
 use Rattle.rn_search.specs.declared.point.Point.TheVariants as P
 use Rattle.rn_search.specs.Allowing.{IsOpen}
 use Rattle.rn_search.specs.Missing.{LeadsBy}
-use Rattle.rn_search.specs.Narrowing.{FindsBy}
+use Rattle.rn_search.specs.Narrowing.{FindsBy, Equates}
 use Rattle.rn_search.specs.Offering.{alternatives}
 use Rattle.rn_search.specs.Points.{first_token, node_of, nowhere, offered, offers, tokens_of}
 use Rattle.rn_search.specs.Problems.{HasFitTokens}
@@ -48,13 +49,15 @@ use Rattle.rn_search.specs.Sought.{Sought, Leads}
 use Rattle.rn_search.proofs.Allowed.{tokens_are_allowed, lists_are_allowed}
 use Rattle.rn_search.proofs.Alternatives.{first_is, first_once, from_map}
 use Rattle.rn_search.proofs.Following.{is_decision, last_on}
-use Rattle.rn_search.proofs.Narrowed.{known_first_part, known_token_is_it}
+use Rattle.rn_search.proofs.Narrowed.{equated_token_is_it, known_first_part, known_token_is_it}
 use Rattle.rn_search.proofs.Offered.{tokens_are_offered, lists_are_offered}
 use Rattle.rn_branch.specs.Branches.{IsLookedAt}
-use Rattle.rn_branch.specs.Knowing.{IsKnownToken, IsKnownTokenFirst}
+use Rattle.rn_branch.specs.Equating.{IsKnownToken}
+use Rattle.rn_branch.specs.Knowing.{IsKnownTokenFirst}
 use Rattle.rn_branch.specs.Looks.{AreAllDecided, GoesOn}
 use Rattle.rn_branch.specs.Things.{FindsToken, IsOnArc}
 use Rattle.rn_branch.proofs.DecidedThings.{was_found}
+use Rattle.rn_branch.proofs.EquatedTokens.{by_side}
 use Rattle.rn_branch.proofs.LookedAt.{entered, inscription_searched, known_by, node_is, some}
 use Rattle.rn_branch.proofs.LookedAt.{vars_searched}
 
@@ -224,15 +227,34 @@ module _ (sought : Sought) (g : Grown) (node : ℕ) (head : Head) (t : Transitio
         (inscription_searched sought g node head t looked x
         (at_in t.arcs k x open_arc.there) open_arc.token)
 
-    -- where the value of the inscription is known, that is the token that is found
-    token_is : (b : Binding) (a : ℕ) (v : Value) → IsKnownToken g head t k v →
+    -- where the token is known, that is found
+    finds_just : (w : Option Value) → IsKnownToken g head t k w → (a : ℕ) (b : Binding) →
+        LeadsBy sought g.decisions (P.Token node k 0) a b → slice_get held_there a ≡ w
+    finds_just w known_token a b leads =
+        elim (known_token x open_arc.there) as (λ _. slice_get held_there a ≡ w) [
+          | inl value ↦
+              known_token_is_it sought g.decisions node k x a b value.0 (finds_by b a leads)
+              (known_by sought g node head t looked x.inscription value.0 its_vars value.1)
+              ∙ value.2
+          | inr told ↦ (
+              let by = by_side g head t told.0 w told.1.1 in
+              let vars = vars_searched sought g node head t looked by.side by.searched in
+              equated_token_is_it sought g.decisions node k x a b by.env by.guard by.side
+              (finds_by b a leads)
+              (subst (λ u. Contains u.guards by.guard)
+              (looked.transition
+              ∙ ap (transition_in sought.system) (sym (node_is sought g node head t looked)))
+              by.there)
+              (subst (λ e. Equates by.guard e by.side ⊎ Equates by.guard by.side e)
+              (sym told.1.0) by.equates)
+              (known_by sought g node head t looked by.side by.env vars by.knows)
+              ∙ by.is)
+        ]
+
+    token_is : (b : Binding) (a : ℕ) (v : Value) → IsKnownToken g head t k (Some v) →
         LeadsBy sought g.decisions (P.Token node k 0) a b → first_token held_there a ≡ Some v
-    token_is b a v known_value leads =
-        let value = known_value x open_arc.there in
-        let known = known_by sought g node head t looked x.inscription value.0 its_vars value.1 in
-        first_there b a v leads
-        (known_token_is_it sought g.decisions node k x a b value.0 v (finds_by b a leads) known
-        value.2)
+    token_is b a v known leads =
+        first_there b a v leads (finds_just (Some v) known a b leads)
 
     -- where that of its first part is, a tuple with that first part is found
     first_part_is : (b : Binding) (a : ℕ) (v : Value) → IsKnownTokenFirst g head t k v →
@@ -270,7 +292,7 @@ module _ (sought : Sought) (g : Grown) (node : ℕ) (head : Head) (t : Transitio
     )
 
     -- so where it is a token of the place, that is found,
-    pub forces_token : (v : Value) (from : ℕ) → IsKnownToken g head t k v →
+    pub forces_token : (v : Value) (from : ℕ) → IsKnownToken g head t k (Some v) →
         first_token held_there from ≡ Some v →
         GoesOn sought g.decisions (Forced (P.Token node k from))
     forces_token v from known first = (
@@ -285,10 +307,19 @@ module _ (sought : Sought) (g : Grown) (node : ℕ) (head : Head) (t : Transitio
     )
 
     -- and where it is none, nothing leads on.
-    pub finds_no_token : (v : Value) → IsKnownToken g head t k v →
+    pub finds_no_token : (v : Value) → IsKnownToken g head t k (Some v) →
         ¬ Contains held_there v → GoesOn sought g.decisions Stuck
     finds_no_token v known absent b leads =
         let by = tokens_are_offered sought g.decisions b node k x leads
         (arc_there x open_arc.there) open_arc.token in
         let first = first_is held_there by.0 v (token_is b by.0 v known by.2) in
         absent (at_in held_there by.0 v first.0)
+
+    -- Nor does anything where it is known that the arc finds none.
+    pub finds_nothing : IsKnownToken g head t k None → GoesOn sought g.decisions Stuck
+    finds_nothing known b leads =
+        let by = tokens_are_offered sought g.decisions b node k x leads
+        (arc_there x open_arc.there) open_arc.token in
+        let both = sym (slice_get-get_or held_there by.0 (Value.Tuple []) by.1)
+        ∙ finds_just None known by.0 b by.2 in
+        let no : ⊥ = cc in no

@@ -1,5 +1,5 @@
 -- Which variables of a node are forced, and what is known of expressions by them.
-use Rattle.std.specs.Prelude.{ℕ, ◌≡◌, List, ◌∷◌, Some, None, slice_get, Contains}
+use Rattle.std.specs.Prelude.{ℕ, ◌≡◌, List, ◌∷◌, Option, Some, None, slice_get, Contains}
 use Rattle.rn_value.specs.declared.value.Value.{Value}
 use Rattle.rn_model.specs.declared.expr.Expr.{Expr}
 use Rattle.rn_model.specs.declared.expr.Expr.TheVariants as Expr
@@ -26,14 +26,13 @@ pub record Knows (g : Grown) (head : Head) (e : Expr) (env : Env) : Type 0 where
   pub forced : (x : ℕ) → Contains (vars_in e) x → (v : Value) ×
       (value_beside env.pairs x ≡ Some v) × IsVarForcedTo g head.path x v
 
--- the variables of an expression are known, and it has this value
-abbrev pub IsKnownValue : Grown → Head → Expr → Value → Type 0
-IsKnownValue g head e v = (env : Env) × Knows g head e env × (worth e env ≡ Some v)
+-- the variables of an expression are known, and it has this value, or none
+abbrev pub IsKnownWorth : Grown → Head → Expr → Option Value → Type 0
+IsKnownWorth g head e w = (env : Env) × Knows g head e env × (worth e env ≡ w)
 
--- the value of the inscription of a node's arc is known
-abbrev pub IsKnownToken : Grown → Head → Transition → ℕ → Value → Type 0
-IsKnownToken g head t k v = (x : NetArc) → slice_get t.arcs k ≡ Some x →
-    IsKnownValue g head x.inscription v
+-- and it has this value
+abbrev pub IsKnownValue : Grown → Head → Expr → Value → Type 0
+IsKnownValue g head e v = IsKnownWorth g head e (Some v)
 
 -- an expression is a tuple, and the value of its first part is known
 abbrev pub IsKnownFirst : Grown → Head → Expr → Value → Type 0

@@ -9,7 +9,7 @@ use Rattle.rn_growing.specs.declared.decision.Head.{Head}
 use Rattle.rn_growing.specs.Grown.{Grown}
 use Rattle.rn_branch.specs.declared.known.Known.{Known}
 use Rattle.rn_branch.specs.Guards.{KnowsGuard, vars_of_guard}
-pub use Rattle.rn_branch.specs.Forced.{IsVarForcedTo, IsVarForcedIn, Knows, IsKnownValue, IsKnownToken}
+pub use Rattle.rn_branch.specs.Forced.{IsVarForcedTo, IsVarForcedIn, Knows, IsKnownValue, IsKnownWorth}
 pub use Rattle.rn_branch.specs.Forced.{IsKnownFirst, IsKnownTokenFirst}
 
 -- what known values are read as

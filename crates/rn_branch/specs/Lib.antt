@@ -1,5 +1,6 @@
 pub mod Branches
 pub mod Calling
+pub mod Equating
 pub mod Forced
 pub mod Guards
 pub mod Knowing

@@ -1,13 +1,14 @@
 //! Looking at the arcs of a node.
 ghost use Rattle.std.specs.Prelude.{◌≡◌, ◌<◌, IfOk, IfSome, Some, length, slice_get};
 ghost use Rattle.rn_branch.specs.Branches.{IsLookedAt};
-ghost use Rattle.rn_branch.specs.Knowing.{IsKnownToken, IsKnownTokenFirst, IsKnownValue};
-ghost use Rattle.rn_branch.specs.Knowing.{IsKnownFirst};
+ghost use Rattle.rn_branch.specs.Equating.{IsKnownToken, IsTokenOf};
+ghost use Rattle.rn_branch.specs.Knowing.{IsKnownFirst, IsKnownTokenFirst, IsKnownValue};
 ghost use Rattle.rn_branch.specs.Looks.{Looked};
 ghost use Rattle.rn_branch.specs.Things.{IsOnArc, IsOnArcs, FindsToken};
 
 use crate::among::among;
 use crate::best::{better, is_best};
+use crate::equated::{equated, known_worth};
 use crate::known::known_in;
 use crate::look::Look;
 use crate::parts::{finds_token, finds_values};
@@ -61,7 +62,29 @@ pub(crate) fn arc_at(transition: &Transition, k: usize) -> &NetArc
     &transition.arcs.as_slice()[k]
 }
 
-// Goes on with the token of an arc, whose value is known.
+// The token of an arc with this inscription, or that it finds none, where that is known: the
+// variables of the inscription are forced, or it is a variable alone that a guard asks to be the
+// same as something known.
+fn known_token(
+    alloc: Global,
+    growing: &Growing<'_>,
+    head: &Head,
+    transition: &Transition,
+    expr: &Expr,
+) -> Result<Option<Option<Value>>, NoMemory>
+    ensures { IfOk result (λ told. IfSome told
+        (λ w. IsTokenOf growing.now head.now transition.now expr.now w)) }
+{
+    if let Some(told) = known_worth(alloc, growing, head, expr)? {
+        return Ok(Some(told));
+    }
+    match expr {
+        Expr::Var(x) => equated(alloc, growing, head, transition, *x),
+        _ => Ok(None),
+    }
+}
+
+// Goes on with the token of an arc, which is known, or where it is known that there is none.
 fn with_token(
     problem: &Problem<'_>,
     growing: &Growing<'_>,
@@ -69,15 +92,18 @@ fn with_token(
     head: &Head,
     transition: &Transition,
     k: usize,
-    value: &Value,
+    told: &Option<Value>,
 ) -> Look
     requires at { IsLookedAt problem.now growing.now node head.now transition.now }
     requires token { FindsToken growing.now.decisions head.now transition.now k }
-    requires known { IsKnownToken growing.now head.now transition.now k value.now }
+    requires known { IsKnownToken growing.now head.now transition.now k told.now }
     ensures { Looked problem.now growing.now.decisions (IsOnArc head.now k) result }
 {
     let _ = head;
     let _ = transition;
+    let Some(value) = told else {
+        return Look::Goes(Next::Stuck);
+    };
     match problem.only_token(growing.decisions(), node, k, value) {
         Some(from) => Look::Goes(Next::Forced(Point::Token(node, k, from))),
         None => Look::Goes(Next::Stuck),
@@ -124,8 +150,8 @@ fn look_for_token(
         (IsOnArc head.now k) look) }
 {
     let arc = arc_at(transition, k);
-    if let Some(value) = known_value(alloc, growing, head, &arc.inscription)? {
-        return Ok(with_token(problem, growing, node, head, transition, k, &value));
+    if let Some(told) = known_token(alloc, growing, head, transition, &arc.inscription)? {
+        return Ok(with_token(problem, growing, node, head, transition, k, &told));
     }
     if let Some(part) = known_first_part(alloc, growing, head, &arc.inscription)? {
         return Ok(with_first(problem, growing, node, head, transition, k, &part, first));

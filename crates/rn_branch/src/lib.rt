@@ -6,6 +6,7 @@ mod arcs;
 mod best;
 mod branch;
 mod calls;
+mod equated;
 mod guard_vars;
 mod guards;
 mod inhibitors;

@@ -2,6 +2,7 @@ pub mod Allowed
 pub mod Alternatives
 pub mod Built
 pub mod Ends
+pub mod Equated
 pub mod Falling
 pub mod FirstTokens
 pub mod Following

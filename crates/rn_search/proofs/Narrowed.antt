@@ -1,6 +1,9 @@
--- Tokens that an arc may find, by what is known of its inscription.
+-- Tokens that an arc may find, by what is known of its inscription, or of what a guard asks to be the
+-- same.
 use Rattle.std.proofs.Common.{◌≡◌, ℕ, ◌+◌, List, [], ◌∷◌, map, sym, ap, ◌∙◌, subst, arith}
+use Rattle.std.proofs.Common.{inl, inr}
 use Rattle.std.specs.Prelude.{Some, option_map, slice_get, Contains}
+use Rattle.std.proofs.lemmas.List.Elements.{All-contains}
 use Rattle.rn_value.specs.declared.value.Value.{Value}
 use Rattle.rn_value.specs.declared.value.Value.TheVariants as Value
 use Rattle.rn_model.specs.declared.expr.Expr.{Expr}
@@ -9,7 +12,8 @@ use Rattle.rn_model.specs.declared.system.NetArc.{NetArc}
 use Rattle.rn_model.specs.declared.binding.Node.{Node}
 use Rattle.rn_model.specs.declared.binding.Binding.{Binding}
 use Rattle.rn_model.specs.Systems.{transition_of}
-use Rattle.rn_model.specs.Evaluation.{Env, worth, worths}
+use Rattle.rn_model.specs.Agreement.{NodeAgrees}
+use Rattle.rn_model.specs.Evaluation.{Env, worth, worths, IsTrueUnder}
 use Rattle.rn_model.specs.Bindings.{env_of}
 use Rattle.rn_model.specs.Derivation.{Item, entry, found, computed}
 use Rattle.rn_model.proofs.EvaluationLemmas.{worth-Tuple}
@@ -23,7 +27,8 @@ use Rattle.rn_search.specs.declared.point.Point.TheVariants as P
 use Rattle.rn_search.specs.Sought.{Sought, Leads}
 use Rattle.rn_search.specs.Points.{node_of, tokens_of, first_token, offered, offers}
 use Rattle.rn_search.specs.Missing.{IsKnown}
-use Rattle.rn_search.specs.Narrowing.{FindsBy, KnownTokenIsIt, KnownFirstPart}
+use Rattle.rn_search.specs.Narrowing.{FindsBy, KnownTokenIsIt, KnownFirstPart, EquatedTokenIsIt}
+use Rattle.rn_search.proofs.Equated.{sides_same}
 use Rattle.rn_search.proofs.Following.{last_on, is_decision, fewer_lead}
 use Rattle.rn_search.proofs.Alternatives.{from_map, from_and_then, first_is}
 use Rattle.rn_search.proofs.Known.{known_is_so}
@@ -93,10 +98,10 @@ known_there sought ds node k x a b finds e env known by =
     (subst (λ h. IsKnown sought.system ds h e env) by.head known)
 
 pub known_token_is_it : KnownTokenIsIt
-known_token_is_it sought ds node k x a b env v finds known is =
+known_token_is_it sought ds node k x a b env finds known =
     let by = found_by sought ds node k x a b finds in
     let same = known_there sought ds node k x a b finds x.inscription env known by in
-    by.token ∙ sym by.read ∙ sym same ∙ is
+    by.token ∙ sym by.read ∙ sym same
 
 -- the parts of a tuple that has a value, of which the first has one
 first_part : (e : Expr) (es : List Expr) (env : Env) (v w : Value) → worth e env ≡ Some v →
@@ -121,3 +126,21 @@ known_first_part sought ds node k x a b env e es v finds tuple known is =
     ap (λ i. worth i own) (sym tuple) ∙ by.read in
     let part = first_part e es own v by.value (sym same ∙ is) whole in
     (part.0, by.token ∙ ap Some (sym part.1))
+
+pub equated_token_is_it : EquatedTokenIsIt
+equated_token_is_it sought ds node k x a b env guard e finds there equates known =
+    let system = sought.system in
+    let by = found_by sought ds node k x a b finds in
+    let own = env_of system by.its in
+    let agrees : NodeAgrees system by.its =
+    All-contains (NodeAgrees system) b.nodes by.its finds.leads.enabled.agrees.nodes by.there in
+    let its_guard : Contains (transition_of system by.its).guards guard =
+    subst (λ h. Contains (transition_in system h).guards guard) by.head there in
+    let holds = All-contains (IsTrueUnder own) (transition_of system by.its).guards guard
+    agrees.guards its_guard in
+    let sides = elim equates as (λ _. worth x.inscription own ≡ worth e own) [
+      | inl left ↦ sides_same guard x.inscription e own left holds
+      | inr right ↦ sym (sides_same guard e x.inscription own right holds)
+    ] in
+    let same = known_there sought ds node k x a b finds e env known by in
+    by.token ∙ sym by.read ∙ sides ∙ sym same

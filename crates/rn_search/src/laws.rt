@@ -14,7 +14,7 @@ ghost use Rattle.rn_search.specs.Allowing.{StartIsAllowed, TokensAreAllowed, Lis
 ghost use Rattle.rn_search.specs.Allowing.{ResultsAreAllowed, CallsAreAllowed};
 ghost use Rattle.rn_search.specs.Leaving.{LeftIsAsked, AskedIsLeft, NoneLeftIsDone};
 ghost use Rattle.rn_search.specs.Leaving.{LeftOutIsClosed, LeftIsNew};
-ghost use Rattle.rn_search.specs.Narrowing.{KnownTokenIsIt, KnownFirstPart};
+ghost use Rattle.rn_search.specs.Narrowing.{KnownTokenIsIt, KnownFirstPart, EquatedTokenIsIt};
 ghost use Rattle.rn_search.specs.Solving.{WholeIsOnly};
 ghost use Rattle.rn_search.specs.Standing.{NoneAreSound, SoundByOne, SoundByFewer};
 ghost use Rattle.rn_search.specs.Standing.{SoundAreRight};
@@ -49,10 +49,12 @@ pub fn what_may_be_cut()
 }
 
 /// Where the inscription of an arc, or its first part, is known, just the tokens that have that
-/// value lead on.
+/// value lead on; and where a guard asks that the inscription is the same as an expression that is
+/// known, just those with the value of that.
 pub fn tokens_are_narrowed()
     ensures whole { KnownTokenIsIt }
     ensures first { KnownFirstPart }
+    ensures equated { EquatedTokenIsIt }
 {}
 
 /// It goes on with one alternative of a point alone, which is a decision, and follows fewer

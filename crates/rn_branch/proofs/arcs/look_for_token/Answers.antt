@@ -1,4 +1,4 @@
--- The token that is known to be found, or one of all.
+-- The token that is known to be found, or one of several.
 use Rattle.std.proofs.Common.{◌∙◌, ap, sym, subst}
 use Rattle.std.specs.Prelude.{IfSome}
 use Rattle.std.proofs.lemmas.Option.{slice_get_within}
@@ -6,7 +6,8 @@ use Rattle.rn_model.specs.declared.system.NetArc.{NetArc}
 use Rattle.rn_growing.proofs.Growth.{some_equal}
 use Rattle.rn_search.specs.declared.point.Point.TheVariants as P
 use Rattle.rn_search.specs.Offering.{alternatives}
-use Rattle.rn_branch.specs.Knowing.{IsKnownFirst, IsKnownValue}
+use Rattle.rn_branch.specs.Equating.{IsTokenOf}
+use Rattle.rn_branch.specs.Knowing.{IsKnownFirst}
 use Rattle.rn_branch.proofs.LookSteps.{goes_on_among}
 use Rattle.rn_branch.proofs.TokenLooks.{chooses_token}
 use Rattle.rn_branch.proofs.arcs.look_for_token.Goals as goal
@@ -18,11 +19,12 @@ arc_at-arc-requires c =
 
 pub with_token-requires-clause-known : goal.with_token-requires-clause-known
 with_token-requires-clause-known c x at =
-    subst (λ (y : NetArc). IsKnownValue c.args.growing.now c.args.head.now y.inscription
-    c.in-Some.value)
+    subst (λ (y : NetArc). IsTokenOf c.args.growing.now c.args.head.now c.args.transition.now
+    y.inscription c.in-Some.told)
     (some_equal c.arc_at-arc.result.now x (sym c.arc_at-arc.ensures ∙ at))
-    (subst (λ o. IfSome o (λ v. IsKnownValue c.args.growing.now c.args.head.now
-    c.arc_at-arc.result.now.inscription v)) c.in-Some.is c.in_ok-value.ensures)
+    (subst (λ o. IfSome o (λ w. IsTokenOf c.args.growing.now c.args.head.now
+    c.args.transition.now c.arc_at-arc.result.now.inscription w)) c.in-Some.is
+    c.in_ok-told.ensures)
 
 pub with_first-requires-clause-known : goal.with_first-requires-clause-known
 with_first-requires-clause-known c x at =
