@@ -8,7 +8,6 @@ use Rattle.rn_model.specs.declared.expr.CompareKind.{CompareKind}
 use Rattle.rn_model.specs.declared.expr.CompareKind.TheVariants.{Same}
 use Rattle.rn_model.specs.declared.expr.Cond.{Cond, fold_out-Cond}
 use Rattle.rn_model.specs.declared.expr.Expr.{Expr}
-use Rattle.rn_model.specs.declared.expr.Expr.TheVariants as Expr
 use Rattle.rn_model.specs.declared.expr.Simple.{Simple, fold_out-Simple}
 use Rattle.rn_model.specs.declared.expr.Simple.TheVariants as Simple
 use Rattle.rn_model.specs.declared.system.Transition.{Transition}
@@ -68,6 +67,16 @@ pub right_side : (kind : CompareKind) (left right : Expr) →
 right_side kind left right =
     subst (λ cs. Contains (flat_map sides_of cs) right) (sym (comparison_itself kind left right))
     (1, omega arith, refl)
+
+-- those of what a condition negates
+pub negated_side : (cond : Cond) (e : Expr) → Contains (guard_exprs cond) e →
+    Contains (flat_map sides_of (comparisons_of (Simple.Not cond))) e
+negated_side cond e side =
+    let is : comparisons_of (Simple.Not cond) ≡ comparisons_in cond =
+    fold_out-Simple (List Comparison) (List Comparison) comparisons_step
+    (λ inner. flat_map (λ list. flat_map (λ c. c) list) inner.any) (Simple.Not cond)
+    ∙ rw (Simple.outs-Not cond) in
+    subst (λ cs. Contains (flat_map sides_of cs) e) (sym is) side
 
 -- A guard of a transition that asks a variable to be the same as a side, which is known.
 pub record IsBySide (g : Grown) (head : Head) (t : Transition) (x : ℕ) (w : Option Value)

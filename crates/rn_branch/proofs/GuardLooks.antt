@@ -1,5 +1,6 @@
 -- The guards of a node that is looked at: their variables, and where none of them may fail.
-use Rattle.std.proofs.Common.{◌≡◌, ℕ, List, [], ◌∷◌, ◌++◌, refl, sym, ap, ◌∙◌, subst, inl, inr}
+use Rattle.std.proofs.Common.{◌≡◌, ℕ, true, List, [], ◌∷◌, ◌++◌, refl, sym, ap, ◌∙◌, subst}
+use Rattle.std.proofs.Common.{inl, inr}
 use Rattle.std.proofs.Math.Path.{fun_ext}
 use Rattle.std.specs.Prelude.{Some, None, Contains, flat_map}
 use Rattle.std.proofs.lemmas.List.Concat.{flat_map-append}
@@ -9,8 +10,10 @@ use Rattle.rn_choices.specs.declared.next.Next.TheVariants.{Stuck}
 use Rattle.rn_value.specs.declared.value.Value.{Value}
 use Rattle.rn_model.specs.declared.expr.Expr.{Expr}
 use Rattle.rn_model.specs.declared.expr.Cond.{Cond}
+use Rattle.rn_model.specs.declared.expr.Simple.{Simple}
+use Rattle.rn_model.specs.declared.expr.Simple.TheVariants as Simple
 use Rattle.rn_model.specs.declared.system.Transition.{Transition}
-use Rattle.rn_model.specs.Evaluation.{Env}
+use Rattle.rn_model.specs.Evaluation.{Env, worth}
 use Rattle.rn_model.specs.Good.{Comparison, comparisons_in, guard_exprs}
 use Rattle.rn_model.specs.Lists.{value_beside}
 use Rattle.rn_model.specs.Systems.{vars_in}
@@ -20,15 +23,19 @@ use Rattle.rn_growing.specs.declared.decision.Head.{Head}
 use Rattle.rn_growing.specs.Grown.{Grown}
 use Rattle.rn_growing.proofs.Growth.{only_one}
 use Rattle.rn_search.specs.Missing.{IsKnown}
+use Rattle.rn_search.specs.Parting.{answer_of, IsTrueAsKnown}
 use Rattle.rn_search.specs.Sought.{Sought}
+use Rattle.rn_search.proofs.GuardParts.{known_parts_hold}
 use Rattle.rn_search.proofs.Offered.{known_guards_hold}
 use Rattle.rn_branch.specs.Branches.{IsLookedAt}
-use Rattle.rn_branch.specs.Forced.{IsVarForcedTo}
+use Rattle.rn_branch.specs.Forced.{Knows, IsVarForcedTo}
 use Rattle.rn_branch.specs.Guards.{comparisons_of, vars_of_comparison, vars_of_simple}
 use Rattle.rn_branch.specs.Guards.{vars_of_guard, KnowsGuard, IsKnownUntrue}
 use Rattle.rn_branch.specs.Knowing.{ArePairsOf}
 use Rattle.rn_branch.specs.Looks.{GoesOn}
-use Rattle.rn_branch.proofs.EquatedTokens.{guard_comparisons}
+use Rattle.rn_branch.specs.UntrueParts.{IsUntrue, IsPartlyUntrue}
+use Rattle.rn_branch.proofs.EquatedTokens.{guard_comparisons, left_side, right_side}
+use Rattle.rn_branch.proofs.EquatedTokens.{negated_side, part_sides}
 use Rattle.rn_branch.proofs.KnownValues.{has_its_value}
 use Rattle.rn_branch.proofs.LookedAt.{some, node_is, entered, known_by, vars_searched}
 use Rattle.rn_branch.proofs.VarsOfForms.{guard_searched}
@@ -102,3 +109,48 @@ module _ (sought : Sought) (g : Grown) (node : ℕ) (head : Head) (t : Transitio
       (known_guards_hold sought g.decisions b head guard env leads at.branch.sound.turns
       (some sought g node head t at) (entered sought g node head t at)
       (subst (λ u. Contains u.guards guard) at.transition there) (guard_known env knows))
+
+  -- nor where it is one list of conditions, and one of them is known not to be true
+  part_known : (simples : List Simple) (one : Simple) (e : Expr) (env : Env) →
+      guard.any ≡ simples ∷ [] → Contains simples one →
+      Contains (flat_map sides_of (comparisons_of one)) e → Knows g head e env →
+      IsKnown sought.system g.decisions head e env
+  part_known simples one e env any among side knows =
+      subst (λ h. IsKnown sought.system g.decisions h e env) (node_is sought g node head t at)
+      (known_by sought g node head t at e env
+      (vars_searched sought g node head t at e
+      (guard_searched t guard e there (part_sides guard simples one e any among side))) knows)
+
+  part_fails : (simples : List Simple) (one : Simple) → guard.any ≡ simples ∷ [] →
+      Contains simples one → IsUntrue g head one →
+      ¬ IsTrueAsKnown sought.system g.decisions head one
+  part_fails simples one any among (inl it) so =
+      let comparison : Contains simples (Simple.Compare it.kind it.left it.right) =
+      subst (Contains simples) it.is among in
+      it.untrue
+      (subst (λ w. answer_of it.kind it.first w ≡ Some true) it.knows_right.2
+      (subst (λ v. answer_of it.kind v (worth it.right it.knows_right.0) ≡ Some true)
+      it.knows_left.2
+      (so.comparison it.kind it.left it.right it.knows_left.0 it.knows_right.0 it.is
+      (part_known simples (Simple.Compare it.kind it.left it.right) it.left it.knows_left.0 any
+      comparison (left_side it.kind it.left it.right) it.knows_left.1)
+      (part_known simples (Simple.Compare it.kind it.left it.right) it.right it.knows_right.0 any
+      comparison (right_side it.kind it.left it.right) it.knows_right.1))))
+  part_fails simples one any among (inr it) so =
+      let negation : Contains simples (Simple.Not it.cond) =
+      subst (Contains simples) it.is among in
+      let untrue = so.negated it.cond it.env it.is (λ e side.
+      part_known simples (Simple.Not it.cond) e it.env any negation (negated_side it.cond e side)
+      (it.knows e side)) in
+      let both = sym untrue ∙ it.holds in
+      let absurdity : ⊥ = cc in absurdity
+
+  pub partly_untrue_is_stuck : IsPartlyUntrue g head guard → GoesOn sought g.decisions Stuck
+  partly_untrue_is_stuck (simples, (any, (one, (among, untrue)))) b leads =
+      let held = known_parts_hold sought g.decisions b head guard leads at.branch.sound.turns
+      (some sought g node head t at) (entered sought g node head t at)
+      (subst (λ u. Contains u.guards guard) at.transition there) in
+      let it : simples ≡ held.0 =
+      only_one simples held.0 (subst (λ ls. Contains ls held.0) any held.1) in
+      part_fails simples one any among untrue
+      (held.2 one (subst (λ xs. Contains xs one) it among))

@@ -8,3 +8,4 @@ pub mod Looks
 pub mod Making
 pub mod Settling
 pub mod Things
+pub mod UntrueParts

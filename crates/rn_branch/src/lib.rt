@@ -7,6 +7,7 @@ mod best;
 mod branch;
 mod calls;
 mod equated;
+mod guard_parts;
 mod guard_vars;
 mod guards;
 mod inhibitors;

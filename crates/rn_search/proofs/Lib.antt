@@ -2,10 +2,10 @@ pub mod Allowed
 pub mod Alternatives
 pub mod Built
 pub mod Ends
-pub mod Equated
 pub mod Falling
 pub mod FirstTokens
 pub mod Following
+pub mod GuardParts
 pub mod Items
 pub mod Known
 pub mod Left
@@ -16,3 +16,4 @@ pub mod OneBinding
 pub mod Solved
 pub mod Sound
 pub mod Takes
+pub mod TrueParts

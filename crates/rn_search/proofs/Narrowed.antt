@@ -28,7 +28,7 @@ use Rattle.rn_search.specs.Sought.{Sought, Leads}
 use Rattle.rn_search.specs.Points.{node_of, tokens_of, first_token, offered, offers}
 use Rattle.rn_search.specs.Missing.{IsKnown}
 use Rattle.rn_search.specs.Narrowing.{FindsBy, KnownTokenIsIt, KnownFirstPart, EquatedTokenIsIt}
-use Rattle.rn_search.proofs.Equated.{sides_same}
+use Rattle.rn_search.proofs.TrueParts.{sides_same}
 use Rattle.rn_search.proofs.Following.{last_on, is_decision, fewer_lead}
 use Rattle.rn_search.proofs.Alternatives.{from_map, from_and_then, first_is}
 use Rattle.rn_search.proofs.Known.{known_is_so}

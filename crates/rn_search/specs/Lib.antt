@@ -5,6 +5,7 @@ pub mod Making
 pub mod Missing
 pub mod Narrowing
 pub mod Offering
+pub mod Parting
 pub mod Points
 pub mod Problems
 pub mod Room

@@ -15,6 +15,7 @@ ghost use Rattle.rn_search.specs.Allowing.{ResultsAreAllowed, CallsAreAllowed};
 ghost use Rattle.rn_search.specs.Leaving.{LeftIsAsked, AskedIsLeft, NoneLeftIsDone};
 ghost use Rattle.rn_search.specs.Leaving.{LeftOutIsClosed, LeftIsNew};
 ghost use Rattle.rn_search.specs.Narrowing.{KnownTokenIsIt, KnownFirstPart, EquatedTokenIsIt};
+ghost use Rattle.rn_search.specs.Parting.{KnownPartsHold};
 ghost use Rattle.rn_search.specs.Solving.{WholeIsOnly};
 ghost use Rattle.rn_search.specs.Standing.{NoneAreSound, SoundByOne, SoundByFewer};
 ghost use Rattle.rn_search.specs.Standing.{SoundAreRight};
@@ -34,13 +35,14 @@ pub fn nothing_is_missed()
     ensures calls { CallsAreOffered }
 {}
 
-/// What leads to something can be satisfied, its nodes aren't too deep, its guards and inhibitor
-/// arcs hold as soon as they are known, and what it takes is there as often. So a branch without
+/// What leads to something can be satisfied, its nodes aren't too deep, its guards, their
+/// parts and inhibitor arcs hold as soon as they are known, and what it takes is there as often. So a branch without
 /// one of these has nothing.
 pub fn what_may_be_cut()
     ensures solvable { LeadingIsSolvable }
     ensures room { NodesHaveRoom }
     ensures guards { KnownGuardsHold }
+    ensures parts { KnownPartsHold }
     ensures inhibitors { KnownInhibitorsHold }
     ensures taken { TakenAreThere }
     ensures lists { KnownListsAreThere }

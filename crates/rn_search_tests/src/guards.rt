@@ -28,6 +28,32 @@ fn rows(rt: HostRuntime) -> Result<(), Fail> {
             "net main { var x, y: int; place p: int = 0, 1; place q: int = 5; trans t { in p: x; in q: y; guard x < 3 || 1 / x > 0; } }",
             "t(1,5)",
         ),
+        // Of which a part is known before the others, and isn't true.
+        (
+            "net main { var x, y: int; place p: int = 1, 2; place q: int = 1, 2, 3; trans t { in p: x; in q: y; guard x > 1 && y > 1; } }",
+            "t(2,2); t(2,3)",
+        ),
+        (
+            "net main { var x, y: int; place p: int = 1, 2; place q: int = 5, 6; trans t { in p: x; in q: y; guard y > 5 && !(x == 1); } }",
+            "t(2,6)",
+        ),
+        (
+            "net main { var x, y: int; place p: int = 0, 1; place q: int = 5, 6; trans t { in p: x; in q: y; guard 1 / x > 0 && y > 5; } }",
+            "t(1,6)",
+        ),
+        (
+            "net main { var x, y: int; place p: int = 1, 2; place q: int = 5, 6; trans t { in p: x; in q: y; guard x > 2 && y > 5; } }",
+            "",
+        ),
+        // Such a part doesn't count where another list may be true.
+        (
+            "net main { var x, y: int; place p: int = 1, 2; place q: int = 5, 6; trans t { in p: x; in q: y; guard x > 2 && y > 5 || x < 2 && y > 5; } }",
+            "t(1,6)",
+        ),
+        (
+            "net main { var x, y: int; place p: int = 1, 2; place q: int = 5, 6; trans t { in p: x; in q: y; guard !(x > 1 && y > 5); } }",
+            "t(1,5); t(1,6); t(2,5)",
+        ),
         // In a transition that is called, and over a value that flows back.
         (
             "channel c(int); net main { var x, k, y: int; place p: int = 1, 2; place q: int = 1, 2, 3; trans t { in p: x; this:c(x); } trans u { :c(k); in q: y; guard k < y; } }",
