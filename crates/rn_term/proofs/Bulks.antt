@@ -60,7 +60,7 @@ stays s (suc n) id is =
     (λ to link. stays s n to (is.1 to link)) in
     omega (arith, parts, bound)
 
-bulk-is : (s : State) → Keeps s → (id : ℕ) → id < length s.terms →
+pub bulk-is : (s : State) → Keeps s → (id : ℕ) → id < length s.terms →
     bulk s id ≡ suc (total_of (bulk s) (parts_of (term_at s id))
     + total_of (bulk s) (option_to_list (link_of s.notes id)))
 bulk-is s keeps id within = sym (stays s (length s.terms) id (all_within s keeps id within))

@@ -36,8 +36,9 @@ extent-leads s keeps id end within (Leads.next {to = after} first more) =
 
 -- a link that is kept is one of the notes
 pub kept_link : (terms : List Term) (links lists : List (Option ℕ)) (floors : List ℕ)
-    (flags : List Bool) (notes : List (ℕ × ℕ))
-    (id to : ℕ) (link : Option ℕ) → KeepsAll terms links lists floors flags notes → id < length terms →
+    (flags : List Bool) (levels : List ℕ) (notes : List (ℕ × ℕ))
+    (id to : ℕ) (link : Option ℕ) → KeepsAll terms links lists floors flags levels notes →
+    id < length terms →
     link ≡ get_or links id link → link ≡ Some to → link_of notes id ≡ Some to
-kept_link terms links lists floors flags notes id to link kept within read is =
+kept_link terms links lists floors flags levels notes id to link kept within read is =
     sym (kept.linked id) ∙ sym (get_or_read links id link (rw kept.each within) read None) ∙ is

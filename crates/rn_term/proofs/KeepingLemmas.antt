@@ -1,6 +1,6 @@
 -- A store stays sound as terms and notes come and go.
-use Rattle.std.proofs.Common.{◌≡◌, ⊎_elim, ◌<◌, ◌≤◌, ◌+◌, ℕ, zero, suc, List, [], ◌∷◌, ◌++◌, refl}
-use Rattle.std.proofs.Common.{subst}
+use Rattle.std.proofs.Common.{◌≡◌, ◌⊎◌, ⊎_elim, ◌<◌, ◌≤◌, ◌+◌, ℕ, zero, suc, List, [], ◌∷◌, ◌++◌}
+use Rattle.std.proofs.Common.{refl, subst}
 use Rattle.std.proofs.Common.{arith}
 use Rattle.std.proofs.Common.{length, sym, ◌∙◌, ap, get_or, set, take, length-append}
 use Rattle.std.specs.Prelude.{Bool, true, Option, Some, None}
@@ -13,10 +13,11 @@ use Rattle.rn_term.specs.declared.term.Term.TheVariants as T
 use Rattle.rn_term.specs.Stores.{State, link_of, IsBuiltBelow, with_term, with_note}
 use Rattle.rn_term.specs.Assignments.{HasListTail, MayBeOne, IsNote, Keeps}
 use Rattle.rn_term.specs.Kept.{KeepsAll, AreLastLists, last_cons, or_cons}
-use Rattle.rn_term.specs.Kept.{AreFlags, IsBuiltOfFlagged}
+use Rattle.rn_term.specs.Kept.{AreFlags, AreLevels, IsBuiltOfFlagged, IsFlagged, level_of}
 use Rattle.rn_term.specs.Kept.{AreFloors, AreLowered, IsLowAlong, floor_of}
 use Rattle.rn_term.proofs.Closed.{flags_with_term, flags_of_fewer_terms}
 use Rattle.rn_term.proofs.Floors.{floors_with_term, floors_with_note, floors_of_fewer_terms}
+use Rattle.rn_term.proofs.LevelLemmas.{levels_with_term, levels_with_note, levels_of_fewer_terms}
 use Rattle.rn_term.proofs.ListEnds.{at_end, after_prefix, none_at_end}
 use Rattle.rn_term.proofs.LinkLemmas.{set_link}
 use Rattle.rn_term.proofs.AssignmentLemmas.{new_value, satisfies_term, satisfies_note, link_within}
@@ -99,16 +100,18 @@ fewer_lists terms lists n room are id within =
 
 -- the same of how a store is kept
 pub kept_term : (terms : List Term) (links lists : List (Option ℕ)) (floors : List ℕ)
-    (flags : List Bool) (notes : List (ℕ × ℕ)) (t : Term) (last : Option ℕ) (low : List ℕ) (top : ℕ)
-    (flag : Bool) →
-    KeepsAll terms links lists floors flags notes →
+    (flags : List Bool) (levels : List ℕ) (notes : List (ℕ × ℕ)) (t : Term) (last : Option ℕ)
+    (low : List ℕ) (top : ℕ) (flag : Bool) →
+    KeepsAll terms links lists floors flags levels notes →
     last ≡ or_cons t (length terms) (last_cons terms (length terms)) →
     IsBuiltBelow (length terms) t →
     HasListTail (record { terms = terms; notes = notes }) t →
     AreLowered (floors ++ top ∷ []) low → ((ids : List ℕ) (end : ℕ) → t ≡ T.Cons ids end →
     IsLowAlong notes end (length terms) low) → (flag ≡ true → IsBuiltOfFlagged flags t) →
-    KeepsAll (terms ++ t ∷ []) (links ++ None ∷ []) (lists ++ last ∷ []) low (flags ++ flag ∷ []) notes
-kept_term terms links lists floors flags notes t last low top flag kept is built tail lowered along of =
+    KeepsAll (terms ++ t ∷ []) (links ++ None ∷ []) (lists ++ last ∷ []) low (flags ++ flag ∷ [])
+    levels notes
+kept_term terms links lists floors flags levels notes t last low top flag kept is built tail lowered
+    along of =
     record {
       sound = keeps_term (record { terms = terms; notes = notes }) t kept.sound built tail;
       each = length-append links (None ∷ []) ∙ ap (λ n. n + 1) kept.each
@@ -125,26 +128,37 @@ kept_term terms links lists floors flags notes t last low top flag kept is built
           ∙ sym (length-append terms (t ∷ []));
       flagged = flags_with_term (record { terms = terms; notes = notes }) flags t flag kept.sound built
           kept.marked kept.flagged of;
+      few = omega (arith, kept.few, length-append terms (t ∷ []));
+      leveled = levels_with_term (record { terms = terms; notes = notes }) levels flags t flag
+          kept.few kept.leveled;
     }
 
 pub kept_note : (terms : List Term) (links lists : List (Option ℕ)) (floors : List ℕ)
-    (flags : List Bool) (notes : List (ℕ × ℕ)) (var to : ℕ) (low : List ℕ) →
-    KeepsAll terms links lists floors flags notes → IsNote terms notes (var, to) →
+    (flags : List Bool) (levels : List ℕ) (notes : List (ℕ × ℕ)) (var to : ℕ)
+    (low raised : List ℕ) →
+    KeepsAll terms links lists floors flags levels notes → IsNote terms notes (var, to) →
     MayBeOne (record { terms = terms; notes = notes }) var to →
     AreLowered floors low → IsLowAlong notes to (floor_of floors var) low →
-    KeepsAll terms (set links var (Some to)) lists low flags (notes ++ (var, to) ∷ [])
-kept_note terms links lists floors flags notes var to low kept note one lowered along = record {
-  sound = keeps_note (record { terms = terms; notes = notes }) var to kept.sound note one;
-  each = length-set links var (Some to) ∙ kept.each;
-  linked = set_link links notes var to kept.linked (rw kept.each note.var) note.fresh;
-  counted = kept.counted;
-  last = kept.last;
-  measured = lowered.each ∙ kept.measured;
-  floored = floors_with_note (record { terms = terms; notes = notes }) floors low var to note.fresh
-      kept.floored lowered along;
-  marked = kept.marked;
-  flagged = kept.flagged;
-}
+    length raised ≤ length terms →
+    AreLevels raised flags (record { terms = terms; notes = notes }) →
+    IsFlagged flags to ⊎ (level_of raised var ≤ level_of raised to) →
+    KeepsAll terms (set links var (Some to)) lists low flags raised (notes ++ (var, to) ∷ [])
+kept_note terms links lists floors flags levels notes var to low raised kept note one lowered along
+    few leveled enough = record {
+      sound = keeps_note (record { terms = terms; notes = notes }) var to kept.sound note one;
+      each = length-set links var (Some to) ∙ kept.each;
+      linked = set_link links notes var to kept.linked (rw kept.each note.var) note.fresh;
+      counted = kept.counted;
+      last = kept.last;
+      measured = lowered.each ∙ kept.measured;
+      floored = floors_with_note (record { terms = terms; notes = notes }) floors low var to note.fresh
+          kept.floored lowered along;
+      marked = kept.marked;
+      flagged = kept.flagged;
+      few = few;
+      leveled = levels_with_note (record { terms = terms; notes = notes }) raised flags var to
+          note.fresh leveled enough;
+    }
 
 -- what lies past the terms has no link
 pub no_link : (s : State) (id : ℕ) → Keeps s → length s.terms ≤ id → link_of s.notes id ≡ None
@@ -157,15 +171,17 @@ no_link s id keeps past = split (link_of s.notes id) refl where
 
 -- a store that is cut where it is sound
 pub kept_prefix : (terms : List Term) (links lists : List (Option ℕ)) (floors : List ℕ)
-    (flags : List Bool) (notes : List (ℕ × ℕ)) (n : ℕ) →
+    (flags : List Bool) (levels : List ℕ) (notes : List (ℕ × ℕ)) (n : ℕ) →
     Keeps (record { terms = take n terms; notes = notes }) → n ≤ length terms →
     length links ≡ length terms → ((id : ℕ) → get_or links id None ≡ link_of notes id) →
     length lists ≡ length terms → AreLastLists lists terms → length floors ≡ length terms →
     AreFloors floors (record { terms = terms; notes = notes }) → length flags ≡ length terms →
-    AreFlags flags terms →
-    KeepsAll (take n terms) (take n links) (take n lists) (take n floors) (take n flags) notes
-kept_prefix terms links lists floors flags notes n keeps within each linked counted last measured
-    floored marked flagged =
+    AreFlags flags terms → length levels ≤ length terms →
+    AreLevels levels flags (record { terms = terms; notes = notes }) →
+    KeepsAll (take n terms) (take n links) (take n lists) (take n floors) (take n flags)
+    (take n levels) notes
+kept_prefix terms links lists floors flags levels notes n keeps within each linked counted last
+    measured floored marked flagged few leveled =
     record {
       sound = keeps;
       each = length-take n links ∙ rw each refl ∙ sym (length-take n terms);
@@ -181,4 +197,6 @@ kept_prefix terms links lists floors flags notes n keeps within each linked coun
       floored = floors_of_fewer_terms terms notes floors n floored;
       marked = length-take n flags ∙ rw marked refl ∙ sym (length-take n terms);
       flagged = flags_of_fewer_terms terms flags n keeps.built within flagged;
+      few = omega (arith, few, within, length-take n levels, length-take n terms);
+      leveled = levels_of_fewer_terms terms levels flags notes n keeps leveled;
     }

@@ -65,10 +65,11 @@ last_is_past terms (suc n) =
 
 -- what is kept beside a term is the last list up to it
 pub kept_list : (terms : List Term) (links lists : List (Option ℕ)) (floors : List ℕ)
-    (flags : List Bool) (notes : List (ℕ × ℕ))
-    (end : ℕ) (read : Option ℕ) → KeepsAll terms links lists floors flags notes → end ≤ length terms →
+    (flags : List Bool) (levels : List ℕ) (notes : List (ℕ × ℕ))
+    (end : ℕ) (read : Option ℕ) → KeepsAll terms links lists floors flags levels notes →
+    end ≤ length terms →
     (end ≡ 0 → ⊥) → read ≡ get_or lists (end - 1) read → read ≡ last_cons terms end
-kept_list terms links lists floors flags notes end read kept within some is =
+kept_list terms links lists floors flags levels notes end read kept within some is =
     let small : end - 1 < length terms = omega (arith, within, some) in
     let here : suc (end - 1) ≡ end = omega (arith, some) in
     get_or_read lists (end - 1) read (rw kept.counted small) is None

@@ -15,6 +15,7 @@ pub mod GroundingLemmas
 pub mod GrowingStores
 pub mod KeepingLemmas
 pub mod LastLists
+pub mod LevelLemmas
 pub mod LinkLemmas
 pub mod LinkRanks
 pub mod ListEnds

@@ -18,9 +18,11 @@ use Rattle.rn_term.proofs.LinkLemmas.{none_or_some}
 use Rattle.rn_term.proofs.Occurrences.{occurring_within, end_is_here, occurs_at_end}
 use Rattle.rn_term.proofs.Parts.{no_parts}
 
--- an id is met: it is left to look at, or links lead from it to one that was walked through
-abbrev IsMet : State → List ℕ → List ℕ → ℕ → Type 0
-IsMet s walked rest id = Contains rest id ⊎ ((end : ℕ) × Leads s.notes id end × Contains walked end)
+-- an id is met: it is left to look at, or links lead from it to one that was walked through, or
+-- nothing that is looked for occurs in it
+abbrev IsMet : State → Option ℕ → List ℕ → List ℕ → ℕ → Type 0
+IsMet s sought walked rest id = Contains rest id
+    ⊎ (((end : ℕ) × Leads s.notes id end × Contains walked end) ⊎ (¬ HasSought s sought id))
 
 -- A walk has come so far: what was walked through isn't bound and isn't what is looked for, its
 -- parts are met, and what is left occurs in the id from which it started.
@@ -31,8 +33,8 @@ pub record IsWalked (s : State) (sought : Option ℕ) (id : ℕ) (seen : Seen) (
     pub ends : (k : ℕ) → Contains walked k → link_of s.notes k ≡ None
     pub other : (k : ℕ) → Contains walked k → ¬ IsSoughtHere s sought k
     pub parts : (k p : ℕ) → Contains walked k → Contains (parts_of (term_at s k)) p →
-        IsMet s walked rest p
-    pub start : IsMet s walked rest id
+        IsMet s sought walked rest p
+    pub start : IsMet s sought walked rest id
     pub occurring : (x : ℕ) → Contains rest x → Occurs s x id
 
 none_in : {B : Type 0} (x : ℕ) → Contains {X = ℕ} [] x → B
@@ -81,17 +83,43 @@ module _ (s : State) (sought : Option ℕ) (id : ℕ) (seen : Seen) (before rest
 
   module _ (end : ℕ) (leads : Leads s.notes next end) (end_within : end < length s.terms)
       (unbound : link_of s.notes end ≡ None) where
+    -- what doesn't occur where links lead doesn't occur in the next one
+    lacking : ¬ HasSought s sought end → ¬ HasSought s sought next
+    lacking none has =
+        none (has.0, has.1, has.2, occurs_at_end s keeps has.0 next end has.1.unbound leads has.3)
+
     -- what was met is met still, where more is left and that to which the next one leads is walked
     met_still : (walked more : List ℕ) → ((x : ℕ) → Contains walk.walked x → Contains walked x) →
-        Contains walked end → ((x : ℕ) → Contains rest x → Contains more x) → (x : ℕ) →
-        IsMet s walk.walked before x → IsMet s walked more x
+        Contains walked end ⊎ (¬ HasSought s sought end) →
+        ((x : ℕ) → Contains rest x → Contains more x) → (x : ℕ) →
+        IsMet s sought walk.walked before x → IsMet s sought walked more x
     met_still walked more same here left x met = ⊎_elim
         (λ there. ⊎_elim
         (λ in_rest. inl (left x in_rest))
-        (λ is. inr (end, subst (λ y. Leads s.notes y end) is leads, here))
+        (λ is. inr (⊎_elim
+        (λ at. inl (end, subst (λ y. Leads s.notes y end) is leads, at))
+        (λ none. inr (subst (λ y. ¬ HasSought s sought y) is (lacking none)))
+        here))
         (left_or_next x there))
-        (λ there. inr (there.0, there.1, same there.0 there.2))
+        (λ more_met. inr (⊎_elim
+        (λ there. inl (there.0, there.1, same there.0 there.2))
+        (λ none. inr none)
+        more_met))
         met
+
+    -- the next one leads to what no variable that is looked for occurs in
+    pub skipped : ¬ HasSought s sought end → IsWalked s sought id seen rest
+    skipped none = record {
+      walked = walk.walked;
+      remembered = walk.remembered;
+      ends = walk.ends;
+      other = walk.other;
+      parts = λ k p there part.
+          met_still walk.walked rest (λ x is. is) (inr none) (λ x is. is) p
+          (walk.parts k p there part);
+      start = met_still walk.walked rest (λ x is. is) (inr none) (λ x is. is) id walk.start;
+      occurring = λ x there. walk.occurring x (rest_left x there);
+    }
 
     -- the next one leads to what was walked through
     pub passed : IsSeen seen end → IsWalked s sought id seen rest
@@ -101,10 +129,10 @@ module _ (s : State) (sought : Option ℕ) (id : ℕ) (seen : Seen) (before rest
       ends = walk.ends;
       other = walk.other;
       parts = λ k p there part.
-          met_still walk.walked rest (λ x is. is) (walk.remembered end has) (λ x is. is) p
+          met_still walk.walked rest (λ x is. is) (inl (walk.remembered end has)) (λ x is. is) p
           (walk.parts k p there part);
       start =
-          met_still walk.walked rest (λ x is. is) (walk.remembered end has) (λ x is. is) id
+          met_still walk.walked rest (λ x is. is) (inl (walk.remembered end has)) (λ x is. is) id
           walk.start;
       occurring = λ x there. walk.occurring x (rest_left x there);
     }
@@ -158,10 +186,10 @@ module _ (s : State) (sought : Option ℕ) (id : ℕ) (seen : Seen) (before rest
         older : (x : ℕ) → Contains walk.walked x → Contains now x
         older x there = Contains-append_left walk.walked (end ∷ []) x there
 
-        still : (x : ℕ) → IsMet s walk.walked before x →
-            IsMet s now (rest ++ parts_of (term_at s end)) x
+        still : (x : ℕ) → IsMet s sought walk.walked before x →
+            IsMet s sought now (rest ++ parts_of (term_at s end)) x
         still x met =
-            met_still now (rest ++ parts_of (term_at s end)) older here
+            met_still now (rest ++ parts_of (term_at s end)) older (inl here)
             (λ y there. Contains-append_left rest (parts_of (term_at s end)) y there) x met
 
     pub walked_smaller : (more : List ℕ) → more ≡ rest ++ parts_of (term_at s end) →
@@ -192,7 +220,10 @@ pub not_found : (s : State) (sought : Option ℕ) (id : ℕ) (seen : Seen) (rest
 not_found s sought id seen rest keeps within walk empty (var, free, is, occurs) =
     ⊎_elim
     (λ left. none_in id (subst (λ xs. Contains xs id) empty left))
-    (λ met. all id within met.0 met.1 met.2 occurs)
+    (λ met. ⊎_elim
+    (λ at. all id within at.0 at.1 at.2 occurs)
+    (λ none. none (var, free, is, occurs))
+    met)
     walk.start
   where
     IsClear : ℕ → Type 0
@@ -215,7 +246,10 @@ not_found s sought id seen rest keeps within walk empty (var, free, is, occurs) 
         (unbound_whole x part piece (link_of s.notes x) refl) leads in
         ⊎_elim
         (λ left. none_in part (subst (λ xs. Contains xs part) empty left))
-        (λ met. parts part piece met.0 met.1 met.2 deeper)
+        (λ met. ⊎_elim
+        (λ at. parts part piece at.0 at.1 at.2 deeper)
+        (λ none. none (var, free, is, deeper))
+        met)
         (walk.parts x part (subst (Contains walk.walked) (sym same) there) piece)
     step x small parts bound end leads there (Occurs.in_bound {to = to} link deeper) =
         bound to link end (leads_past s x to end (walk.ends end there) link leads) there deeper

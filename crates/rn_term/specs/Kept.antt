@@ -1,8 +1,8 @@
 -- How a store is kept: its links beside its notes, so that each is found at once, beside each
--- term the last list with a tail up to it, beside each id where the lists that end there begin, and
--- beside each term whether no variable stands in it.
-use Rattle.std.specs.Prelude.{ℕ, zero, suc, ◌≡◌, ◌≢◌, ◌<◌, ◌≤◌, Bool, true, false, List, Option, Some, None, length}
-use Rattle.std.specs.Prelude.{slice_index_or, take}
+-- term the last list with a tail up to it, beside each id where the lists that end there begin,
+-- beside each term whether no variable stands in it, and beside ids their levels.
+use Rattle.std.specs.Prelude.{ℕ, zero, suc, ◌≡◌, ◌≢◌, ◌<◌, ◌≤◌, ◌⊎◌, Bool, true, false, List}
+use Rattle.std.specs.Prelude.{Option, Some, None, length, slice_index_or, take}
 use Rattle.std.specs.List.{Contains}
 use Rattle.rn_term.specs.declared.term.Term.{Term}
 use Rattle.rn_term.specs.declared.term.Term.TheVariants as T
@@ -79,10 +79,25 @@ abbrev pub AreFlags : List Bool → List Term → Type 0
 AreFlags flags terms = (id : ℕ) → IsFlagged flags id →
     IsBuiltOfFlagged flags (slice_index_or terms id T.Free)
 
--- the store is sound, and has one link, one last list, one floor and one flag for each term
+-- the level that stands beside an id, and 0 where there is none
+abbrev pub level_of : List ℕ → ℕ → ℕ
+level_of levels id = slice_index_or levels id 0
+
+-- an id is a part of a term, or a variable was bound to it
+abbrev pub IsUnder : State → ℕ → ℕ → Type 0
+IsUnder s id under = Contains (parts_of (term_at s id)) under ⊎ (link_of s.notes id ≡ Some under)
+
+-- Levels go no lower from a term to its parts, nor from a variable to what it was bound to, but for
+-- what is flagged.
+abbrev pub AreLevels : List ℕ → List Bool → State → Type 0
+AreLevels levels flags s = (id under : ℕ) → IsUnder s id under →
+    IsFlagged flags under ⊎ (level_of levels id ≤ level_of levels under)
+
+-- the store is sound, and has one link, one last list, one floor, one flag and at most one level
+-- for each term
 pub record KeepsAll
     (terms : List Term) (links lists : List (Option ℕ)) (floors : List ℕ) (flags : List Bool)
-    (notes : List (ℕ × ℕ)) : Type 0 where
+    (levels : List ℕ) (notes : List (ℕ × ℕ)) : Type 0 where
   pub sound : Keeps (record { terms = terms; notes = notes })
   pub each : length links ≡ length terms
   pub linked : AreLinks links notes
@@ -92,3 +107,5 @@ pub record KeepsAll
   pub floored : AreFloors floors (record { terms = terms; notes = notes })
   pub marked : length flags ≡ length terms
   pub flagged : AreFlags flags terms
+  pub few : length levels ≤ length terms
+  pub leveled : AreLevels levels flags (record { terms = terms; notes = notes })

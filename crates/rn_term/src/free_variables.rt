@@ -1,6 +1,7 @@
 //! Looking for free variables in a term: each shared term is gone through once.
-ghost use Rattle.std.specs.Prelude.{◌≡◌, ◌↔◌, ◌<◌, ◌++◌, length, IsTrue, IfOk};
+ghost use Rattle.std.specs.Prelude.{◌≡◌, ◌↔◌, ◌⊎◌, ◌<◌, ◌++◌, length, IsTrue, IfOk};
 ghost use Rattle.rn_term.specs.Assignments.{Keeps};
+ghost use Rattle.rn_term.specs.Seen.{IsSeen};
 ghost use Rattle.rn_term.specs.Occurring.{HasSought, IsFree, IsSoughtHere, Occurs, parts_of};
 
 use crate::seen::Seen;
@@ -21,7 +22,7 @@ impl Store {
         if end == var {
             return Ok(true);
         }
-        if self.is_closed(end) {
+        if self.lacks(Some(var), end) {
             return Ok(false);
         }
         match self.term(end) {
@@ -47,7 +48,7 @@ impl Store {
         rest.push(id)?;
         while let Some(next) = rest.pop() {
             let end = self.follow(next);
-            if !seen.has(end) {
+            if !self.is_done(&seen, sought, end) {
                 seen.add(alloc, end)?;
                 if self.is_sought(sought, end) {
                     return Ok(true);
@@ -56,6 +57,26 @@ impl Store {
             }
         }
         Ok(false)
+    }
+
+    /// Whether a walk needn't go through a term: it did already, or finds nothing there.
+    fn is_done(&self, seen: &Seen, sought: Option<usize>, id: usize) -> bool
+        requires kept { Keeps self.now }
+        ensures done { IsTrue result → IsSeen seen.now id ⊎ (¬ HasSought self.now sought id) }
+    {
+        seen.has(id) || self.lacks(sought, id)
+    }
+
+    /// Whether it is known without a walk that no variable that is looked for occurs in a term.
+    fn lacks(&self, sought: Option<usize>, id: usize) -> bool
+        requires kept { Keeps self.now }
+        ensures none { IsTrue result → ¬ HasSought self.now sought id }
+    {
+        self.is_closed(id)
+            || match sought {
+                Some(var) => self.is_above(id, var),
+                None => false,
+            }
     }
 
     /// Whether an id that isn't bound is a free variable that is looked for.
@@ -74,7 +95,7 @@ impl Store {
 }
 
 /// Appends the ids that a term is built of.
-fn push_parts(term: &Term, rest: &mut Vec<usize>) -> Result<(), NoMemory>
+pub(crate) fn push_parts(term: &Term, rest: &mut Vec<usize>) -> Result<(), NoMemory>
     ensures pushed { IfOk result (λ _. rest.new.items ≡ rest.old.items ++ parts_of term.now) }
 {
     match term {

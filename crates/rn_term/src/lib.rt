@@ -9,6 +9,7 @@ mod flags;
 mod free_variables;
 mod grounding;
 mod laws;
+mod levels;
 mod lists;
 mod seen;
 mod store;

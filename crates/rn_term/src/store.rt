@@ -7,12 +7,13 @@ ghost use Rattle.rn_term.specs.declared.term.Mark.{Mark};
 ghost use Rattle.rn_value.specs.declared.value.Value.{Value};
 ghost use Rattle.rn_term.specs.Stores.{link_of, term_at, Leads, IsBuiltBelow, with_term, with_note};
 ghost use Rattle.rn_term.specs.Assignments.{Satisfies, value_at, HasListTail, MayBeOne, Keeps};
-ghost use Rattle.rn_term.specs.Occurring.{IsFree};
+ghost use Rattle.rn_term.specs.Occurring.{IsFree, Occurs};
 ghost use Rattle.rn_term.specs.Kept.{AreFresh, AreLinks, floor_of, last_cons, or_cons};
 ghost use Rattle.rn_term.specs.Kept.{AreLowered, HasNoListBelow, IsClosed, IsLowAlong};
 ghost use Rattle.rn_term.specs.Undoing.{Rolled, mark_of, IsNotLater, LeavesEarlier};
 
 use crate::flags::{is_built_of_flagged, is_flagged};
+use crate::levels::{level, raise};
 use crate::term::{Mark, Term};
 use rn_value::NoMemory;
 use std::alloc::Global;
@@ -29,6 +30,8 @@ pub struct Store {
     lists: Vec<Option<usize>>,
     floors: Vec<usize>,
     flags: Vec<bool>,
+    levels: Vec<usize>,
+    rest: Vec<usize>,
     weights: Vec<usize>,
     notes: Vec<(usize, usize)>,
 }
@@ -47,7 +50,7 @@ impl Model for Store {
     ghost use Rattle.rn_term.specs.Kept.{KeepsAll};
 
     ghost invariant = { λ s. KeepsAll s.terms.items s.links.items s.lists.items s.floors.items
-        s.flags.items s.notes.items };
+        s.flags.items s.levels.items s.notes.items };
 }
 
 impl Store {
@@ -61,6 +64,8 @@ impl Store {
             lists: Vec::new(alloc),
             floors: Vec::new(alloc),
             flags: Vec::new(alloc),
+            levels: Vec::new(alloc),
+            rest: Vec::new(alloc),
             weights: Vec::new(alloc),
             notes: Vec::new(alloc),
         }
@@ -126,6 +131,13 @@ impl Store {
         ensures closed { IsTrue result → IsClosed self.now id }
     {
         is_flagged(&self.flags, id)
+    }
+
+    /// Whether it is known by their levels that a variable doesn't occur in a term.
+    pub(crate) fn is_above(&self, id: usize, var: usize) -> bool
+        ensures apart { IsTrue result → IsFree self.now var → ¬ Occurs self.now var id }
+    {
+        level(&self.levels, var) < level(&self.levels, id)
     }
 
     /// The last list before a tail where this term is added.
@@ -212,6 +224,16 @@ impl Store {
             to,
             floor,
         );
+        raise(
+            &self.terms,
+            &self.notes,
+            &self.links,
+            &self.flags,
+            &mut self.levels,
+            &mut self.rest,
+            var,
+            to,
+        );
         self.notes.push((var, to))?;
         self.links[var] = Some(to);
         add_weight(&mut self.weights, var, to);
@@ -279,6 +301,7 @@ impl Store {
         self.lists.truncate(to.size);
         self.floors.truncate(to.size);
         self.flags.truncate(to.size);
+        self.levels.truncate(to.size);
         self.weights.truncate(to.size);
     }
 }

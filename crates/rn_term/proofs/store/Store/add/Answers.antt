@@ -20,7 +20,8 @@ invariant_of-self-2 c =
       c.in_ok-reserve-5.ensures.items,
     )
     (kept_term c.self.inside.terms.items c.self.inside.links.items c.self.inside.lists.items
-    c.self.inside.floors.items c.self.inside.flags.items c.self.inside.notes.items c.args.term
+    c.self.inside.floors.items c.self.inside.flags.items c.self.inside.levels.items
+    c.self.inside.notes.items c.args.term
     c.last_with-last.result c.lower_for.new.floors.items NO_LIST
     c.is_built_of_flagged-flag.result c.self.invariant
     (c.last_with-last.ensures ∙ ap

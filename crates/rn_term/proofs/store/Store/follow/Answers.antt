@@ -15,8 +15,8 @@ loop-to-init c = record {
 
 bound : (c : In-Some) → link_of c.self.inside.notes.items c.loop-to.end ≡ Some c.in-Some.to
 bound c =
-    kept_link _ c.self.inside.links.items _ _ _ _ _ _ _ c.self.invariant c.loop-to.invariant.within
-    c.index.ensures c.in-Some.is
+    kept_link _ c.self.inside.links.items _ _ _ _ _ _ _ _ c.self.invariant
+    c.loop-to.invariant.within c.index.ensures c.in-Some.is
 
 pub loop-to-smaller : goal.loop-to-smaller
 loop-to-smaller c =

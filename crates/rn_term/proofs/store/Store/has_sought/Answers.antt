@@ -1,7 +1,8 @@
-use Rattle.std.proofs.Common.{[], refl, ◌∙◌, ap, ◌++◌, ◌∷◌}
+use Rattle.std.proofs.Common.{[], refl, ◌∙◌, ap, ◌++◌, ◌∷◌, ⊎_elim}
 use Rattle.rn_term.specs.Occurring.{parts_of}
 use Rattle.rn_term.proofs.ReadingLemmas.{no_truth}
-use Rattle.rn_term.proofs.Walks.{walk_starts, next_within, passed, passed_smaller, walked_on}
+use Rattle.rn_term.proofs.Walks.{walk_starts, next_within, passed, passed_smaller, skipped}
+use Rattle.rn_term.proofs.Walks.{walked_on}
 use Rattle.rn_term.proofs.Walks.{walked_smaller, found_here, not_found, none_popped}
 use Rattle.rn_term.proofs.store.Store.has_sought.Goals as goal
 
@@ -59,12 +60,16 @@ loop-next-smaller c =
     c.follow-end.ensures.within c.follow-end.ensures.end
 
 pub loop-next-preserved : goal.loop-next-preserved
-loop-next-preserved c =
-    passed c.args.self.now c.args.sought c.args.id c.loop-next.seen
+loop-next-preserved c = ⊎_elim
+    (passed c.args.self.now c.args.sought c.args.id c.loop-next.seen
     c.loop-next.rest.items c.pop.new.self.items c.in-Some.next c.requires.kept c.requires.within
     c.loop-next.invariant c.in-Some.ensures.items c.follow-end.result c.follow-end.ensures.leads
-    c.follow-end.ensures.within c.follow-end.ensures.end
-    (c.has.ensures.exact.0 c.if-not-has.false)
+    c.follow-end.ensures.within c.follow-end.ensures.end)
+    (skipped c.args.self.now c.args.sought c.args.id c.loop-next.seen
+    c.loop-next.rest.items c.pop.new.self.items c.in-Some.next c.requires.kept c.requires.within
+    c.loop-next.invariant c.in-Some.ensures.items c.follow-end.result c.follow-end.ensures.leads
+    c.follow-end.ensures.within c.follow-end.ensures.end)
+    (c.is_done.ensures.done c.if-not-is_done.false)
 
 pub returns : goal.returns
 returns c = record {

@@ -29,15 +29,18 @@ returns-in-Free c = record {
   );
 }
 
-pub returns-then-is_closed : goal.returns-then-is_closed
-returns-then-is_closed c = record {
+pub returns-then-lacks : goal.returns-then-lacks
+returns-then-lacks c = record {
   exact = (
     λ yes. absurd (no_truth yes),
     λ is.
-        absurd (c.is_closed.ensures.closed c.if-is_closed.true c.args.var
-        (occurs_at_end c.args.self.now c.follow-end.ensures.kept c.args.var c.args.id
-        c.follow-end.result c.requires.free.unbound c.follow-end.ensures.leads is)
-        c.requires.free.variable),
+        absurd (c.lacks.ensures.none c.if-lacks.true (
+          c.args.var,
+          c.requires.free,
+          refl,
+          occurs_at_end c.args.self.now c.follow-end.ensures.kept c.args.var c.args.id
+              c.follow-end.result c.requires.free.unbound c.follow-end.ensures.leads is,
+        )),
   );
 }
 
