@@ -13,7 +13,7 @@ use std::test::Fail;
 type Case = (&'static str, &'static str, Option<&'static str>);
 
 /// Two forms, whether they can be one, and the variables then.
-const CASES: [Case; 40] = [
+const CASES: [Case; 43] = [
     ("y1[2", "2z[2", Some("y=2 z=1")),
     ("1", "1", Some("")),
     ("1", "2", None),
@@ -54,6 +54,13 @@ const CASES: [Case; 40] = [
     ("x", "1x|1", None),
     ("x", "x[1", None),
     ("xy[2", "1y|11x|1[2", None),
+    (
+        "txyab[5",
+        "ab[2tt12[5",
+        Some("t=[1,2] x=[1,2] y=[1,2] a=1 b=2"),
+    ),
+    ("txa[3", "ab[2tx[1[3", None),
+    ("txyb[4", "ab[2tty[1[4", None),
 ];
 
 /// Whether two forms can be one in this order, and the variables then.

@@ -1,8 +1,8 @@
 //! In which order the variables of equations are bound.
 //!
-//! The occurs check is cheap where a variable is bound before those that occur in its term: then
-//! these are free still, and the check ends there. The order that is chosen changes no answer, and no
-//! clause speaks of it.
+//! The occurs check is cheap where a variable is bound after those that occur in its term: then it
+//! ends at what those were bound to, which was gone through before. The order that is chosen
+//! changes no answer, and no clause speaks of it.
 ghost use Rattle.std.specs.Prelude.{◌≡◌, ◌↔◌, List, length};
 ghost use Rattle.std.specs.List.{AllByRecursion};
 ghost use Rattle.rn_value.specs.declared.value.Value.{Value};
@@ -19,14 +19,14 @@ pub(crate) fn in_order(store: &Store, equations: Vec<Equation>) -> Vec<Equation>
     ensures each { length result.items ≡ length equations.items }
 {
     let mut equations = equations;
-    if leads_onward(store, equations.as_slice()) {
+    if leads_back(store, equations.as_slice()) {
         equations.reverse();
     }
     equations
 }
 
-/// Whether more equations lead on to the variable of the next one than to that of the one before.
-fn leads_onward(store: &Store, equations: &[Equation]) -> bool {
+/// Whether more equations lead back to the variable of the one before than on to that of the next.
+fn leads_back(store: &Store, equations: &[Equation]) -> bool {
     let mut onward = 0usize;
     let mut back = 0usize;
     for k in 1..equations.len() {
@@ -37,7 +37,7 @@ fn leads_onward(store: &Store, equations: &[Equation]) -> bool {
             back = back.saturating_add(1);
         }
     }
-    onward > back
+    back > onward
 }
 
 fn leads_to(store: &Store, other: &Other, var: usize) -> bool {

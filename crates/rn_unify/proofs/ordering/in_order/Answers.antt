@@ -6,8 +6,8 @@ use Rattle.rn_unify.specs.Equations.{GivesOther}
 use Rattle.rn_unify.proofs.Findings.{all_reversed}
 use Rattle.rn_unify.proofs.ordering.in_order.Goals as goal
 
-pub returns-then-leads_onward-clause-same : goal.returns-then-leads_onward-clause-same
-returns-then-leads_onward-clause-same c vs =
+pub returns-then-leads_back-clause-same : goal.returns-then-leads_back-clause-same
+returns-then-leads_back-clause-same c vs =
     let P = λ (e : Equation). GivesOther vs e.var e.other in
     let es = c.args.equations.items in (
       λ all. subst (AllByRecursion P) (sym c.reverse.ensures.items) (all_reversed P es all),
