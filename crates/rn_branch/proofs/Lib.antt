@@ -1,3 +1,4 @@
+mod Applied
 mod BranchSteps
 mod CallLooks
 mod DecidedThings
@@ -6,6 +7,7 @@ mod GoingOn
 mod GuardLooks
 mod InhibitorLooks
 mod KnownValues
+mod LevelLooks
 mod ListsBeside
 mod LookSteps
 mod LookedAt

@@ -1,13 +1,14 @@
 -- Two lists, each of whose elements are related place by place.
 use Rattle.std.proofs.Common.{◌≡◌, ℕ, zero, suc, ◌+◌, ◌<◌, true, false, List, [], ◌∷◌, ◌++◌}
 use Rattle.std.proofs.Common.{length, take, get_or, refl, sym, ap, ◌∙◌, subst, arith}
-use Rattle.std.specs.Prelude.{Some, Contains, zip, nat_eq}
+use Rattle.std.specs.Prelude.{Some, Contains, zip, nat_eq, slice_get}
 use Rattle.std.specs.List.{AllZip}
 use Rattle.std.proofs.lemmas.Bool.{eqb-true, eq-eqb, true≢false}
 use Rattle.std.proofs.lemmas.List.{take_more}
 use Rattle.rn_model.specs.Lists.{value_beside}
 use Rattle.rn_model.proofs.AskedValues.{later}
 use Rattle.rn_model.proofs.EnablingLemmas.{not_in_nil}
+use Rattle.rn_growing.proofs.Growth.{some_equal}
 
 module _ {A B : Type 0} (R : A → B → Type 0) where
   pub zip_last : (xs : List A) (ys : List B) (x : A) (y : B) → AllZip R xs ys → R x y →
@@ -30,6 +31,23 @@ module _ {A B : Type 0} (R : A → B → Type 0) where
   zip_lengths [] (y ∷ ys) all = absurd all
   zip_lengths (x ∷ xs) [] all = absurd all
   zip_lengths (x ∷ xs) (y ∷ ys) all = ap suc (zip_lengths xs ys all.1)
+
+  -- those at one index, and the first ones
+  pub zip_at : (xs : List A) (ys : List B) (k : ℕ) (x : A) (y : B) → AllZip R xs ys →
+      slice_get xs k ≡ Some x → slice_get ys k ≡ Some y → R x y
+  zip_at [] ys k x y all at other = absurd (let no : ⊥ = cc in no)
+  zip_at (w ∷ xs) [] k x y all at other = absurd all
+  zip_at (w ∷ xs) (z ∷ ys) zero x y all at other =
+      subst (λ v. R v y) (some_equal w x at) (subst (R w) (some_equal z y other) all.0)
+  zip_at (w ∷ xs) (z ∷ ys) (suc k) x y all at other = zip_at xs ys k x y all.1 at other
+
+  pub zip_take : (n : ℕ) (xs : List A) (ys : List B) → AllZip R xs ys →
+      AllZip R (take n xs) (take n ys)
+  zip_take zero xs ys all = tt
+  zip_take (suc n) [] [] all = tt
+  zip_take (suc n) [] (y ∷ ys) all = absurd all
+  zip_take (suc n) (x ∷ xs) [] all = absurd all
+  zip_take (suc n) (x ∷ xs) (y ∷ ys) all = (all.0, zip_take n xs ys all.1)
 
   pub zip_right : (xs : List A) (ys : List B) (x : A) → AllZip R xs ys → Contains xs x →
       (y : B) × Contains ys y × R x y

@@ -1,3 +1,4 @@
+pub mod Applying
 pub mod Branches
 pub mod Calling
 pub mod Equating

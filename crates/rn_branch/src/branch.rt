@@ -1,11 +1,14 @@
 //! A branch of a search: what is decided, and how it goes on.
-ghost use Rattle.std.specs.Prelude.{◌≡◌, ◌↔◌, IfOk, [], ◌++◌, ◌∷◌, IsTrue};
+ghost use Rattle.std.specs.Prelude.{◌≡◌, ◌↔◌, IfOk, [], ◌++◌, ◌∷◌, IsTrue, map};
 ghost use Rattle.rn_growing.specs.Equations.{IsSolvable};
+ghost use Rattle.rn_binding.specs.Applications.{application_of};
+ghost use Rattle.rn_growing.specs.Decisions.{transition_in};
 ghost use Rattle.rn_growing.specs.Grown.{HasFewCreations};
 ghost use Rattle.rn_search.specs.Allowing.{Allows};
-ghost use Rattle.rn_search.specs.Points.{offered};
+ghost use Rattle.rn_search.specs.Points.{holes_of, node_of, offered};
 ghost use Rattle.rn_search.specs.Solving.{Passes};
 ghost use Rattle.rn_search.specs.declared.point.Point.TheVariants as P;
+ghost use Rattle.rn_branch.specs.Applying.{AreAppliedIn, IsEntryAt};
 ghost use Rattle.rn_branch.specs.Branches.{AreHeadsIn, IsHeadIn};
 ghost use Rattle.rn_branch.specs.Settling.{IsNextOf};
 
@@ -15,9 +18,10 @@ use crate::parts::transition_in;
 use crate::settling::Settling;
 use rn_agree::{does_agree, has_shape};
 use rn_arcs::fits;
-use rn_binding::{Candidate, applications_of};
+use rn_binding::{Application, Candidate, applications_of};
 use rn_choices::{Grows, Next};
 use rn_growing::{Decision, Way};
+use rn_items::Items;
 use rn_model::{Binding, System};
 use rn_search::{Point, Problem, copy_head};
 use rn_value::{NoMemory, Value};
@@ -68,31 +72,64 @@ impl<'a> Branch<'a> {
     }
 }
 
-// The value of an operator application as a decision.
-fn result_at(
+// The value of one of these operator applications of a node as a decision.
+fn result_among(
     alloc: Global,
     problem: &Problem<'_>,
     decisions: &[Decision],
+    found: &[Application<'_>],
     node: usize,
     k: usize,
     n: i64,
     a: usize,
 ) -> Result<Option<Decision>, NoMemory>
-    requires { IsHeadIn problem.now decisions.now node }
+    requires { map application_of found.now
+        ≡ holes_of (transition_in problem.now.system (node_of problem.now decisions.now node)) }
     ensures { IfOk result
         (λ d. d ≡ offered problem.now decisions.now (P.Result node k n) a) }
 {
     if a > 0 {
         return Ok(None);
     }
-    let head = problem.node_of(decisions, node);
-    let found = applications_of(alloc, transition_in(problem.system(), head))?;
     let Some(application) = found.get(k) else {
         return Ok(None);
     };
     let way = Way::from_vec(Vec::from_slice(alloc, application.way.as_slice())?);
-    let head = copy_head(alloc, head)?;
+    let head = copy_head(alloc, problem.node_of(decisions, node))?;
     Ok(Some(Decision::Computed(head, application.site, way, Value::Int(n))))
+}
+
+// Whether a decision enters a node.
+fn is_entry(decisions: &[Decision], node: usize) -> bool
+    ensures { IsTrue result → IsEntryAt decisions.now node }
+{
+    matches!(decisions.get(node), Some(Decision::Entered(_, _)))
+}
+
+// The value of an operator application as a decision. Those of a node that was entered stand
+// beside its entry.
+fn result_at(
+    alloc: Global,
+    problem: &Problem<'_>,
+    decisions: &[Decision],
+    applications: &[Items<Application<'_>>],
+    node: usize,
+    k: usize,
+    n: i64,
+    a: usize,
+) -> Result<Option<Decision>, NoMemory>
+    requires head { IsHeadIn problem.now decisions.now node }
+    requires applied { AreAppliedIn problem.now.system decisions.now applications.now }
+    ensures { IfOk result
+        (λ d. d ≡ offered problem.now decisions.now (P.Result node k n) a) }
+{
+    if is_entry(decisions, node) {
+        let found = applications[node].as_slice();
+        return result_among(alloc, problem, decisions, found, node, k, n, a);
+    }
+    let head = problem.node_of(decisions, node);
+    let found = applications_of(alloc, transition_in(problem.system(), head))?;
+    result_among(alloc, problem, decisions, found.as_slice(), node, k, n, a)
 }
 
 // The decision that an alternative means, where it is one.
@@ -100,17 +137,21 @@ fn decision_at(
     alloc: Global,
     problem: &Problem<'_>,
     decisions: &[Decision],
+    applications: &[Items<Application<'_>>],
     point: Point,
     a: usize,
 ) -> Result<Option<Decision>, NoMemory>
-    requires { AreHeadsIn problem.now decisions.now }
+    requires heads { AreHeadsIn problem.now decisions.now }
+    requires applied { AreAppliedIn problem.now.system decisions.now applications.now }
     ensures { IfOk result (λ d. d ≡ offered problem.now decisions.now point a) }
 {
     match point {
         Point::Start => problem.entry(alloc, a),
         Point::Token(node, arc, from) => problem.token(alloc, decisions, node, arc, from, a),
         Point::List(node, arc) => problem.list(alloc, decisions, node, arc, a),
-        Point::Result(node, k, n) => result_at(alloc, problem, decisions, node, k, n, a),
+        Point::Result(node, k, n) => {
+            result_at(alloc, problem, decisions, applications, node, k, n, a)
+        }
         Point::Call(node, i, called) => problem.call(alloc, decisions, node, i, called, a),
     }
 }
@@ -208,7 +249,15 @@ impl<'a> Grows for Branch<'a> {
     ) -> Result<bool, NoMemory> {
         let _start = problem.start();
         let decisions = self.growing.decisions();
-        match decision_at(self.alloc, problem, decisions, site, alternative)? {
+        let applications = self.growing.applications();
+        match decision_at(
+            self.alloc,
+            problem,
+            decisions,
+            applications,
+            site,
+            alternative,
+        )? {
             Some(decision) => self.growing.decide(self.alloc, decision),
             None => Ok(false),
         }

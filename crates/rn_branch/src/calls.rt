@@ -1,6 +1,7 @@
 //! Looking at the calls of a node.
 ghost use Rattle.std.specs.Prelude.{◌≡◌, ◌<◌, ◌^◌, ◌++◌, ◌∷◌, [], ℕ, IfOk, Some, length, nat_lt};
-ghost use Rattle.std.specs.Prelude.{slice_get};
+ghost use Rattle.std.specs.Prelude.{IsTrue, slice_get};
+ghost use Rattle.rn_choices.specs.declared.next.Next.TheVariants.{Stuck};
 ghost use Rattle.rn_growing.specs.Decisions.{transition_in};
 ghost use Rattle.rn_model.specs.Derivation.{target};
 ghost use Rattle.rn_model.specs.Kinds.{HasExprKind};
@@ -9,7 +10,7 @@ ghost use Rattle.rn_value.specs.declared.value.Kind.TheVariants as K;
 ghost use Rattle.rn_search.specs.Making.{makes};
 ghost use Rattle.rn_branch.specs.Branches.{IsLookedAt};
 ghost use Rattle.rn_branch.specs.Calling.{IsCalledOn, IsMaker, IsTarget};
-ghost use Rattle.rn_branch.specs.Looks.{Looked};
+ghost use Rattle.rn_branch.specs.Looks.{GoesOn, Looked};
 ghost use Rattle.rn_branch.specs.Things.{IsOnCall, IsOnCalls, IsToBeCalled};
 
 use crate::best::{better, is_best};
@@ -17,7 +18,7 @@ use crate::look::Look;
 use rn_choices::Next;
 use rn_growing::{Decision, Growing, Head};
 use rn_model::{Downlink, Expr, System, Transition};
-use rn_search::{Called, Point, Problem, transition_in};
+use rn_search::{Called, Point, Problem, transition_in, what_may_be_cut};
 use rn_value::{InstRef, NoMemory, Path, Value, copy_inst};
 use std::alloc::Global;
 
@@ -128,12 +129,31 @@ fn look_for_answer(
     Ok(Look::Goes(Next::Choose(point, of, 0)))
 }
 
+/// Whether a node's calls need more levels than are left. Then the decisions lead to no binding.
+pub(crate) fn lacks_levels(
+    problem: &Problem<'_>,
+    growing: &Growing<'_>,
+    node: usize,
+    head: &Head,
+    transition: &Transition,
+) -> bool
+    requires { IsLookedAt problem.now growing.now node head.now transition.now }
+    ensures { IsTrue result → GoesOn problem.now growing.now.decisions Stuck }
+{
+    let _ = growing;
+    let _ = node;
+    let _ = transition;
+    what_may_be_cut();
+    !problem.has_levels(head)
+}
+
 // The path of the child at a downlink.
 fn child_path(alloc: Global, head: &Head, i: usize) -> Result<Path, NoMemory>
     requires { i < 2 ^ 32 }
     ensures { IfOk result (λ path. path ≡ head.now.path ++ i ∷ []) }
 {
-    let mut path = Vec::from_slice(alloc, head.path.as_slice())?;
+    let mut path = Vec::with_capacity(alloc, head.path.len().saturating_add(1))?;
+    path.extend_from_slice(head.path.as_slice())?;
     path.push(i as u32)?;
     Ok(Path::from_vec(path))
 }

@@ -18,6 +18,7 @@ mod made;
 mod parts;
 mod results;
 mod settling;
+mod told;
 
 pub use among::SHARES;
 pub use branch::Branch;

@@ -1,5 +1,5 @@
 //! Looking at the operator applications of a node.
-ghost use Rattle.std.specs.Prelude.{◌≡◌, ◌↔◌, ℤ, IfOk, Some, length, slice_get};
+ghost use Rattle.std.specs.Prelude.{◌≡◌, ◌↔◌, ℤ, IfOk, Some, length, map, slice_get};
 ghost use Rattle.rn_value.specs.declared.value.Value.TheVariants as V;
 ghost use Rattle.rn_model.specs.Evaluation.{worth};
 ghost use Rattle.rn_branch.specs.Knowing.{known_env};
@@ -12,7 +12,7 @@ ghost use Rattle.rn_branch.specs.Things.{IsOnHole, IsOnHoles};
 use crate::best::{better, is_best};
 use crate::known::{Known, known_in};
 use crate::look::Look;
-use rn_binding::{Application, applications_of};
+use rn_binding::Application;
 use rn_calc::evaluate;
 use rn_choices::Next;
 use rn_growing::{Growing, Head};
@@ -71,7 +71,7 @@ fn look_at_result(
     }
 }
 
-/// Looks at the operator applications of a node.
+/// Looks at the operator applications of a node, which are these.
 pub(crate) fn look_at_results(
     alloc: Global,
     problem: &Problem<'_>,
@@ -79,12 +79,13 @@ pub(crate) fn look_at_results(
     node: usize,
     head: &Head,
     transition: &Transition,
+    found: &[Application<'_>],
 ) -> Result<Look, NoMemory>
-    requires { IsLookedAt problem.now growing.now node head.now transition.now }
+    requires at { IsLookedAt problem.now growing.now node head.now transition.now }
+    requires are { map application_of found.now ≡ holes_of transition.now }
     ensures { IfOk result (λ look. Looked problem.now growing.now.decisions
         (IsOnHoles transition.now head.now (length (holes_of transition.now))) look) }
 {
-    let found = applications_of(alloc, transition)?;
     let mut best = Look::Done;
     for k in 0..found.len() {
         let look = look_at_result(

@@ -1,29 +1,45 @@
-//! A binding that grows, with how many of its first decisions are settled.
+//! A binding that grows, with how many of its first decisions are settled, and the operator
+//! applications of its nodes.
 ghost use Rattle.std.specs.Prelude.{◌≡◌, ◌≤◌, [], IfOk, OnErr, length};
 ghost use Rattle.rn_growing.specs.Grown.{HasFewCreations, IsNew, Tries, first_decisions};
 ghost use Rattle.rn_growing.specs.Turns.{MayCome};
+ghost use Rattle.rn_branch.specs.Applying.{AreApplied, AreAppliedIn};
 ghost use Rattle.rn_branch.specs.Branches.{IsBranchOf};
 ghost use Rattle.rn_branch.specs.Looks.{Looked};
 ghost use Rattle.rn_branch.specs.Things.{IsOfEntries};
 
 use crate::look::Look;
 use crate::looking::look_at_all;
+use rn_binding::{Application, applications_of};
 use rn_growing::{Decision, Growing};
+use rn_items::Items;
 use rn_model::System;
-use rn_search::Problem;
+use rn_search::{Problem, transition_in};
 use rn_value::NoMemory;
 use std::alloc::Global;
 use std::marker::Model;
 
 /// A binding that grows, with how many of its first decisions are settled, so that a look needn't
-/// begin with the first again.
+/// begin with the first again, and with the operator applications of each node that was entered,
+/// so that a look needn't list them again.
 #[derive(Drop)]
 pub(crate) struct Settling<'a> {
+    system: &'a System,
     growing: Growing<'a>,
     settled: usize,
 
     /// How many were settled before each decision.
     before: Vec<usize>,
+
+    /// Beside each decision the operator applications of the node that it enters.
+    applications: Vec<Items<Application<'a>>>,
+
+    /// Guards and inhibitor arcs of the nodes that so many of the first decisions enter are known to
+    /// hold. They needn't be looked at again.
+    tested: usize,
+
+    /// How many were before each decision.
+    tested_before: Vec<usize>,
 }
 
 impl<'a> Model for Settling<'a> {
@@ -33,6 +49,7 @@ impl<'a> Model for Settling<'a> {
     ghost use Rattle.rn_model.specs.contracts.expr.Expr as expr;
     ghost use Rattle.rn_model.specs.contracts.expr.Cond as cond;
     ghost use Rattle.rn_branch.specs.Settling.{KeepsSettled};
+    ghost use Rattle.rn_branch.specs.Applying.{KeepsApplied};
     ghost use Rattle.std.specs.Coded.{codes};
 
     ghost Value = { Grown };
@@ -47,7 +64,8 @@ impl<'a> Model for Settling<'a> {
 
     ghost view = { λ s. s.growing };
 
-    ghost invariant = { λ s. KeepsSettled s.growing s.settled s.before.items };
+    ghost invariant = { λ s. KeepsSettled s.growing s.settled s.before.items
+        × KeepsApplied s.system.now s.growing s.applications.items };
 }
 
 impl<'a> Settling<'a> {
@@ -57,9 +75,13 @@ impl<'a> Settling<'a> {
         ensures { result ≡ record { system = system.now; decisions = [] } }
     {
         Settling {
+            system,
             growing: Growing::open(alloc, system),
             settled: 0,
             before: Vec::new(alloc),
+            applications: Vec::new(alloc),
+            tested: 0,
+            tested_before: Vec::new(alloc),
         }
     }
 
@@ -75,6 +97,13 @@ impl<'a> Settling<'a> {
         ensures { result.now ≡ self.now.decisions }
     {
         self.growing.decisions()
+    }
+
+    /// Beside each decision the operator applications of the node that it enters.
+    pub(crate) fn applications(&self) -> &[Items<Application<'a>>]
+        ensures { AreAppliedIn self.now.system self.now.decisions result.now }
+    {
+        self.applications.as_slice()
     }
 
     /// How many decisions there are.
@@ -96,7 +125,17 @@ impl<'a> Settling<'a> {
             (IsOfEntries self.old.decisions (length self.old.decisions)) look) }
         ensures same { self.new ≡ self.old }
     {
-        let looked = look_at_all(alloc, problem, &self.growing, first, self.settled)?;
+        let applications = self.applications.as_slice();
+        self.tested = self.tested.max(self.settled);
+        let looked = look_at_all(
+            alloc,
+            problem,
+            &self.growing,
+            applications,
+            first,
+            self.settled,
+            &mut self.tested,
+        )?;
         self.settled = looked.1;
         Ok(looked.0)
     }
@@ -107,11 +146,16 @@ impl<'a> Settling<'a> {
         requires fresh { IsNew self.old.decisions decision }
         ensures tries { IfOk result (λ yes. Tries self.old decision self.new yes) }
     {
+        let applications = applications_in(alloc, self.system, &decision)?;
         self.before.reserve(1)?;
+        self.applications.reserve(1)?;
+        self.tested_before.reserve(1)?;
         if !decide(alloc, &mut self.growing, decision)? {
             return Ok(false);
         }
         self.before.push(self.settled)?;
+        self.applications.push(applications)?;
+        self.tested_before.push(self.tested)?;
         Ok(true)
     }
 
@@ -125,7 +169,36 @@ impl<'a> Settling<'a> {
         }
         self.settled = self.before[count];
         self.before.truncate(count);
+        self.applications.truncate(count);
+        self.tested = number_at(self.tested_before.as_slice(), count);
+        self.tested_before.truncate(count);
         self.growing.undo(count);
+    }
+}
+
+// The number at an index, or 0.
+fn number_at(numbers: &[usize], index: usize) -> usize {
+    match numbers.get(index) {
+        Some(number) => *number,
+        None => 0,
+    }
+}
+
+// The operator applications of the node that a decision enters.
+fn applications_in<'a>(
+    alloc: Global,
+    system: &'a System,
+    decision: &Decision,
+) -> Result<Items<Application<'a>>, NoMemory>
+    ensures { IfOk result (λ found. AreApplied system.now decision.now found) }
+{
+    match decision {
+        Decision::Entered(head, _) => match transition_in(system, head) {
+            Some(transition) => Ok(Items::from_vec(applications_of(alloc, transition)?)),
+            None => Ok(Items::new(alloc)),
+        },
+        Decision::Found(_, _, _) => Ok(Items::new(alloc)),
+        Decision::Computed(_, _, _, _) => Ok(Items::new(alloc)),
     }
 }
 

@@ -9,6 +9,7 @@ pub mod GuardParts
 pub mod Items
 pub mod Known
 pub mod Left
+pub mod Levels
 pub mod Made
 pub mod Narrowed
 pub mod Offered

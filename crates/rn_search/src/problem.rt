@@ -1,13 +1,18 @@
 //! What a search works on: a marking, where it starts, and what the search may rest on.
-ghost use Rattle.std.specs.Prelude.{◌≡◌};
+ghost use Rattle.std.specs.Prelude.{◌≡◌, ◌<◌, ◌≤◌, ◌-◌, IsTrue, true, false, length};
 ghost use Rattle.rn_model.specs.Good.{Good};
+ghost use Rattle.rn_model.specs.Limits.{greatest_depth};
+ghost use Rattle.rn_model.specs.Systems.{net_at};
 ghost use Rattle.rn_channel.specs.Answering.{answering};
+ghost use Rattle.rn_channel.specs.Heights.{suffices};
+ghost use Rattle.rn_growing.specs.Decisions.{transition_in};
 ghost use Rattle.rn_search.specs.Missing.{MayStart};
 ghost use Rattle.rn_search.specs.Problems.{HasFitTokens, IsProblem};
 
-use rn_channel::Uplinks;
+use rn_channel::{Uplinks, calls_need_levels};
 use rn_growing::Head;
 use rn_model::System;
+use rn_model::limits::GREATEST_DEPTH;
 use rn_table::Table;
 use std::marker::Model;
 
@@ -92,5 +97,26 @@ impl<'a> Problem<'a> {
         ensures { result.now ≡ answering self.now.system net channel }
     {
         self.uplinks.answering(net, channel)
+    }
+
+    /// Whether the levels of calls that are left below a node suffice for its transition. Where more
+    /// than the greatest depth are left, it may be that they don't. It takes no memory.
+    pub fn has_levels(&self, head: &Head) -> bool
+        requires net { head.now.net < length self.now.system.nets }
+        requires transition { head.now.transition
+            < length (net_at self.now.system head.now.net).transitions }
+        ensures lacks { result ≡ false → suffices self.now.system
+            (self.now.depth - length head.now.path) (transition_in self.now.system head.now)
+            ≡ false }
+        ensures has { self.now.depth ≤ greatest_depth → IsTrue result → suffices self.now.system
+            (self.now.depth - length head.now.path) (transition_in self.now.system head.now)
+            ≡ true }
+    {
+        calls_need_levels();
+        let left = (self.depth as usize).saturating_sub(head.path.len());
+        match self.uplinks.height(head.net, head.transition) {
+            Some(height) => height as usize <= left,
+            None => left > GREATEST_DEPTH as usize,
+        }
     }
 }

@@ -102,6 +102,23 @@ fn rows(rt: HostRuntime) -> Result<(), Fail> {
             5,
             "t() u(0) u(1) u(2) u(3) b(4); t() u(0) u(1) u(2) b(3)",
         ),
+        // Just as many levels as the calls need, and one less.
+        (
+            "channel c(); channel d(); channel e(); net main { trans t { this:c(); } trans u { :c(); this:d(); } trans v { :d(); this:e(); } trans w { :e(); } }",
+            3,
+            "t() u() v() w()",
+        ),
+        (
+            "channel c(); channel d(); channel e(); net main { trans t { this:c(); } trans u { :c(); this:d(); } trans v { :d(); this:e(); } trans w { :e(); } }",
+            2,
+            "",
+        ),
+        // No number of levels suffices. Down to the depth there would be 4^16 branches.
+        (
+            "channel c(); net main { trans t { this:c(); } trans u { :c(); this:c(); } trans v { :c(); this:c(); } trans w { :c(); this:c(); } trans x { :c(); this:c(); } }",
+            16,
+            "",
+        ),
         (
             "channel c(); net main { trans t { this:c(); this:c(); } trans u { :c(); this:c(); this:c(); } trans z { :c(); } }",
             0,

@@ -1,13 +1,16 @@
 -- By the decision at the index.
-use Rattle.std.proofs.Common.{◌≡◌, ◌∙◌, ◌<◌, ap, sym, subst, length}
+use Rattle.std.proofs.Common.{◌≡◌, ◌∙◌, ◌<◌, ap, sym, subst, length, map}
 use Rattle.std.specs.Prelude.{Some, slice_get}
 use Rattle.std.proofs.lemmas.Result.{IfOk-weaker}
 use Rattle.rn_model.specs.Systems.{net_at}
 use Rattle.rn_growing.specs.declared.decision.Decision.TheVariants.{Entered}
 use Rattle.rn_growing.specs.Decisions.{transition_in}
 use Rattle.rn_growing.proofs.Growth.{at_in}
+use Rattle.rn_search.specs.Points.{holes_of}
 use Rattle.rn_search.specs.Standing.{IsHead}
+use Rattle.rn_binding.specs.Applications.{application_of}
 use Rattle.rn_branch.specs.Things.{IsOfEntry, IsOfNode}
+use Rattle.rn_branch.proofs.Applied.{applied_at, applied_within}
 use Rattle.rn_branch.proofs.LookSteps.{looked_part}
 use Rattle.rn_branch.proofs.NodeLooks.{entered_at, of_its_node}
 use Rattle.rn_branch.proofs.looking.look_at_node.Goals as goal
@@ -40,13 +43,31 @@ transition_in-transition-requires-clause-transition c =
     < length (net_at s c.in-Entered.head.net).transitions) (sym c.system.ensures.same)
     (its_head (goal.at.transition_in-transition-requires-clause-transition c).In-Entered).transition
 
-pub look_within-requires : goal.look_within-requires
-look_within-requires c = record {
+pub bounds-applications-node : goal.bounds-applications-node
+bounds-applications-node c =
+    applied_within c.args.growing.now.system c.args.growing.now.decisions
+    c.args.applications.now c.args.node c.in-Entered.head c.in-Entered.field-1
+    c.requires.applied (at_node (goal.at.bounds-applications-node c).In-Entered)
+
+pub look_within-requires-clause-are : goal.look_within-requires-clause-are
+look_within-requires-clause-are c =
+    subst (λ found. map application_of found ≡ holes_of c.transition_in-transition.result.now)
+    (sym c.as_slice-found.ensures)
+    (applied_at c.args.growing.now.system c.args.growing.now.decisions c.args.applications.now
+    c.args.node c.in-Entered.head c.in-Entered.field-1 c.requires.applied
+    (at_node (goal.at.look_within-requires-clause-are c).In-Entered)
+    c.index-applications-node.result c.index-applications-node.is
+    ∙ ap holes_of (ap (λ s. transition_in s c.in-Entered.head)
+    (c.requires.branch.system ∙ sym c.system.ensures.same)
+    ∙ sym c.transition_in-transition.ensures))
+
+pub look_within-requires-clause-at : goal.look_within-requires-clause-at
+look_within-requires-clause-at c = record {
   branch = c.requires.branch;
   good = c.system.ensures.good;
   tokens = c.table.ensures.tokens;
   caller = c.in-Entered.field-1;
-  at = at_node (goal.at.look_within-requires c).In-Entered;
+  at = at_node (goal.at.look_within-requires-clause-at c).In-Entered;
   transition = c.transition_in-transition.ensures
       ∙ ap (λ s. transition_in s c.in-Entered.head) c.system.ensures.same;
 }

@@ -21,7 +21,7 @@ returns-then-is_best-2 c =
     looked_best c.args.problem.now c.args.growing.now.decisions (IsOfValues t head)
     (IsOfNode head) c.better-both.result
     (looked_both c.args.problem.now c.args.growing.now.decisions
-    (some c.args.problem.now c.args.growing.now c.args.node head t c.requires)
+    (some c.args.problem.now c.args.growing.now c.args.node head t c.requires.at)
     (IsOnHoles t head (length (holes_of t))) (IsOnArcs head (length t.arcs)) (IsOfValues t head)
     (λ d of asked. of) c.in_ok-results.results c.in_ok-arcs.arcs c.better-both.result
     c.in_ok-results.ensures c.in_ok-arcs.ensures c.better-both.ensures)
@@ -32,10 +32,10 @@ returns c =
     let t = c.args.transition.now in
     let head = c.args.head.now in
     let ds = c.args.growing.now.decisions in
-    let any = some c.args.problem.now c.args.growing.now c.args.node head t c.requires in
+    let any = some c.args.problem.now c.args.growing.now c.args.node head t c.requires.at in
     looked_both c.args.problem.now ds any
     (IsOfValues t head) (IsOnCalls head (length t.downlinks)) (IsOfNode head)
-    (node_is_covered c.args.problem.now.system ds head t c.requires.transition)
+    (node_is_covered c.args.problem.now.system ds head t c.requires.at.transition)
     c.better-both.result c.in_ok-calls.calls c.better.result
     (looked_both c.args.problem.now ds any
     (IsOnHoles t head (length (holes_of t))) (IsOnArcs head (length t.arcs)) (IsOfValues t head)

@@ -10,7 +10,7 @@ pub loop-k-preserved : goal.loop-k-preserved
 loop-k-preserved c =
     looked_both c.args.problem.now c.args.growing.now.decisions
     (some c.args.problem.now c.args.growing.now c.args.node c.args.head.now
-    c.args.transition.now c.requires)
+    c.args.transition.now c.requires.at)
     (IsOnHoles c.args.transition.now c.args.head.now c.loop-k.k)
     (IsOnHole c.args.transition.now c.args.head.now c.loop-k.k)
     (IsOnHoles c.args.transition.now c.args.head.now (c.loop-k.k + 1))

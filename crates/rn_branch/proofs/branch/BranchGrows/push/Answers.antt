@@ -1,13 +1,20 @@
 -- By the decision that the alternative means.
+use Rattle.rn_branch.proofs.Applied.{applied_outside}
 use Rattle.rn_branch.proofs.BranchSteps.{push_comes, push_fresh, push_heads, push_is, push_kept}
 use Rattle.rn_branch.proofs.BranchSteps.{push_never, push_none, push_room, push_stands}
 use Rattle.rn_branch.proofs.branch.BranchGrows.push.Goals as goal
 
-pub decision_at-requires : goal.decision_at-requires
-decision_at-requires c =
+pub decision_at-requires-clause-heads : goal.decision_at-requires-clause-heads
+decision_at-requires-clause-heads c =
     push_heads c.args.problem.now c.self.inside.growing c.args.self.now c.self.view_is
     c.requires.stands c.decisions-decisions.result.now c.decisions-decisions.ensures
     c.start-start.ensures.starts
+
+pub decision_at-requires-clause-applied : goal.decision_at-requires-clause-applied
+decision_at-requires-clause-applied c =
+    applied_outside c.args.problem.now c.self.inside.growing c.args.self.now
+    c.decisions-decisions.result.now c.applications-applications.result.now c.self.view_is
+    c.requires.stands c.decisions-decisions.ensures c.applications-applications.ensures
 
 pub decide-requires-clause-may_come : goal.decide-requires-clause-may_come
 decide-requires-clause-may_come c =

@@ -1,5 +1,6 @@
 -- What was settled stays so, and maybe more is.
 use Rattle.std.proofs.Common.{length, sym, subst}
+use Rattle.rn_branch.specs.Applying.{AreAppliedIn}
 use Rattle.rn_branch.specs.Branches.{IsBranchOf}
 use Rattle.rn_branch.specs.Looks.{Looked}
 use Rattle.rn_branch.specs.Settling.{AreSettled}
@@ -15,15 +16,22 @@ pub look_at_all-requires-clause-settled : goal.look_at_all-requires-clause-settl
 look_at_all-requires-clause-settled c =
     subst (λ s. AreSettled s c.self.inside.growing.decisions c.self.inside.settled)
     (subst (IsBranchOf c.args.problem.now) (sym c.self.view_is) c.requires).system
-    c.self.invariant.so_far
+    c.self.invariant.0.so_far
 
-pub invariant_of-self : goal.invariant_of-self
-invariant_of-self c =
-    keeps_settled c.self.inside.growing c.self.inside.settled c.in_ok-looked.looked.1
-    c.self.inside.before.items c.self.invariant
-    (subst (λ s. AreSettled s c.self.inside.growing.decisions c.in_ok-looked.looked.1)
-    (sym (subst (IsBranchOf c.args.problem.now) (sym c.self.view_is) c.requires).system)
-    c.in_ok-looked.ensures.1)
+pub look_at_all-requires-clause-applied : goal.look_at_all-requires-clause-applied
+look_at_all-requires-clause-applied c =
+    subst (AreAppliedIn c.self.inside.growing.system c.self.inside.growing.decisions)
+    (sym c.as_slice-applications.ensures.value) c.self.invariant.1.applied
+
+pub invariant_of-self-2 : goal.invariant_of-self-2
+invariant_of-self-2 c = (
+  keeps_settled c.self.inside.growing c.self.inside.settled c.in_ok-looked.looked.1
+      c.self.inside.before.items c.self.invariant.0
+      (subst (λ s. AreSettled s c.self.inside.growing.decisions c.in_ok-looked.looked.1)
+      (sym (subst (IsBranchOf c.args.problem.now) (sym c.self.view_is) c.requires).system)
+      c.in_ok-looked.ensures.1),
+  c.self.invariant.1,
+)
 
 pub returns-clause-looked : goal.returns-clause-looked
 returns-clause-looked c =

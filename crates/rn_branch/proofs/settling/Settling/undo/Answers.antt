@@ -4,7 +4,9 @@ use Rattle.std.specs.Prelude.{Some, slice_get}
 use Rattle.std.proofs.lemmas.List.{take_all}
 use Rattle.rn_growing.specs.Grown.{Grown, first_decisions}
 use Rattle.rn_growing.proofs.Growth.{stands_at}
+use Rattle.rn_branch.specs.Applying.{KeepsApplied}
 use Rattle.rn_branch.specs.Settling.{KeepsSettled}
+use Rattle.rn_branch.proofs.Applied.{applied_fewer}
 use Rattle.rn_branch.proofs.Settled.{keeps_fewer}
 use Rattle.rn_branch.proofs.settling.Settling.undo.Goals as goal
 
@@ -14,7 +16,7 @@ undo-requires c =
 
 pub returns-then-count-len : goal.returns-then-count-len
 returns-then-count-len c =
-    let each = c.self.invariant.each in
+    let each = c.self.invariant.0.each in
     let all : length c.self.inside.growing.decisions ≤ c.args.count = omega (arith, each) in
     sym c.self.view_is
     ∙ sym (ap (λ ds. record { system = c.self.inside.growing.system; decisions = ds })
@@ -28,11 +30,19 @@ invariant_of-self c =
     stands_at c.self.inside.before.items c.args.count c.index.result.now within c.index.ensures in
     let left : c.truncate.new.self.items ≡ take c.args.count c.self.inside.before.items =
     search rules in
-    subst (KeepsSettled c.undo.new.self c.index.result.now) (sym left)
-    (subst (λ g. KeepsSettled g c.index.result.now (take c.args.count c.self.inside.before.items))
-    (sym c.undo.ensures)
-    (keeps_fewer c.self.inside.growing c.args.count c.self.inside.settled c.index.result.now
-    c.self.inside.before.items c.self.invariant at))
+    let kept : c.truncate-2.new.self.items ≡ take c.args.count c.self.inside.applications.items =
+    search rules in (
+      subst (KeepsSettled c.undo.new.self c.index.result.now) (sym left)
+          (subst (λ g. KeepsSettled g c.index.result.now
+          (take c.args.count c.self.inside.before.items)) (sym c.undo.ensures)
+          (keeps_fewer c.self.inside.growing c.args.count c.self.inside.settled
+          c.index.result.now c.self.inside.before.items c.self.invariant.0 at)),
+      subst (KeepsApplied c.self.inside.system.now c.undo.new.self) (sym kept)
+          (subst (λ g. KeepsApplied c.self.inside.system.now g
+          (take c.args.count c.self.inside.applications.items)) (sym c.undo.ensures)
+          (applied_fewer c.self.inside.system.now c.self.inside.growing c.args.count
+          c.self.inside.applications.items c.self.invariant.1)),
+    )
 
 pub returns : goal.returns
 returns c = c.undo.ensures ∙ ap (first_decisions c.args.count) c.self.view_is

@@ -4,7 +4,7 @@ use Rattle.std.specs.Prelude.{Some, IfSome}
 use Rattle.rn_search.specs.Points.{first_token, node_of, tokens_of}
 use Rattle.rn_branch.specs.Knowing.{IsKnownValue}
 use Rattle.rn_branch.proofs.InhibitorLooks.{held_is_stuck}
-use Rattle.rn_branch.proofs.inhibitors.is_held.Goals as goal
+use Rattle.rn_branch.proofs.inhibitors.test_arc.Goals as goal
 
 pub returns-in-Some-only_token : goal.returns-in-Some-only_token
 returns-in-Some-only_token c told =

@@ -4,13 +4,13 @@ use Rattle.std.specs.Prelude.{Contains}
 use Rattle.rn_choices.specs.declared.next.Next.TheVariants.{Stuck}
 use Rattle.rn_branch.specs.Looks.{GoesOn}
 use Rattle.rn_branch.proofs.GuardLooks.{partly_untrue_is_stuck, untrue_is_stuck}
-use Rattle.rn_branch.proofs.guards.has_false_guard.Goals as goal
+use Rattle.rn_branch.proofs.guards.test_guards.Goals as goal
 
-pub returns-then-branch : goal.returns-then-branch
-returns-then-branch c told =
+pub returns-in-Fails : goal.returns-in-Fails
+returns-in-Fails c told =
     let there = subst (λ gs. Contains gs c.guard-item.result) c.as_slice-guard-items.ensures
     (c.loop-guard.guard-index, c.loop-guard-test.true, sym c.guard-item.is) in
-    elim (c.in_ok-is_false_guard.ensures c.if-branch.true) as
+    elim (c.in_ok-test_guard.ensures c.in-Fails.is) as
     (λ _. GoesOn c.args.problem.now c.args.growing.now.decisions Stuck) [
       | inl all ↦
           untrue_is_stuck c.args.problem.now c.args.growing.now c.args.node c.args.head.now
