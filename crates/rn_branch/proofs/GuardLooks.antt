@@ -66,7 +66,7 @@ side_vars c e x side occurs =
           (subst (λ f. Contains (vars_in f) x) (sym (only_one c.right e right)) occurs)
     ]
 
-among_vars : (guard : Cond) (e : Expr) (x : ℕ) → Contains (guard_exprs guard) e →
+pub among_vars : (guard : Cond) (e : Expr) (x : ℕ) → Contains (guard_exprs guard) e →
     Contains (vars_in e) x → Contains (vars_of_guard guard) x
 among_vars guard e x there occurs =
     let from = flat_source sides_of (comparisons_in guard) e there in

@@ -1,10 +1,11 @@
 -- Variables beside the values to which they are forced.
 use Rattle.std.proofs.Common.{◌≡◌, ℕ, zero, suc, ◌+◌, ◌<◌, true, false, List, [], ◌∷◌, ◌++◌, map}
-use Rattle.std.proofs.Common.{length, get_or, take, refl, sym, ap, ◌∙◌, subst, arith}
+use Rattle.std.proofs.Common.{length, get_or, take, refl, sym, ap, ◌∙◌, subst, arith, inl, inr}
 use Rattle.std.specs.Prelude.{Some, None, All, Contains, nat_eq, if◌then◌else◌}
 use Rattle.std.proofs.lemmas.Bool.{eq-eqb, eqb-true}
 use Rattle.std.proofs.lemmas.List.{map-append, take_more}
-use Rattle.std.proofs.lemmas.List.Elements.{All-push}
+use Rattle.std.proofs.lemmas.List.Elements.{All-push, Contains-append_cases, Contains-append_left}
+use Rattle.std.proofs.lemmas.List.Elements.{Contains-append_right}
 use Rattle.rn_value.specs.declared.value.Value.{Value}
 use Rattle.rn_model.specs.declared.expr.Expr.{Expr}
 use Rattle.rn_model.specs.Evaluation.{Env}
@@ -13,8 +14,10 @@ use Rattle.rn_model.specs.Systems.{vars_in}
 use Rattle.rn_model.proofs.EnablingLemmas.{not_in_nil}
 use Rattle.rn_growing.specs.declared.decision.Head.{Head}
 use Rattle.rn_growing.specs.Grown.{Grown}
+use Rattle.rn_growing.proofs.Growth.{only_one}
 use Rattle.rn_branch.specs.Forced.{IsVarForcedTo, Knows}
 use Rattle.rn_branch.specs.Knowing.{ArePairsOf}
+use Rattle.rn_branch.specs.Testing.{AreOthersOf}
 
 -- one more variable
 pub pair_more : (g : Grown) (path vars : List ℕ) (i x : ℕ) (v : Value)
@@ -65,3 +68,44 @@ knows_by g head e env path vars pairs this step pairs_are path_is vars_are so = 
         subst (λ p. IsVarForcedTo g p x v.0) path_is v.2,
       );
 }
+
+-- variables but one, one after another
+module _ (g : Grown) (path : List ℕ) (but : ℕ) (vars : List ℕ) (i x : ℕ)
+    (within : i < length vars) (is : x ≡ get_or vars i 0) (pairs : List (ℕ × Value))
+    (so : AreOthersOf g path but (take i vars) pairs) where
+  one_more : take (i + 1) vars ≡ take i vars ++ x ∷ []
+  one_more = take_more vars i 0 within ∙ ap (λ y. take i vars ++ y ∷ []) (sym is)
+
+  pub other_left_out : but ≡ x → AreOthersOf g path but (take (i + 1) vars) pairs
+  other_left_out same =
+      subst (λ xs. AreOthersOf g path but xs pairs) (sym one_more) (record {
+        forced = so.forced;
+        each = λ y there.
+            elim (Contains-append_cases (take i vars) (x ∷ []) y there) [
+              | inl before ↦ so.each y before
+              | inr last ↦ inl (same ∙ only_one x y last)
+            ];
+      })
+
+  pub other_more : (v : Value) (next : List (ℕ × Value)) → next ≡ pairs ++ (x, v) ∷ [] →
+      IsVarForcedTo g path x v → AreOthersOf g path but (take (i + 1) vars) next
+  other_more v next put forced =
+      let keys : map (λ p. p.0) (pairs ++ (x, v) ∷ []) ≡ map (λ p. p.0) pairs ++ x ∷ [] =
+      map-append (λ p. p.0) pairs ((x, v) ∷ []) in
+      subst (λ xs. AreOthersOf g path but xs next) (sym one_more)
+      (subst (AreOthersOf g path but (take i vars ++ x ∷ [])) (sym put) (record {
+        forced = All-push (λ p. IsVarForcedTo g path p.0 p.1) pairs (x, v) so.forced forced;
+        each = λ y there.
+            elim (Contains-append_cases (take i vars) (x ∷ []) y there) [
+              | inl before ↦
+                  elim (so.each y before) [
+                    | inl same ↦ inl same
+                    | inr beside ↦
+                        inr (subst (λ ks. Contains ks y) (sym keys)
+                        (Contains-append_left (map (λ p. p.0) pairs) (x ∷ []) y beside))
+                  ]
+              | inr last ↦
+                  inr (subst (λ ks. Contains ks y) (sym keys)
+                  (Contains-append_right (map (λ p. p.0) pairs) (x ∷ []) y last))
+            ];
+      }))

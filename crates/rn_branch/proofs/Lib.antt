@@ -6,6 +6,7 @@ mod EquatedTokens
 mod GoingOn
 mod GuardLooks
 mod InhibitorLooks
+mod KeptTests
 mod KnownValues
 mod LevelLooks
 mod ListsBeside
@@ -21,7 +22,9 @@ mod Offering
 mod Passing
 mod Pushing
 mod Settled
+mod TakenTokens
 mod Targets
 mod TokenLooks
+mod VainTokens
 mod VarsOfForms
 mod Whole

@@ -7,6 +7,8 @@ pub mod Guards
 pub mod Knowing
 pub mod Looks
 pub mod Making
+pub mod Offers
 pub mod Settling
+pub mod Testing
 pub mod Things
 pub mod UntrueParts

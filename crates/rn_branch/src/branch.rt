@@ -16,6 +16,8 @@ use crate::look::Look;
 use crate::made::binding_of;
 use crate::parts::transition_in;
 use crate::settling::Settling;
+use crate::testing::{Tests, forget_beyond};
+use crate::trying::is_vain;
 use rn_agree::{does_agree, has_shape};
 use rn_arcs::fits;
 use rn_binding::{Application, Candidate, applications_of};
@@ -34,6 +36,12 @@ pub struct Branch<'a> {
     alloc: Global,
     growing: Settling<'a>,
     first: usize,
+
+    /// The point of which an alternative was tried last.
+    last: Option<Point>,
+
+    /// Guards to be tested before a decision is made.
+    tests: Option<Tests>,
 }
 
 impl<'a> Model for Branch<'a> {
@@ -42,6 +50,7 @@ impl<'a> Model for Branch<'a> {
     ghost use Rattle.rn_value.specs.contracts.value.Kind as kind;
     ghost use Rattle.rn_model.specs.contracts.expr.Expr as expr;
     ghost use Rattle.rn_model.specs.contracts.expr.Cond as cond;
+    ghost use Rattle.rn_branch.specs.Testing.{AreKept};
     ghost use Rattle.std.specs.Coded.{codes};
 
     ghost Value = { Grown };
@@ -55,6 +64,8 @@ impl<'a> Model for Branch<'a> {
     ) };
 
     ghost view = { λ b. b.growing };
+
+    ghost invariant = { λ b. AreKept b.growing b.tests };
 }
 
 impl<'a> Branch<'a> {
@@ -68,6 +79,8 @@ impl<'a> Branch<'a> {
             alloc,
             growing: Settling::open(alloc, system),
             first,
+            last: None,
+            tests: None,
         }
     }
 }
@@ -153,6 +166,14 @@ fn decision_at(
             result_at(alloc, problem, decisions, applications, node, k, n, a)
         }
         Point::Call(node, i, called) => problem.call(alloc, decisions, node, i, called, a),
+    }
+}
+
+// Whether the point of which an alternative was tried last is this one.
+fn is_again(last: Option<Point>, site: Point) -> bool {
+    match last {
+        Some(point) => point == site,
+        None => false,
     }
 }
 
@@ -248,6 +269,19 @@ impl<'a> Grows for Branch<'a> {
         alternative: usize,
     ) -> Result<bool, NoMemory> {
         let _start = problem.start();
+        let again = is_again(self.last, site);
+        self.last = Some(site);
+        if is_vain(
+            self.alloc,
+            problem,
+            self.growing.growing(),
+            &mut self.tests,
+            site,
+            alternative,
+            again,
+        )? {
+            return Ok(false);
+        }
         let decisions = self.growing.decisions();
         let applications = self.growing.applications();
         match decision_at(
@@ -258,12 +292,18 @@ impl<'a> Grows for Branch<'a> {
             site,
             alternative,
         )? {
-            Some(decision) => self.growing.decide(self.alloc, decision),
+            Some(decision) => {
+                let tests = self.tests.take();
+                let made = self.growing.decide(self.alloc, decision)?;
+                self.tests = tests;
+                Ok(made)
+            }
             None => Ok(false),
         }
     }
 
     fn undo(&mut self, _problem: &Problem<'a>, count: usize) {
+        forget_beyond(&mut self.tests, count);
         self.growing.undo(count);
     }
 

@@ -1,7 +1,9 @@
 //! What is known of the variables of an expression, or of a guard.
-ghost use Rattle.std.specs.Prelude.{IfOk, MatchOption, All};
+ghost use Rattle.std.specs.Prelude.{IfOk, IfSome, MatchOption, All};
+ghost use Rattle.rn_model.specs.Systems.{vars_in};
 ghost use Rattle.rn_branch.specs.Forced.{IsVarForcedIn};
 ghost use Rattle.rn_branch.specs.Knowing.{ArePairsOf, KnowsVars, KnowsGuardVars};
+ghost use Rattle.rn_branch.specs.Testing.{AreOthersOf};
 
 use crate::guard_vars::put_guard;
 use rn_binding::put_vars;
@@ -41,7 +43,8 @@ impl Values for Known<'_> {
     }
 }
 
-// The values of these variables of a node, or `None` where one isn't forced.
+// The values of these variables of a node, or `None` where one isn't forced. It takes no memory
+// where the first isn't.
 fn values_of(
     alloc: Global,
     growing: &Growing<'_>,
@@ -52,7 +55,7 @@ fn values_of(
         (¬ All (IsVarForcedIn growing.now path.now) vars.now)
         (λ ps. ArePairsOf growing.now path.now vars.now ps.items)) }
 {
-    let mut pairs = Vec::with_capacity(alloc, vars.len())?;
+    let mut pairs = Vec::new(alloc);
     for x in vars {
         let Some(value) = growing.value(alloc, path, *x)? else {
             return Ok(None);
@@ -60,6 +63,48 @@ fn values_of(
         pairs.push((*x, value))?;
     }
     Ok(Some(pairs))
+}
+
+/// The values of these variables of a node but for one, or `None` where another isn't forced.
+pub(crate) fn values_but(
+    alloc: Global,
+    growing: &Growing<'_>,
+    path: &[u32],
+    but: u32,
+    vars: &[u32],
+) -> Result<Option<Vec<(u32, Value)>>, NoMemory>
+    ensures { IfOk result (λ pairs. IfSome pairs
+        (λ ps. AreOthersOf growing.now path.now but vars.now ps.items)) }
+{
+    let mut pairs = Vec::new(alloc);
+    for x in vars {
+        if *x != but {
+            let Some(value) = growing.value(alloc, path, *x)? else {
+                return Ok(None);
+            };
+            pairs.push((*x, value))?;
+        }
+    }
+    Ok(Some(pairs))
+}
+
+// The values of the variables of an expression of a node, or `None` where one isn't forced.
+fn values_in(
+    alloc: Global,
+    growing: &Growing<'_>,
+    path: &[u32],
+    expr: &Expr,
+) -> Result<Option<Vec<(u32, Value)>>, NoMemory>
+    ensures { IfOk result (λ pairs. MatchOption pairs
+        (¬ All (IsVarForcedIn growing.now path.now) (vars_in expr.now))
+        (λ ps. ArePairsOf growing.now path.now (vars_in expr.now) ps.items)) }
+{
+    if let Expr::Var(x) = expr {
+        return values_of(alloc, growing, path, &[*x]);
+    }
+    let mut vars = Vec::new(alloc);
+    put_vars(expr, &mut vars)?;
+    values_of(alloc, growing, path, vars.as_slice())
 }
 
 /// What is known of the variables of an expression of a node, or `None` where one isn't forced.
@@ -71,9 +116,7 @@ pub(crate) fn known_in<'a>(
 ) -> Result<Option<Known<'a>>, NoMemory>
     ensures { IfOk result (λ known. KnowsVars growing.now head.now expr.now known) }
 {
-    let mut vars = Vec::new(alloc);
-    put_vars(expr, &mut vars)?;
-    match values_of(alloc, growing, head.path.as_slice(), vars.as_slice())? {
+    match values_in(alloc, growing, head.path.as_slice(), expr)? {
         Some(pairs) => Ok(Some(Known {
             this: &head.inst,
             pairs,

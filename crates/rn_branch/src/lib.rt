@@ -15,10 +15,15 @@ mod known;
 mod look;
 mod looking;
 mod made;
+mod offer;
 mod parts;
 mod results;
 mod settling;
+mod taking;
+mod testing;
 mod told;
+mod trial;
+mod trying;
 
 pub use among::SHARES;
 pub use branch::Branch;

@@ -68,6 +68,33 @@ fn rows(rt: HostRuntime) -> Result<(), Fail> {
             "net main { var x, y: int; place p: int = 1, 2; place q: int = 5, 6; place r: int = 1, 3; trans t { in p: x; in q: y; inhibit r: x; } }",
             "t(2,5); t(2,6)",
         ),
+        // Over three places, and two guards of one variable more.
+        (
+            "net main { var x, y, z: int; place p: int = 1, 2, 3; place q: int = 1, 2, 3; place r: int = 1, 2, 3; trans t { in p: x; in q: y; in r: z; guard x + y + z > 8; } }",
+            "t(3,3,3)",
+        ),
+        (
+            "net main { var x, y, z: int; place p: int = 1, 2, 3; place q: int = 1, 2, 3; place r: int = 1, 2, 3; trans t { in p: x; in q: y; in r: z; guard x + y + z < 3; } }",
+            "",
+        ),
+        (
+            "net main { var x, y, z: int; place p: int = 1, 2, 3; place q: int = 1, 2, 3; place r: int = 1, 2, 3; trans t { in p: x; in q: y; in r: z; guard x < y; guard y < z; } }",
+            "t(1,2,3)",
+        ),
+        // The variable that the arc finds stands alone, beside others, or twice.
+        (
+            "net main { var x, y: int; place p: int = 1, 2, 3; place q: int = 1, 2, 3; trans t { in p: x; in q: y; guard x > 2; guard y == x || y + y < 3; } }",
+            "t(3,1); t(3,3)",
+        ),
+        (
+            "net main { var x, y: int; place p: [int,int] = [1,2], [3,1], [3,3]; place q: int = 1, 2, 3; trans t { in p: [x,y]; in q: y; guard x < 3; } }",
+            "t(1,2)",
+        ),
+        // By `this`, which no variable is.
+        (
+            "net main { var n: net; var x: int; place p: int = 1, 2, 3; trans t { in p: x; n: new w; guard x > 1 && n != this; } } net w { }",
+            "t(new,2); t(new,3)",
+        ),
         // Over instances.
         (
             "net main { var n: net; trans t { n: new w; guard n != this; } } net w { }",

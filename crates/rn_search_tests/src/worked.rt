@@ -61,6 +61,54 @@ fn rows(rt: HostRuntime) -> Result<(), Fail> {
             4,
             "t(5,6); t(6,5)",
         ),
+        // Tokens that are there just as often as they are taken, or once less.
+        (
+            "net main { var x, y: int; place p: int = 5, 5; trans t { in p: x; in p: y; } }",
+            4,
+            "t(5,5)",
+        ),
+        (
+            "net main { var x, y: int; place p: int = 5, 5; trans t { in p: x; reserve p: y; } }",
+            4,
+            "t(5,5)",
+        ),
+        (
+            "net main { var x, y, z: int; place p: int = 5, 5, 6; trans t { in p: x; in p: y; in p: z; } }",
+            4,
+            "t(5,5,6); t(5,6,5); t(6,5,5)",
+        ),
+        (
+            "net main { var x, y, z: int; place p: int = 5, 5; trans t { in p: x; in p: y; in p: z; } }",
+            4,
+            "",
+        ),
+        // What another place holds, or a test sees, isn't taken.
+        (
+            "net main { var x, y: int; place p: int = 5; place q: int = 5; trans t { in p: x; in q: y; } }",
+            4,
+            "t(5,5)",
+        ),
+        (
+            "net main { var x, y: int; place p: int = 5; trans t { test p: x; test p: y; } }",
+            4,
+            "t(5,5)",
+        ),
+        (
+            "net main { var x, y: int; place p: int = 5, 6; trans t { test p: x; in p: y; } }",
+            4,
+            "t(5,6); t(6,5)",
+        ),
+        // By two nodes.
+        (
+            "channel c(int); net main { var x, y: int; place p: int = 5, 5; trans t { in p: x; this:c(y); } trans u { :c(x); in p: x; } }",
+            4,
+            "t(5,5) u(5)",
+        ),
+        (
+            "channel c(int); net main { var x, y: int; place p: int = 5; trans t { in p: x; this:c(y); } trans u { :c(x); in p: x; } }",
+            4,
+            "",
+        ),
         // Clear arcs.
         (
             "net main { var l: {int}; place p: int = 3, 1, 2; place go = []; trans t { in go; clear p: l; } }",

@@ -1,5 +1,5 @@
 -- By its variables, each of which stands beside its value.
-use Rattle.std.proofs.Common.{◌≡◌, rules, refl, sym, subst}
+use Rattle.std.proofs.Common.{refl, sym, subst}
 use Rattle.std.specs.Prelude.{All}
 use Rattle.rn_model.specs.Systems.{vars_in}
 use Rattle.rn_branch.specs.Forced.{IsVarForcedIn}
@@ -8,16 +8,13 @@ use Rattle.rn_branch.proofs.known.known_in.Goals as goal
 
 pub returns-in-Some : goal.returns-in-Some
 returns-in-Some c =
-    let vars : c.as_slice-2.result.now ≡ vars_in c.args.expr.now = search rules in
     knows_by c.args.growing.now c.args.head.now c.args.expr.now _ c.as_slice.result.now
-    c.as_slice-2.result.now c.in-Some.pairs.items refl refl refl c.as_slice.ensures vars
+    (vars_in c.args.expr.now) c.in-Some.pairs.items refl refl refl c.as_slice.ensures refl
     (rw c.in-Some.is at c.in_ok-pairs.ensures)
 
-pub returns : goal.returns
-returns c all =
-    let vars : c.as_slice-2.result.now ≡ vars_in c.args.expr.now = search rules in
+pub returns-in-None : goal.returns-in-None
+returns-in-None c all =
     let never = rw c.in-None.is at c.in_ok-pairs.ensures in
     never
-    (subst (λ p. All (IsVarForcedIn c.args.growing.now p) c.as_slice-2.result.now)
-    (sym c.as_slice.ensures)
-    (subst (All (IsVarForcedIn c.args.growing.now c.args.head.now.path)) (sym vars) all))
+    (subst (λ p. All (IsVarForcedIn c.args.growing.now p) (vars_in c.args.expr.now))
+    (sym c.as_slice.ensures) all)

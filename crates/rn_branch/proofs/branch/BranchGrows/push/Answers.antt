@@ -1,8 +1,19 @@
 -- By the decision that the alternative means.
+use Rattle.std.proofs.Common.{◌∙◌, sym, subst}
+use Rattle.std.specs.Prelude.{Ok}
+use Rattle.rn_growing.specs.Grown.{Grown}
+use Rattle.rn_search.specs.Allowing.{Allows}
+use Rattle.rn_branch.specs.Testing.{AreKept}
 use Rattle.rn_branch.proofs.Applied.{applied_outside}
 use Rattle.rn_branch.proofs.BranchSteps.{push_comes, push_fresh, push_heads, push_is, push_kept}
 use Rattle.rn_branch.proofs.BranchSteps.{push_never, push_none, push_room, push_stands}
+use Rattle.rn_branch.proofs.KeptTests.{kept_by_tries}
 use Rattle.rn_branch.proofs.branch.BranchGrows.push.Goals as goal
+
+pub is_vain-requires-clause-allows : goal.is_vain-requires-clause-allows
+is_vain-requires-clause-allows c =
+    subst (λ (g : Grown). Allows c.args.problem.now g.decisions c.args.site c.args.alternative)
+    (sym (c.growing.ensures ∙ c.self.view_is)) c.requires.allows
 
 pub decision_at-requires-clause-heads : goal.decision_at-requires-clause-heads
 decision_at-requires-clause-heads c =
@@ -30,45 +41,50 @@ decide-requires-clause-fresh c =
     c.start-start.ensures.starts c.args.site c.args.alternative
     c.requires.allows _ c.in_ok-decision.ensures c.in-Some.decision c.in-Some.is
 
-pub returns-in-Some-clause-stands : goal.returns-in-Some-clause-stands
-returns-in-Some-clause-stands c =
+pub returns-in_ok-made-in-Some-clause-stands : goal.returns-in_ok-made-in-Some-clause-stands
+returns-in_ok-made-in-Some-clause-stands c =
     push_stands c.args.problem.now c.self.inside.growing c.args.self.now c.self.view_is
     c.requires.stands c.decisions-decisions.result.now c.decisions-decisions.ensures
     c.start-start.ensures.starts c.args.site c.args.alternative
     c.requires.allows _ c.in_ok-decision.ensures c.in-Some.decision c.in-Some.is
-    c.decide.result c.decide.new.self c.decide.ensures.tries
+    {E = Unit} (Ok c.in_ok-made-in-Some.made) c.decide.new.self
+    c.in_ok-made-in-Some.ensures.tries
 
-pub returns-in-Some-clause-pushed : goal.returns-in-Some-clause-pushed
-returns-in-Some-clause-pushed c =
+pub returns-in_ok-made-in-Some-clause-pushed : goal.returns-in_ok-made-in-Some-clause-pushed
+returns-in_ok-made-in-Some-clause-pushed c =
     push_is c.args.problem.now c.self.inside.growing c.args.self.now c.self.view_is
     c.requires.stands c.decisions-decisions.result.now c.decisions-decisions.ensures
     c.start-start.ensures.starts c.args.site c.args.alternative
     c.requires.allows _ c.in_ok-decision.ensures c.in-Some.decision c.in-Some.is
-    c.decide.result c.decide.new.self c.decide.ensures.tries
+    {E = Unit} (Ok c.in_ok-made-in-Some.made) c.decide.new.self
+    c.in_ok-made-in-Some.ensures.tries
 
-pub returns-in-Some-clause-room : goal.returns-in-Some-clause-room
-returns-in-Some-clause-room c =
+pub returns-in_ok-made-in-Some-clause-room : goal.returns-in_ok-made-in-Some-clause-room
+returns-in_ok-made-in-Some-clause-room c =
     push_room c.args.problem.now c.self.inside.growing c.args.self.now c.self.view_is
     c.requires.stands c.decisions-decisions.result.now c.decisions-decisions.ensures
     c.start-start.ensures.starts c.args.site c.args.alternative
     c.requires.allows _ c.in_ok-decision.ensures c.in-Some.decision c.in-Some.is
-    c.decide.result c.decide.new.self c.decide.ensures.tries
+    {E = Unit} (Ok c.in_ok-made-in-Some.made) c.decide.new.self
+    c.in_ok-made-in-Some.ensures.tries
 
-pub returns-in-Some-clause-kept : goal.returns-in-Some-clause-kept
-returns-in-Some-clause-kept c =
+pub returns-in_ok-made-in-Some-clause-kept : goal.returns-in_ok-made-in-Some-clause-kept
+returns-in_ok-made-in-Some-clause-kept c =
     push_kept c.args.problem.now c.self.inside.growing c.args.self.now c.self.view_is
     c.requires.stands c.decisions-decisions.result.now c.decisions-decisions.ensures
     c.start-start.ensures.starts c.args.site c.args.alternative
     c.requires.allows _ c.in_ok-decision.ensures c.in-Some.decision c.in-Some.is
-    c.decide.result c.decide.new.self c.decide.ensures.tries
+    {E = Unit} (Ok c.in_ok-made-in-Some.made) c.decide.new.self
+    c.in_ok-made-in-Some.ensures.tries
 
-pub returns-in-Some-clause-none : goal.returns-in-Some-clause-none
-returns-in-Some-clause-none c =
+pub returns-in_ok-made-in-Some-clause-none : goal.returns-in_ok-made-in-Some-clause-none
+returns-in_ok-made-in-Some-clause-none c =
     push_never c.args.problem.now c.self.inside.growing c.args.self.now c.self.view_is
     c.requires.stands c.decisions-decisions.result.now c.decisions-decisions.ensures
     c.start-start.ensures.starts c.args.site c.args.alternative
     c.requires.allows _ c.in_ok-decision.ensures c.in-Some.decision c.in-Some.is
-    c.decide.result c.decide.new.self c.decide.ensures.tries
+    {E = Unit} (Ok c.in_ok-made-in-Some.made) c.decide.new.self
+    c.in_ok-made-in-Some.ensures.tries
 
 pub returns-in-None-clause-none : goal.returns-in-None-clause-none
 returns-in-None-clause-none c = λ no.
@@ -76,3 +92,12 @@ returns-in-None-clause-none c = λ no.
     c.requires.stands c.decisions-decisions.result.now c.decisions-decisions.ensures
     c.start-start.ensures.starts c.args.site c.args.alternative
     c.requires.allows _ c.in_ok-decision.ensures c.in-None.is
+
+pub invariant_of-self-in-Some : goal.invariant_of-self-in-Some
+invariant_of-self-in-Some c =
+    let g = c.self.inside.growing in
+    let tests = c.take-tests.result in
+    kept_by_tries g c.decide.new.self c.in-Some.decision tests c.in_ok-made-in-Some.made
+    (subst (AreKept g) (sym c.take-tests.ensures.value)
+    (subst (λ h. AreKept h c.is_vain.new.kept) c.growing.ensures c.is_vain.ensures.kept))
+    c.in_ok-made-in-Some.ensures.tries

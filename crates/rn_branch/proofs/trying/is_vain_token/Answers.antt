@@ -1,0 +1,42 @@
+-- By what is known of the token.
+use Rattle.std.proofs.Common.{◌≡◌, ◌+◌, subst, rules}
+use Rattle.std.specs.Prelude.{IsTrue}
+use Rattle.std.proofs.lemmas.Result.{IfOk-weaker}
+use Rattle.rn_search.specs.declared.point.Point.TheVariants as P
+use Rattle.rn_branch.specs.Offers.{IsOffer, IsTakenUp, NoneLeadBy}
+use Rattle.rn_branch.specs.Testing.{FailsGuard}
+use Rattle.rn_branch.proofs.VainTokens.{failing_is_vain, taken_up_is_vain}
+use Rattle.rn_branch.proofs.trying.is_vain_token.Goals as goal
+
+pub returns-then-is_taken_up-clause-vain : goal.returns-then-is_taken_up-clause-vain
+returns-then-is_taken_up-clause-vain c told =
+    let p = c.args.problem.now in
+    let offer = c.in-Some-offer_at.offer in
+    let index : c.in-Some.index ≡ c.args.from + c.args.a = search rules in
+    let is : IsOffer p c.args.growing.now.decisions c.args.node c.args.k
+    (c.args.from + c.args.a) offer =
+    subst (λ i. IsOffer p c.args.growing.now.decisions c.args.node c.args.k i offer) index
+    (subst (λ ds. IsOffer p ds c.args.node c.args.k c.in-Some.index offer) c.decisions.ensures
+    (rw c.in-Some-offer_at.is at c.offer_at.ensures)) in
+    taken_up_is_vain p c.args.growing.now c.requires.branch c.args.node c.args.k c.args.from
+    c.args.a offer is c.requires.allows
+    (subst (λ ds. IsTakenUp p ds offer) c.decisions-2.ensures
+    (c.is_taken_up.ensures c.if-is_taken_up.true))
+
+pub returns-clause-vain : goal.returns-clause-vain
+returns-clause-vain c =
+    let p = c.args.problem.now in
+    let g = c.args.growing.now in
+    let offer = c.in-Some-offer_at.offer in
+    let index : c.in-Some.index ≡ c.args.from + c.args.a = search rules in
+    let is : IsOffer p g.decisions c.args.node c.args.k (c.args.from + c.args.a) offer =
+    subst (λ i. IsOffer p g.decisions c.args.node c.args.k i offer) index
+    (subst (λ ds. IsOffer p ds c.args.node c.args.k c.in-Some.index offer) c.decisions.ensures
+    (rw c.in-Some-offer_at.is at c.offer_at.ensures)) in
+    IfOk-weaker c.fails_kept.result (λ answer. IsTrue answer → FailsGuard g offer c.in-Var.var)
+    (λ answer. IsTrue answer → NoneLeadBy p g.decisions
+    (P.Token c.args.node c.args.k c.args.from) c.args.a)
+    (λ answer fails told.
+    failing_is_vain p g c.requires.branch c.args.node c.args.k c.args.from c.args.a offer is
+    c.requires.allows c.in-Var.var c.in-Var.is c.system.ensures.good c.table.ensures.tokens
+    (fails told)) c.fails_kept.ensures

@@ -1,0 +1,41 @@
+//! What a guard is read under where one of its variables is a token.
+ghost use Rattle.std.specs.Prelude.{◌≡◌, option_copied};
+
+use rn_calc::Values;
+use rn_value::{InstRef, Value};
+
+/// The values of a guard's variables, of which one is a token that wasn't taken yet. Nothing is
+/// copied.
+#[derive(Drop)]
+pub(crate) struct Trial<'a> {
+    pub(crate) this: &'a InstRef,
+    pub(crate) var: u32,
+    pub(crate) token: &'a Value,
+    pub(crate) others: &'a [(u32, Value)],
+}
+
+impl Values for Trial<'_> {
+    ghost use Rattle.rn_branch.specs.Testing.{trial_env};
+
+    ghost env = { trial_env };
+
+    fn this(&self) -> &InstRef {
+        self.this
+    }
+
+    fn step(&self) -> Option<u64> {
+        None
+    }
+
+    fn value(&self, x: u32) -> Option<&Value> {
+        if self.var == x {
+            return Some(self.token);
+        }
+        for pair in self.others {
+            if pair.0 == x {
+                return Some(&pair.1);
+            }
+        }
+        None
+    }
+}

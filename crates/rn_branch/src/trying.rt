@@ -1,0 +1,90 @@
+//! Alternatives that are given up before their decision is made.
+ghost use Rattle.std.specs.Prelude.{IfOk, IsTrue};
+ghost use Rattle.rn_search.specs.Allowing.{Allows};
+ghost use Rattle.rn_search.specs.declared.point.Point.TheVariants as P;
+ghost use Rattle.rn_branch.specs.Branches.{IsBranchOf};
+ghost use Rattle.rn_branch.specs.Offers.{NoneLeadBy};
+ghost use Rattle.rn_branch.specs.Testing.{AreKept};
+
+use crate::offer::offer_at;
+use crate::taking::is_taken_up;
+use crate::testing::{Tests, fails_kept, keep_tests};
+use rn_growing::Growing;
+use rn_model::Expr;
+use rn_search::{Point, Problem};
+use rn_value::NoMemory;
+use std::alloc::Global;
+
+// Whether the token of an arc is one by which nothing goes on. Guards are tested from the second
+// token of a choice on.
+fn is_vain_token(
+    alloc: Global,
+    problem: &Problem<'_>,
+    growing: &Growing<'_>,
+    kept: &mut Option<Tests>,
+    node: usize,
+    k: usize,
+    from: usize,
+    a: usize,
+    again: bool,
+) -> Result<bool, NoMemory>
+    requires branch { IsBranchOf problem.now growing.now }
+    requires allows { Allows problem.now growing.now.decisions (P.Token node k from) a }
+    requires kept { AreKept growing.now kept.old }
+    ensures vain { IfOk result (λ yes. IsTrue yes
+        → NoneLeadBy problem.now growing.now.decisions (P.Token node k from) a) }
+    ensures kept { AreKept growing.now kept.new }
+{
+    let _ = problem.table();
+    let _ = problem.system();
+    let Some(index) = from.checked_add(a) else {
+        return Ok(false);
+    };
+    let Some(offer) = offer_at(problem, growing.decisions(), node, k, index) else {
+        return Ok(false);
+    };
+    if is_taken_up(problem, growing.decisions(), &offer) {
+        return Ok(true);
+    }
+    let Expr::Var(var) = &offer.arc.inscription else {
+        return Ok(false);
+    };
+    if again {
+        keep_tests(
+            alloc,
+            growing,
+            kept,
+            node,
+            offer.head,
+            offer.transition,
+            *var,
+        )?;
+    }
+    fails_kept(alloc, growing, &*kept, node, &offer, *var)
+}
+
+/// Whether an alternative is known to be one by which nothing goes on, before its decision is made.
+/// It was tried again where the last alternative was of the same point.
+pub(crate) fn is_vain(
+    alloc: Global,
+    problem: &Problem<'_>,
+    growing: &Growing<'_>,
+    kept: &mut Option<Tests>,
+    site: Point,
+    a: usize,
+    again: bool,
+) -> Result<bool, NoMemory>
+    requires branch { IsBranchOf problem.now growing.now }
+    requires allows { Allows problem.now growing.now.decisions site a }
+    requires kept { AreKept growing.now kept.old }
+    ensures vain { IfOk result (λ yes. IsTrue yes
+        → NoneLeadBy problem.now growing.now.decisions site a) }
+    ensures kept { AreKept growing.now kept.new }
+{
+    match site {
+        Point::Token(node, k, from) => {
+            is_vain_token(alloc, problem, growing, kept, node, k, from, a, again)
+        }
+        _ => Ok(false),
+    }
+}
