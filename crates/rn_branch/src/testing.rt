@@ -1,10 +1,10 @@
 //! Guards that are tested before a decision is made.
-ghost use Rattle.std.specs.Prelude.{◌≡◌, ◌⊎◌, All, IfOk, IfSome, IsTrue, None, Option, Some, false, length, slice_get};
+ghost use Rattle.std.specs.Prelude.{◌≡◌, ◌⊎◌, All, IfOk, IfSome, IsTrue, None, Option, Some};
+ghost use Rattle.std.specs.Prelude.{false, slice_get};
 ghost use Rattle.rn_growing.specs.declared.decision.Caller.{Caller};
 ghost use Rattle.rn_growing.specs.declared.decision.Decision.TheVariants as D;
 ghost use Rattle.rn_growing.specs.Decisions.{transition_in};
-ghost use Rattle.rn_branch.specs.Offers.{IsOffer};
-ghost use Rattle.rn_branch.specs.Testing.{AreKept, AreTests, FailsGuard, IsTest, RestOn};
+ghost use Rattle.rn_branch.specs.Testing.{AreKept, FailsGuard, IsTest, RestOn};
 
 use crate::guard_vars::put_guard;
 use crate::known::values_but;
