@@ -2,6 +2,7 @@
 use Rattle.std.proofs.Common.{◌≡◌, ◌⊎◌, ◌≤◌, ℕ, List, [], Option, Some, None, Err, inl, inr, length, refl, sym, ap, subst, arith}
 use Rattle.std.specs.Prelude.{IfSome, ⊤}
 use Rattle.rn_model.specs.declared.log.Options.{Options}
+use Rattle.rn_model.specs.Good.{IsInLimits}
 use Rattle.rn_model.specs.declared.log.Reason.{Reason}
 use Rattle.rn_model.specs.declared.log.Reason.TheVariants as End
 use Rattle.rn_model.specs.declared.system.System.{System}
@@ -10,7 +11,7 @@ use Rattle.rn_words.specs.declared.command.Command.{Command}
 use Rattle.rn_words.specs.declared.command.Command.TheVariants as command
 use Rattle.rn_words.specs.declared.command.WordsFault.{WordsFault}
 use Rattle.rn_words.specs.Commands.{WordsOk}
-use Rattle.rn_words.specs.Laws.{ReadsWhatIsAccepted}
+use Rattle.rn_words.specs.Laws.{AcceptedAreWithinLimits, IsWithinLimits, ReadsWhatIsAccepted}
 use Rattle.rn_words.specs.Reading.{reading}
 use Rattle.rn_answer.specs.declared.answer.Answer.{Answer}
 use Rattle.rn_answer.specs.declared.status.TheConstants.{DONE, NET_REFUSED, WORDS_REFUSED, FAULTED, NO_MEMORY, RECORD_REFUSED}
@@ -34,6 +35,7 @@ pub record Laws : Type 0 where
   pub parts : OneParting
   pub one : OneAnswerToRecord
   pub read : RunIsRead
+  pub limits : AcceptedAreWithinLimits
 
 -- words that have a fault come to its status
 pub words_status : Laws → (words : List (List ℕ)) (left left_after : Option (List ℕ)) (a : Answer) (fault : WordsFault) → reading words ≡ Err fault → Comes words left left_after a → a.status ≡ WORDS_REFUSED
@@ -125,35 +127,38 @@ run_status P End.Memory status is p = inr (inl is)
 run_status P (End.Fault cause b) status is p = inr (inr (is, p))
 
 -- the text of a run is replayed
-done_record : Laws → (options : Options) (bytes rest : List ℕ) (system : System) (a : Answer) → (r : IsRecorded options bytes) → r.record_bytes ≡ rest → r.system ≡ system → RecordTo system options rest a → a.status ≡ DONE
-done_record laws options bytes rest system a r more same told =
-    let read = laws.read r.net r.system options r.record_bytes r.count r.reason r.accepted r.run r.readable in
+done_record : Laws → (options : Options) (bytes rest : List ℕ) (system : System) (a : Answer) → IsInLimits options → (r : IsRecorded options bytes) → r.record_bytes ≡ rest → r.system ≡ system → RecordTo system options rest a → a.status ≡ DONE
+done_record laws options bytes rest system a within r more same told =
+    let counted = r.run.counted in
+    let steps = r.run.log.steps in
+    let most : options.steps ≤ 200000 = within.steps in
+    let read = laws.read r.net r.system options r.record_bytes r.count r.reason r.accepted r.run (omega (arith, counted, steps, most)) in
     let its : RecordTo r.system options r.record_bytes a = subst (λ s. RecordTo s options r.record_bytes a) (sym same) (subst (λ b. RecordTo system options b a) (sym more) told) in
     ap (λ x. x.status) (laws.one r.system options r.record_bytes a (done (replayed_text r.count r.reason)) its (RecordTo.replayed r.count r.reason r.run read))
 
-replay_status : Laws → (options : Options) (bytes : List ℕ) (a : Answer) → IsRecorded options bytes → ReplayComesTo options bytes a → a.status ≡ DONE
-replay_status laws options bytes a r (net, rest, parts, inl (line, why, same)) =
+replay_status : Laws → (options : Options) (bytes : List ℕ) (a : Answer) → IsInLimits options → IsRecorded options bytes → ReplayComesTo options bytes a → a.status ≡ DONE
+replay_status laws options bytes a within r (net, rest, parts, inl (line, why, same)) =
     absurd (laws.texts net line r.system (subst (λ n. Accepted n r.system) (laws.parts bytes r.net r.record_bytes net rest r.parts parts).0 r.accepted) why)
-replay_status laws options bytes a r (net, rest, parts, inr (system, accepted, told)) =
+replay_status laws options bytes a within r (net, rest, parts, inr (system, accepted, told)) =
     let same = laws.parts bytes r.net r.record_bytes net rest r.parts parts in
-    done_record laws options bytes rest system a r same.1 (laws.systems net r.system system (subst (λ n. Accepted n r.system) same.0 r.accepted) accepted) told
+    done_record laws options bytes rest system a within r same.1 (laws.systems net r.system system (subst (λ n. Accepted n r.system) same.0 r.accepted) accepted) told
 
 -- what is read is what was left
 all_left : (left : Option (List ℕ)) (bytes known : List ℕ) → IfSome left (λ l. bytes ≡ l) → left ≡ Some known → known ≡ bytes
 all_left left bytes known all is = sym (subst (λ o. IfSome o (λ l. bytes ≡ l)) is all)
 
 -- a command does what an input that is fine asks for
-whole_status : Laws → (c : Command) (left : Option (List ℕ)) (bytes : List ℕ) (a : Answer) → IsFine c left → IfSome left (λ l. bytes ≡ l) → ComesTo c bytes a → IsDoneBut c a.status
-whole_status laws (command.Run options) left bytes a (known, is, (system, accepted)) all (inl (line, why, same)) = absurd (laws.texts bytes line system (subst (λ b. Accepted b system) (all_left left bytes known all is) accepted) why)
-whole_status laws (command.Run options) left bytes a fine all (inr runs) = run_status ⊤ runs.reason a.status runs.status tt
-whole_status laws command.Check left bytes a (known, is, (system, accepted)) all (inl (line, why, same)) = absurd (laws.texts bytes line system (subst (λ b. Accepted b system) (all_left left bytes known all is) accepted) why)
-whole_status laws command.Check left bytes a fine all (inr (system, accepted, same)) = inl (ap (λ x. x.status) same)
-whole_status laws command.Print left bytes a (known, is, (system, accepted)) all (inl (line, why, same)) = absurd (laws.texts bytes line system (subst (λ b. Accepted b system) (all_left left bytes known all is) accepted) why)
-whole_status laws command.Print left bytes a fine all (inr (plain, system, spells, checked, same)) = inl (ap (λ x. x.status) same)
-whole_status laws (command.Enabled depth) left bytes a (known, is, (system, accepted)) all (inl (line, why, same)) = absurd (laws.texts bytes line system (subst (λ b. Accepted b system) (all_left left bytes known all is) accepted) why)
-whole_status laws (command.Enabled depth) left bytes a fine all (inr (system, found, accepted, just, same)) = inl (ap (λ x. x.status) same)
-whole_status laws (command.Replay options) left bytes a (known, is, few, recorded) all comes = inl (replay_status laws options bytes a (subst (λ b. IsRecorded options b) (all_left left bytes known all is) recorded) comes)
-whole_status laws (command.Gen copies options) left bytes a fine all gens = run_status ⊤ gens.reason a.status gens.status tt
+whole_status : Laws → (c : Command) (left : Option (List ℕ)) (bytes : List ℕ) (a : Answer) → IsWithinLimits c → IsFine c left → IfSome left (λ l. bytes ≡ l) → ComesTo c bytes a → IsDoneBut c a.status
+whole_status laws (command.Run options) left bytes a within (known, is, (system, accepted)) all (inl (line, why, same)) = absurd (laws.texts bytes line system (subst (λ b. Accepted b system) (all_left left bytes known all is) accepted) why)
+whole_status laws (command.Run options) left bytes a within fine all (inr runs) = run_status ⊤ runs.reason a.status runs.status tt
+whole_status laws command.Check left bytes a within (known, is, (system, accepted)) all (inl (line, why, same)) = absurd (laws.texts bytes line system (subst (λ b. Accepted b system) (all_left left bytes known all is) accepted) why)
+whole_status laws command.Check left bytes a within fine all (inr (system, accepted, same)) = inl (ap (λ x. x.status) same)
+whole_status laws command.Print left bytes a within (known, is, (system, accepted)) all (inl (line, why, same)) = absurd (laws.texts bytes line system (subst (λ b. Accepted b system) (all_left left bytes known all is) accepted) why)
+whole_status laws command.Print left bytes a within fine all (inr (plain, system, spells, checked, same)) = inl (ap (λ x. x.status) same)
+whole_status laws (command.Enabled depth) left bytes a within (known, is, (system, accepted)) all (inl (line, why, same)) = absurd (laws.texts bytes line system (subst (λ b. Accepted b system) (all_left left bytes known all is) accepted) why)
+whole_status laws (command.Enabled depth) left bytes a within fine all (inr (system, found, accepted, just, same)) = inl (ap (λ x. x.status) same)
+whole_status laws (command.Replay options) left bytes a within (known, is, few, recorded) all comes = inl (replay_status laws options bytes a within (subst (λ b. IsRecorded options b) (all_left left bytes known all is) recorded) comes)
+whole_status laws (command.Gen copies options) left bytes a within fine all gens = run_status ⊤ gens.reason a.status gens.status tt
 
 -- `gen` alone asks for no input
 inputless_status : (c : Command) (a : Answer) → longest_input c ≡ None → ComesTo c [] a → IsDoneBut c a.status
@@ -192,4 +197,4 @@ fine_status laws words left left_after c a accepted fine (Comes.inputless _ othe
     let one = one_command laws.words words other c given accepted in
     inputless_status c a (subst (λ k. longest_input k ≡ None) one none) (subst (λ k. ComesTo k [] a) one comes)
 fine_status laws words left left_after c a accepted fine (Comes.whole _ other limit bytes given is all few comes) =
-    whole_status laws c left bytes a fine all.all (subst (λ k. ComesTo k bytes a) (one_command laws.words words other c given accepted) comes)
+    whole_status laws c left bytes a (laws.limits words c accepted) fine all.all (subst (λ k. ComesTo k bytes a) (one_command laws.words words other c given accepted) comes)

@@ -1,5 +1,5 @@
 -- Net texts that are accepted aren't refused, and texts of runs are read.
-use Rattle.std.proofs.Common.{◌≡◌, [], Contains, Some, sym, subst}
+use Rattle.std.proofs.Common.{◌≡◌, [], Contains, Some, sym, subst, arith}
 use Rattle.rn_model.specs.declared.system.System.{System}
 use Rattle.rn_model.specs.Runs.{entries_of}
 use Rattle.rn_model.proofs.EnablingLemmas.{not_in_nil}
@@ -13,6 +13,7 @@ use Rattle.rn_check.specs.SpelledForms.{CheckedTextsAreGood}
 use Rattle.rn_told.specs.Laws.{TextsTell}
 use Rattle.rn_told.specs.Runs.{Verdict, TellsRecord}
 use Rattle.rn_written.specs.Laws.{LogsHaveText}
+use Rattle.rn_readable.specs.Laws.{LogsAreReadable}
 use Rattle.rn_answer.specs.NetTexts.{IsRefusedBy}
 use Rattle.rn_app.specs.Laws.{AcceptedIsNotRefused, OneSystemAccepted, RunIsRead}
 
@@ -37,9 +38,11 @@ one_system one bytes s t first second =
     cc
 
 -- the text of a run is read as it
-pub run_is_read : CheckedTextsAreGood → LogsHaveText → TextsTell → RunIsRead
-run_is_read goods have texts net system options bytes count reason accepted run readable =
+pub run_is_read : CheckedTextsAreGood → LogsHaveText → LogsAreReadable → TextsTell → RunIsRead
+run_is_read goods have reads texts net system options bytes count reason accepted run few =
     let good = goods net accepted.plain system accepted.spelled accepted.checked in
     let text = have system options run.firings (Some reason) run.marks good run.log run.live in
+    let counted = run.counted in
+    let readable = reads net accepted.plain system options run.firings (Some reason) run.marks accepted.spelled accepted.checked (omega (arith, counted, few)) run.log run.live in
     subst (λ b. TellsRecord system b (Verdict.tells (entries_of run.firings (Some reason)) run.marks)) (sym run.told)
     (texts system options run.firings reason run.marks good run.log run.live text readable)

@@ -4,7 +4,6 @@ use Rattle.std.specs.Prelude.{[], Result, Ok, Err, ⊤}
 use Rattle.rn_model.specs.declared.log.Options.{Options}
 use Rattle.rn_model.specs.declared.log.Reason.{Reason}
 use Rattle.rn_model.specs.declared.system.System.{System}
-use Rattle.rn_model.specs.Runs.{entries_of}
 use Rattle.rn_notation.specs.Limits.{longest_text}
 use Rattle.rn_outside.specs.Bytes.{GivesAll, GivesAtMost, Appends, AppendsPrefix}
 use Rattle.rn_outside.specs.Faults.{Rose, risen}
@@ -22,7 +21,6 @@ use Rattle.rn_answer.specs.Lines.{words_line}
 use Rattle.rn_answer.specs.Refusing.{refusal}
 use Rattle.rn_answer.specs.NetTexts.{Accepted, IsRefusedBy}
 use Rattle.rn_answer.specs.Input.{longest_input, IsTooLong, too_long}
-use Rattle.rn_told.specs.Readable.{IsReadableRun}
 use Rattle.rn_commands.specs.Parts.{HasParts}
 use Rattle.rn_commands.specs.Replaying.{IsNoRunBy, IsRecordOfRun}
 use Rattle.rn_commands.specs.Runs.{IsRunOf}
@@ -132,7 +130,7 @@ pub record IsNoRecord (options : Options) (bytes : List ℕ) : Type 0 where
   pub line : List ℕ
   pub no_run : IsNoRunBy system options record_bytes line
 
--- the input of `replay` is a net text and the text of a run, whose values can be read
+-- the input of `replay` is a net text and the text of a run of it
 pub record IsRecorded (options : Options) (bytes : List ℕ) : Type 0 where
   pub net : List ℕ
   pub record_bytes : List ℕ
@@ -142,8 +140,6 @@ pub record IsRecorded (options : Options) (bytes : List ℕ) : Type 0 where
   pub count : ℕ
   pub reason : Reason
   pub run : IsRecordOfRun system options record_bytes count reason
-  pub readable :
-      IsReadableRun (record { entries = entries_of run.firings (Some reason); marks = run.marks })
 
 -- the commands that run a net, whose log may end in a fault
 abbrev pub MayFault : Command → Type 0

@@ -3,11 +3,12 @@ ghost use Rattle.rn_app.specs.Laws.{AcceptedIsNotRefused, OneSystemAccepted, Run
 
 use rn_check::laws::checked_texts_are_good;
 use rn_net::net_laws;
+use rn_readable::logs_are_readable;
 use rn_told::record_laws;
 use rn_written::logs_have_text;
 
-/// A net text isn't both accepted and refused, and has one system. The text of a run is read as this
-/// run.
+/// A net text isn't both accepted and refused, and has one system. The text of a run of it is read
+/// as this run.
 pub fn input_laws()
     ensures texts { AcceptedIsNotRefused }
     ensures systems { OneSystemAccepted }
@@ -17,4 +18,5 @@ pub fn input_laws()
     checked_texts_are_good();
     record_laws();
     logs_have_text();
+    logs_are_readable();
 }

@@ -5,5 +5,5 @@ pub returns : goal.returns
 returns c = record {
   texts = not_refused c.net_laws.ensures.one_text c.net_laws.ensures.not_refused;
   systems = one_system c.net_laws.ensures.one_text;
-  read = run_is_read c.checked_texts_are_good.ensures c.logs_have_text.ensures.logs c.record_laws.ensures.texts;
+  read = run_is_read c.checked_texts_are_good.ensures c.logs_have_text.ensures.logs c.logs_are_readable.ensures c.record_laws.ensures.texts;
 }

@@ -41,6 +41,7 @@ returns-in-Ok g c =
       parts = c.parts_laws.ensures;
       one = c.answer_laws.ensures;
       read = c.input_laws.ensures.read;
+      limits = c.words_laws.ensures.limits;
     } in
     record {
       run = run_clause k c.in-Ok.answer w laws;
@@ -102,6 +103,7 @@ returns-in-Err-Refused g c =
       parts = c.parts_laws.ensures;
       one = c.answer_laws.ensures;
       read = c.input_laws.ensures.read;
+      limits = c.words_laws.ensures.limits;
     } in
     record {
       run = run_clause k c.in-Err-Refused.answer w laws;

@@ -1,0 +1,9 @@
+mod MendedValues
+mod ShallowValues
+mod FineReadings
+mod FineBindings
+mod FineFirings
+mod FineTokens
+mod FineExpressions
+mod FineTexts
+mod ReadableLogs
