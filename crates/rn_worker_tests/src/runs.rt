@@ -88,11 +88,12 @@ fn instances_are_dropped(rt: HostRuntime) -> Result<(), Fail> {
 }
 
 // Where many instances are live, a worker lists more rarely what may be dropped: here first after each
-// firing, and in the end after 12, an eighth of the 101 that are live, so after its firings 101, 113, ..
-// 197. With 64 it does so after 64, 128 and 192. What is lost later isn't dropped during the run.
+// firing, and in the end after 50, a quarter of the 101 instances and 101 tokens that are live, so after
+// its firings 140 and 190. With 64 it does so after 64, 128 and 192. What is lost later isn't dropped
+// during the run.
 #[test]
 fn many_live_instances_are_listed_rarely(rt: HostRuntime) -> Result<(), Fail> {
-    for (sweep_every, during) in [(1, 97), (64, 92), (0, 0)] {
+    for (sweep_every, during) in [(1, 90), (64, 92), (0, 0)] {
         let finished = run_text(&rt, rt.alloc(), KEEPS, 1, sweep_every, &NoGate)?;
         let kept = finished.state.table().instances()?;
         assert_eq!(rt; fired(&finished), 200);
