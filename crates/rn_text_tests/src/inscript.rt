@@ -48,11 +48,6 @@ fn shape_of_expression(alloc: Global, text: &str) -> Result<String, InscriptFaul
     expression_shown(alloc, &e)
 }
 
-fn shape_of_inscription(alloc: Global, text: &str) -> Result<String, InscriptFault> {
-    let (i, _) = inscription(alloc, text)?;
-    inscription_shown(alloc, &i)
-}
-
 /// The column of a spot, and the index after what was read.
 type Extent = Result<(u32, usize), InscriptFault>;
 
@@ -60,20 +55,10 @@ fn expression_extent(e: &PExpr, end: usize) -> (u32, usize) {
     (e.spot.column, end)
 }
 
-fn inscription_extent(i: &PInscription, end: usize) -> (u32, usize) {
-    (i.spot.column, end)
-}
-
 // The column of an expression's spot, and the index after the expression.
 fn extent_of_expression(alloc: Global, text: &str) -> Extent {
     let (e, end) = expression(alloc, text)?;
     Ok(expression_extent(&e, end))
-}
-
-// The column of an inscription's spot, and the index after the inscription.
-fn extent_of_inscription(alloc: Global, text: &str) -> Extent {
-    let (i, end) = inscription(alloc, text)?;
-    Ok(inscription_extent(&i, end))
 }
 
 // The column of the expression of an arc, where there is one.
@@ -87,9 +72,43 @@ fn column_of_arc(i: &PInscription) -> Option<u32> {
     }
 }
 
+/// What is looked at of an inscription that was read.
+#[derive(Drop)]
+struct Sight {
+    shape: String,
+    column: u32,
+    column_of_arc: Option<u32>,
+    end: usize,
+}
+
+// Looks at an inscription that was read.
+fn sight_in(alloc: Global, i: &PInscription, end: usize) -> Result<Sight, InscriptFault> {
+    Ok(Sight {
+        shape: inscription_shown(alloc, i)?,
+        column: i.spot.column,
+        column_of_arc: column_of_arc(i),
+        end,
+    })
+}
+
+// Reads an inscription, and looks at it.
+fn sight_of(alloc: Global, text: &str) -> Result<Sight, InscriptFault> {
+    let (i, end) = inscription(alloc, text)?;
+    sight_in(alloc, &i, end)
+}
+
+fn shape_of_inscription(alloc: Global, text: &str) -> Result<String, InscriptFault> {
+    Ok(sight_of(alloc, text)?.shape)
+}
+
+// The column of an inscription's spot, and the index after the inscription.
+fn extent_of_inscription(alloc: Global, text: &str) -> Extent {
+    let sight = sight_of(alloc, text)?;
+    Ok((sight.column, sight.end))
+}
+
 fn column_in(alloc: Global, text: &str) -> Result<Option<u32>, InscriptFault> {
-    let (i, _) = inscription(alloc, text)?;
-    Ok(column_of_arc(&i))
+    Ok(sight_of(alloc, text)?.column_of_arc)
 }
 
 // The index after an inscription.
