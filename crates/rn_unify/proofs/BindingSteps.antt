@@ -1,6 +1,7 @@
 -- What a store is on the way as the variables of equations are bound.
 use Rattle.std.proofs.Common.{◌≡◌, ◌≢◌, ◌<◌, ◌⊎◌, ⊎_elim, inl, inr, ℕ, List, [], ◌∷◌, ◌++◌, refl}
 use Rattle.std.proofs.Common.{arith, length, sym, ◌∙◌, ap, subst, append_assoc}
+use Rattle.std.specs.Prelude.{Option}
 use Rattle.std.specs.List.{AllByRecursion}
 use Rattle.std.proofs.lemmas.List.{append-nil}
 use Rattle.rn_value.specs.declared.value.Value.{Value}
@@ -9,18 +10,23 @@ use Rattle.rn_term.specs.Stores.{State, Leads, link_of, term_at}
 use Rattle.rn_term.specs.Assignments.{Satisfies, MayBeOne, Keeps}
 use Rattle.rn_term.proofs.Occurrences.{end_is_here}
 use Rattle.rn_unify.specs.declared.equation.Equation.{Equation}
+use Rattle.rn_unify.specs.declared.equation.Other.TheVariants as O
 use Rattle.rn_unify.specs.Equations.{Solves, GivesOther, AreEachOne, AreWithin, IsFound, CanStand}
-use Rattle.rn_unify.specs.Equations.{IsAdded}
+use Rattle.rn_unify.specs.Equations.{IsOther}
+use Rattle.rn_unify.specs.Adding.{IsKnown, IsPlaced, Turns}
+use Rattle.rn_unify.specs.declared.rests.Rest.{Rest}
 use Rattle.rn_unify.specs.Binding.{Becomes, IsSolved, free_number}
 use Rattle.rn_unify.specs.Unifying.{AreOne}
-use Rattle.rn_unify.proofs.EarlierMarks.{IsGrown, grown_not, grown_through}
+use Rattle.rn_unify.proofs.EarlierMarks.{IsGrown, grown, grown_not, grown_through}
 use Rattle.rn_unify.proofs.EarlierMarks.{term_stays}
 use Rattle.rn_unify.proofs.Becoming.{becomes_same, becomes_through, becomes_with}
 use Rattle.rn_unify.proofs.Becoming.{becomes_after}
 use Rattle.rn_unify.proofs.Findings.{all_joined}
 use Rattle.rn_unify.proofs.PairsLeft.{pairs_within, pairs_stay}
+use Rattle.rn_unify.proofs.Turning.{becomes_at}
+use Rattle.rn_unify.proofs.KnownRests.{known_grown}
 use Rattle.rn_unify.proofs.SolvedPairs.{solved}
-use Rattle.rn_unify.proofs.AddedTerms.{IsReady, ready, can_stand, equation_stays, apart_from_end}
+use Rattle.rn_unify.proofs.AddedTerms.{can_stand, equation_stays, apart_from_end}
 
 -- Some equations are left, and the others, after them, were taken: of those variables were bound,
 -- but for later pairs.
@@ -63,20 +69,21 @@ module _ (old s : State) (equations before rest : List Equation) (later : List (
 
   -- what its variable has to be may stand in the store
   pub stands : CanStand s equation.other
-  stands = can_stand old s equation.other way.grown.not_later.0 way.becomes.back found_here.stands
+  stands = can_stand old s equation.other way.grown found_here.stands
 
   var_within : equation.var < length s.terms
   var_within = omega (arith, found_here.free.within, way.grown.not_later.0)
 
-  module _ (new : State) (to : ℕ) (added_as : IsAdded s new equation.other to) where
-    pub is_ready : IsReady s new equation.var equation.other to
-    is_ready = ready s new equation.var equation.other to way.keeps var_within stands added_as
+  module _ (new : State) (to : ℕ)
+      (added_as : Turns s (IsOther equation.other) new (IsOther (O.Here to))) where
+    grown_now : IsGrown s new
+    grown_now = grown s new added_as.earlier
 
     pub var_within_new : equation.var < length new.terms
-    var_within_new = omega (arith, var_within, is_ready.grown.not_later.0)
+    var_within_new = omega (arith, var_within, grown_now.not_later.0)
 
     pub grown_new : IsGrown old new
-    grown_new = grown_through old s new way.grown is_ready.grown
+    grown_new = grown_through old s new way.grown grown_now
 
     -- that the equations taken are satisfied becomes that this variable is one with what it has to
     -- be, and each pair is made one
@@ -91,8 +98,10 @@ module _ (old s : State) (equations before rest : List Equation) (later : List (
         (equation_stays old equation.var equation.other found_here.free.within found_here.stands)
         way.becomes)
         (becomes_with s new (λ vs. GivesOther vs equation.var equation.other)
-        (AreOne equation.var to) (AreEachOne later) is_ready.grown.not_later.0
-        (pairs_stay s later way.within) is_ready.becomes)
+        (AreOne equation.var to) (AreEachOne later) grown_now.not_later.0
+        (pairs_stay s later way.within)
+        (becomes_at s new (IsOther equation.other) (IsOther (O.Here to)) equation.var added_as
+        var_within))
 
     -- the variable and what it has to be may not be one, so no assignment satisfies the equations
     pub refused : ¬ MayBeOne new equation.var to → (vs : List Value) → Satisfies old vs →
@@ -107,29 +116,42 @@ module _ (old s : State) (equations before rest : List Equation) (later : List (
     unbound_at_first : (x : ℕ) → s ≡ old → Leads new.notes equation.var x → equation.var ≡ x
     unbound_at_first x same leads =
         end_is_here new equation.var x
-        (ap (λ ns. link_of ns equation.var) (is_ready.notes ∙ ap (λ u. u.notes) same)
+        (ap (λ ns. link_of ns equation.var) (added_as.notes ∙ ap (λ u. u.notes) same)
         ∙ found_here.free.unbound) leads
+
+    still_variable : term_at new equation.var ≡ T.Free
+    still_variable =
+        term_stays old new equation.var grown_new found_here.free.within
+        ∙ found_here.free.variable
 
     -- so the first equation binds a variable
     not_left_at_first : (after : State) (pairs : List (ℕ × ℕ))
         (is : IsSolved new equation.var to later after pairs) → s ≡ old →
-        (is.x ≡ is.y) ⊎ (term_at new is.x ≢ T.Free) → ⊥
-    not_left_at_first after pairs is same = ⊎_elim
-        (λ one. apart_from_end s new equation to is.y way.keeps
-        (subst (λ u. IsFound u equation) (sym same) found_here) added_as is.ends.second
-        is.ends.second_end (sym one ∙ sym (unbound_at_first is.x same is.ends.first)))
+        IsPlaced new equation.other to → (is.x ≡ is.y) ⊎ (term_at new is.x ≢ T.Free) → ⊥
+    not_left_at_first after pairs is same placed = ⊎_elim
+        (λ one. apart_from_end s new equation to is.y
+        (subst (λ u. IsFound u equation) (sym same) found_here) added_as.keeps added_as.notes
+        still_variable placed is.ends.second is.ends.second_end
+        (sym one ∙ sym (unbound_at_first is.x same is.ends.first)))
         (λ built. built
         (subst (λ n. term_at new n ≡ T.Free) (unbound_at_first is.x same is.ends.first)
-        (term_stays old new equation.var grown_new found_here.free.within
-        ∙ found_here.free.variable)))
+        still_variable))
+
+    -- what is left of a list that was known is known
+    pub known_solved : (after : State) (pairs : List (ℕ × ℕ)) (known : Option (Rest × ℕ)) →
+        IsSolved new equation.var to later after pairs → IsKnown new known → IsKnown after known
+    known_solved after pairs known is =
+        let made = solved new after equation.var to later pairs
+        (pairs_within s new later grown_now.not_later.0 way.within) is in
+        known_grown new after known made.grown made.becomes.back
 
     -- the variable and what it has to be are one
     pub one_more_solved : (after : State) (pairs : List (ℕ × ℕ)) → Keeps after →
-        IsSolved new equation.var to later after pairs →
+        IsPlaced new equation.other to → IsSolved new equation.var to later after pairs →
         IsOnTheWay old equations after rest pairs
-    one_more_solved after pairs keeps is =
+    one_more_solved after pairs keeps placed is =
         let made = solved new after equation.var to later pairs
-        (pairs_within s new later is_ready.grown.not_later.0 way.within) is in
+        (pairs_within s new later grown_now.not_later.0 way.within) is in
         record {
           taken = equation ∷ way.taken;
           all = all_but;
@@ -142,11 +164,11 @@ module _ (old s : State) (equations before rest : List Equation) (later : List (
               grown_new.not_later.0 becomes_new made.becomes;
           number = inr (⊎_elim
               (λ fewer. ⊎_elim
-              (λ both. omega (arith, fewer, is_ready.number, ap free_number both.1))
-              (λ less. omega (arith, fewer, less, is_ready.number)) way.number)
+              (λ both. omega (arith, fewer, added_as.number, ap free_number both.1))
+              (λ less. omega (arith, fewer, less, added_as.number)) way.number)
               (λ left. ⊎_elim
-              (λ both. absurd (not_left_at_first after pairs is both.1 left.1))
-              (λ less. omega (arith, less, is_ready.number, ap free_number left.0))
+              (λ both. absurd (not_left_at_first after pairs is both.1 placed left.1))
+              (λ less. omega (arith, less, added_as.number, ap free_number left.0))
               way.number)
               made.number);
         }

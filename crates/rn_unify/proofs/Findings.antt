@@ -9,15 +9,15 @@ use Rattle.std.proofs.Common.{reverse}
 use Rattle.std.proofs.lemmas.Grind.{reverse_onto}
 use Rattle.std.proofs.lemmas.Result.{IfOk-weaker}
 use Rattle.rn_value.specs.declared.value.Value.{Value}
-use Rattle.rn_term.specs.declared.term.Term.TheVariants as T
 use Rattle.rn_term.specs.Stores.{State, link_of}
 use Rattle.rn_term.specs.Assignments.{Satisfies, value_at}
 use Rattle.rn_term.specs.Occurring.{IsFree}
 use Rattle.rn_unify.specs.declared.equation.Equation.{Equation}
+use Rattle.rn_unify.specs.declared.equation.Other.{Other}
 use Rattle.rn_unify.specs.declared.equation.Other.TheVariants as O
 use Rattle.rn_unify.specs.declared.classes.Classes.{Classes}
 use Rattle.rn_unify.specs.Classes.{Fits}
-use Rattle.rn_unify.specs.Equations.{Finds, IsFound, GivesOther, Solves, Adds, AreMade}
+use Rattle.rn_unify.specs.Equations.{Finds, IsFound, CanStand, GivesOther, Solves, Adds, AreMade}
 use Rattle.rn_unify.specs.Unifying.{AreOne}
 
 -- what is found of a wish is found of each other that is true exactly where it is
@@ -126,16 +126,17 @@ finds_here s wish before after var to true is noted free within unbound apart sa
 finds_here s wish before after var to false is noted free within unbound apart same =
     absurd (false≢true is)
 
--- a free variable that has to be a value
-pub finds_value : (s : State) (wish : List Value → Type 0) (before after : List Equation)
-    (var : ℕ) (v : Value) (answer : Bool) → IsTrue answer →
-    after ≡ before ++ record { var = var; other = O.New (T.Atom v) } ∷ [] → IsFree s var →
-    ((vs : List Value) → Satisfies s vs → wish vs ↔ (value_at vs var ≡ v)) →
+-- a free variable that has to be something new
+pub finds_noted : (s : State) (wish : List Value → Type 0) (before after : List Equation)
+    (var : ℕ) (other : Other) (answer : Bool) → IsTrue answer →
+    after ≡ before ++ record { var = var; other = other } ∷ [] → IsFree s var → CanStand s other →
+    ((to : ℕ) → other ≢ O.Here to) →
+    ((vs : List Value) → Satisfies s vs → wish vs ↔ GivesOther vs var other) →
     Finds s wish before after answer
-finds_value s wish before after var v true is noted free same =
-    finds_one s wish before after (record { var = var; other = O.New (T.Atom v) }) noted
-    (record { free = free; stands = (tt, tt, λ e. cc); apart = λ to e. cc }) same
-finds_value s wish before after var v false is noted free same =
+finds_noted s wish before after var other true is noted free stands new same =
+    finds_one s wish before after (record { var = var; other = other }) noted
+    (record { free = free; stands = stands; apart = λ to e. absurd (new to e) }) same
+finds_noted s wish before after var other false is noted free stands new same =
     absurd (false≢true is)
 
 -- classes that fit go on fitting as equations come

@@ -1,9 +1,11 @@
 pub mod MatchingValues
 pub mod Becoming
 pub mod BindingSteps
+pub mod Blocks
 pub mod EarlierMarks
 pub mod Findings
 pub mod FreeNumbers
+pub mod KnownRests
 pub mod ListPrefixes
 pub mod ListPositions
 pub mod ListsOfTerms
@@ -16,4 +18,5 @@ pub mod SideBySide
 pub mod SolvedPairs
 pub mod StepsInTurn
 pub mod TermEquations
+pub mod Turning
 pub mod UnifyingRounds

@@ -1,9 +1,10 @@
--- The rest of a list as a term of its own, which a variable has to be.
-use Rattle.std.proofs.Common.{◌≡◌, ◌<◌, ◌≤◌, ℕ, List, ◌++◌, arith, length, refl, sym, map}
-use Rattle.std.proofs.Common.{◌∙◌, ap, subst, drop, Bool, true, false}
-use Rattle.std.specs.Prelude.{Result, IfOk, All, ◌↔◌}
-use Rattle.std.proofs.lemmas.Bool.{false≢true}
-use Rattle.std.proofs.lemmas.List.{length-drop}
+-- What is left of a list, where a variable has to be that.
+use Rattle.std.proofs.Common.{◌≡◌, ◌≢◌, ◌-◌, ⊎_elim, ◌<◌, ◌≤◌, ℕ, List, ◌++◌, arith, length}
+use Rattle.std.proofs.Common.{refl, sym, map}
+use Rattle.std.proofs.Common.{◌∙◌, ap, subst, drop, Bool}
+use Rattle.std.specs.Prelude.{Result, IfOk, All, Option, Some, None, ◌↔◌}
+use Rattle.std.proofs.lemmas.Bool.{cases_lt}
+use Rattle.std.proofs.lemmas.List.{length-drop, drop_all, nil_from_length}
 use Rattle.std.proofs.lemmas.List.Elements.{All-drop, All-weaker}
 use Rattle.std.proofs.lemmas.Result.{IfOk-weaker}
 use Rattle.rn_value.specs.declared.value.Value.{Value}
@@ -13,17 +14,21 @@ use Rattle.rn_term.specs.declared.term.Term.TheVariants as T
 use Rattle.rn_term.specs.Stores.{State, term_at, IsBuiltBelow}
 use Rattle.rn_term.specs.Assignments.{value_at, HasValue, Satisfies, Keeps}
 use Rattle.rn_term.specs.Occurring.{IsFree}
-use Rattle.rn_term.specs.Forcing.{IsList, IsAlwaysList, items_of}
+use Rattle.rn_term.specs.Forcing.{IsAlwaysList, items_of}
 use Rattle.rn_term.proofs.FillingSteps.{items_of-list}
+use Rattle.rn_term.proofs.OneValue.{said}
 use Rattle.rn_unify.specs.declared.equation.Equation.{Equation}
 use Rattle.rn_unify.specs.declared.equation.Other.TheVariants as O
 use Rattle.rn_unify.specs.declared.rests.Rest.{Rest}
-use Rattle.rn_unify.specs.Equations.{CanStand, Finds, IsFound, GivesOther, IsRestOf}
-use Rattle.rn_unify.specs.Rests.{IsRest, rest_value}
-use Rattle.rn_unify.proofs.Findings.{finds_one}
+use Rattle.rn_unify.specs.Equations.{CanStand, Finds, HasBefore, IsOther, IsSource, left_other}
+use Rattle.rn_unify.specs.Adding.{IsOf, MayStand, Turns, list_of}
+use Rattle.rn_unify.specs.Rests.{IsRest, elements_of, rest_value}
+use Rattle.rn_unify.proofs.Findings.{finds_noted}
 use Rattle.rn_unify.proofs.ListPositions.{built_at}
 use Rattle.rn_unify.proofs.ListPositions.{list_of_items, rest-List, rest-Cons, tail_is_list}
 use Rattle.rn_unify.proofs.TermEquations.{IsNoted}
+use Rattle.rn_unify.proofs.Turning.{turns_same}
+use Rattle.rn_unify.proofs.Blocks.{through_result}
 
 -- the later ids of a list are below what all are
 later_below : (low high from : ℕ) (ids : List ℕ) → low ≤ high → All (λ id. id < low) ids →
@@ -33,90 +38,166 @@ later_below low high from ids more below =
     (All-weaker (λ id. id < low) (λ id. id < high) (λ id small. omega (arith, small, more)) ids
     below)
 
--- the rest of a list may be added to the store
-rest_stands : (s : State) (rest : Rest) (t term : Term) → Keeps s → IsRest s rest →
-    term_at s rest.id ≡ t → IsRestOf rest.from t term → CanStand s (O.New term)
-rest_stands s rest T.Free term keeps position is rest_is = absurd rest_is
-rest_stands s rest (T.Atom v) term keeps position is rest_is = absurd rest_is
-rest_stands s rest (T.Tuple ids) term keeps position is rest_is = absurd rest_is
-rest_stands s rest (T.List ids) term keeps position is rest_is =
-    subst (λ u. CanStand s (O.New u)) (sym rest_is) (
-      later_below rest.id (length s.terms) rest.from ids (omega (arith, position.within))
-          (built_at s rest.id (T.List ids) keeps position.within is),
-      tt,
-      λ free. cc,
-    )
-rest_stands s rest (T.Cons ids tail) term keeps position is rest_is =
-    let built : IsBuiltBelow rest.id (T.Cons ids tail) =
-    built_at s rest.id (T.Cons ids tail) keeps position.within is in
-    subst (λ u. CanStand s (O.New u)) (sym rest_is) (
-      (
-        later_below rest.id (length s.terms) rest.from ids (omega (arith, position.within)) built.0,
-        omega (arith, position.ahead ids tail is, length-drop rest.from ids),
-        omega (arith, built.2, position.within),
-      ),
-      λ vs sat. tail_is_list s vs rest.id ids tail sat position.within is,
-      λ free. cc,
-    )
+-- What is left of a list of terms.
+module _ (s : State) (rest : Rest) (keeps : Keeps s) (within : rest.id < length s.terms) where
+  -- it may be added
+  pub rest_stands : (ids : List ℕ) (tail : Option ℕ) → term_at s rest.id ≡ list_of ids tail →
+      HasBefore rest.from (list_of ids tail) → MayStand s (list_of (drop rest.from ids) tail)
+  rest_stands ids None is before = (
+    later_below rest.id (length s.terms) rest.from ids (omega (arith, within))
+        (built_at s rest.id (T.List ids) keeps within is),
+    tt,
+    λ free. cc,
+  )
+  rest_stands ids (Some tail) is before =
+      let built : IsBuiltBelow rest.id (T.Cons ids tail) =
+      built_at s rest.id (T.Cons ids tail) keeps within is in (
+        (
+          later_below rest.id (length s.terms) rest.from ids (omega (arith, within)) built.0,
+          omega (arith, before, length-drop rest.from ids),
+          omega (arith, built.2, within),
+        ),
+        λ vs sat. tail_is_list s vs rest.id ids tail sat within is,
+        λ free. cc,
+      )
 
--- and a list has its value exactly where it is what is left of the list
-rest_has : (s : State) (vs : List Value) (rest : Rest) (t term : Term) (v : Value) →
-    Satisfies s vs → IsRest s rest → term_at s rest.id ≡ t → IsRestOf rest.from t term →
-    IsList v → (items_of v ≡ rest_value vs rest) ↔ HasValue vs term v
-rest_has s vs rest T.Free term v sat position is rest_is list = absurd rest_is
-rest_has s vs rest (T.Atom w) term v sat position is rest_is list = absurd rest_is
-rest_has s vs rest (T.Tuple ids) term v sat position is rest_is list = absurd rest_is
-rest_has s vs rest (T.List ids) term v sat position is rest_is list =
-    let left : rest_value vs rest ≡ map (value_at vs) (drop rest.from ids) =
-    rest-List s vs rest ids sat position.within is in
-    subst (λ u. (items_of v ≡ rest_value vs rest) ↔ HasValue vs u v) (sym rest_is) (
-      λ same. list_of_items v list ∙ ap (λ xs. Value.List xs) (same ∙ left),
-      λ has. ap items_of has ∙ items_of-list (map (value_at vs) (drop rest.from ids)) ∙ sym left,
-    )
-rest_has s vs rest (T.Cons ids tail) term v sat position is rest_is list =
-    let end = tail_is_list s vs rest.id ids tail sat position.within is in
-    let prefix : List Value = map (value_at vs) (drop rest.from ids) in
-    let left : rest_value vs rest ≡ prefix ++ items_of (value_at vs tail) =
-    rest-Cons s vs rest ids tail sat position.within is
-    (omega (arith, position.ahead ids tail is)) in
-    subst (λ u. (items_of v ≡ rest_value vs rest) ↔ HasValue vs u v) (sym rest_is) (
-      λ same. (
-        items_of (value_at vs tail),
-        list_of_items (value_at vs tail) end,
-        list_of_items v list ∙ ap (λ xs. Value.List xs) (same ∙ left),
-      ),
-      λ (more, tail_is, all_is).
-          ap items_of all_is ∙ items_of-list (prefix ++ more)
-          ∙ ap (λ xs. prefix ++ xs) (sym (ap items_of tail_is ∙ items_of-list more)) ∙ sym left,
-    )
+  -- and has just this value
+  rest_has : (vs : List Value) (ids : List ℕ) (tail : Option ℕ) (v : Value) → Satisfies s vs →
+      term_at s rest.id ≡ list_of ids tail → HasBefore rest.from (list_of ids tail) →
+      (v ≡ Value.List (rest_value vs rest)) ↔ HasValue vs (list_of (drop rest.from ids) tail) v
+  rest_has vs ids None v sat is before =
+      let left = ap (λ xs. Value.List xs) (rest-List s vs rest ids sat within is) in
+      (λ same. same ∙ left, λ has. has ∙ sym left)
+  rest_has vs ids (Some tail) v sat is before =
+      let end = tail_is_list s vs rest.id ids tail sat within is in
+      let prefix : List Value = map (value_at vs) (drop rest.from ids) in
+      let left : rest_value vs rest ≡ prefix ++ items_of (value_at vs tail) =
+      rest-Cons s vs rest ids tail sat within is (omega (arith, before)) in (
+        λ same. (
+          items_of (value_at vs tail),
+          list_of_items (value_at vs tail) end,
+          same ∙ ap (λ xs. Value.List xs) left,
+        ),
+        λ (more, tail_is, all_is).
+            all_is
+            ∙ ap (λ xs. Value.List (prefix ++ xs))
+            (sym (ap items_of tail_is ∙ items_of-list more)) ∙ ap (λ xs. Value.List xs) (sym left),
+      )
 
--- an equation that was noted
-finds_new : (s : State) (wish : List Value → Type 0) (before after : List Equation)
-    (equation : Equation) (answer : Bool) → IsNoted before after equation answer → IsFound s equation →
-    ((vs : List Value) → Satisfies s vs → wish vs ↔ GivesOther vs equation.var equation.other) →
-    Finds s wish before after answer
-finds_new s wish before after equation true noted found same =
-    finds_one s wish before after equation noted.1 found same
-finds_new s wish before after equation false noted found same =
-    absurd (false≢true noted.0)
+  rest_turns : (ids : List ℕ) (tail : Option ℕ) → term_at s rest.id ≡ list_of ids tail →
+      HasBefore rest.from (list_of ids tail) →
+      Turns s (IsOther (O.Left rest)) s (IsOf (list_of (drop rest.from ids) tail))
+  rest_turns ids tail is before =
+      turns_same s (IsOther (O.Left rest)) (IsOf (list_of (drop rest.from ids) tail)) keeps
+      (λ vs v sat. rest_has vs ids tail v sat is before)
 
--- A free variable whose value is always a list, and what is left of another list.
-module _ (s : State) (var : ℕ) (rest : Rest) (free : IsFree s var) (list : IsAlwaysList s var)
-    (position : IsRest s rest) where
-  -- the variable may have to be a new term
-  pub rest_noted : {E : Type 0} (term : Term) (before after : List Equation)
-      (r : Result Bool E) → Keeps s → IsRestOf rest.from (term_at s rest.id) term →
-      IfOk r (IsNoted before after (record { var = var; other = O.New term })) →
-      IfOk r (Finds s (λ vs. items_of (value_at vs var) ≡ rest_value vs rest) before after)
-  rest_noted term before after r keeps rest_is = IfOk-weaker r
-      (IsNoted before after (record { var = var; other = O.New term }))
-      (Finds s (λ vs. items_of (value_at vs var) ≡ rest_value vs rest) before after)
-      (λ answer noted. finds_new s (λ vs. items_of (value_at vs var) ≡ rest_value vs rest)
-      before after (record { var = var; other = O.New term }) answer noted
-      (record {
-        free = free;
-        stands = rest_stands s rest (term_at s rest.id) term keeps position refl rest_is;
-        apart = λ to is. absurd (let no : ⊥ = cc in no);
-      })
-      (λ vs sat. rest_has s vs rest (term_at s rest.id) term (value_at vs var) sat position refl
-      rest_is (list vs sat)))
+  pub list_added : {E : Type 0} (new : State) (ids left : List ℕ) (tail : Option ℕ)
+      (r : Result ℕ E) → term_at s rest.id ≡ list_of ids tail →
+      HasBefore rest.from (list_of ids tail) → left ≡ drop rest.from ids →
+      IfOk r (λ to. Turns s (IsOf (list_of left tail)) new (IsOther (O.Here to))) →
+      IfOk r (λ to. Turns s (IsOther (O.Left rest)) new (IsOther (O.Here to)))
+  list_added new ids left tail r is before is_left =
+      through_result s s new (IsOther (O.Left rest)) (IsOf (list_of left tail)) r
+      (subst (λ xs. Turns s (IsOther (O.Left rest)) s (IsOf (list_of xs tail))) (sym is_left)
+      (rest_turns ids tail is before))
+
+  -- of a value's list it is the list of the later values
+  values_turn : (list : Value) (values : List Value) → term_at s rest.id ≡ T.Atom list →
+      list ≡ Value.List values →
+      Turns s (IsOther (O.Left rest)) s (IsOther (O.Values (drop rest.from values)))
+  values_turn list values is are =
+      turns_same s (IsOther (O.Left rest)) (IsOther (O.Values (drop rest.from values))) keeps
+      (λ vs v sat.
+      let left : Value.List (rest_value vs rest) ≡ Value.List (drop rest.from values) =
+      ap (λ w. Value.List (drop rest.from (items_of w)))
+      (said s vs rest.id (T.Atom list) sat within is ∙ are)
+      ∙ ap (λ xs. Value.List (drop rest.from xs)) (items_of-list values) in
+      (λ same. same ∙ left, λ same. same ∙ sym left))
+
+  pub values_added : {E : Type 0} (new : State) (list : Value) (values left : List Value)
+      (r : Result ℕ E) → term_at s rest.id ≡ T.Atom list → list ≡ Value.List values →
+      left ≡ drop rest.from values →
+      IfOk r (λ to. Turns s (IsOther (O.Values left)) new (IsOther (O.Here to))) →
+      IfOk r (λ to. Turns s (IsOther (O.Left rest)) new (IsOther (O.Here to)))
+  values_added new list values left r is are is_left =
+      through_result s s new (IsOther (O.Left rest)) (IsOther (O.Values left)) r
+      (subst (λ xs. Turns s (IsOther (O.Left rest)) s (IsOther (O.Values xs))) (sym is_left)
+      (values_turn list values is are))
+
+-- a position after an element of a list is there
+pub before_rest : (s : State) (rest : Rest) (t : Term) → IsRest s rest → 0 < rest.from →
+    term_at s rest.id ≡ t → HasBefore rest.from t
+before_rest s rest T.Free position some is =
+    absurd (omega (arith, some, position.before, ap (λ u. length (elements_of u)) is))
+before_rest s rest (T.Atom v) position some is =
+    absurd (omega (arith, some, position.before, ap (λ u. length (elements_of u)) is))
+before_rest s rest (T.Tuple ids) position some is =
+    absurd (omega (arith, some, position.before, ap (λ u. length (elements_of u)) is))
+before_rest s rest (T.List ids) position some is =
+    omega (arith, position.before, ap (λ u. length (elements_of u)) is)
+before_rest s rest (T.Cons ids tail) position some is = position.ahead ids tail is
+
+-- a free variable whose value is always a list may have to be what is left of another
+pub rest_noted : {E : Type 0} (s : State) (var : ℕ) (rest : Rest) (before after : List Equation)
+    (r : Result Bool E) → IsFree s var → IsAlwaysList s var → IsRest s rest → 0 < rest.from →
+    IfOk r (IsNoted before after (record { var = var; other = O.Left rest })) →
+    IfOk r (Finds s (λ vs. items_of (value_at vs var) ≡ rest_value vs rest) before after)
+rest_noted s var rest before after r free list position some = IfOk-weaker r
+    (IsNoted before after (record { var = var; other = O.Left rest }))
+    (Finds s (λ vs. items_of (value_at vs var) ≡ rest_value vs rest) before after)
+    (λ answer noted. finds_noted s (λ vs. items_of (value_at vs var) ≡ rest_value vs rest) before
+    after var (O.Left rest) answer noted.0 noted.1 free
+    (position.within, before_rest s rest (term_at s rest.id) position some refl) (λ to is. cc)
+    (λ vs sat. (
+      λ same. list_of_items (value_at vs var) (list vs sat) ∙ ap (λ xs. Value.List xs) same,
+      λ is. ap items_of is ∙ items_of-list (rest_value vs rest),
+    )))
+
+-- What is left of values.
+module _ (s : State) (source : Option ℕ) (values left : List Value) (from : ℕ)
+    (is : IsSource s source (Value.List values)) (are : left ≡ drop from values)
+    (few : from ≤ length values) where
+  pub left_stands : CanStand s (left_other source from left)
+  left_stands = split source is where
+    split : (o : Option ℕ) → IsSource s o (Value.List values) →
+        CanStand s (left_other o from left)
+    split None none = tt
+    split (Some id) (within, at) =
+        (within, subst (HasBefore from) (sym at) (values, refl, few))
+
+  pub left_is : (vs : List Value) (v : Value) → Satisfies s vs →
+      (v ≡ Value.List left) ↔ IsOther (left_other source from left) vs v
+  left_is vs v sat = split source is where
+    split : (o : Option ℕ) → IsSource s o (Value.List values) →
+        (v ≡ Value.List left) ↔ IsOther (left_other o from left) vs v
+    split None none = (λ same. same, λ same. same)
+    split (Some id) (within, at) =
+        let there : Value.List left ≡ Value.List (drop from (items_of (value_at vs id))) =
+        ap (λ xs. Value.List xs) are
+        ∙ ap (λ xs. Value.List (drop from xs)) (sym (items_of-list values))
+        ∙ ap (λ w. Value.List (drop from (items_of w)))
+        (sym (said s vs id (T.Atom (Value.List values)) sat within at)) in
+        (λ same. same ∙ there, λ same. same ∙ sym there)
+
+pub left_not_here : (source : Option ℕ) (from to : ℕ) (left : List Value) →
+    left_other source from left ≢ O.Here to
+left_not_here None from to left = λ is. cc
+left_not_here (Some id) from to left = λ is. cc
+
+-- as many of the last elements as there are, of a list
+pub last_of_all : {X : Type 0} (n : ℕ) (all left : List X) → left ≡ drop n all →
+    (length left ≤ length all) × (left ≡ drop (length all - length left) all)
+last_of_all n all left is = ⊎_elim
+    (λ small.
+    let first : length all - length left ≡ n = omega (arith, long, small) in
+    (omega (arith, long), is ∙ ap (λ k. drop k all) (sym first)))
+    (λ big.
+    let none : length left ≡ 0 = omega (arith, long, big) in (
+      omega (arith, none),
+      nil_from_length left none
+          ∙ sym (drop_all (length all - length left) all (omega (arith, none))),
+    ))
+    (cases_lt n (length all))
+  where
+    long : length left ≡ length all - n
+    long = ap length is ∙ length-drop n all

@@ -1,3 +1,4 @@
+pub mod Adding
 pub mod Binding
 pub mod Classes
 pub mod Equations

@@ -77,10 +77,10 @@ fn compare_ends(
         return note(found, y, Other::Here(x));
     }
     if let Term::Atom(value) = store.term(x) {
-        return match_value(alloc, value, store, y, found);
+        return match_value(alloc, value, Some(x), store, y, found);
     }
     if let Term::Atom(value) = store.term(y) {
-        return match_value(alloc, value, store, x, found);
+        return match_value(alloc, value, Some(y), store, x, found);
     }
     if is_spelled(store, x) && is_spelled(store, y) {
         return compare_lists(alloc, store, x, y, made, found);

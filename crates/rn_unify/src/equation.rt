@@ -1,5 +1,6 @@
 //! Equations: a free variable, and what it has to be.
-use rn_term::Term;
+use crate::rests::Rest;
+use rn_value::{Vals, Value};
 
 /// A free variable, and what it has to be.
 #[derive(Debug, Drop)]
@@ -14,6 +15,12 @@ pub(crate) enum Other {
     /// What this id names.
     Here(usize),
 
-    /// A term that the store hasn't yet.
-    New(Term),
+    /// This value.
+    Value(Value),
+
+    /// A list of these values, which are what is left of a longer one.
+    Values(Vals),
+
+    /// What is left of a list of the store.
+    Left(Rest),
 }

@@ -5,6 +5,7 @@
 //! was bound already by an equation before, what it has to be besides is looked at in a next walk.
 #![tactic(auto)]
 
+mod adding;
 mod binding;
 mod classes;
 mod comparing;

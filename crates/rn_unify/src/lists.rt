@@ -4,7 +4,7 @@ ghost use Rattle.rn_term.specs.Stores.{link_of, term_at};
 ghost use Rattle.rn_term.specs.Assignments.{Keeps, value_at};
 ghost use Rattle.rn_term.specs.Occurring.{IsFree};
 ghost use Rattle.rn_term.specs.Forcing.{IsAlwaysList, items_of};
-ghost use Rattle.rn_unify.specs.Equations.{Adds, AreMade, Finds, IsRestOf};
+ghost use Rattle.rn_unify.specs.Equations.{Adds, AreMade, Finds};
 ghost use Rattle.rn_unify.specs.Rests.{IsRest, IsSpelled, elements_of, rest_value};
 ghost use Rattle.rn_unify.specs.Unifying.{AreOne};
 
@@ -13,7 +13,6 @@ use crate::comparing::{compare_each, note};
 use crate::equation::{Equation, Other};
 use crate::matching::match_rest;
 use crate::rests::{Rest, advance, elements, is_spelled, items};
-use rn_items::Items;
 use rn_term::{Store, Term};
 use rn_value::NoMemory;
 use std::alloc::Global;
@@ -76,18 +75,19 @@ fn compare_rests(
         found.old.items found.new.items yes) }
 {
     match store.term(left.id) {
-        Term::Free => variable_as_rest(alloc, store, left.id, right, found),
-        Term::Atom(value) => match_rest(alloc, items(value), store, right, found),
+        Term::Free => variable_as_rest(store, left.id, right, found),
+        Term::Atom(value) => { match_rest(alloc, items(value), Some(left.id), store, right, found) }
         _ => match store.term(right.id) {
-            Term::Atom(value) => match_rest(alloc, items(value), store, left, found),
-            _ => variable_as_rest(alloc, store, right.id, left, found),
+            Term::Atom(value) => {
+                match_rest(alloc, items(value), Some(right.id), store, left, found)
+            }
+            _ => variable_as_rest(store, right.id, left, found),
         },
     }
 }
 
 /// Notes that a free variable has to be the rest of a list.
 fn variable_as_rest(
-    alloc: Global,
     store: &Store,
     var: usize,
     rest: Rest,
@@ -102,27 +102,13 @@ fn variable_as_rest(
         found.old.items found.new.items yes) }
 {
     if rest.from > 0 {
-        let term = rest_term(alloc, store, rest)?;
-        return note(found, var, Other::New(term));
+        return note(found, var, Other::Left(rest));
     }
     if rest.id == var {
         Ok(true)
     } else {
         note(found, var, Other::Here(rest.id))
     }
-}
-
-/// The rest of a list, as a term of its own.
-fn rest_term(alloc: Global, store: &Store, rest: Rest) -> Result<Term, NoMemory>
-    requires rest { IsRest store.now rest }
-    requires some { 0 < rest.from }
-    ensures spelled { IfOk result (λ term. IsRestOf rest.from (term_at store.now rest.id) term) }
-{
-    let ids = Items::from_vec(Vec::from_slice(alloc, remaining(store, rest))?);
-    Ok(match store.term(rest.id) {
-        Term::Cons(_, tail) => Term::Cons(ids, *tail),
-        _ => Term::List(ids),
-    })
 }
 
 /// The elements of a list from an index on, before its tail.

@@ -1,7 +1,8 @@
 //! Matching terms against values: what gives a term a value.
 ghost use Rattle.std.specs.Prelude.{◌≡◌, ◌↔◌, ◌<◌, IsTrue, map, length, IfOk, All};
+ghost use Rattle.rn_value.specs.declared.value.Value.TheVariants as Worth;
 ghost use Rattle.rn_term.specs.Assignments.{Keeps, value_at};
-ghost use Rattle.rn_unify.specs.Equations.{Finds};
+ghost use Rattle.rn_unify.specs.Equations.{Finds, IsSource, left_other};
 ghost use Rattle.rn_unify.specs.Rests.{IsRest, rest_value};
 
 use crate::comparing::note;
@@ -12,16 +13,19 @@ use rn_term::{Store, Term};
 use rn_value::{NoMemory, Value, copy, copy_all, same, same_all};
 use std::alloc::Global;
 
-/// Appends the equations that give an id this value, or reports that nothing gives it.
+/// Appends the equations that give an id this value, or reports that nothing gives it. Where the
+/// value stands in the store, `source` is the id that names it.
 #[cycle(matching)]
 pub(crate) fn match_value(
     alloc: Global,
     value: &Value,
+    source: Option<usize>,
     store: &Store,
     id: usize,
     found: &mut Vec<Equation>,
 ) -> Result<bool, NoMemory>
     requires within { id < length store.now.terms }
+    requires source { IsSource store.now source value.now }
     ensures found { IfOk result
         (λ yes. Finds store.now (λ vs. value_at vs id ≡ value.now)
         found.old.items found.new.items yes) }
@@ -29,8 +33,8 @@ pub(crate) fn match_value(
     let end = store.follow(id);
     match store.term(end) {
         Term::Free => {
-            let atom = Term::Atom(copy(alloc, value)?);
-            note(found, end, Other::New(atom))
+            let value = copy(alloc, value)?;
+            note(found, end, Other::Value(value))
         }
         Term::Atom(other) => Ok(same(other, value)),
         Term::Tuple(ids) => match value {
@@ -44,6 +48,7 @@ pub(crate) fn match_value(
                 match_rest(
                     alloc,
                     parts.as_slice(),
+                    source,
                     store,
                     Rest { id: end, from: 0 },
                     found,
@@ -72,28 +77,32 @@ fn match_parts(
         return Ok(false);
     }
     for k in 0..values.len() {
-        if !match_value(alloc, &values[k], store, ids[k], found)? {
+        if !match_value(alloc, &values[k], None, store, ids[k], found)? {
             return Ok(false);
         }
     }
     Ok(true)
 }
 
-/// The same of the rest of a list and its elements. It is gone through along its tails.
+/// The same of the rest of a list and its elements. It is gone through along its tails. Where the
+/// elements are those of a list of the store, `source` is the id that names this.
 #[cycle(matching)]
 pub(crate) fn match_rest(
     alloc: Global,
     values: &[Value],
+    source: Option<usize>,
     store: &Store,
     rest: Rest,
     found: &mut Vec<Equation>,
 ) -> Result<bool, NoMemory>
     requires kept { Keeps store.now }
     requires rest { IsRest store.now rest }
+    requires source { IsSource store.now source (Worth.List values.now) }
     ensures found { IfOk result
         (λ yes. Finds store.now (λ vs. rest_value vs rest ≡ values.now)
         found.old.items found.new.items yes) }
 {
+    let all = values.len();
     let mut values = values;
     let mut rest = rest;
     loop {
@@ -115,10 +124,25 @@ pub(crate) fn match_rest(
             }
             Term::Atom(list) => return Ok(same_all(items(list), values)),
             Term::Free => {
-                let atom = Term::Atom(Value::List(copy_all(alloc, values)?));
-                return note(found, rest.id, Other::New(atom));
+                let left = left_of(alloc, source, all - values.len(), values)?;
+                return note(found, rest.id, left);
             }
             Term::Tuple(_) => unreachable!(),
         }
+    }
+}
+
+/// What is left of a list's elements from one on. It is copied where no id names the list.
+fn left_of(
+    alloc: Global,
+    source: Option<usize>,
+    from: usize,
+    left: &[Value],
+) -> Result<Other, NoMemory>
+    ensures { IfOk result (λ other. other ≡ left_other source from left.now) }
+{
+    match source {
+        Some(id) => Ok(Other::Left(Rest { id, from })),
+        None => Ok(Other::Values(copy_all(alloc, left)?)),
     }
 }

@@ -9,6 +9,7 @@ ghost use Rattle.rn_value.specs.declared.value.Value.{Value};
 ghost use Rattle.rn_unify.specs.Equations.{IsFound, Solves};
 
 use crate::equation::{Equation, Other};
+use crate::rests::Rest;
 use rn_term::{Store, Term};
 
 /// The same equations, the last one to be bound first.
@@ -43,7 +44,8 @@ fn leads_back(store: &Store, equations: &[Equation]) -> bool {
 fn leads_to(store: &Store, other: &Other, var: usize) -> bool {
     match other {
         Other::Here(id) => *id < store.size() && ends_in(store, store.term(*id), var),
-        Other::New(term) => ends_in(store, term, var),
+        Other::Left(rest) => rest_ends_in(store, *rest, var),
+        _ => false,
     }
 }
 
@@ -53,6 +55,20 @@ fn ends_in(store: &Store, term: &Term, var: usize) -> bool {
         Term::Cons(_, tail) => is_at(store, *tail, var),
         Term::Tuple(ids) => begins_or_ends(store, ids.as_slice(), var),
         Term::List(ids) => begins_or_ends(store, ids.as_slice(), var),
+        _ => false,
+    }
+}
+
+/// The same of what is left of a list.
+fn rest_ends_in(store: &Store, rest: Rest, var: usize) -> bool {
+    if rest.id >= store.size() {
+        return false;
+    }
+    match store.term(rest.id) {
+        Term::Cons(_, tail) => is_at(store, *tail, var),
+        Term::List(ids) => {
+            rest.from < ids.len() && begins_or_ends(store, &ids[rest.from..], var)
+        }
         _ => false,
     }
 }

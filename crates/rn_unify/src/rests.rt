@@ -12,7 +12,7 @@ use rn_value::Value;
 
 /// What is left of a list from one of its elements on. The list is that of an id, and the element
 /// is one before its tail, by its index from 0.
-#[derive(Clone, Copy, Debug)]
+#[derive(Clone, Copy, Debug, PartialEq, Eq)]
 pub(crate) struct Rest {
     pub(crate) id: usize,
     pub(crate) from: usize,

@@ -7,14 +7,14 @@ ghost use Rattle.rn_term.specs.Assignments.{Keeps, MayBeOne, Satisfies};
 ghost use Rattle.rn_term.specs.Occurring.{IsFree};
 ghost use Rattle.rn_term.specs.Undoing.{LeavesEarlier};
 ghost use Rattle.rn_unify.specs.Binding.{IsBound};
-ghost use Rattle.rn_unify.specs.Equations.{AreEachOne, AreWithin, CanStand, Finds, IsFound};
-ghost use Rattle.rn_unify.specs.Equations.{IsAdded, Solves};
+ghost use Rattle.rn_unify.specs.Equations.{AreEachOne, AreWithin, Finds, IsFound, Solves};
 ghost use Rattle.rn_unify.specs.Unifying.{SaysBoth};
 
+use crate::adding::add_other;
 use crate::binding::solve;
 use crate::classes::Classes;
 use crate::comparing::compare;
-use crate::equation::{Equation, Other};
+use crate::equation::Equation;
 use crate::ordering::in_order;
 use rn_term::Store;
 use rn_value::NoMemory;
@@ -91,24 +91,12 @@ fn bind_all(
 {
     let mut rest = equations;
     let mut later = Vec::new(alloc);
+    let mut newest = None;
     while let Some(Equation { var, other }) = rest.pop() {
-        let to = add_other(store, other)?;
+        let to = add_other(alloc, store, other, &mut newest)?;
         if !solve(alloc, store, var, to, &mut later)? {
             return Ok(None);
         }
     }
     Ok(Some(later))
-}
-
-/// The id of what a variable has to be, which is added where it is new.
-fn add_other(store: &mut Store, other: Other) -> Result<usize, NoMemory>
-    requires kept { Keeps store.old }
-    requires other { CanStand store.old other }
-    ensures added { IfOk result (λ to. IsAdded store.old store.new other to) }
-    ensures err { OnErr result (store.new ≡ store.old) }
-{
-    match other {
-        Other::Here(id) => Ok(id),
-        Other::New(term) => store.add(term),
-    }
 }

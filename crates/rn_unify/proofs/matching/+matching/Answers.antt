@@ -1,4 +1,5 @@
-use Rattle.std.proofs.Common.{◌≡◌, ◌≤◌, ◌<◌, ◌+◌, ◌-◌, map, take, drop, get_or, length, List}
+use Rattle.std.proofs.Common.{◌≡◌, ◌≤◌, ◌<◌, ◌+◌, ◌-◌, map, take, drop, get_or, length}
+use Rattle.std.proofs.Common.{List, [], ◌∷◌, ◌++◌}
 use Rattle.std.proofs.Common.{true, false, refl, sym, ◌∙◌, ap, subst, arith}
 use Rattle.std.specs.Prelude.{◌↔◌}
 use Rattle.std.proofs.lemmas.List.{drop-drop}
@@ -19,31 +20,36 @@ use Rattle.rn_unify.specs.Rests.{elements_of, rest_value}
 use Rattle.rn_unify.proofs.MatchingValues.{value_of_end, as_tuple, as_list, has_list, one_more}
 use Rattle.rn_unify.proofs.MatchingValues.{back_no_deeper, part_no_deeper}
 use Rattle.rn_unify.proofs.Findings.{finds_same, finds_same_result, finds_answer, finds_then}
-use Rattle.rn_unify.proofs.Findings.{finds_both, finds_value}
+use Rattle.rn_unify.proofs.Findings.{finds_both, finds_noted}
 use Rattle.rn_unify.proofs.ListPrefixes.{from_on, from_on-drop, drop_within, prefix_read}
 use Rattle.rn_unify.proofs.ListPrefixes.{ahead_within, ahead_wish, enough_values}
 use Rattle.rn_unify.proofs.ListPrefixes.{wish_goes_on, some_ahead}
 use Rattle.rn_unify.proofs.ListPositions.{built_at, rest-List, rest-start}
+use Rattle.rn_unify.specs.declared.equation.Other.TheVariants as O
+use Rattle.rn_unify.specs.Equations.{IsOther, left_other}
+use Rattle.rn_unify.proofs.RestTerms.{last_of_all, left_is, left_stands, left_not_here}
 use Rattle.rn_unify.proofs.matching.+matching.Goals as goal
 
-pub match_value-returns-in_ok-copy-in-Free : goal.match_value-returns-in_ok-copy-in-Free
-match_value-returns-in_ok-copy-in-Free t c =
+pub match_value-returns-in_ok-value-in-Free : goal.match_value-returns-in_ok-value-in-Free
+match_value-returns-in_ok-value-in-Free t c =
     let s = c.args.store.now in
     let e = c.follow-end.ensures in
     let end = c.follow-end.result in
-    let v = c.in_ok-copy-in-Free.field-0 in
-    let copied = c.in_ok-copy-in-Free.ensures in
+    let v = c.in_ok-value-in-Free.value in
+    let copied = c.in_ok-value-in-Free.ensures in
     let before = c.args.found.now.items in
     let after = c.note.new.found.items in
     let wish : List Value → Type 0 = λ vs. value_at vs c.args.id ≡ c.args.value.now in
     record {
       found = IfOk-weaker c.note.result _ (Finds s wish before after)
-          (λ yes noted. finds_value s wish before after end v yes noted.0 noted.1
+          (λ yes noted. finds_noted s wish before after end (O.Value v) yes noted.0
+          noted.1
           (record {
             within = e.within;
             variable = sym c.term.ensures ∙ c.in-Free.is;
             unbound = e.end;
           })
+          tt (λ to is. cc)
           (λ vs sat.
           let at = leads-same s vs c.args.id end sat e.leads in
           (λ is. sym at ∙ is ∙ sym copied, λ is. at ∙ is ∙ copied)))
@@ -322,25 +328,34 @@ match_rest-returns-in-Free t c =
     let position = inv.rest in
     let now = c.loop-ids.found.items in
     let after = c.note.new.found.items in
-    let copies = c.in_ok-copy_all-in-Free.field-0 in
-    let copied = c.in_ok-copy_all-in-Free.ensures in
+    let source = c.args.source in
+    let all = c.args.values.now in
+    let from = length all - length values in
+    let other = left_other source from values in
+    let last = last_of_all inv.behind.0 all values inv.behind.1 in
     let free : term_at s rest.id ≡ T.Free = sym c.term.ensures ∙ c.in-Free.is in
     let here : List Value → Type 0 = λ vs. rest_value vs rest ≡ values in
     let same : (vs : List Value) → Satisfies s vs →
-    here vs ↔ (value_at vs rest.id ≡ Value.List copies) =
+    here vs ↔ IsOther other vs (value_at vs rest.id) =
     λ vs sat.
     let start = rest-start s vs rest position (ap elements_of free) in
     let lists =
-    as_list (value_at vs rest.id) (Value.List copies) copies (position.list vs sat) refl in (
-      λ is. lists.1 (sym start ∙ is ∙ sym copied),
-      λ is. start ∙ lists.0 is ∙ copied,
+    as_list (value_at vs rest.id) (Value.List values) values (position.list vs sat) refl in
+    let left = left_is s source all values from c.requires.source last.1 (omega arith) vs
+    (value_at vs rest.id) sat in (
+      λ is. left.0 (lists.1 (sym start ∙ is)),
+      λ is. start ∙ lists.0 (left.1 is),
     ) in
+    let left = c.in_ok-left-in-Free in
     record {
       found = IfOk-weaker c.note.result _
           (Finds s (λ vs. rest_value vs c.args.rest ≡ c.args.values.now)
           c.args.found.now.items after)
-          (λ yes noted. inv.whole after yes (finds_value s here now after rest.id
-          (Value.List copies) yes noted.0 noted.1
-          (record { within = position.within; variable = free; unbound = position.end }) same))
+          (λ yes noted. inv.whole after yes (finds_noted s here now after rest.id other yes noted.0
+          (subst (λ o. after ≡ now ++ record { var = rest.id; other = o } ∷ []) left.ensures
+          noted.1)
+          (record { within = position.within; variable = free; unbound = position.end })
+          (left_stands s source all values from c.requires.source last.1 (omega arith))
+          (λ to. left_not_here source from to values) same))
           c.note.ensures.noted;
     }

@@ -1,0 +1,15 @@
+use Rattle.rn_term.specs.declared.term.Term.TheVariants as T
+use Rattle.rn_unify.specs.declared.equation.Other.TheVariants as O
+use Rattle.rn_unify.specs.Adding.{IsOf}
+use Rattle.rn_unify.specs.Equations.{IsOther}
+use Rattle.rn_unify.proofs.Blocks.{through_result}
+use Rattle.rn_unify.proofs.adding.add_values.Goals as goal
+
+pub returns-in_ok-ids-clause-added : goal.returns-in_ok-ids-clause-added
+returns-in_ok-ids-clause-added c =
+    through_result c.args.store.now c.add_each.new.store c.add_list.new.store
+    (IsOther (O.Values c.args.values.items)) (IsOf (T.List c.in_ok-ids.ids.items))
+    c.add_list.result c.in_ok-ids.ensures.added c.add_list.ensures.added
+
+pub returns-else-len-gt-WHOLE-clause-added : goal.returns-else-len-gt-WHOLE-clause-added
+returns-else-len-gt-WHOLE-clause-added c = rw c.from_vec.ensures at c.add_term.ensures.added
