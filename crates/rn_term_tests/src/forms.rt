@@ -50,7 +50,7 @@ fn taken(
     Ok(Items::from_vec(ids))
 }
 
-fn are_within(ids: &Ids, size: usize) -> bool
+pub(crate) fn are_within(ids: &Ids, size: usize) -> bool
     ensures { IsTrue result ↔ All (λ id. id < size) ids.now }
 {
     ids.iter().all(|id| *id < size)

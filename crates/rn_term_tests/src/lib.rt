@@ -10,6 +10,8 @@ mod growing;
 #[cfg(test)]
 mod making;
 #[cfg(test)]
+mod taking_apart;
+#[cfg(test)]
 mod term;
 #[cfg(test)]
 mod unify;
