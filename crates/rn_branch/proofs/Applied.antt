@@ -1,5 +1,5 @@
 -- The operator applications beside decisions, as these come and are taken back.
-use Rattle.std.proofs.Common.{◌≡◌, ℕ, ◌<◌, List, [], ◌∷◌, ◌++◌, get_or, length, map, take, refl}
+use Rattle.std.proofs.Common.{◌≡◌, ℕ, ◌<◌, List, [], ◌∷◌, ◌++◌, get_or, length, map, take}
 use Rattle.std.proofs.Common.{◌∙◌, ap, sym, subst, arith}
 use Rattle.std.specs.Prelude.{Option, Some, option_map, slice_get, unwrap_or}
 use Rattle.std.proofs.lemmas.Option.{slice_get_within}
@@ -19,10 +19,6 @@ use Rattle.rn_branch.specs.Applying.{AreApplied, AreAppliedIn, IsEntryAt, KeepsA
 use Rattle.rn_branch.specs.Branches.{IsBranchOf}
 use Rattle.rn_branch.specs.Settling.{KeepsSettled}
 use Rattle.rn_branch.proofs.ListsBeside.{zip_at, zip_last, zip_lengths, zip_take}
-
-pub applied_none : (system : System) →
-    KeepsApplied system (record { system = system; decisions = [] }) []
-applied_none system = record { same = refl; applied = tt }
 
 pub applied_more : (system : System) (g : Grown) (d : Decision)
     (applications : List (List Application)) (found : List Application) →

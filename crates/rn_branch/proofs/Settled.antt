@@ -1,5 +1,5 @@
 -- Decisions that are settled stay so, and what is kept of how many are.
-use Rattle.std.proofs.Common.{◌≡◌, ℕ, zero, suc, ◌<◌, ◌≤◌, List, [], ◌∷◌, ◌++◌, length, take, refl}
+use Rattle.std.proofs.Common.{◌≡◌, ℕ, zero, suc, ◌<◌, ◌≤◌, List, [], ◌∷◌, ◌++◌, length, take}
 use Rattle.std.proofs.Common.{sym, ap, ◌∙◌, subst, inl, inr, arith, length-append}
 use Rattle.std.specs.Prelude.{Some, None, slice_get}
 use Rattle.std.proofs.lemmas.List.{length-take-le, take-append-le, take-take}
@@ -63,18 +63,7 @@ settled_by_look sought ds n look within is looked = record {
   decided = subst (Looked sought ds (IsOfEntries ds n)) is looked;
 }
 
--- What is kept where nothing is decided,
-pub keeps_none : (system : System) → KeepsSettled (record { system = system; decisions = [] }) 0 []
-keeps_none system = record {
-  so_far = record {
-    within = omega arith;
-    decided = λ d of asked. absurd (let low = of.1 in let no : ⊥ = omega (arith, low) in no);
-  };
-  each = refl;
-  earlier = λ k n at. absurd (let no : ⊥ = cc in no);
-}
-
--- where one more decision is made,
+-- What is kept where one more decision is made,
 pub keeps_more : (g : Grown) (d : Decision) (settled : ℕ) (before : List ℕ) →
     KeepsSettled g settled before →
     KeepsSettled (with_decision g d) settled (before ++ settled ∷ [])

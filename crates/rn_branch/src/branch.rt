@@ -15,6 +15,7 @@ ghost use Rattle.rn_branch.specs.Settling.{IsNextOf};
 use crate::look::Look;
 use crate::made::binding_of;
 use crate::parts::transition_in;
+use crate::room::Room;
 use crate::settling::Settling;
 use crate::testing::{Tests, forget_beyond};
 use crate::trying::is_vain;
@@ -75,13 +76,27 @@ impl<'a> Branch<'a> {
         requires { HasFewCreations system.now }
         ensures { result ≡ record { system = system.now; decisions = [] } }
     {
+        Branch::open_in(alloc, Room::new(alloc), system, first)
+    }
+
+    /// The same, in the room of another branch.
+    pub fn open_in(alloc: Global, room: Room, system: &'a System, first: usize) -> Branch<'a>
+        requires { HasFewCreations system.now }
+        ensures { result ≡ record { system = system.now; decisions = [] } }
+    {
         Branch {
             alloc,
-            growing: Settling::open(alloc, system),
+            growing: Settling::open_in(alloc, room, system),
             first,
             last: None,
             tests: None,
         }
+    }
+
+    /// Its room, for another branch.
+    pub fn into_room(self) -> Room {
+        let Branch { growing, .. } = self;
+        growing.into_room()
     }
 }
 

@@ -18,6 +18,7 @@ mod made;
 mod offer;
 mod parts;
 mod results;
+mod room;
 mod settling;
 mod taking;
 mod testing;
@@ -27,3 +28,4 @@ mod trying;
 
 pub use among::SHARES;
 pub use branch::Branch;
+pub use room::Room;

@@ -10,6 +10,7 @@ ghost use Rattle.rn_branch.specs.Things.{IsOfEntries};
 
 use crate::look::Look;
 use crate::looking::look_at_all;
+use crate::room::Room;
 use rn_binding::{Application, applications_of};
 use rn_growing::{Decision, Growing};
 use rn_items::Items;
@@ -69,19 +70,42 @@ impl<'a> Model for Settling<'a> {
 }
 
 impl<'a> Settling<'a> {
-    /// Nothing is decided. It takes no memory.
-    pub(crate) fn open(alloc: Global, system: &'a System) -> Settling<'a>
+    /// Nothing is decided. It is in the room of another one, and takes no memory.
+    pub(crate) fn open_in(alloc: Global, room: Room, system: &'a System) -> Settling<'a>
         requires { HasFewCreations system.now }
         ensures { result ≡ record { system = system.now; decisions = [] } }
     {
+        let Room {
+            growing,
+            before,
+            tested_before,
+        } = room;
         Settling {
             system,
-            growing: Growing::open(alloc, system),
+            growing: Growing::open_in(growing, system),
             settled: 0,
-            before: Vec::new(alloc),
+            before,
             applications: Vec::new(alloc),
             tested: 0,
-            tested_before: Vec::new(alloc),
+            tested_before,
+        }
+    }
+
+    /// Its room, for another one. The operator applications are of its system, so their vector
+    /// isn't kept.
+    pub(crate) fn into_room(self) -> Room {
+        let Settling {
+            growing,
+            mut before,
+            mut tested_before,
+            ..
+        } = self;
+        before.clear();
+        tested_before.clear();
+        Room {
+            growing: growing.into_room(),
+            before,
+            tested_before,
         }
     }
 

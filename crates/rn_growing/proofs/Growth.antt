@@ -18,44 +18,11 @@ use Rattle.rn_growing.specs.declared.decision.Decision.{Decision}
 use Rattle.rn_growing.specs.declared.slot.Frame.{Frame}
 use Rattle.rn_growing.specs.Equations.{Brings, Solves, IsSolvable}
 use Rattle.rn_growing.specs.Turns.{AreInTurn, MayCome, SameThing}
-use Rattle.rn_growing.specs.Layouts.{id_of, IsLaidIn, Reads}
+use Rattle.rn_growing.specs.Layouts.{id_of, IsLaidIn}
 use Rattle.rn_growing.specs.Laid.{LaidState, Gives, Grows, Adds}
 use Rattle.rn_growing.proofs.Telling.{assigned, assigned_reads}
-use Rattle.rn_growing.specs.Grown.{Grown, HasFewCreations, IsNew, Says, laid_at, IsEarlier}
+use Rattle.rn_growing.specs.Grown.{Grown, IsNew, Says, laid_at, IsEarlier}
 use Rattle.rn_growing.specs.Grown.{KeepsGrowing, Tries, TriesIn}
-
--- nothing is decided
-pub opened : (system : System) (laid : LaidState) (ds : List Decision) (frames : List Frame) →
-    HasFewCreations system → Keeps laid.store → IsLaidIn (id_of laid.slots) laid.store →
-    laid.slots ≡ [] → ds ≡ [] → frames ≡ [] → KeepsGrowing system laid ds frames
-opened system laid ds frames few keeps laid_in none undecided unframed =
-    subst (KeepsGrowing system laid ds) (sym unframed)
-    (subst (λ es. KeepsGrowing system laid es []) (sym undecided)
-    (record {
-      few = few;
-      turns = record {
-        came = λ k d at. absurd (let no : ⊥ = cc in no);
-        once = λ j k d e less at other. absurd (let no : ⊥ = cc in no);
-      };
-      says = record {
-        keeps = keeps;
-        laid_in = laid_in;
-        exact = λ a. (
-          λ all. (
-            keeps.satisfied.0,
-            keeps.satisfied.1,
-            subst
-                (λ slots. Reads (id_of slots) a keeps.satisfied.0) (sym none)
-                (λ path u id at. absurd (let no : ⊥ = cc in no)),
-          ),
-          λ given d there. absurd (let h = there.1 in let no : ⊥ = omega (arith, h) in no),
-        );
-      };
-      each = refl;
-      earlier = λ k frame at. absurd (let no : ⊥ = cc in no);
-      rising = λ j k one other le first second. absurd (let no : ⊥ = cc in no);
-      before = λ k frame at. absurd (let no : ⊥ = cc in no);
-    }))
 
 pub some_equal : {A : Type 0} (x y : A) → Some x ≡ Some y → x ≡ y
 some_equal x y e = cc

@@ -18,6 +18,7 @@ use crate::bringing::try_bring;
 use crate::chains::Chains;
 use crate::decision::{Caller, Decision, Head, Site, Way};
 use crate::laid::Laid;
+use crate::room::Room;
 use crate::slot::{Frame, Unknown};
 use crate::thing::{Thing, is_decided, key_of};
 use rn_model::{Expr, System};
@@ -69,14 +70,48 @@ impl<'a> Growing<'a> {
         requires { HasFewCreations system.now }
         ensures { result ≡ record { system = system.now; decisions = [] } }
     {
-        let laid = Laid::new(alloc);
+        Growing::open_in(Room::new(alloc), system)
+    }
+
+    /// The same, in the room of another binding.
+    pub fn open_in(room: Room, system: &'a System) -> Growing<'a>
+        requires { HasFewCreations system.now }
+        ensures { result ≡ record { system = system.now; decisions = [] } }
+    {
+        let Room {
+            laid,
+            decisions,
+            frames,
+            keys,
+        } = room;
         let _kept = laid.frame();
         Growing {
             system,
             laid,
-            decisions: Vec::new(alloc),
-            frames: Vec::new(alloc),
-            keys: Chains::new(alloc),
+            decisions,
+            frames,
+            keys,
+        }
+    }
+
+    /// Its room, for another binding.
+    pub fn into_room(self) -> Room {
+        let Growing {
+            mut laid,
+            mut decisions,
+            mut frames,
+            mut keys,
+            ..
+        } = self;
+        laid.clear();
+        decisions.clear();
+        frames.clear();
+        keys.truncate(0);
+        Room {
+            laid,
+            decisions,
+            frames,
+            keys,
         }
     }
 

@@ -11,7 +11,7 @@ ghost use Rattle.rn_growing.specs.Layouts.{IsLaidIn, asked, id_of};
 use crate::slot::{Frame, Slot, Unknown};
 use crate::slots::Slots;
 use rn_items::Items;
-use rn_term::{Ids, Store, Term};
+use rn_term::{Ids, Mark, Store, Term};
 use rn_unify::unify;
 use rn_value::{NoMemory, Value};
 use std::alloc::Global;
@@ -72,6 +72,16 @@ impl Laid {
     {
         self.store.undo(&to.mark);
         self.slots.truncate(to.slots);
+    }
+
+    /// Takes back all.
+    pub(crate) fn clear(&mut self)
+        ensures { self.new ≡ record { store = record { terms = []; notes = [] }; slots = [] } }
+    {
+        self.undo(&Frame {
+            mark: Mark { size: 0, notes: 0 },
+            slots: 0,
+        });
     }
 
     /// The id of an unknown of a node, which is new where it has none yet.

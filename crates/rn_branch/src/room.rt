@@ -1,0 +1,32 @@
+//! The vectors of branches, from one to the next.
+use std::alloc::Global;
+use std::marker::Model;
+
+/// The vectors of a branch that was searched, empty, for the next one.
+#[derive(Drop)]
+pub struct Room {
+    pub(crate) growing: rn_growing::Room,
+    pub(crate) before: Vec<usize>,
+    pub(crate) tested_before: Vec<usize>,
+}
+
+impl Model for Room {
+    ghost use Rattle.std.specs.Prelude.{◌≡◌, [], ⊤};
+
+    ghost Value = { ⊤ };
+
+    ghost view = { λ _. tt };
+
+    ghost invariant = { λ r. (r.before.items ≡ []) };
+}
+
+impl Room {
+    /// It takes no memory.
+    pub fn new(alloc: Global) -> Room {
+        Room {
+            growing: rn_growing::Room::new(alloc),
+            before: Vec::new(alloc),
+            tested_before: Vec::new(alloc),
+        }
+    }
+}

@@ -1,0 +1,39 @@
+//! The vectors of bindings, from one to the next.
+use crate::chains::Chains;
+use crate::decision::Decision;
+use crate::laid::Laid;
+use crate::slot::Frame;
+use std::alloc::Global;
+use std::marker::Model;
+
+/// The vectors of a binding that grew, empty, for the next one.
+#[derive(Drop)]
+pub struct Room {
+    pub(crate) laid: Laid,
+    pub(crate) decisions: Vec<Decision>,
+    pub(crate) frames: Vec<Frame>,
+    pub(crate) keys: Chains,
+}
+
+impl Model for Room {
+    ghost use Rattle.std.specs.Prelude.{◌≡◌, [], ⊤};
+
+    ghost Value = { ⊤ };
+
+    ghost view = { λ _. tt };
+
+    ghost invariant = { λ r. (r.laid.slots ≡ []) × (r.decisions.items ≡ [])
+        × (r.frames.items ≡ []) × (r.keys ≡ []) };
+}
+
+impl Room {
+    /// It takes no memory.
+    pub fn new(alloc: Global) -> Room {
+        Room {
+            laid: Laid::new(alloc),
+            decisions: Vec::new(alloc),
+            frames: Vec::new(alloc),
+            keys: Chains::new(alloc),
+        }
+    }
+}
