@@ -16,13 +16,11 @@ ghost use Rattle.rn_table.specs.Tables.{IsTableOf};
 ghost use Rattle.rn_found.specs.Starting.{AreJust, IsMore, IsSearchable, start_of};
 
 use crate::marked::{Marked, problem_at};
+use crate::room::Room;
 use crate::starts::{may_start, transition_count};
 use rn_binding::Candidate;
-use rn_branch::Branch;
 use rn_channel::Uplinks;
-use rn_choices::Choices;
 use rn_model::{System, compare_bindings};
-use rn_search::Point;
 use rn_table::Table;
 use rn_value::NoMemory;
 use std::alloc::Global;
@@ -31,7 +29,7 @@ use std::alloc::Global;
 fn all_from(
     alloc: Global,
     marked: Marked<'_>,
-    choices: &mut Choices<Point>,
+    room: &mut Room,
     number: u32,
     net: u32,
     transition: u32,
@@ -47,8 +45,9 @@ fn all_from(
         return Ok(Vec::new(alloc));
     }
     let problem = problem_at(alloc, marked, number, net, transition);
-    let mut branch = Branch::open(alloc, marked.system, 0);
-    let found = rn_choices::all(alloc, &problem, &mut branch, choices)?;
+    let mut branch = room.open(alloc, marked.system, 0);
+    let found = rn_choices::all(alloc, &problem, &mut branch, &mut room.choices)?;
+    room.branch = branch.into_room();
     Ok(found)
 }
 
@@ -56,7 +55,7 @@ fn all_from(
 fn put_at(
     alloc: Global,
     marked: Marked<'_>,
-    choices: &mut Choices<Point>,
+    room: &mut Room,
     number: u32,
     found: &mut Vec<Candidate>,
 ) -> Result<(), NoMemory>
@@ -70,7 +69,7 @@ fn put_at(
     };
     let count = transition_count(marked.system, net);
     for t in 0..count {
-        let mut more = all_from(alloc, marked, choices, number, net, t)?;
+        let mut more = all_from(alloc, marked, room, number, net, t)?;
         found.append(&mut more)?;
     }
     Ok(())
@@ -85,10 +84,10 @@ fn all_of(alloc: Global, marked: Marked<'_>) -> Result<Vec<Candidate>, NoMemory>
 {
     let _end = marked.table.next();
     let mut found = Vec::new(alloc);
-    let mut choices = Choices::new(alloc);
+    let mut room = Room::new(alloc);
     let mut from = 0;
     while let Some(number) = marked.table.first_starting(from) {
-        put_at(alloc, marked, &mut choices, number, &mut found)?;
+        put_at(alloc, marked, &mut room, number, &mut found)?;
         from = number + 1;
     }
     Ok(found)

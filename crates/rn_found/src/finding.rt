@@ -11,13 +11,12 @@ ghost use Rattle.rn_found.specs.Starting.{IsNoStart, IsNoStartIn, IsSearchable, 
 
 use crate::hint::Hint;
 use crate::marked::{Marked, problem_at};
+use crate::room::Room;
 use crate::starts::{may_start, transition_count};
 use rn_binding::Candidate;
-use rn_branch::Branch;
 use rn_channel::Uplinks;
-use rn_choices::{Asked, Choices, Flag, Halt, ToTheEnd};
+use rn_choices::{Asked, Flag, Halt, ToTheEnd};
 use rn_model::System;
-use rn_search::Point;
 use rn_table::Table;
 use rn_value::NoMemory;
 use std::alloc::Global;
@@ -26,7 +25,7 @@ use std::alloc::Global;
 /// binding.
 #[derive(Drop)]
 pub struct Finding {
-    choices: Choices<Point>,
+    room: Room,
     hint: Hint,
 }
 
@@ -35,7 +34,7 @@ fn find_from<A: Asked>(
     alloc: Global,
     asked: &A,
     marked: Marked<'_>,
-    choices: &mut Choices<Point>,
+    room: &mut Room,
     number: u32,
     net: u32,
     transition: u32,
@@ -54,8 +53,9 @@ fn find_from<A: Asked>(
         return Ok(None);
     }
     let problem = problem_at(alloc, marked, number, net, transition);
-    let mut branch = Branch::open(alloc, marked.system, token);
-    let found = rn_choices::find_while(alloc, &problem, &mut branch, choices, asked)?;
+    let mut branch = room.open(alloc, marked.system, token);
+    let found = rn_choices::find_while(alloc, &problem, &mut branch, &mut room.choices, asked)?;
+    room.branch = branch.into_room();
     Ok(found)
 }
 
@@ -64,7 +64,7 @@ fn find_among<A: Asked>(
     alloc: Global,
     asked: &A,
     marked: Marked<'_>,
-    choices: &mut Choices<Point>,
+    room: &mut Room,
     number: u32,
     net: u32,
     from: u32,
@@ -82,7 +82,7 @@ fn find_among<A: Asked>(
         (start_of number net t))) }
 {
     for t in from..to {
-        if let Some(found) = find_from(alloc, asked, marked, choices, number, net, t, token)? {
+        if let Some(found) = find_from(alloc, asked, marked, room, number, net, t, token)? {
             return Ok(Some((t, found)));
         }
     }
@@ -94,7 +94,7 @@ fn find_at<A: Asked>(
     alloc: Global,
     asked: &A,
     marked: Marked<'_>,
-    choices: &mut Choices<Point>,
+    room: &mut Room,
     number: u32,
     first: u32,
     token: usize,
@@ -111,12 +111,10 @@ fn find_at<A: Asked>(
     };
     let count = transition_count(marked.system, net);
     let first = first.min(count);
-    if let Some(found) = find_among(
-        alloc, asked, marked, choices, number, net, first, count, token,
-    )? {
+    if let Some(found) = find_among(alloc, asked, marked, room, number, net, first, count, token)? {
         return Ok(Some(found));
     }
-    let found = find_among(alloc, asked, marked, choices, number, net, 0, first, token)?;
+    let found = find_among(alloc, asked, marked, room, number, net, 0, first, token)?;
     Ok(found)
 }
 
@@ -124,7 +122,7 @@ impl Finding {
     /// It begins where the number says, and has no room yet.
     pub fn new(alloc: Global, start: u64) -> Finding {
         Finding {
-            choices: Choices::new(alloc),
+            room: Room::new(alloc),
             hint: Hint::of(start),
         }
     }
@@ -132,7 +130,7 @@ impl Finding {
     /// One of so many searchers, of a number from 1 on: it begins with its own share of the tokens.
     pub fn of_share(alloc: Global, number: u32, count: u32) -> Finding {
         Finding {
-            choices: Choices::new(alloc),
+            room: Room::new(alloc),
             hint: Hint::of_share(number, count),
         }
     }
@@ -162,17 +160,11 @@ impl Finding {
             }
             let first = self.hint.first_of(number);
             let token = self.hint.token;
-            let found = find_at(
-                alloc,
-                asked,
-                marked,
-                &mut self.choices,
-                number,
-                first,
-                token,
-            )?;
+            let found = find_at(alloc, asked, marked, &mut self.room, number, first, token)?;
             if let Some((transition, found)) = found {
-                self.hint = self.hint.after(number, transition, self.choices.oldest());
+                self.hint = self
+                    .hint
+                    .after(number, transition, self.room.choices.oldest());
                 return Ok(Some(found));
             }
             next = number + 1;

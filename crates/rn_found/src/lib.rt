@@ -6,6 +6,7 @@ mod finding;
 mod hint;
 mod laws;
 mod marked;
+mod room;
 mod starts;
 
 pub use every::{all_bindings, least};

@@ -1,0 +1,36 @@
+//! The room of searches, from one to the next.
+ghost use Rattle.std.specs.Prelude.{◌≡◌, []};
+ghost use Rattle.rn_growing.specs.Grown.{HasFewCreations};
+
+use rn_branch::Branch;
+use rn_choices::Choices;
+use rn_model::System;
+use rn_search::Point;
+use std::alloc::Global;
+use std::mem;
+
+/// The choices of a search, and the room of its branch, for the next one.
+#[derive(Drop)]
+pub(crate) struct Room {
+    pub choices: Choices<Point>,
+    pub branch: rn_branch::Room,
+}
+
+impl Room {
+    /// It takes no memory.
+    pub(crate) fn new(alloc: Global) -> Room {
+        Room {
+            choices: Choices::new(alloc),
+            branch: rn_branch::Room::new(alloc),
+        }
+    }
+
+    /// A branch without decisions, which has the room until it is put back.
+    pub(crate) fn open<'a>(&mut self, alloc: Global, system: &'a System, first: usize) -> Branch<'a>
+        requires { HasFewCreations system.now }
+        ensures { result ≡ record { system = system.now; decisions = [] } }
+    {
+        let room = mem::replace(&mut self.branch, rn_branch::Room::new(alloc));
+        Branch::open_in(alloc, room, system, first)
+    }
+}
