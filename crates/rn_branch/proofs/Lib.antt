@@ -3,6 +3,7 @@ mod BranchSteps
 mod CallLooks
 mod DecidedThings
 mod EquatedTokens
+mod FlexibleLooks
 mod GoingOn
 mod GuardLooks
 mod InhibitorLooks

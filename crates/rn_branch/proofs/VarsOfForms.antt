@@ -10,7 +10,8 @@ use Rattle.rn_model.specs.declared.expr.Expr.{Expr}
 use Rattle.rn_model.specs.declared.expr.Expr.TheVariants as E
 use Rattle.rn_model.specs.declared.system.NetArc.{NetArc}
 use Rattle.rn_model.specs.declared.system.ArcKind.{ArcKind}
-use Rattle.rn_model.specs.declared.system.ArcKind.TheVariants.{Input, Test, Reserve, Inhibit}
+use Rattle.rn_model.specs.declared.system.ArcKind.TheVariants.{Input, Test, Reserve}
+use Rattle.rn_model.specs.declared.system.ArcKind.TheVariants.{FlexInput, Inhibit}
 use Rattle.rn_model.specs.declared.system.Downlink.{Downlink}
 use Rattle.rn_model.specs.declared.system.Transition.{Transition}
 use Rattle.rn_model.specs.Systems.{vars_in, is_output, uplink_args}
@@ -166,24 +167,27 @@ module _ (t : Transition) where
   in_called e there =
       in_calls e (Contains-append_right ((sides ++ guarded) ++ uplink_args t) called e there)
 
-  pub inscription_searched : (x : NetArc) → Contains t.arcs x → finds_token x.kind ≡ true →
+  inscribed_searched : (x : NetArc) → Contains t.arcs x → not (is_output x.kind) ≡ true →
       Contains (searched_exprs t) x.inscription
-  inscription_searched x there finds =
+  inscribed_searched x there reads =
       Contains-append_right (((sides ++ guarded) ++ uplink_args t) ++ called) inscribed
       x.inscription
       (contained_mapped (λ (arc : NetArc). arc.inscription)
       (filter (λ arc. not (is_output arc.kind)) t.arcs) x
-      (in_filter (λ arc. not (is_output arc.kind)) t.arcs x there (no_output x.kind finds)))
+      (in_filter (λ arc. not (is_output arc.kind)) t.arcs x there reads))
+
+  pub inscription_searched : (x : NetArc) → Contains t.arcs x → finds_token x.kind ≡ true →
+      Contains (searched_exprs t) x.inscription
+  inscription_searched x there finds = inscribed_searched x there (no_output x.kind finds)
 
   pub inhibitor_searched : (x : NetArc) → Contains t.arcs x → x.kind ≡ Inhibit →
       Contains (searched_exprs t) x.inscription
   inhibitor_searched x there kind =
-      Contains-append_right (((sides ++ guarded) ++ uplink_args t) ++ called) inscribed
-      x.inscription
-      (contained_mapped (λ (arc : NetArc). arc.inscription)
-      (filter (λ arc. not (is_output arc.kind)) t.arcs) x
-      (in_filter (λ arc. not (is_output arc.kind)) t.arcs x there
-      (ap (λ z. not (is_output z)) kind)))
+      inscribed_searched x there (ap (λ z. not (is_output z)) kind)
+
+  pub flexible_searched : (x : NetArc) → Contains t.arcs x → x.kind ≡ FlexInput →
+      Contains (searched_exprs t) x.inscription
+  flexible_searched x there kind = inscribed_searched x there (ap (λ z. not (is_output z)) kind)
 
   arg_searched : (i : ℕ) (d : Downlink) → slice_get t.downlinks i ≡ Some d → (e : Expr) →
       Contains d.args e → Contains (searched_exprs t) e

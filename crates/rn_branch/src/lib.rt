@@ -7,6 +7,7 @@ mod best;
 mod branch;
 mod calls;
 mod equated;
+mod flexible;
 mod guard_parts;
 mod guard_vars;
 mod guards;

@@ -13,6 +13,7 @@ ghost use Rattle.rn_branch.specs.Things.{IsOfNode, IsOfEntry};
 use crate::arcs::look_at_arcs;
 use crate::best::{better, is_best};
 use crate::calls::{lacks_levels, look_at_calls};
+use crate::flexible::test_lists;
 use crate::guards::test_guards;
 use crate::inhibitors::test_inhibitors;
 use crate::look::Look;
@@ -35,8 +36,8 @@ fn step_on(tested: &mut usize, node: usize) {
     }
 }
 
-// Whether a node lacks levels for its calls, or a guard or an inhibitor arc of it fails. Those of the
-// nodes that so many of the first decisions enter are known to hold.
+// Whether a node lacks levels for its calls, or a guard, an inhibitor arc or a flexible arc of it
+// fails. Those of the nodes that so many of the first decisions enter are known to hold.
 fn fails(
     alloc: Global,
     problem: &Problem<'_>,
@@ -63,7 +64,11 @@ fn fails(
     if has_failed(inhibitors) {
         return Ok(true);
     }
-    if holds(guards) && holds(inhibitors) {
+    let lists = test_lists(alloc, problem, growing, node, head, transition)?;
+    if has_failed(lists) {
+        return Ok(true);
+    }
+    if holds(guards) && holds(inhibitors) && holds(lists) {
         step_on(tested, node);
     }
     Ok(false)

@@ -1,6 +1,6 @@
 //! Parts of a system and of decisions, looked up.
 ghost use Rattle.std.specs.Prelude.{◌≡◌, ◌<◌, ◌↔◌, IsTrue, length};
-ghost use Rattle.rn_model.specs.declared.system.ArcKind.TheVariants.{Inhibit};
+ghost use Rattle.rn_model.specs.declared.system.ArcKind.TheVariants.{FlexInput, Inhibit};
 ghost use Rattle.rn_model.specs.Derivation.{finds_token, finds_values};
 ghost use Rattle.rn_model.specs.Systems.{net_at};
 ghost use Rattle.rn_growing.specs.Decisions.{transition_in};
@@ -41,4 +41,11 @@ pub(crate) fn is_inhibitor(kind: ArcKind) -> bool
     ensures { IsTrue result ↔ (kind ≡ Inhibit) }
 {
     matches!(kind, ArcKind::Inhibit)
+}
+
+/// Whether an arc is a flexible arc that takes the elements of a list.
+pub(crate) fn is_flexible(kind: ArcKind) -> bool
+    ensures { IsTrue result ↔ (kind ≡ FlexInput) }
+{
+    matches!(kind, ArcKind::FlexInput)
 }

@@ -1,4 +1,4 @@
-//! What is known of a test of a node: of a guard, of an inhibitor arc, or of all of them.
+//! What is known of a test of a node: of a guard, of an inhibitor or flexible arc, or of all of them.
 ghost use Rattle.std.specs.Prelude.{◌≡◌, ◌↔◌, IsTrue};
 ghost use Rattle.rn_branch.specs.declared.told.Told.TheVariants.{Fails, Holds};
 

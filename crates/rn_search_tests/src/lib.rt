@@ -8,6 +8,8 @@ mod fired;
 #[cfg(test)]
 mod guards;
 #[cfg(test)]
+mod lists;
+#[cfg(test)]
 mod marked;
 #[cfg(test)]
 mod narrowed;
