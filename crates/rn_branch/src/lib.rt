@@ -22,6 +22,7 @@ mod results;
 mod room;
 mod settling;
 mod taking;
+mod tested;
 mod testing;
 mod told;
 mod trial;

@@ -19,6 +19,7 @@ use crate::inhibitors::test_inhibitors;
 use crate::look::Look;
 use crate::parts::transition_in;
 use crate::results::look_at_results;
+use crate::tested::{Tested, step_on};
 use crate::told::{has_failed, holds};
 use rn_binding::Application;
 use rn_choices::Next;
@@ -29,28 +30,21 @@ use rn_search::Problem;
 use rn_value::NoMemory;
 use std::alloc::Global;
 
-// One more of the first decisions is known to pass, where those before it are.
-fn step_on(tested: &mut usize, node: usize) {
-    if *tested == node {
-        *tested = node.saturating_add(1);
-    }
-}
-
-// Whether a node lacks levels for its calls, or a guard, an inhibitor arc or a flexible arc of it
-// fails. Those of the nodes that so many of the first decisions enter are known to hold.
-fn fails(
+// Whether a node lacks levels for its calls, or a guard or an inhibitor arc of it fails. Those of the
+// nodes that so many of the first decisions enter are known to hold.
+fn fails_guard(
     alloc: Global,
     problem: &Problem<'_>,
     growing: &Growing<'_>,
     node: usize,
     head: &Head,
     transition: &Transition,
-    tested: &mut usize,
+    passed: &mut usize,
 ) -> Result<bool, NoMemory>
     requires { IsLookedAt problem.now growing.now node head.now transition.now }
     ensures { IfOk result (λ yes. IsTrue yes → GoesOn problem.now growing.now.decisions Stuck) }
 {
-    if node < *tested {
+    if node < *passed {
         return Ok(false);
     }
     if lacks_levels(problem, growing, node, head, transition) {
@@ -64,14 +58,55 @@ fn fails(
     if has_failed(inhibitors) {
         return Ok(true);
     }
-    let lists = test_lists(alloc, problem, growing, node, head, transition)?;
-    if has_failed(lists) {
-        return Ok(true);
-    }
-    if holds(guards) && holds(inhibitors) && holds(lists) {
-        step_on(tested, node);
+    if holds(guards) && holds(inhibitors) {
+        step_on(passed, node);
     }
     Ok(false)
+}
+
+// Whether a flexible arc of a node fails. Those of the nodes that so many of the first decisions
+// enter are known to hold.
+fn fails_list(
+    alloc: Global,
+    problem: &Problem<'_>,
+    growing: &Growing<'_>,
+    node: usize,
+    head: &Head,
+    transition: &Transition,
+    passed: &mut usize,
+) -> Result<bool, NoMemory>
+    requires { IsLookedAt problem.now growing.now node head.now transition.now }
+    ensures { IfOk result (λ yes. IsTrue yes → GoesOn problem.now growing.now.decisions Stuck) }
+{
+    if node < *passed {
+        return Ok(false);
+    }
+    let lists = test_lists(alloc, problem, growing, node, head, transition)?;
+    if holds(lists) {
+        step_on(passed, node);
+    }
+    Ok(has_failed(lists))
+}
+
+// Whether one of the tests of a node fails.
+fn fails(
+    alloc: Global,
+    problem: &Problem<'_>,
+    growing: &Growing<'_>,
+    node: usize,
+    head: &Head,
+    transition: &Transition,
+    tested: &mut Tested,
+) -> Result<bool, NoMemory>
+    requires { IsLookedAt problem.now growing.now node head.now transition.now }
+    ensures { IfOk result (λ yes. IsTrue yes → GoesOn problem.now growing.now.decisions Stuck) }
+{
+    let passed = &mut tested.guards;
+    if fails_guard(alloc, problem, growing, node, head, transition, passed)? {
+        return Ok(true);
+    }
+    let passed = &mut tested.lists;
+    fails_list(alloc, problem, growing, node, head, transition, passed)
 }
 
 // Looks at a node of this transition.
@@ -84,7 +119,7 @@ fn look_within(
     transition: &Transition,
     found: &[Application<'_>],
     first: usize,
-    tested: &mut usize,
+    tested: &mut Tested,
 ) -> Result<Look, NoMemory>
     requires at { IsLookedAt problem.now growing.now node head.now transition.now }
     requires are { map application_of found.now ≡ holes_of transition.now }
@@ -115,7 +150,7 @@ fn look_at_node(
     applications: &[Items<Application<'_>>],
     node: usize,
     first: usize,
-    tested: &mut usize,
+    tested: &mut Tested,
 ) -> Result<Look, NoMemory>
     requires branch { IsBranchOf problem.now growing.now }
     requires applied { AreAppliedIn growing.now.system growing.now.decisions applications.now }
@@ -124,7 +159,7 @@ fn look_at_node(
         (IsOfEntry growing.now.decisions node) look) }
 {
     let Decision::Entered(head, _) = &growing.decisions()[node] else {
-        step_on(tested, node);
+        tested.pass(node);
         return Ok(Look::Done);
     };
     let _ = problem.table();
@@ -156,7 +191,7 @@ pub(crate) fn look_at_all(
     applications: &[Items<Application<'_>>],
     first: usize,
     from: usize,
-    tested: &mut usize,
+    tested: &mut Tested,
 ) -> Result<(Look, usize), NoMemory>
     requires branch { IsBranchOf problem.now growing.now }
     requires applied { AreAppliedIn growing.now.system growing.now.decisions applications.now }

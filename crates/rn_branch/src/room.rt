@@ -1,4 +1,5 @@
 //! The vectors of branches, from one to the next.
+use crate::tested::Tested;
 use std::alloc::Global;
 use std::marker::Model;
 
@@ -7,7 +8,7 @@ use std::marker::Model;
 pub struct Room {
     pub(crate) growing: rn_growing::Room,
     pub(crate) before: Vec<usize>,
-    pub(crate) tested_before: Vec<usize>,
+    pub(crate) tested_before: Vec<Tested>,
 }
 
 impl Model for Room {

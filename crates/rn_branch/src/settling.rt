@@ -11,6 +11,7 @@ ghost use Rattle.rn_branch.specs.Things.{IsOfEntries};
 use crate::look::Look;
 use crate::looking::look_at_all;
 use crate::room::Room;
+use crate::tested::Tested;
 use rn_binding::{Application, applications_of};
 use rn_growing::{Decision, Growing};
 use rn_items::Items;
@@ -35,12 +36,11 @@ pub(crate) struct Settling<'a> {
     /// Beside each decision the operator applications of the node that it enters.
     applications: Vec<Items<Application<'a>>>,
 
-    /// Guards and inhibitor arcs of the nodes that so many of the first decisions enter are known to
-    /// hold. They needn't be looked at again.
-    tested: usize,
+    /// Of how many nodes guards and arcs are known to hold, so that a look needn't test them again.
+    tested: Tested,
 
-    /// How many were before each decision.
-    tested_before: Vec<usize>,
+    /// Of how many they were before each decision.
+    tested_before: Vec<Tested>,
 }
 
 impl<'a> Model for Settling<'a> {
@@ -86,7 +86,7 @@ impl<'a> Settling<'a> {
             settled: 0,
             before,
             applications: Vec::new(alloc),
-            tested: 0,
+            tested: Tested::none(),
             tested_before,
         }
     }
@@ -150,7 +150,7 @@ impl<'a> Settling<'a> {
         ensures same { self.new ≡ self.old }
     {
         let applications = self.applications.as_slice();
-        self.tested = self.tested.max(self.settled);
+        self.tested = self.tested.at_least(self.settled);
         let looked = look_at_all(
             alloc,
             problem,
@@ -194,17 +194,17 @@ impl<'a> Settling<'a> {
         self.settled = self.before[count];
         self.before.truncate(count);
         self.applications.truncate(count);
-        self.tested = number_at(self.tested_before.as_slice(), count);
+        self.tested = tested_at(self.tested_before.as_slice(), count);
         self.tested_before.truncate(count);
         self.growing.undo(count);
     }
 }
 
-// The number at an index, or 0.
-fn number_at(numbers: &[usize], index: usize) -> usize {
-    match numbers.get(index) {
-        Some(number) => *number,
-        None => 0,
+// What was tested before a decision, or nothing where that isn't kept.
+fn tested_at(before: &[Tested], index: usize) -> Tested {
+    match before.get(index) {
+        Some(tested) => *tested,
+        None => Tested::none(),
     }
 }
 
