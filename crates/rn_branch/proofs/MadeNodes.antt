@@ -3,7 +3,7 @@
 use Rattle.std.proofs.Common.{◌≡◌, ℕ, suc, ◌+◌, ◌<◌, Bool, true, false, List, [], ◌∷◌}
 use Rattle.std.proofs.Common.{get_or, refl, sym, ap, ◌∙◌, subst, inl, inr, arith}
 use Rattle.std.specs.Prelude.{Option, Some, slice_get, Contains, flat_map, nat_eq}
-use Rattle.std.specs.List.{AllZip, AllByRecursion, IsDistinct}
+use Rattle.std.specs.List.{AllZip, IsDistinct}
 use Rattle.std.specs.List.Sorted.{IsPermutation, IsSorted}
 use Rattle.std.specs.Cmp.Lexicographic.{pointwise, slice_cmp}
 use Rattle.std.specs.FinMap.{nat_cmp-IsAntisymmetric, slice_cmp-IsAntisymmetric}
@@ -23,6 +23,7 @@ use Rattle.rn_model.specs.Order.{node_cmp}
 use Rattle.rn_model.specs.Systems.{transition_of}
 use Rattle.rn_model.proofs.AskedValues.{contained_flat, later}
 use Rattle.rn_model.proofs.EnablingLemmas.{not_in_nil}
+use Rattle.rn_model.proofs.ReadConditions.{each_in}
 use Rattle.rn_model.proofs.Rounds.{all_more}
 use Rattle.rn_growing.specs.declared.decision.Head.{Head}
 use Rattle.rn_growing.specs.declared.decision.Caller.{Caller}
@@ -71,12 +72,6 @@ abbrev AreApart : List Decision → Type 0
 AreApart ds = (j k : ℕ) (d e : Decision) → j < k → slice_get ds j ≡ Some d →
     slice_get ds k ≡ Some e → ¬ SameThing d e
 
-each_by_recursion : {X : Type 0} (P : X → Type 0) (xs : List X) →
-    ((x : X) → Contains xs x → P x) → AllByRecursion P xs
-each_by_recursion P [] each = tt
-each_by_recursion P (x ∷ xs) each =
-    (each x (0, omega arith, refl), each_by_recursion P xs (λ y there. each y (later x y xs there)))
-
 not_same : (p q : List ℕ) (same : Bool) → pointwise nat_eq p q ≡ same → ¬ (p ≡ q) → same ≡ false
 not_same p q true e differ = absurd (differ (same_numbers p q e))
 not_same p q false e differ = refl
@@ -103,7 +98,7 @@ module _ (g : Grown) where
   all_apart [] (node ∷ nodes) apart all = absurd all
   all_apart (Entered head caller ∷ ds) [] apart all = absurd all
   all_apart (Entered head caller ∷ ds) (node ∷ nodes) apart all = (
-    each_by_recursion (λ other. on_one_path node other ≡ false) nodes
+    each_in (λ other. on_one_path node other ≡ false) nodes
         (other_path head caller ds node nodes apart all.0 all.1),
     all_apart ds nodes
         (λ j k d e less at also. apart (suc j) (suc k) d e (omega (arith, less)) at also) all.1,

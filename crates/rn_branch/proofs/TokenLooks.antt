@@ -16,7 +16,6 @@ use Rattle.rn_model.specs.declared.expr.Expr.{Expr}
 use Rattle.rn_model.specs.declared.expr.Expr.TheVariants as Expr
 use Rattle.rn_model.specs.declared.binding.Binding.{Binding}
 use Rattle.rn_model.specs.declared.system.ArcKind.{ArcKind}
-use Rattle.rn_model.specs.declared.system.ArcKind.TheVariants.{Input, Test, Reserve}
 use Rattle.rn_model.specs.declared.system.ArcKind.TheVariants.{Clear}
 use Rattle.rn_model.specs.declared.system.NetArc.{NetArc}
 use Rattle.rn_model.specs.declared.system.Transition.{Transition}
@@ -50,7 +49,7 @@ use Rattle.rn_search.proofs.Allowed.{tokens_are_allowed, lists_are_allowed}
 use Rattle.rn_search.proofs.Alternatives.{first_is, first_once, from_map}
 use Rattle.rn_search.proofs.Following.{is_decision, last_on}
 use Rattle.rn_search.proofs.Narrowed.{equated_token_is_it, known_first_part, known_token_is_it}
-use Rattle.rn_search.proofs.Offered.{tokens_are_offered, lists_are_offered}
+use Rattle.rn_search.proofs.Offered.{tokens_are_offered, lists_are_offered, finds_a_token}
 use Rattle.rn_branch.specs.Branches.{IsLookedAt}
 use Rattle.rn_branch.specs.Equating.{IsKnownToken}
 use Rattle.rn_branch.specs.Knowing.{IsKnownTokenFirst}
@@ -60,12 +59,6 @@ use Rattle.rn_branch.proofs.DecidedThings.{was_found}
 use Rattle.rn_branch.proofs.EquatedTokens.{by_side}
 use Rattle.rn_branch.proofs.LookedAt.{entered, inscription_searched, known_by, node_is, some}
 use Rattle.rn_branch.proofs.LookedAt.{vars_searched}
-
-token_finds_values : (kind : ArcKind) → finds_token kind ≡ true → finds_values kind ≡ true
-token_finds_values Input e = refl
-token_finds_values Test e = refl
-token_finds_values Reserve e = refl
-token_finds_values _ e = absurd (let no : ⊥ = cc in no)
 
 is_clear : (kind : ArcKind) → finds_values kind ≡ true → finds_token kind ≡ false → kind ≡ Clear
 is_clear Clear e f = refl
@@ -178,7 +171,7 @@ module _ (sought : Sought) (g : Grown) (node : ℕ) (head : Head) (t : Transitio
         (first_token held_there i)) (nowhere sought.system)
 
     may_find : IsOpen sought g.decisions node k
-    may_find = is_open x open_arc.there (token_finds_values x.kind open_arc.token) open_arc.none
+    may_find = is_open x open_arc.there (finds_a_token x.kind open_arc.token) open_arc.none
 
     -- each token of the place may be tried
     pub chooses_token : (of first : ℕ) → of ≡ alternatives sought g.decisions (P.Token node k 0) →

@@ -101,12 +101,6 @@ are_pieces (atom ∷ atoms) rest h =
       are_pieces atoms rest both.1,
     )
 
-pub pieces_join : (text mid rest : List ℕ) (ps qs : List Piece) → ArePieces text ps mid →
-    ArePieces mid qs rest → ArePieces text (ps ++ qs) rest
-pieces_join text mid rest [] qs a b = subst (λ t. ArePieces t qs rest) (sym a) b
-pieces_join text mid rest (p ∷ ps) qs (after, e, fits, more) b =
-    (after, e, fits, pieces_join after mid rest ps qs more b)
-
 -- the bytes at the start of a text that pass a test, and those after them
 unfoldable pub span : (ℕ → Bool) → List ℕ → List ℕ × List ℕ
 span test [] = ([], [])

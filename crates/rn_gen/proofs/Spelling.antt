@@ -17,8 +17,9 @@ use Rattle.rn_net.specs.Texts.{Spells}
 use Rattle.rn_net.specs.Words.{semicolon}
 use Rattle.rn_print.specs.SameButSpots.{first_spot}
 use Rattle.rn_print.proofs.Atoms.{number_stands}
+use Rattle.rn_print.proofs.Trees.{pieces_join}
 use Rattle.rn_gen.specs.Workload.{workload, start_text, rest_text}
-use Rattle.rn_gen.proofs.Atoms.{Atom, pieces_of, bytes_in, are_read, are_pieces, pieces_join, atoms_of, first_atom, word_or_name, span, kinds_in, kinds_are}
+use Rattle.rn_gen.proofs.Atoms.{Atom, pieces_of, bytes_in, are_read, are_pieces, atoms_of, first_atom, word_or_name, span, kinds_in, kinds_are}
 use Rattle.rn_gen.proofs.Streams.{with_kinds, in_stream, are_shallow, is_shallow}
 use Rattle.rn_gen.proofs.Forms.{Stream, go_kinds, done_kinds, make_kinds, step_kinds, finish_kinds, go_on_kinds, be_done_kinds, main_kinds, worker_kinds, workload_kinds, workload_form}
 use Rattle.rn_gen.proofs.Phrases.{workload_reads}

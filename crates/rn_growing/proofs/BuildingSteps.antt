@@ -25,7 +25,7 @@ use Rattle.rn_model.proofs.DerivationLemmas.{term_value-This, term_value-Tuple, 
 use Rattle.rn_model.proofs.DerivationLemmas.{term_value-Cons, term_value-Neg, term_value-Op}
 use Rattle.rn_growing.specs.declared.decision.Head.{Head}
 use Rattle.rn_growing.specs.Building.{along, unknowns_at, part_at, parts_at, BuildsAll, IsMade}
-use Rattle.rn_growing.specs.Layouts.{id_of, Reads}
+use Rattle.rn_growing.specs.Layouts.{id_of, AreRead}
 use Rattle.rn_growing.specs.Laid.{LaidState, Gives, Grows, Builds, NeverHas}
 use Rattle.rn_growing.proofs.LaidSteps.{reads_before}
 
@@ -306,7 +306,7 @@ module _ (head : Head) (site : D.Site) (way : List ℕ) (exprs : List Expr) (i :
           (λ k inside. All-contains (λ j. j < n) ids k builds.within inside)
 
       all_reads : (a : Assignment) (vs : List Value) → Satisfies new.store vs →
-          Reads (id_of new.slots) a vs →
+          AreRead (id_of new.slots) a vs →
           parts_at a head site way 0 (take (i + 1) exprs) ≡ Some
           (map (value_at vs) (ids ++ id ∷ []))
       all_reads a vs sat reads =

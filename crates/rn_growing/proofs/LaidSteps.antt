@@ -23,7 +23,7 @@ use Rattle.rn_model.specs.Lists.{HaveOneValue}
 use Rattle.rn_model.specs.Derivation.{Assignment}
 use Rattle.rn_growing.specs.declared.slot.Slot.{Slot}
 use Rattle.rn_growing.specs.declared.slot.Unknown.{Unknown}
-use Rattle.rn_growing.specs.Layouts.{Layout, asked, id_of, same_unknown, IsLaidIn, Reads, IsReadAs}
+use Rattle.rn_growing.specs.Layouts.{Layout, asked, id_of, same_unknown, IsLaidIn, AreRead, IsReadAs}
 use Rattle.rn_growing.specs.Building.{IsMade}
 use Rattle.std.specs.Prelude.{Contains, All, map}
 use Rattle.std.proofs.lemmas.List.Elements.{All-contains}
@@ -61,7 +61,7 @@ id_of-later xs ys is path u id at = ap (λ zs. id_of zs path u) (front_is xs ys 
 -- values of the unknowns are read before as they are later
 pub reads_before : (old new : LaidState) (a : Assignment) (vs : List Value) →
     IsLaidIn (id_of old.slots) old.store → take (length old.slots) new.slots ≡ old.slots →
-    Reads (id_of new.slots) a vs → Reads (id_of old.slots) a (take (length old.store.terms) vs)
+    AreRead (id_of new.slots) a vs → AreRead (id_of old.slots) a (take (length old.store.terms) vs)
 reads_before old new a vs laid front reads path u id at =
     reads path u id (id_of-later old.slots new.slots front path u id at)
     ∙ sym (get_or-take (length old.store.terms) vs id (Value.Tuple []) (laid path u id at))
@@ -78,7 +78,7 @@ read_later old new term id laid front back within is a vs sat reads =
 
 -- values are read on as others come behind them
 pub reads_on : (l : Layout) (s : State) (a : Assignment) (vs ws : List Value) → IsLaidIn l s →
-    length vs ≡ length s.terms → Reads l a vs → Reads l a (vs ++ ws)
+    length vs ≡ length s.terms → AreRead l a vs → AreRead l a (vs ++ ws)
 reads_on l s a vs ws laid each reads path u id at =
     reads path u id at ∙ sym (value_stays vs ws id (rw each (laid path u id at)))
 
@@ -108,7 +108,7 @@ module _ (s new : State) (slots : List Slot) (laid : IsLaidIn (id_of slots) s) (
 
     one_value : (first second : Assignment → Option Value) → IsReadAs s (id_of slots) first p →
         IsReadAs s (id_of slots) second q → (a : Assignment) (vs : List Value) → Satisfies s vs →
-        Reads (id_of slots) a vs → HaveOneValue (first a) (second a) → AreOne p q vs
+        AreRead (id_of slots) a vs → HaveOneValue (first a) (second a) → AreOne p q vs
     one_value first second is_p is_q a vs sat reads one =
         let left : Some (value_at vs p) ≡ Some one.0 = sym (is_p a vs sat reads) ∙ one.1 in
         let right : Some (value_at vs q) ≡ Some one.0 = sym (is_q a vs sat reads) ∙ one.2 in
@@ -324,8 +324,8 @@ module _ (s : State) (slots : List Slot) (path : List ℕ) (u : Unknown) (keeps 
   value_last vs v each = subst (λ k. value_at (vs ++ v ∷ []) k ≡ v) each
       (get_or-append_seam vs v [] (Value.Tuple []))
 
-  reads_new : (a : Assignment) (vs : List Value) → length vs ≡ size → Reads (id_of slots) a vs →
-      Reads (id_of now.slots) a (vs ++ asked a path u ∷ [])
+  reads_new : (a : Assignment) (vs : List Value) → length vs ≡ size → AreRead (id_of slots) a vs →
+      AreRead (id_of now.slots) a (vs ++ asked a path u ∷ [])
   reads_new a vs each reads p v id at = elim (id_of-last path u size slots p v id at) [
     | inl before ↦ reads_on (id_of slots) s a vs (asked a path u ∷ []) laid each reads p v id
         before

@@ -16,7 +16,7 @@ use Rattle.rn_unify.specs.Unifying.{SaysBoth, AreOne}
 use Rattle.rn_unify.proofs.EarlierMarks.{grown}
 use Rattle.rn_model.specs.Derivation.{Assignment}
 use Rattle.rn_growing.specs.declared.slot.Slot.{Slot}
-use Rattle.rn_growing.specs.Layouts.{id_of, IsLaidIn, Reads}
+use Rattle.rn_growing.specs.Layouts.{id_of, IsLaidIn, AreRead}
 use Rattle.rn_growing.specs.Laid.{LaidState}
 use Rattle.rn_growing.specs.Building.{PutsBefore}
 use Rattle.rn_growing.proofs.LaidSteps.{term_before, term_after, reads_before, reads_on}
@@ -160,7 +160,7 @@ module _ (s : State) (slots : List Slot) (ids : List ℕ) (tail : ℕ) (keeps : 
             )
 
         reads_all : (a : Assignment) (vs others more : List Value) → Satisfies s vs →
-            Reads (id_of slots) a vs → Reads (id_of slots) a (both vs others ++ more)
+            AreRead (id_of slots) a vs → AreRead (id_of slots) a (both vs others ++ more)
         reads_all a vs others more sat reads =
             let start = reads_on (id_of slots) s a vs (Value.List others ∷ []) laid sat.each
             reads in

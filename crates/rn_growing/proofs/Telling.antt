@@ -18,7 +18,7 @@ use Rattle.rn_model.specs.Evaluation.{int_of}
 use Rattle.rn_model.proofs.EvaluationLemmas.{int_of-Int}
 use Rattle.rn_growing.specs.declared.decision.Decision.{Decision}
 use Rattle.rn_growing.specs.Equations.{IsForcedTo, IsForced as IsDecided}
-use Rattle.rn_growing.specs.Layouts.{Layout, asked, id_of, Reads}
+use Rattle.rn_growing.specs.Layouts.{Layout, asked, id_of, AreRead}
 use Rattle.rn_growing.specs.Laid.{LaidState, IsGiven}
 use Rattle.rn_growing.specs.declared.slot.Unknown.{Unknown}
 use Rattle.rn_growing.specs.declared.slot.Unknown.TheVariants.{Var, Hole}
@@ -39,7 +39,7 @@ assigned_is l vs w path (Var x) = refl
 assigned_is l vs w path (Hole site way) =
     ap (λ s. option_map_or (value_at vs) (l path (Hole s way)) w) (site_of-is site)
 
-pub assigned_reads : (l : Layout) (vs : List Value) (w : Value) → Reads l (assigned l vs w) vs
+pub assigned_reads : (l : Layout) (vs : List Value) (w : Value) → AreRead l (assigned l vs w) vs
 assigned_reads l vs w path u id at = assigned_is l vs w path u
     ∙ ap (λ o. option_map_or (value_at vs) o w) at
 

@@ -10,7 +10,7 @@ use Rattle.rn_model.specs.Derivation.{Assignment, Unknowns, unknowns_within, ter
 use Rattle.rn_model.specs.Derivation.{term_values}
 use Rattle.rn_model.specs.Derivation as D
 use Rattle.rn_growing.specs.declared.decision.Head.{Head}
-use Rattle.rn_growing.specs.Layouts.{id_of, IsLaidIn, Reads, IsReadAs}
+use Rattle.rn_growing.specs.Layouts.{id_of, IsLaidIn, AreRead, IsReadAs}
 use Rattle.rn_growing.specs.Grown.{BringsIn}
 use Rattle.rn_growing.specs.Laid.{LaidState, Gives, Adds, GoesBack, Builds, NeverHas}
 
@@ -43,7 +43,7 @@ pub record BuildsAll (old : LaidState) (terms : Assignment → Option (List Valu
   pub within : All (λ id. id < length new.store.terms) ids
   pub laid : IsLaidIn (id_of new.slots) new.store
   pub reads : (a : Assignment) (vs : List Value) → Satisfies new.store vs →
-      Reads (id_of new.slots) a vs → terms a ≡ Some (map (value_at vs) ids)
+      AreRead (id_of new.slots) a vs → terms a ≡ Some (map (value_at vs) ids)
   pub adds : Adds old (λ a. (vs : List Value) × (terms a ≡ Some vs)) new
 
 abbrev pub BuildsAllOr :

@@ -53,15 +53,15 @@ abbrev pub IsLaidIn : Layout → State → Type 0
 IsLaidIn l s = (path : List ℕ) (u : Unknown) (id : ℕ) → l path u ≡ Some id → id < length s.terms
 
 -- values for unknowns are those of the store's ids
-abbrev pub Reads : Layout → Assignment → List Value → Type 0
-Reads l a vs =
+abbrev pub AreRead : Layout → Assignment → List Value → Type 0
+AreRead l a vs =
     (path : List ℕ) (u : Unknown) (id : ℕ) → l path u ≡ Some id → asked a path u ≡ value_at vs id
 
 -- the store gives the unknowns these values by one of its own assignments
 abbrev pub GivenBy : State → Layout → Assignment → Type 0
-GivenBy s l a = (vs : List Value) × Satisfies s vs × Reads l a vs
+GivenBy s l a = (vs : List Value) × Satisfies s vs × AreRead l a vs
 
 -- a term is read at an id: under each assignment that the store gives, it has the id's value
 abbrev pub IsReadAs : State → Layout → (Assignment → Option Value) → ℕ → Type 0
-IsReadAs s l term id = (a : Assignment) (vs : List Value) → Satisfies s vs → Reads l a vs →
+IsReadAs s l term id = (a : Assignment) (vs : List Value) → Satisfies s vs → AreRead l a vs →
     term a ≡ Some (value_at vs id)

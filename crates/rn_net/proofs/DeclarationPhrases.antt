@@ -24,7 +24,7 @@ use Rattle.rn_net.specs.Kinds.{IsKind, AreListed, kind_at}
 use Rattle.rn_net.specs.Constants.{AreConstants}
 use Rattle.rn_net.specs.Lists.{AreConstantsUpTo}
 use Rattle.rn_net.specs.Nets.{IsChannel, AreVars, AreMoreNames, IsKindOfPlace, AreInitial, IsPlace, channel_of, var_of, place_of}
-use Rattle.rn_net.specs.Parts.{IsName, AreNames, AreNamesUpTo, IsInitialUpTo}
+use Rattle.rn_net.specs.Parts.{IsPName, AreNames, AreNamesUpTo, IsInitialUpTo}
 use Rattle.rn_net.specs.Levels.{Region, is_too_deep, after}
 use Rattle.rn_net.specs.Levels.Region.{between, declaring}
 use Rattle.rn_net.specs.Progress.{Sort, Stage, Fails, Reads, Moves, done, HasNext}
@@ -75,14 +75,14 @@ channel_inside tokens at start after_name inside name next begun named there par
 
 -- `var x, y: int;`
 abbrev pub names : Sort PName
-names = record { is = IsName; ends = (any (Name []) ∷ [], _, λ rest. (any (Name []), rest, [], refl, refl, (refl, refl))) }
+names = record { is = IsPName; ends = (any (Name []) ∷ [], _, λ rest. (any (Name []), rest, [], refl, refl, (refl, refl))) }
 
 pub more-names-split : {all es : List PName} {ts rest : List Token} → AreMoreNames all ts es rest →
-    ((es ≡ all) × (rest ≡ ts)) ⊎ ((t : Token) × (us : List Token) × (ts ≡ t ∷ us) × (t.kind ≡ comma) × Then IsName (λ e. AreMoreNames (all ++ e ∷ [])) us es rest)
+    ((es ≡ all) × (rest ≡ ts)) ⊎ ((t : Token) × (us : List Token) × (ts ≡ t ∷ us) × (t.kind ≡ comma) × Then IsPName (λ e. AreMoreNames (all ++ e ∷ [])) us es rest)
 more-names-split (AreMoreNames.no_more_names) = inl (refl, refl)
 more-names-split (AreMoreNames.more_names c h more) = inr (_, _, refl, c, (_, _, (_, _, _, refl, h, (refl, refl)), more))
 
-pub more-names-on : {t : Token} {us mid rest : List Token} {all es : List PName} {e : PName} → t.kind ≡ comma → IsName us e mid → AreMoreNames (all ++ e ∷ []) mid es rest → AreMoreNames all (t ∷ us) es rest
+pub more-names-on : {t : Token} {us mid rest : List Token} {all es : List PName} {e : PName} → t.kind ≡ comma → IsPName us e mid → AreMoreNames (all ++ e ∷ []) mid es rest → AreMoreNames all (t ∷ us) es rest
 more-names-on {t = t} {us = us} {mid = mid} {rest = rest} {all = all} {es = es} c x more =
     subst (λ vs. AreMoreNames all (t ∷ vs) es rest) (sym x.3)
     (AreMoreNames.more_names c x.4 (subst (λ vs. AreMoreNames (all ++ name_at x.0.spot x.2 ∷ []) vs es rest) x.5.1 (subst (λ n. AreMoreNames (all ++ n ∷ []) mid es rest) x.5.0 more)))
@@ -96,10 +96,10 @@ name_row = record {
   part = λ x. x;
 }
 
-pub name_reads : {name : PName} (tokens : List Token) (at next : ℕ) → IsNextName tokens at name → next ≡ at + 1 → Stage IsName (drop at tokens) (declaring 0) (done name) (drop next tokens) (declaring 0)
+pub name_reads : {name : PName} (tokens : List Token) (at next : ℕ) → IsNextName tokens at name → next ≡ at + 1 → Stage IsPName (drop at tokens) (declaring 0) (done name) (drop next tokens) (declaring 0)
 name_reads {name = name} tokens at next named there = name_read done tokens at next (declaring 0) name (begin (name_then done) (drop at tokens) (declaring 0) (λ ts e rest x. x) (λ ts e rest alike x. x)) named there (λ s. refl) (λ s. refl)
 
-pub name_none : (tokens : List Token) (at : ℕ) (e : InscriptFault) → at ≤ length tokens → IsNoName tokens at e → Fails IsName (drop at tokens) (declaring 0) (length tokens) e
+pub name_none : (tokens : List Token) (at : ℕ) (e : InscriptFault) → at ≤ length tokens → IsNoName tokens at e → Fails IsPName (drop at tokens) (declaring 0) (length tokens) e
 name_none tokens at e inside bad = name_fails done tokens at e (begin (name_then done) (drop at tokens) (declaring 0) (λ ts e rest x. x) (λ ts e rest alike x. x)) inside bad
 
 abbrev pub vars_end : List PName → PKind → Sort (List PVar)
@@ -235,7 +235,7 @@ place_no_colon tokens at name s other = change (place_end name (kind_at name.spo
 ])
 
 -- a name read is what was expected
-pub name_result : (tokens : List Token) (at : ℕ) (r : Result (PName × ℕ) InscriptFault) → at ≤ length tokens → MatchResult r (λ found. IsNextName tokens at found.0 × (found.1 ≡ at + 1)) (λ fault. IsNoName tokens at fault) → Reads IsName tokens at (declaring 0) (declaring 0) r
+pub name_result : (tokens : List Token) (at : ℕ) (r : Result (PName × ℕ) InscriptFault) → at ≤ length tokens → MatchResult r (λ found. IsNextName tokens at found.0 × (found.1 ≡ at + 1)) (λ fault. IsNoName tokens at fault) → Reads IsPName tokens at (declaring 0) (declaring 0) r
 name_result tokens at (Ok (name, next)) inside h = name_reads tokens at next h.0 h.1
 name_result tokens at (Err e) inside h = name_none tokens at e inside h
 

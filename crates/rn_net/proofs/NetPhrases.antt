@@ -30,7 +30,7 @@ use Rattle.rn_net.specs.declared.part.Item.{Item}
 use Rattle.rn_net.specs.Words.{semicolon, net_word, trans_word, var_word, place_word, channel_word}
 use Rattle.rn_net.specs.Lists.{IsInscriptionUpTo}
 use Rattle.rn_net.specs.Nets.{IsChannel, AreVars, IsPlace, IsTransition, AreInscriptions, AreParts, IsNet, net_of, transition_of}
-use Rattle.rn_net.specs.Parts.{IsPart, IsItem, with_part, AreInscriptionsUpTo, ArePartsUpTo}
+use Rattle.rn_net.specs.Parts.{IsNetPart, IsItem, with_part, AreInscriptionsUpTo, ArePartsUpTo}
 use Rattle.rn_net.specs.Levels.{Region, is_too_deep, after}
 use Rattle.rn_net.specs.Levels.Region.{between, heading}
 use Rattle.rn_net.specs.Progress.{Sort, Stage, Fails, Reads, done, HasNext}
@@ -194,26 +194,26 @@ transition_named tokens at start after_name name next begun named there = name_r
 
 -- the parts of a net
 abbrev pub part_sort : Sort Part
-part_sort = record { is = IsPart; ends = let y = place_sort.ends in (y.0, Part.Place y.1, λ rest. place-on (y.0 ++ rest) y.1 rest (y.2 rest)) }
+part_sort = record { is = IsNetPart; ends = let y = place_sort.ends in (y.0, Part.Place y.1, λ rest. place-on (y.0 ++ rest) y.1 rest (y.2 rest)) }
 
-pub parts-split : {n e : PNet} {ts rest : List Token} → AreParts n ts e rest → ((e ≡ n) × (rest ≡ ts)) ⊎ Then IsPart (λ p. AreParts (with_part n p)) ts e rest
+pub parts-split : {n e : PNet} {ts rest : List Token} → AreParts n ts e rest → ((e ≡ n) × (rest ≡ ts)) ⊎ Then IsNetPart (λ p. AreParts (with_part n p)) ts e rest
 parts-split (AreParts.no_more_parts) = inl (refl, refl)
 parts-split (AreParts.and_vars {more = more} x rest) = inr (Part.Vars more, _, x, rest)
 parts-split (AreParts.and_place {place = place} x rest) = inr (Part.Place place, _, x, rest)
 parts-split (AreParts.and_transition {transition = transition} x rest) = inr (Part.Transition transition, _, x, rest)
 
-pub parts-on : {ts mid rest : List Token} (p : Part) {n e : PNet} → IsPart ts p mid → AreParts (with_part n p) mid e rest → AreParts n ts e rest
+pub parts-on : {ts mid rest : List Token} (p : Part) {n e : PNet} → IsNetPart ts p mid → AreParts (with_part n p) mid e rest → AreParts n ts e rest
 parts-on (Part.Vars more) x rest = AreParts.and_vars x rest
 parts-on (Part.Place place) x rest = AreParts.and_place x rest
 parts-on (Part.Transition transition) x rest = AreParts.and_transition x rest
 
 -- the word that a part begins with
-pub part-begins : (ts rest : List Token) (p : Part) → IsPart ts p rest → (t : Token) × (us : List Token) × (ts ≡ t ∷ us) × ((t.kind ≡ var_word) ⊎ ((t.kind ≡ place_word) ⊎ (t.kind ≡ trans_word)))
+pub part-begins : (ts rest : List Token) (p : Part) → IsNetPart ts p rest → (t : Token) × (us : List Token) × (ts ≡ t ∷ us) × ((t.kind ≡ var_word) ⊎ ((t.kind ≡ place_word) ⊎ (t.kind ≡ trans_word)))
 part-begins ts rest (Part.Vars more) x = let y = vars-only ts more rest x in (y.0, y.1, y.2, inl y.3)
 part-begins ts rest (Part.Place place) x = let y = place-only ts place rest x in (y.0, y.1, y.2, inr (inl y.3))
 part-begins ts rest (Part.Transition transition) x = let y = transition-only ts transition rest x in (y.0, y.1, y.2, inr (inr y.3))
 
-pub parts-apart : (t : Token) (us rest : List Token) (p : Part) → IsPart (t ∷ us) p rest → t.kind ≡ close_brace → ⊥
+pub parts-apart : (t : Token) (us rest : List Token) (p : Part) → IsNetPart (t ∷ us) p rest → t.kind ≡ close_brace → ⊥
 parts-apart t us rest p x h = let y = part-begins (t ∷ us) rest p x in
     let same : t ≡ y.0 = let e = y.2 in cc in
     elim y.3 as (λ w. ⊥) [
@@ -224,7 +224,7 @@ parts-apart t us rest p x h = let y = part-begins (t ∷ us) rest p x in
       ]
     ]
 
-pub parts-some : (rest : List Token) (p : Part) → IsPart [] p rest → ⊥
+pub parts-some : (rest : List Token) (p : Part) → IsNetPart [] p rest → ⊥
 parts-some rest p x = let y = part-begins [] rest p x in let e = y.2 in cc
 
 abbrev pub parts : Many part_sort with_part AreParts close_brace
@@ -236,7 +236,7 @@ parts = record {
   some = λ {rest = rest} {a = a} x. parts-some rest a x;
 }
 
-pub part_none : (tokens : List Token) (at : ℕ) → at ≤ length tokens → IsNotNextKind tokens at var_word → IsNotNextKind tokens at place_word → IsNotNextKind tokens at trans_word → Fails IsPart (drop at tokens) between (length tokens) (Fault.P2 at)
+pub part_none : (tokens : List Token) (at : ℕ) → at ≤ length tokens → IsNotNextKind tokens at var_word → IsNotNextKind tokens at place_word → IsNotNextKind tokens at trans_word → Fails IsNetPart (drop at tokens) between (length tokens) (Fault.P2 at)
 part_none tokens at inside a b c = stuck tokens at (begin part_sort (drop at tokens) between (λ ts e rest x. x) (λ ts e rest alike x. x)) inside (λ ts p rest alike x.
     let y = part-begins ts rest p x in let n = alike-cons (drop at tokens) y.0 y.1 (subst (λ us. BeginAlike (drop at tokens) us) y.2 alike) in
     elim y.3 as (λ w. ⊥) [ inl e ↦ a y.0 n.0 n.1 e | inr f ↦ elim f as (λ w. ⊥) [ inl e ↦ b y.0 n.0 n.1 e | inr e ↦ c y.0 n.0 n.1 e ] ])
@@ -303,29 +303,29 @@ one_net = record { is = IsNet; ends = (net_sort.ends.0, net_sort.ends.1, λ rest
 first-word : {k j : TokenKind} {spot : Spot} (tokens : List Token) (at : ℕ) {ts : List Token} (t : Token) (us : List Token) → HasNext tokens at k spot → BeginAlike (drop at tokens) ts → ts ≡ t ∷ us → t.kind ≡ j → k ≡ j
 first-word tokens at t us here alike is kind = sym (next_is tokens at t us here alike is) ∙ kind
 
-pub part_vars : {spot : Spot} (tokens : List Token) (at : ℕ) → HasNext tokens at var_word spot → Stage IsPart (drop at tokens) between (part_of many_vars Part.Vars) (drop at tokens) between
+pub part_vars : {spot : Spot} (tokens : List Token) (at : ℕ) → HasNext tokens at var_word spot → Stage IsNetPart (drop at tokens) between (part_of many_vars Part.Vars) (drop at tokens) between
 part_vars tokens at here = begin (part_of many_vars Part.Vars) (drop at tokens) between
-    (λ ts e rest x. from_done (λ p r. IsPart ts p r) x.3 x.2) (λ ts e rest alike x. by e ts rest alike x)
+    (λ ts e rest x. from_done (λ p r. IsNetPart ts p r) x.3 x.2) (λ ts e rest alike x. by e ts rest alike x)
   where
-    by : (e : Part) (ts rest : List Token) → BeginAlike (drop at tokens) ts → IsPart ts e rest → (part_of many_vars Part.Vars).is ts e rest
+    by : (e : Part) (ts rest : List Token) → BeginAlike (drop at tokens) ts → IsNetPart ts e rest → (part_of many_vars Part.Vars).is ts e rest
     by (Part.Vars vs) ts rest alike x = (vs, rest, x, (refl, refl))
     by (Part.Place p) ts rest alike x = let y = place-only ts p rest x in absurd (tell_apart var_word place_word (first-word tokens at y.0 y.1 here alike y.2 y.3) (λ d. omega (arith, d)))
     by (Part.Transition p) ts rest alike x = let y = transition-only ts p rest x in absurd (tell_apart var_word trans_word (first-word tokens at y.0 y.1 here alike y.2 y.3) (λ d. omega (arith, d)))
 
-pub part_place : {spot : Spot} (tokens : List Token) (at : ℕ) → HasNext tokens at place_word spot → Stage IsPart (drop at tokens) between (part_of one_place Part.Place) (drop at tokens) between
+pub part_place : {spot : Spot} (tokens : List Token) (at : ℕ) → HasNext tokens at place_word spot → Stage IsNetPart (drop at tokens) between (part_of one_place Part.Place) (drop at tokens) between
 part_place tokens at here = begin (part_of one_place Part.Place) (drop at tokens) between
-    (λ ts e rest x. from_done (λ p r. IsPart ts p r) x.3 x.2) (λ ts e rest alike x. by e ts rest alike x)
+    (λ ts e rest x. from_done (λ p r. IsNetPart ts p r) x.3 x.2) (λ ts e rest alike x. by e ts rest alike x)
   where
-    by : (e : Part) (ts rest : List Token) → BeginAlike (drop at tokens) ts → IsPart ts e rest → (part_of one_place Part.Place).is ts e rest
+    by : (e : Part) (ts rest : List Token) → BeginAlike (drop at tokens) ts → IsNetPart ts e rest → (part_of one_place Part.Place).is ts e rest
     by (Part.Place vs) ts rest alike x = (vs, rest, x, (refl, refl))
     by (Part.Vars p) ts rest alike x = let y = vars-only ts p rest x in absurd (tell_apart place_word var_word (first-word tokens at y.0 y.1 here alike y.2 y.3) (λ d. omega (arith, d)))
     by (Part.Transition p) ts rest alike x = let y = transition-only ts p rest x in absurd (tell_apart place_word trans_word (first-word tokens at y.0 y.1 here alike y.2 y.3) (λ d. omega (arith, d)))
 
-pub part_transition : {spot : Spot} (tokens : List Token) (at : ℕ) → HasNext tokens at trans_word spot → Stage IsPart (drop at tokens) between (part_of one_transition Part.Transition) (drop at tokens) between
+pub part_transition : {spot : Spot} (tokens : List Token) (at : ℕ) → HasNext tokens at trans_word spot → Stage IsNetPart (drop at tokens) between (part_of one_transition Part.Transition) (drop at tokens) between
 part_transition tokens at here = begin (part_of one_transition Part.Transition) (drop at tokens) between
-    (λ ts e rest x. from_done (λ p r. IsPart ts p r) x.3 x.2) (λ ts e rest alike x. by e ts rest alike x)
+    (λ ts e rest x. from_done (λ p r. IsNetPart ts p r) x.3 x.2) (λ ts e rest alike x. by e ts rest alike x)
   where
-    by : (e : Part) (ts rest : List Token) → BeginAlike (drop at tokens) ts → IsPart ts e rest → (part_of one_transition Part.Transition).is ts e rest
+    by : (e : Part) (ts rest : List Token) → BeginAlike (drop at tokens) ts → IsNetPart ts e rest → (part_of one_transition Part.Transition).is ts e rest
     by (Part.Transition vs) ts rest alike x = (vs, rest, x, (refl, refl))
     by (Part.Vars p) ts rest alike x = let y = vars-only ts p rest x in absurd (tell_apart trans_word var_word (first-word tokens at y.0 y.1 here alike y.2 y.3) (λ d. omega (arith, d)))
     by (Part.Place p) ts rest alike x = let y = place-only ts p rest x in absurd (tell_apart trans_word place_word (first-word tokens at y.0 y.1 here alike y.2 y.3) (λ d. omega (arith, d)))

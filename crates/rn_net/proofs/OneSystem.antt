@@ -19,7 +19,7 @@ use Rattle.rn_net.specs.Words.{semicolon, net_word, trans_word, var_word, place_
 use Rattle.rn_net.specs.Kinds.{IsKind, AreListed, kind_at}
 use Rattle.rn_net.specs.Nets.{IsChannel, AreMoreNames, AreVars, AreInitial, IsPlace, AreInscriptions, AreParts, AreItems, IsSystem}
 use Rattle.rn_net.specs.Lists.{IsInscriptionUpTo}
-use Rattle.rn_net.specs.Parts.{IsPart, IsItem, IsInitialUpTo, AreNames, with_part, with_item}
+use Rattle.rn_net.specs.Parts.{IsNetPart, IsItem, IsInitialUpTo, AreNames, with_part, with_item}
 use Rattle.rn_net.specs.Laws.{OneSystem, OneSpelled}
 use Rattle.rn_net.proofs.Sorts.{tell}
 use Rattle.rn_net.proofs.Rows.{row_up_to}
@@ -128,7 +128,7 @@ one-transition law = one_kind_then trans_word (λ w. _) (λ w.
     (x.3.3 ∙ s.0 ∙ sym y.3.3, let d = s.1 in let e = x.3.1 in let f = y.3.1 in cc)) (λ all. one_done _))))
 
 -- parts of nets
-one_part : OneInscription → One IsPart
+one_part : OneInscription → One IsNetPart
 one_part law ts r q (Part.Vars a) (Part.Vars b) x y = let s = one_vars ts r q a b x y in (ap Part.Vars s.0, s.1)
 one_part law ts r q (Part.Place a) (Part.Place b) x y = let s = one_place ts r q a b x y in (ap Part.Place s.0, s.1)
 one_part law ts r q (Part.Transition a) (Part.Transition b) x y = let s = one-transition law ts r q a b (transition-only ts a r x) (transition-only ts b q y) in (ap Part.Transition s.0, s.1)
@@ -139,14 +139,14 @@ one_part law ts r q (Part.Place a) (Part.Transition b) x y = let i = place-only 
 one_part law ts r q (Part.Transition a) (Part.Vars b) x y = let i = transition-only ts a r x in let j = vars-only ts b q y in absurd (two_words i.2 j.2 i.3 j.3 (λ e. omega (arith, e)))
 one_part law ts r q (Part.Transition a) (Part.Place b) x y = let i = transition-only ts a r x in let j = place-only ts b q y in absurd (two_words i.2 j.2 i.3 j.3 (λ e. omega (arith, e)))
 
-no_part : {ts : List Token} (mid : List Token) (p : Part) → Closes ts → IsPart ts p mid → ⊥
-no_part mid p c x = parts-apart c.0 c.1 mid p (subst (λ us. IsPart us p mid) c.2 x) c.3
+no_part : {ts : List Token} (mid : List Token) (p : Part) → Closes ts → IsNetPart ts p mid → ⊥
+no_part mid p c x = parts-apart c.0 c.1 mid p (subst (λ us. IsNetPart us p mid) c.2 x) c.3
 
 ends-parts : {n b : PNet} {ts q : List Token} → AreParts n ts b q → Closes ts → Same n b ts q
 ends-parts y e = elim (parts-split y) [ inl d ↦ (sym d.0, sym d.1) | inr g ↦ absurd (no_part g.1 g.0 e g.2) ]
 
 -- a part, and then the others
-next_part : OneInscription → {n b : PNet} {ts mid q : List Token} (p : Part) → IsPart ts p mid → AreParts n ts b q → Closes q → AreParts (with_part n p) mid b q
+next_part : OneInscription → {n b : PNet} {ts mid q : List Token} (p : Part) → IsNetPart ts p mid → AreParts n ts b q → Closes q → AreParts (with_part n p) mid b q
 next_part law {n = n} {b = b} {ts = ts} {mid = mid} {q = q} p x y f = elim (parts-split y) as (λ w. AreParts (with_part n p) mid b q) [
   | inl d ↦ absurd (no_part mid p (subst Closes d.1 f) x)
   | inr g ↦ let s = one_part law ts mid g.1 p g.0 x g.2 in

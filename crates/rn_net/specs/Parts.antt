@@ -20,10 +20,10 @@ use Rattle.rn_net.specs.Nets.{AreMoreNames, AreVars, AreInitial, IsPlace, IsTran
 use Rattle.rn_net.specs.Nets.{AreParts, IsChannel, IsNet, net_of, plain_of, place_of, var_of}
 
 -- a part, and the net with it
-abbrev pub IsPart : Phrases Part
-IsPart ts (Part.Vars vars) rest = AreVars ts vars rest
-IsPart ts (Part.Place place) rest = IsPlace ts place rest
-IsPart ts (Part.Transition transition) rest = IsTransition ts transition rest
+abbrev pub IsNetPart : Phrases Part
+IsNetPart ts (Part.Vars vars) rest = AreVars ts vars rest
+IsNetPart ts (Part.Place place) rest = IsPlace ts place rest
+IsNetPart ts (Part.Transition transition) rest = IsTransition ts transition rest
 
 abbrev pub with_part : PNet → Part → PNet
 with_part n (Part.Vars vars) = net_of n.name (n.vars ++ vars) n.places n.transitions
@@ -41,13 +41,13 @@ with_item p (Item.Channel channel) = plain_of (p.channels ++ channel ∷ []) p.n
 with_item p (Item.Net net) = plain_of p.channels (p.nets ++ net ∷ [])
 
 -- a name alone
-abbrev pub IsName : Phrases PName
-IsName ts name rest = (t : Token) × (us : List Token) × (s : List ℕ) × (ts ≡ t ∷ us)
+abbrev pub IsPName : Phrases PName
+IsPName ts name rest = (t : Token) × (us : List Token) × (s : List ℕ) × (ts ≡ t ∷ us)
     × (t.kind ≡ Name s) × ((name ≡ name_at t.spot s) × (rest ≡ us))
 
 -- names between which commas stand, and the colon after them
 abbrev pub AreNames : Phrases (List PName)
-AreNames = Then IsName (λ name. AreMoreNames (name ∷ []))
+AreNames = Then IsPName (λ name. AreMoreNames (name ∷ []))
 
 abbrev pub AreNamesUpTo : Phrases (List PName)
 AreNamesUpTo = Then AreNames (λ names. Takes colon names)

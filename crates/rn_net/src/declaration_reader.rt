@@ -3,7 +3,7 @@ ghost use Rattle.std.specs.Prelude.{◌≡◌, ℕ, ◌+◌, ◌≤◌, List, le
 ghost use Rattle.rn_inscript.specs.Stages.{IsNextKind};
 ghost use Rattle.rn_net.specs.Levels.Region.{between, declaring};
 ghost use Rattle.rn_net.specs.Nets.{IsChannel, AreVars, IsPlace, var_of};
-ghost use Rattle.rn_net.specs.Parts.{IsName, AreNamesUpTo, IsInitialUpTo};
+ghost use Rattle.rn_net.specs.Parts.{IsPName, AreNamesUpTo, IsInitialUpTo};
 ghost use Rattle.rn_net.specs.Progress.{Reads, Moves, HaveNaturals};
 ghost use Rattle.rn_net.specs.Words.{channel_word, var_word, place_word};
 
@@ -43,7 +43,7 @@ pub(crate) fn channel(
 fn one_name(alloc: Global, tokens: &Tokens, at: usize) -> Result<(PName, usize), InscriptFault>
     requires { at ≤ length tokens.now }
     ensures moved { Moves tokens.now at result }
-    ensures reads { Reads IsName tokens.now at (declaring 0) (declaring 0) result }
+    ensures reads { Reads IsPName tokens.now at (declaring 0) (declaring 0) result }
 {
     expect_name(alloc, tokens, at)
 }

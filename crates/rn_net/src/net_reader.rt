@@ -6,7 +6,7 @@ ghost use Rattle.rn_inscript.specs.Stages.{IsNextKind};
 ghost use Rattle.rn_net.specs.Levels.Region.{between};
 ghost use Rattle.rn_net.specs.Lists.{IsInscriptionUpTo};
 ghost use Rattle.rn_net.specs.Nets.{IsTransition, IsNet};
-ghost use Rattle.rn_net.specs.Parts.{IsPart, IsItem, with_part, AreInscriptionsUpTo, ArePartsUpTo};
+ghost use Rattle.rn_net.specs.Parts.{IsNetPart, IsItem, with_part, AreInscriptionsUpTo, ArePartsUpTo};
 ghost use Rattle.rn_net.specs.Progress.{Reads, Moves, HaveNaturals};
 ghost use Rattle.rn_net.specs.Words.{trans_word, net_word};
 
@@ -82,7 +82,7 @@ fn part(alloc: Global, tokens: &Tokens, at: usize) -> Result<(Part, usize), Insc
     requires inside { at ≤ length tokens.now }
     requires naturals { HaveNaturals tokens.now }
     ensures moved { Moves tokens.now (at + 1) result }
-    ensures reads { Reads IsPart tokens.now at between between result }
+    ensures reads { Reads IsNetPart tokens.now at between between result }
 {
     if let Some((_, start)) = past_word(tokens, at, word::VAR) {
         let (more, end) = vars(alloc, tokens, at, start)?;

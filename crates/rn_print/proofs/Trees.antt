@@ -44,7 +44,7 @@ pieces_of nothing = []
 pieces_of (piece p) = p ∷ []
 pieces_of (both a b) = pieces_of a ++ pieces_of b
 
-pieces_join : (text mid rest : List ℕ) (ps qs : List Piece) → ArePieces text ps mid →
+pub pieces_join : (text mid rest : List ℕ) (ps qs : List Piece) → ArePieces text ps mid →
     ArePieces mid qs rest → ArePieces text (ps ++ qs) rest
 pieces_join text mid rest [] qs a b = subst (λ t. ArePieces t qs rest) (sym a) b
 pieces_join text mid rest (p ∷ ps) qs (after, e, fits, more) b =

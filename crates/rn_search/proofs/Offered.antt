@@ -113,7 +113,7 @@ starts_are_kept system m b depth enabled =
     } in
     (head_of node, may, (node, start.1, refl))
 
-finds_a_token : (kind : ArcKind) → finds_token kind ≡ true → finds_values kind ≡ true
+pub finds_a_token : (kind : ArcKind) → finds_token kind ≡ true → finds_values kind ≡ true
 finds_a_token Input e = refl
 finds_a_token Test e = refl
 finds_a_token Reserve e = refl
