@@ -20,3 +20,4 @@ mod InscriptionFacts
 mod OneExpression
 mod OneInscription
 mod LongestLaws
+pub mod NextToken

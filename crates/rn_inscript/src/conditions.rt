@@ -12,7 +12,7 @@ use crate::expressions::expr;
 use crate::fault::InscriptFault;
 use rn_items::Items;
 use rn_model::CompareKind;
-use rn_notation::{Token, TokenKind, sign};
+use rn_notation::{TokenKind, Tokens, sign};
 use std::alloc::Global;
 
 fn compare_of(kind: &TokenKind) -> Option<CompareKind>
@@ -30,11 +30,11 @@ fn compare_of(kind: &TokenKind) -> Option<CompareKind>
 }
 
 /// A comparison's sign, where it is next.
-fn next_comparison(tokens: &[Token], at: usize) -> Option<CompareKind>
+fn next_comparison(tokens: &Tokens, at: usize) -> Option<CompareKind>
     ensures { MatchOption result (IsNoneOf compare_of tokens.now at) (IsNextOf compare_of tokens.now at) }
 {
     match next(tokens, at) {
-        Some(token) => compare_of(&token.kind),
+        Some(token) => compare_of(token.kind),
         None => None,
     }
 }
@@ -42,7 +42,7 @@ fn next_comparison(tokens: &[Token], at: usize) -> Option<CompareKind>
 #[cycle(condition)]
 pub(crate) fn cond(
     alloc: Global,
-    tokens: &[Token],
+    tokens: &Tokens,
     seen: Seen,
     levels: u32,
 ) -> Result<(PCond, Seen), InscriptFault>
@@ -58,7 +58,7 @@ pub(crate) fn cond(
 #[cycle(condition)]
 fn alternatives(
     alloc: Global,
-    tokens: &[Token],
+    tokens: &Tokens,
     seen: Seen,
     levels: u32,
 ) -> Result<(PAlts, Seen), InscriptFault>
@@ -72,7 +72,7 @@ fn alternatives(
     all.push(first)?;
     let mut seen = after_first;
     while let Some(_) = past_sign(tokens, seen, sign::OR) {
-        let operand = seen.past_operator()?;
+        let operand = seen.past_operator(tokens)?;
         let (alternative, after) = both(alloc, tokens, operand, levels)?;
         all.push(alternative)?;
         seen = after;
@@ -83,7 +83,7 @@ fn alternatives(
 #[cycle(condition)]
 fn both(
     alloc: Global,
-    tokens: &[Token],
+    tokens: &Tokens,
     seen: Seen,
     levels: u32,
 ) -> Result<(PSimples, Seen), InscriptFault>
@@ -97,7 +97,7 @@ fn both(
     all.push(first)?;
     let mut seen = after_first;
     while let Some(_) = past_sign(tokens, seen, sign::AND) {
-        let operand = seen.past_operator()?;
+        let operand = seen.past_operator(tokens)?;
         let (condition, after) = simple(alloc, tokens, operand, levels)?;
         all.push(condition)?;
         seen = after;
@@ -108,7 +108,7 @@ fn both(
 #[cycle(condition)]
 fn simple(
     alloc: Global,
-    tokens: &[Token],
+    tokens: &Tokens,
     seen: Seen,
     levels: u32,
 ) -> Result<(PSimple, Seen), InscriptFault>
@@ -126,7 +126,7 @@ fn simple(
 #[cycle(condition)]
 fn negation(
     alloc: Global,
-    tokens: &[Token],
+    tokens: &Tokens,
     seen: Seen,
     levels: u32,
 ) -> Result<(PSimple, Seen), InscriptFault>
@@ -135,7 +135,7 @@ fn negation(
     ensures reads { (around : List Level) → without_minuses around ≡ around →
         levels + length around ≡ 64 → Reads 3 IsSimple tokens.now seen around result }
 {
-    let after_not = seen.past_operator()?;
+    let after_not = seen.past_operator(tokens)?;
     let inside = expect_opening(tokens, after_not, levels)?;
     let (condition, after) = cond(alloc, tokens, inside, levels - 1)?;
     let end = expect_sign(tokens, after, sign::RIGHT_PAREN)?;
@@ -145,7 +145,7 @@ fn negation(
 /// A comparison, or an expression alone.
 fn comparison(
     alloc: Global,
-    tokens: &[Token],
+    tokens: &Tokens,
     seen: Seen,
     levels: u32,
 ) -> Result<(PSimple, Seen), InscriptFault>
@@ -158,7 +158,7 @@ fn comparison(
     let (left, after) = expr(alloc, tokens, seen, levels)?;
     match next_comparison(tokens, after.at) {
         Some(kind) => {
-            let operand = after.past_operator()?;
+            let operand = after.past_operator(tokens)?;
             let (right, end) = expr(alloc, tokens, operand, levels)?;
             Ok((PSimple::Compare(kind, left, right), end))
         }

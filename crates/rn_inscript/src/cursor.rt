@@ -1,10 +1,11 @@
 //! Steps from token to token, with levels and operators counted.
-ghost use Rattle.std.specs.Prelude.{◌≡◌, ◌+◌, ◌<◌, ◌≤◌, ◌^◌, ◌⊎◌, MatchOption, MatchResult};
+ghost use Rattle.std.specs.Prelude.{◌≡◌, ◌+◌, ◌<◌, ◌≤◌, ◌⊎◌, length, MatchOption, MatchResult};
+ghost use Rattle.rn_notation.specs.StoredTokens.{lent};
 ghost use Rattle.rn_inscript.specs.Stages.{IsNext, HasNoNext, IsNextSign, IsNotNextSign, past, past_operator};
 ghost use Rattle.rn_inscript.specs.Stages.{IsBadOpening};
 
 use crate::fault::InscriptFault;
-use rn_notation::{Token, TokenKind, sign};
+use rn_notation::{TokenKind, TokenRef, Tokens, sign};
 
 /// How many levels may be open.
 pub(crate) const MOST_LEVELS: u32 = 64;
@@ -20,10 +21,11 @@ pub(crate) struct Seen {
 
 impl Seen {
     /// Past a token that is no operator.
-    pub(crate) fn past(self) -> Seen
-        requires { self.at + 1 < 2 ^ 64 }
+    pub(crate) fn past(self, tokens: &Tokens) -> Seen
+        requires { self.at < length tokens.now }
         ensures { result ≡ past self }
     {
+        let _count = tokens.len();
         Seen {
             at: self.at + 1,
             operators: self.operators,
@@ -31,12 +33,13 @@ impl Seen {
     }
 
     /// Past an operator.
-    pub(crate) fn past_operator(self) -> Result<Seen, InscriptFault>
-        requires { self.at + 1 < 2 ^ 64 }
+    pub(crate) fn past_operator(self, tokens: &Tokens) -> Result<Seen, InscriptFault>
+        requires { self.at < length tokens.now }
         ensures { MatchResult result
             (λ seen. (self.operators < 256) × (seen ≡ past_operator self))
             (λ fault. (256 ≤ self.operators) × (fault ≡ InscriptFault.P5 self.at)) }
     {
+        let _count = tokens.len();
         if self.operators >= MOST_OPERATORS {
             return Err(InscriptFault::P5(self.at));
         }
@@ -47,8 +50,8 @@ impl Seen {
     }
 
     /// Past a bracket that opens a level, where so many more may be opened.
-    pub(crate) fn past_opening(self, levels: u32) -> Result<Seen, InscriptFault>
-        requires { self.at + 1 < 2 ^ 64 }
+    pub(crate) fn past_opening(self, tokens: &Tokens, levels: u32) -> Result<Seen, InscriptFault>
+        requires { self.at < length tokens.now }
         ensures { MatchResult result
             (λ seen. (0 < levels) × (seen ≡ past self))
             (λ fault. (levels ≡ 0) × (fault ≡ InscriptFault.P5 self.at)) }
@@ -56,12 +59,12 @@ impl Seen {
         if levels == 0 {
             return Err(InscriptFault::P5(self.at));
         }
-        Ok(self.past())
+        Ok(self.past(tokens))
     }
 
     /// Past a unary minus, which is an operator and opens a level.
-    pub(crate) fn past_minus(self, levels: u32) -> Result<Seen, InscriptFault>
-        requires { self.at + 1 < 2 ^ 64 }
+    pub(crate) fn past_minus(self, tokens: &Tokens, levels: u32) -> Result<Seen, InscriptFault>
+        requires { self.at < length tokens.now }
         ensures { MatchResult result
             (λ seen. (0 < levels) × (self.operators < 256) × (seen ≡ past_operator self))
             (λ fault. ((levels ≡ 0) ⊎ (256 ≤ self.operators)) × (fault ≡ InscriptFault.P5 self.at)) }
@@ -69,28 +72,28 @@ impl Seen {
         if levels == 0 {
             return Err(InscriptFault::P5(self.at));
         }
-        self.past_operator()
+        self.past_operator(tokens)
     }
 }
 
 /// The next token.
-pub(crate) fn next(tokens: &[Token], at: usize) -> Option<&Token>
-    ensures { MatchOption result (HasNoNext tokens.now at) (λ t. IsNext tokens.now at t.now) }
+pub(crate) fn next(tokens: &Tokens, at: usize) -> Option<TokenRef<'_>>
+    ensures { MatchOption result (HasNoNext tokens.now at) (λ t. IsNext tokens.now at (lent t)) }
 {
     tokens.get(at)
 }
 
 /// Past this sign, where it is next.
-pub(crate) fn past_sign(tokens: &[Token], seen: Seen, wanted: u32) -> Option<Seen>
+pub(crate) fn past_sign(tokens: &Tokens, seen: Seen, wanted: u32) -> Option<Seen>
     ensures { MatchOption result
         (IsNotNextSign tokens.now seen.at wanted)
         (λ after. IsNextSign tokens.now seen.at wanted × (after ≡ past seen)) }
 {
     match next(tokens, seen.at) {
-        Some(token) => match &token.kind {
+        Some(token) => match token.kind {
             TokenKind::Sign(other) => {
                 if *other == wanted {
-                    Some(seen.past())
+                    Some(seen.past(tokens))
                 } else {
                     None
                 }
@@ -102,7 +105,7 @@ pub(crate) fn past_sign(tokens: &[Token], seen: Seen, wanted: u32) -> Option<See
 }
 
 /// Past this sign, which has to be next.
-pub(crate) fn expect_sign(tokens: &[Token], seen: Seen, wanted: u32) -> Result<Seen, InscriptFault>
+pub(crate) fn expect_sign(tokens: &Tokens, seen: Seen, wanted: u32) -> Result<Seen, InscriptFault>
     ensures { MatchResult result
         (λ after. IsNextSign tokens.now seen.at wanted × (after ≡ past seen))
         (λ fault. IsNotNextSign tokens.now seen.at wanted × (fault ≡ InscriptFault.P2 seen.at)) }
@@ -115,7 +118,7 @@ pub(crate) fn expect_sign(tokens: &[Token], seen: Seen, wanted: u32) -> Result<S
 
 /// Past an opening parenthesis, which has to be next, where so many more levels may be opened.
 pub(crate) fn expect_opening(
-    tokens: &[Token],
+    tokens: &Tokens,
     seen: Seen,
     levels: u32,
 ) -> Result<Seen, InscriptFault>

@@ -3,6 +3,7 @@
 ghost use Rattle.std.specs.Prelude.{◌≡◌, ◌↔◌, ◌+◌, ◌≤◌, List, length, IfOk, IsTrue, MatchOption};
 ghost use Rattle.std.specs.Prelude.{codes, ◌∷◌};
 ghost use Rattle.rn_notation.specs.declared.token.TokenKind.TheVariants as Kind;
+ghost use Rattle.rn_notation.specs.StoredTokens.{lent};
 ghost use Rattle.rn_inscript.specs.Expressions.{IsExpr, IsProduct, IsUnary, IsPrimary, IsListed};
 ghost use Rattle.rn_inscript.specs.Expressions.{IsExprs, joined, at_spot};
 ghost use Rattle.rn_inscript.specs.Signs.{open_brace, open_bracket, open_paren, minus, plus_of};
@@ -16,7 +17,7 @@ use crate::exprs::{PExpr, PExprs, PForm};
 use crate::fault::InscriptFault;
 use rn_items::{Boxed, Items};
 use rn_model::OpKind;
-use rn_notation::{Spot, Token, TokenKind, sign, word};
+use rn_notation::{Spot, TokenKind, TokenRef, Tokens, sign, word};
 use rn_value::{NoMemory, Str, copy_text};
 use std::alloc::Global;
 
@@ -42,21 +43,21 @@ fn times_of(kind: &TokenKind) -> Option<OpKind>
 }
 
 /// `+` or `-`, where it is next.
-fn next_plus(tokens: &[Token], at: usize) -> Option<OpKind>
+fn next_plus(tokens: &Tokens, at: usize) -> Option<OpKind>
     ensures { MatchOption result (IsNoneOf plus_of tokens.now at) (IsNextOf plus_of tokens.now at) }
 {
     match next(tokens, at) {
-        Some(token) => plus_of(&token.kind),
+        Some(token) => plus_of(token.kind),
         None => None,
     }
 }
 
 /// `*`, `/` or `%`, where it is next.
-fn next_times(tokens: &[Token], at: usize) -> Option<OpKind>
+fn next_times(tokens: &Tokens, at: usize) -> Option<OpKind>
     ensures { MatchOption result (IsNoneOf times_of tokens.now at) (IsNextOf times_of tokens.now at) }
 {
     match next(tokens, at) {
-        Some(token) => times_of(&token.kind),
+        Some(token) => times_of(token.kind),
         None => None,
     }
 }
@@ -85,12 +86,12 @@ fn negate(alloc: Global, spot: Spot, e: PExpr) -> Result<PExpr, NoMemory>
 }
 
 /// A minus, where it is next.
-fn next_minus(tokens: &[Token], at: usize) -> Option<&Token>
+fn next_minus(tokens: &Tokens, at: usize) -> Option<TokenRef<'_>>
     ensures { MatchOption result (IsNotNextSign tokens.now at 17)
-        (λ t. IsNext tokens.now at t.now × (t.now.kind ≡ minus)) }
+        (λ t. IsNext tokens.now at (lent t) × (t.kind.now ≡ minus)) }
 {
     match next(tokens, at) {
-        Some(token) => match &token.kind {
+        Some(token) => match token.kind {
             TokenKind::Sign(sign::MINUS) => Some(token),
             _ => None,
         },
@@ -126,22 +127,22 @@ fn is_step(name: &Str) -> bool
 /// A variable, or `step()`, whose name is next.
 fn named(
     alloc: Global,
-    tokens: &[Token],
+    tokens: &Tokens,
     seen: Seen,
     levels: u32,
-    token: &Token,
+    token: TokenRef<'_>,
     name: &Str,
 ) -> Result<(PExpr, Seen), InscriptFault>
-    requires next { IsNext tokens.now seen.at token.now }
-    requires name { token.now.kind ≡ Kind.Name name.now }
+    requires next { IsNext tokens.now seen.at (lent token) }
+    requires name { token.kind.now ≡ Kind.Name name.now }
     ensures moved { Moves tokens.now seen result }
     ensures reads { (around : List Level) → levels + length around ≡ 64 →
         Reads 6 IsPrimary tokens.now seen around result }
 {
-    let after = seen.past();
+    let after = seen.past(tokens);
     if is_step(name) {
         if let Some(_) = past_sign(tokens, after, sign::LEFT_PAREN) {
-            let inside = after.past_opening(levels)?;
+            let inside = after.past_opening(tokens, levels)?;
             let end = expect_sign(tokens, inside, sign::RIGHT_PAREN)?;
             return Ok((
                 PExpr {
@@ -164,13 +165,13 @@ fn named(
 
 /// `this`, which is the only word that is an expression.
 fn this(
-    tokens: &[Token],
+    tokens: &Tokens,
     seen: Seen,
-    token: &Token,
+    token: TokenRef<'_>,
     number: u32,
 ) -> Result<(PExpr, Seen), InscriptFault>
-    requires next { IsNext tokens.now seen.at token.now }
-    requires kind { token.now.kind ≡ Kind.Word number }
+    requires next { IsNext tokens.now seen.at (lent token) }
+    requires kind { token.kind.now ≡ Kind.Word number }
     ensures moved { Moves tokens.now seen result }
     ensures reads { (around : List Level) → Reads 6 IsPrimary tokens.now seen around result }
 {
@@ -182,14 +183,14 @@ fn this(
             form: PForm::This,
             spot: token.spot,
         },
-        seen.past(),
+        seen.past(tokens),
     ))
 }
 
 #[cycle(expression)]
 fn primary(
     alloc: Global,
-    tokens: &[Token],
+    tokens: &Tokens,
     seen: Seen,
     levels: u32,
 ) -> Result<(PExpr, Seen), InscriptFault>
@@ -199,20 +200,20 @@ fn primary(
         Reads 6 IsPrimary tokens.now seen around result }
 {
     match next(tokens, seen.at) {
-        Some(token) => match &token.kind {
+        Some(token) => match token.kind {
             TokenKind::Number(n) => Ok((
                 PExpr {
                     form: PForm::Int(*n),
                     spot: token.spot,
                 },
-                seen.past(),
+                seen.past(tokens),
             )),
             TokenKind::Text(text) => Ok((
                 PExpr {
                     form: PForm::Text(copy_text(alloc, text)?),
                     spot: token.spot,
                 },
-                seen.past(),
+                seen.past(tokens),
             )),
             TokenKind::Name(name) => named(alloc, tokens, seen, levels, token, name),
             TokenKind::Word(number) => this(tokens, seen, token, *number),
@@ -226,14 +227,14 @@ fn primary(
 #[cycle(expression)]
 fn bracketed(
     alloc: Global,
-    tokens: &[Token],
+    tokens: &Tokens,
     seen: Seen,
     levels: u32,
-    token: &Token,
+    token: TokenRef<'_>,
     opening: u32,
 ) -> Result<(PExpr, Seen), InscriptFault>
-    requires next { IsNext tokens.now seen.at token.now }
-    requires kind { token.now.kind ≡ Kind.Sign opening }
+    requires next { IsNext tokens.now seen.at (lent token) }
+    requires kind { token.kind.now ≡ Kind.Sign opening }
     ensures moved { Moves tokens.now seen result }
     ensures reads { (around : List Level) → levels + length around ≡ 64 →
         Reads 6 IsPrimary tokens.now seen around result }
@@ -252,18 +253,18 @@ fn bracketed(
 #[cycle(expression)]
 fn parenthesised(
     alloc: Global,
-    tokens: &[Token],
+    tokens: &Tokens,
     seen: Seen,
     levels: u32,
-    token: &Token,
+    token: TokenRef<'_>,
 ) -> Result<(PExpr, Seen), InscriptFault>
-    requires next { IsNext tokens.now seen.at token.now }
-    requires kind { token.now.kind ≡ open_paren }
+    requires next { IsNext tokens.now seen.at (lent token) }
+    requires kind { token.kind.now ≡ open_paren }
     ensures moved { Moves tokens.now seen result }
     ensures reads { (around : List Level) → levels + length around ≡ 64 →
         Reads 6 IsPrimary tokens.now seen around result }
 {
-    let inside = seen.past_opening(levels)?;
+    let inside = seen.past_opening(tokens, levels)?;
     let (inner, after) = expr(alloc, tokens, inside, levels - 1)?;
     let end = expect_sign(tokens, after, sign::RIGHT_PAREN)?;
     Ok((inner, end))
@@ -272,18 +273,18 @@ fn parenthesised(
 #[cycle(expression)]
 fn tuple(
     alloc: Global,
-    tokens: &[Token],
+    tokens: &Tokens,
     seen: Seen,
     levels: u32,
-    token: &Token,
+    token: TokenRef<'_>,
 ) -> Result<(PExpr, Seen), InscriptFault>
-    requires next { IsNext tokens.now seen.at token.now }
-    requires kind { token.now.kind ≡ open_bracket }
+    requires next { IsNext tokens.now seen.at (lent token) }
+    requires kind { token.kind.now ≡ open_bracket }
     ensures moved { Moves tokens.now seen result }
     ensures reads { (around : List Level) → levels + length around ≡ 64 →
         Reads 6 IsPrimary tokens.now seen around result }
 {
-    let inside = seen.past_opening(levels)?;
+    let inside = seen.past_opening(tokens, levels)?;
     let (parts, end) = listed(alloc, tokens, inside, levels - 1, sign::RIGHT_BRACKET)?;
     Ok((
         PExpr {
@@ -297,18 +298,18 @@ fn tuple(
 #[cycle(expression)]
 fn list(
     alloc: Global,
-    tokens: &[Token],
+    tokens: &Tokens,
     seen: Seen,
     levels: u32,
-    token: &Token,
+    token: TokenRef<'_>,
 ) -> Result<(PExpr, Seen), InscriptFault>
-    requires next { IsNext tokens.now seen.at token.now }
-    requires kind { token.now.kind ≡ open_brace }
+    requires next { IsNext tokens.now seen.at (lent token) }
+    requires kind { token.kind.now ≡ open_brace }
     ensures moved { Moves tokens.now seen result }
     ensures reads { (around : List Level) → levels + length around ≡ 64 →
         Reads 6 IsPrimary tokens.now seen around result }
 {
-    let inside = seen.past_opening(levels)?;
+    let inside = seen.past_opening(tokens, levels)?;
     if let Some(end) = past_sign(tokens, inside, sign::RIGHT_BRACE) {
         return Ok((list_at(token.spot, Items::new(alloc)), end));
     }
@@ -326,7 +327,7 @@ fn list(
 #[cycle(expression)]
 pub(crate) fn listed(
     alloc: Global,
-    tokens: &[Token],
+    tokens: &Tokens,
     seen: Seen,
     levels: u32,
     close: u32,
@@ -349,7 +350,7 @@ pub(crate) fn listed(
 #[cycle(expression)]
 fn exprs(
     alloc: Global,
-    tokens: &[Token],
+    tokens: &Tokens,
     seen: Seen,
     levels: u32,
 ) -> Result<(PExprs, Seen), InscriptFault>
@@ -373,18 +374,18 @@ fn exprs(
 #[cycle(expression)]
 fn negative(
     alloc: Global,
-    tokens: &[Token],
+    tokens: &Tokens,
     seen: Seen,
     levels: u32,
-    token: &Token,
+    token: TokenRef<'_>,
 ) -> Result<(PExpr, Seen), InscriptFault>
-    requires next { IsNext tokens.now seen.at token.now }
-    requires kind { token.now.kind ≡ minus }
+    requires next { IsNext tokens.now seen.at (lent token) }
+    requires kind { token.kind.now ≡ minus }
     ensures moved { Moves tokens.now seen result }
     ensures reads { (around : List Level) → levels + length around ≡ 64 →
         Reads 6 IsUnary tokens.now seen around result }
 {
-    let operand = seen.past_minus(levels)?;
+    let operand = seen.past_minus(tokens, levels)?;
     let (e, after) = unary(alloc, tokens, operand, levels - 1)?;
     Ok((negate(alloc, token.spot, e)?, after))
 }
@@ -392,7 +393,7 @@ fn negative(
 #[cycle(expression)]
 fn unary(
     alloc: Global,
-    tokens: &[Token],
+    tokens: &Tokens,
     seen: Seen,
     levels: u32,
 ) -> Result<(PExpr, Seen), InscriptFault>
@@ -410,7 +411,7 @@ fn unary(
 #[cycle(expression)]
 fn product(
     alloc: Global,
-    tokens: &[Token],
+    tokens: &Tokens,
     seen: Seen,
     levels: u32,
 ) -> Result<(PExpr, Seen), InscriptFault>
@@ -423,7 +424,7 @@ fn product(
     let mut left = first;
     let mut seen = after_first;
     while let Some(op) = next_times(tokens, seen.at) {
-        let operand = seen.past_operator()?;
+        let operand = seen.past_operator(tokens)?;
         let (right, after) = unary(alloc, tokens, operand, levels)?;
         left = join(alloc, op, left, right)?;
         seen = after;
@@ -434,7 +435,7 @@ fn product(
 #[cycle(expression)]
 pub(crate) fn expr(
     alloc: Global,
-    tokens: &[Token],
+    tokens: &Tokens,
     seen: Seen,
     levels: u32,
 ) -> Result<(PExpr, Seen), InscriptFault>
@@ -447,7 +448,7 @@ pub(crate) fn expr(
     let mut left = first;
     let mut seen = after_first;
     while let Some(op) = next_plus(tokens, seen.at) {
-        let operand = seen.past_operator()?;
+        let operand = seen.past_operator(tokens)?;
         let (right, after) = product(alloc, tokens, operand, levels)?;
         left = join(alloc, op, left, right)?;
         seen = after;

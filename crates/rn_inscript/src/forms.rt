@@ -1,6 +1,7 @@
 //! Reading the forms of inscriptions.
 ghost use Rattle.std.specs.Prelude.{◌≡◌, ◌↔◌, ◌+◌, ◌≤◌, ◌⊎◌, [], Some, length, IfOk, MatchOption, MatchResult};
 ghost use Rattle.rn_notation.specs.declared.token.TokenKind.TheVariants as Kind;
+ghost use Rattle.rn_notation.specs.StoredTokens.{lent};
 ghost use Rattle.rn_inscript.specs.Inscriptions.{IsInscribed, IsCall, absent};
 ghost use Rattle.rn_inscript.specs.Signs.{arc_of, target_of, guard_word, action_word, colon, new_word};
 ghost use Rattle.rn_inscript.specs.Signs.{this_word};
@@ -16,21 +17,21 @@ use crate::fault::InscriptFault;
 use crate::inscriptions::{PInscribed, PName};
 use rn_items::Items;
 use rn_model::ArcKind;
-use rn_notation::{Spot, Token, TokenKind, sign, word};
+use rn_notation::{Spot, TokenKind, TokenRef, Tokens, sign, word};
 use rn_value::{Str, copy_text};
 use std::alloc::Global;
 
 /// Past this reserved word, where it is next.
-fn past_word(tokens: &[Token], seen: Seen, wanted: u32) -> Option<Seen>
+fn past_word(tokens: &Tokens, seen: Seen, wanted: u32) -> Option<Seen>
     ensures { MatchOption result
         (IsNotNextKind tokens.now seen.at (Kind.Word wanted))
         (λ after. IsNextKind tokens.now seen.at (Kind.Word wanted) × (after ≡ past seen)) }
 {
     match next(tokens, seen.at) {
-        Some(token) => match &token.kind {
+        Some(token) => match token.kind {
             TokenKind::Word(other) => {
                 if *other == wanted {
-                    Some(seen.past())
+                    Some(seen.past(tokens))
                 } else {
                     None
                 }
@@ -42,13 +43,13 @@ fn past_word(tokens: &[Token], seen: Seen, wanted: u32) -> Option<Seen>
 }
 
 /// A name, which has to be next.
-fn expect_name(alloc: Global, tokens: &[Token], seen: Seen) -> Result<(PName, Seen), InscriptFault>
+fn expect_name(alloc: Global, tokens: &Tokens, seen: Seen) -> Result<(PName, Seen), InscriptFault>
     ensures { MatchResult result
         (λ found. IsNextName tokens.now seen.at found.0 × (found.1 ≡ past seen))
         (λ fault. IsNoName tokens.now seen.at fault) }
 {
     match next(tokens, seen.at) {
-        Some(token) => match &token.kind {
+        Some(token) => match token.kind {
             TokenKind::Name(name) => {
                 let text = copy_text(alloc, name)?;
                 Ok((
@@ -56,7 +57,7 @@ fn expect_name(alloc: Global, tokens: &[Token], seen: Seen) -> Result<(PName, Se
                         text,
                         spot: token.spot,
                     },
-                    seen.past(),
+                    seen.past(tokens),
                 ))
             }
             _ => Err(InscriptFault::P2(seen.at)),
@@ -97,17 +98,17 @@ fn absent(alloc: Global, kind: ArcKind, spot: Spot) -> Option<PExpr>
 /// `in p` and the like, with an inscription or without one.
 fn arc(
     alloc: Global,
-    tokens: &[Token],
+    tokens: &Tokens,
     seen: Seen,
-    token: &Token,
+    token: TokenRef<'_>,
     kind: ArcKind,
 ) -> Result<(PInscribed, Seen), InscriptFault>
-    requires next { IsNext tokens.now seen.at token.now }
-    requires kind { arc_of token.now.kind ≡ Some kind }
+    requires next { IsNext tokens.now seen.at (lent token) }
+    requires kind { arc_of token.kind.now ≡ Some kind }
     ensures moved { Moves tokens.now seen result }
     ensures reads { Reads 0 IsInscribed tokens.now seen [] result }
 {
-    let (place, after) = expect_name(alloc, tokens, seen.past())?;
+    let (place, after) = expect_name(alloc, tokens, seen.past(tokens))?;
     match past_sign(tokens, after, sign::COLON) {
         Some(start) => {
             let (e, end) = expr(alloc, tokens, start, MOST_LEVELS)?;
@@ -137,32 +138,32 @@ fn arc(
 /// `guard c`
 fn guard(
     alloc: Global,
-    tokens: &[Token],
+    tokens: &Tokens,
     seen: Seen,
-    token: &Token,
+    token: TokenRef<'_>,
 ) -> Result<(PInscribed, Seen), InscriptFault>
-    requires next { IsNext tokens.now seen.at token.now }
-    requires kind { token.now.kind ≡ guard_word }
+    requires next { IsNext tokens.now seen.at (lent token) }
+    requires kind { token.kind.now ≡ guard_word }
     ensures moved { Moves tokens.now seen result }
     ensures reads { Reads 0 IsInscribed tokens.now seen [] result }
 {
-    let (condition, end) = cond(alloc, tokens, seen.past(), MOST_LEVELS)?;
+    let (condition, end) = cond(alloc, tokens, seen.past(tokens), MOST_LEVELS)?;
     Ok((PInscribed::Guard(condition), end))
 }
 
 /// `action print e` or `action v = e`
 fn action(
     alloc: Global,
-    tokens: &[Token],
+    tokens: &Tokens,
     seen: Seen,
-    token: &Token,
+    token: TokenRef<'_>,
 ) -> Result<(PInscribed, Seen), InscriptFault>
-    requires next { IsNext tokens.now seen.at token.now }
-    requires kind { token.now.kind ≡ action_word }
+    requires next { IsNext tokens.now seen.at (lent token) }
+    requires kind { token.kind.now ≡ action_word }
     ensures moved { Moves tokens.now seen result }
     ensures reads { Reads 0 IsInscribed tokens.now seen [] result }
 {
-    let after = seen.past();
+    let after = seen.past(tokens);
     if let Some(start) = past_word(tokens, after, word::PRINT) {
         let (e, end) = expr(alloc, tokens, start, MOST_LEVELS)?;
         return Ok((PInscribed::Print(e), end));
@@ -176,7 +177,7 @@ fn action(
 /// `ch(e1,e2)`
 fn call(
     alloc: Global,
-    tokens: &[Token],
+    tokens: &Tokens,
     seen: Seen,
 ) -> Result<((PName, PExprs), Seen), InscriptFault>
     requires { seen.at ≤ length tokens.now }
@@ -192,35 +193,35 @@ fn call(
 /// `:ch(e1,e2)`
 fn uplink(
     alloc: Global,
-    tokens: &[Token],
+    tokens: &Tokens,
     seen: Seen,
-    token: &Token,
+    token: TokenRef<'_>,
 ) -> Result<(PInscribed, Seen), InscriptFault>
-    requires next { IsNext tokens.now seen.at token.now }
-    requires kind { token.now.kind ≡ colon }
+    requires next { IsNext tokens.now seen.at (lent token) }
+    requires kind { token.kind.now ≡ colon }
     ensures moved { Moves tokens.now seen result }
     ensures reads { Reads 0 IsInscribed tokens.now seen [] result }
 {
-    let ((channel, args), end) = call(alloc, tokens, seen.past())?;
+    let ((channel, args), end) = call(alloc, tokens, seen.past(tokens))?;
     Ok((PInscribed::Uplink { channel, args }, end))
 }
 
 /// `x: new n`, of which `new` is next.
 fn creation(
     alloc: Global,
-    tokens: &[Token],
+    tokens: &Tokens,
     seen: Seen,
-    token: &Token,
+    token: TokenRef<'_>,
     name: &Str,
 ) -> Result<(PInscribed, Seen), InscriptFault>
-    requires next { IsNext tokens.now seen.at token.now }
-    requires kind { token.now.kind ≡ Kind.Name name.now }
+    requires next { IsNext tokens.now seen.at (lent token) }
+    requires kind { token.kind.now ≡ Kind.Name name.now }
     requires follows { IsNextKind tokens.now (seen.at + 1) colon }
     requires new { IsNextKind tokens.now (seen.at + 1 + 1) new_word }
     ensures moved { Moves tokens.now seen result }
     ensures reads { Reads 0 IsInscribed tokens.now seen [] result }
 {
-    let (net, end) = expect_name(alloc, tokens, seen.past().past().past())?;
+    let (net, end) = expect_name(alloc, tokens, seen.past(tokens).past(tokens).past(tokens))?;
     let text = copy_text(alloc, name)?;
     let var = PName {
         text,
@@ -232,19 +233,19 @@ fn creation(
 /// `x:ch(e1,e2)` or `this:ch(e1,e2)`
 fn downlink(
     alloc: Global,
-    tokens: &[Token],
+    tokens: &Tokens,
     seen: Seen,
-    token: &Token,
+    token: TokenRef<'_>,
     form: PForm,
 ) -> Result<(PInscribed, Seen), InscriptFault>
-    requires next { IsNext tokens.now seen.at token.now }
-    requires kind { target_of token.now.kind ≡ Some form }
+    requires next { IsNext tokens.now seen.at (lent token) }
+    requires kind { target_of token.kind.now ≡ Some form }
     requires follows { IsNextKind tokens.now (seen.at + 1) colon }
-    requires other { IsNoCreation tokens.now (seen.at + 1 + 1) token.now }
+    requires other { IsNoCreation tokens.now (seen.at + 1 + 1) (lent token) }
     ensures moved { Moves tokens.now seen result }
     ensures reads { Reads 0 IsInscribed tokens.now seen [] result }
 {
-    let ((channel, args), end) = call(alloc, tokens, seen.past().past())?;
+    let ((channel, args), end) = call(alloc, tokens, seen.past(tokens).past(tokens))?;
     let target = PExpr {
         form,
         spot: token.spot,
@@ -260,11 +261,7 @@ fn downlink(
 }
 
 /// `e1 = e2`
-fn equality(
-    alloc: Global,
-    tokens: &[Token],
-    seen: Seen,
-) -> Result<(PInscribed, Seen), InscriptFault>
+fn equality(alloc: Global, tokens: &Tokens, seen: Seen) -> Result<(PInscribed, Seen), InscriptFault>
     requires { seen.at ≤ length tokens.now }
     ensures moved { Moves tokens.now seen result }
     ensures reads { Reads 0 IsEquality tokens.now seen [] result }
@@ -278,17 +275,17 @@ fn equality(
 /// An inscription that begins with a name.
 fn by_name(
     alloc: Global,
-    tokens: &[Token],
+    tokens: &Tokens,
     seen: Seen,
-    token: &Token,
+    token: TokenRef<'_>,
     name: &Str,
 ) -> Result<(PInscribed, Seen), InscriptFault>
-    requires next { IsNext tokens.now seen.at token.now }
-    requires kind { token.now.kind ≡ Kind.Name name.now }
+    requires next { IsNext tokens.now seen.at (lent token) }
+    requires kind { token.kind.now ≡ Kind.Name name.now }
     ensures moved { Moves tokens.now seen result }
     ensures reads { Reads 0 IsInscribed tokens.now seen [] result }
 {
-    match past_sign(tokens, seen.past(), sign::COLON) {
+    match past_sign(tokens, seen.past(tokens), sign::COLON) {
         Some(after) => by_link(alloc, tokens, seen, after, token, name),
         None => equality(alloc, tokens, seen),
     }
@@ -297,14 +294,14 @@ fn by_name(
 /// A creation or a downlink, of which the name and the colon were seen.
 fn by_link(
     alloc: Global,
-    tokens: &[Token],
+    tokens: &Tokens,
     seen: Seen,
     after: Seen,
-    token: &Token,
+    token: TokenRef<'_>,
     name: &Str,
 ) -> Result<(PInscribed, Seen), InscriptFault>
-    requires next { IsNext tokens.now seen.at token.now }
-    requires kind { token.now.kind ≡ Kind.Name name.now }
+    requires next { IsNext tokens.now seen.at (lent token) }
+    requires kind { token.kind.now ≡ Kind.Name name.now }
     requires follows { IsNextKind tokens.now (seen.at + 1) colon }
     requires after { after ≡ past (past seen) }
     ensures moved { Moves tokens.now seen result }
@@ -322,16 +319,16 @@ fn by_link(
 /// An inscription that begins with `this`.
 fn by_this(
     alloc: Global,
-    tokens: &[Token],
+    tokens: &Tokens,
     seen: Seen,
-    token: &Token,
+    token: TokenRef<'_>,
 ) -> Result<(PInscribed, Seen), InscriptFault>
-    requires next { IsNext tokens.now seen.at token.now }
-    requires kind { token.now.kind ≡ this_word }
+    requires next { IsNext tokens.now seen.at (lent token) }
+    requires kind { token.kind.now ≡ this_word }
     ensures moved { Moves tokens.now seen result }
     ensures reads { Reads 0 IsInscribed tokens.now seen [] result }
 {
-    match past_sign(tokens, seen.past(), sign::COLON) {
+    match past_sign(tokens, seen.past(tokens), sign::COLON) {
         Some(_) => downlink(alloc, tokens, seen, token, PForm::This),
         None => equality(alloc, tokens, seen),
     }
@@ -340,17 +337,17 @@ fn by_this(
 /// An inscription that begins with a reserved word.
 fn by_word(
     alloc: Global,
-    tokens: &[Token],
+    tokens: &Tokens,
     seen: Seen,
-    token: &Token,
+    token: TokenRef<'_>,
     number: u32,
 ) -> Result<(PInscribed, Seen), InscriptFault>
-    requires next { IsNext tokens.now seen.at token.now }
-    requires kind { token.now.kind ≡ Kind.Word number }
+    requires next { IsNext tokens.now seen.at (lent token) }
+    requires kind { token.kind.now ≡ Kind.Word number }
     ensures moved { Moves tokens.now seen result }
     ensures reads { Reads 0 IsInscribed tokens.now seen [] result }
 {
-    if let Some(kind) = arc_of(&token.kind) {
+    if let Some(kind) = arc_of(token.kind) {
         arc(alloc, tokens, seen, token, kind)
     } else if number == word::GUARD {
         guard(alloc, tokens, seen, token)
@@ -366,13 +363,13 @@ fn by_word(
 /// An inscription that begins with a sign.
 fn by_sign(
     alloc: Global,
-    tokens: &[Token],
+    tokens: &Tokens,
     seen: Seen,
-    token: &Token,
+    token: TokenRef<'_>,
     number: u32,
 ) -> Result<(PInscribed, Seen), InscriptFault>
-    requires next { IsNext tokens.now seen.at token.now }
-    requires kind { token.now.kind ≡ Kind.Sign number }
+    requires next { IsNext tokens.now seen.at (lent token) }
+    requires kind { token.kind.now ≡ Kind.Sign number }
     ensures moved { Moves tokens.now seen result }
     ensures reads { Reads 0 IsInscribed tokens.now seen [] result }
 {
@@ -386,7 +383,7 @@ fn by_sign(
 /// The form of an inscription.
 pub(crate) fn inscribed(
     alloc: Global,
-    tokens: &[Token],
+    tokens: &Tokens,
     seen: Seen,
 ) -> Result<(PInscribed, Seen), InscriptFault>
     requires { seen.at ≤ length tokens.now }
@@ -394,7 +391,7 @@ pub(crate) fn inscribed(
     ensures reads { Reads 0 IsInscribed tokens.now seen [] result }
 {
     match next(tokens, seen.at) {
-        Some(token) => match &token.kind {
+        Some(token) => match token.kind {
             TokenKind::Name(name) => by_name(alloc, tokens, seen, token, name),
             TokenKind::Word(number) => by_word(alloc, tokens, seen, token, *number),
             TokenKind::Sign(number) => by_sign(alloc, tokens, seen, token, *number),

@@ -12,10 +12,10 @@ use crate::exprs::PExpr;
 use crate::fault::InscriptFault;
 use crate::forms::inscribed;
 use crate::inscriptions::{PInscribed, PInscription};
-use rn_notation::{Token, Tokens};
+use rn_notation::Tokens;
 use std::alloc::Global;
 
-fn expr_at(alloc: Global, tokens: &[Token], at: usize) -> Result<(PExpr, usize), InscriptFault>
+fn expr_at(alloc: Global, tokens: &Tokens, at: usize) -> Result<(PExpr, usize), InscriptFault>
     requires { at ≤ length tokens.now }
     ensures { IsAnswer IsWholeExpr tokens.now at result }
 {
@@ -24,7 +24,7 @@ fn expr_at(alloc: Global, tokens: &[Token], at: usize) -> Result<(PExpr, usize),
     Ok((e, end.at))
 }
 
-fn form_at(alloc: Global, tokens: &[Token], at: usize) -> Result<(PInscribed, usize), InscriptFault>
+fn form_at(alloc: Global, tokens: &Tokens, at: usize) -> Result<(PInscribed, usize), InscriptFault>
     requires { at ≤ length tokens.now }
     ensures { IsAnswer IsWholeForm tokens.now at result }
 {
@@ -35,7 +35,7 @@ fn form_at(alloc: Global, tokens: &[Token], at: usize) -> Result<(PInscribed, us
 
 fn inscription_at(
     alloc: Global,
-    tokens: &[Token],
+    tokens: &Tokens,
     at: usize,
 ) -> Result<(PInscription, usize), InscriptFault>
     requires { at ≤ length tokens.now }
@@ -71,7 +71,7 @@ pub fn read_expr(alloc: Global, tokens: &Tokens, at: usize) -> Result<(PExpr, us
     ensures goes_too_far { (k : ℕ) → IsDeep IsWholeExpr tokens.now at k →
         Answers result (Err (InscriptFault.P5 k)) }
 {
-    expr_at(alloc, tokens.as_slice(), at)
+    expr_at(alloc, tokens, at)
 }
 
 /// The inscription that begins at an index, and the index after it. The token after it, such as
@@ -95,5 +95,5 @@ pub fn read_transition_inscription(
     ensures goes_too_far { (k : ℕ) → IsDeep IsInscription tokens.now at k →
         Answers result (Err (InscriptFault.P5 k)) }
 {
-    inscription_at(alloc, tokens.as_slice(), at)
+    inscription_at(alloc, tokens, at)
 }

@@ -1,12 +1,13 @@
 //! Steps from token to token.
 ghost use Rattle.std.specs.Prelude.{◌≡◌, ◌+◌, ◌<◌, ◌≤◌, ◌^◌, MatchOption, MatchResult, OnSome};
 ghost use Rattle.rn_notation.specs.declared.token.TokenKind.TheVariants as Kind;
+ghost use Rattle.rn_notation.specs.StoredTokens.{lent};
 ghost use Rattle.rn_inscript.specs.Stages.{IsNext, HasNoNext};
 ghost use Rattle.rn_inscript.specs.NextNames.{IsNotNextKind, IsNextName, IsNoName};
 ghost use Rattle.rn_net.specs.Progress.{HasNext, IsNoNumber, IsNoText};
 
 use rn_inscript::{InscriptFault, PName};
-use rn_notation::{Spot, Token, TokenKind, Tokens};
+use rn_notation::{Spot, TokenKind, TokenRef, Tokens};
 use rn_value::{Str, copy_text};
 use std::alloc::Global;
 
@@ -14,11 +15,12 @@ use std::alloc::Global;
 pub(crate) const MOST_LEVELS: u32 = 64;
 
 /// The next token.
-pub(crate) fn next(tokens: &Tokens, at: usize) -> Option<&Token>
-    ensures next { MatchOption result (HasNoNext tokens.now at) (λ t. IsNext tokens.now at t.now) }
+pub(crate) fn next(tokens: &Tokens, at: usize) -> Option<TokenRef<'_>>
+    ensures next { MatchOption result (HasNoNext tokens.now at) (λ t. IsNext tokens.now at (lent t)) }
     ensures fits { OnSome result (at + 1 < 2 ^ 64) }
 {
-    tokens.as_slice().get(at)
+    let _count = tokens.len();
+    tokens.get(at)
 }
 
 /// The spot of this reserved word, where it is next, and the index past it.
@@ -28,7 +30,7 @@ pub(crate) fn past_word(tokens: &Tokens, at: usize, wanted: u32) -> Option<(Spot
         (λ found. HasNext tokens.now at (Kind.Word wanted) found.0 × (found.1 ≡ at + 1)) }
 {
     match next(tokens, at) {
-        Some(token) => match &token.kind {
+        Some(token) => match token.kind {
             TokenKind::Word(other) => {
                 if *other == wanted {
                     Some((token.spot, at + 1))
@@ -49,7 +51,7 @@ pub(crate) fn past_sign(tokens: &Tokens, at: usize, wanted: u32) -> Option<(Spot
         (λ found. HasNext tokens.now at (Kind.Sign wanted) found.0 × (found.1 ≡ at + 1)) }
 {
     match next(tokens, at) {
-        Some(token) => match &token.kind {
+        Some(token) => match token.kind {
             TokenKind::Sign(other) => {
                 if *other == wanted {
                     Some((token.spot, at + 1))
@@ -90,7 +92,7 @@ pub(crate) fn expect_name(
         (λ fault. IsNoName tokens.now at fault) }
 {
     match next(tokens, at) {
-        Some(token) => match &token.kind {
+        Some(token) => match token.kind {
             TokenKind::Name(name) => {
                 let text = copy_text(alloc, name)?;
                 Ok((
@@ -114,7 +116,7 @@ pub(crate) fn past_number(tokens: &Tokens, at: usize) -> Option<(Spot, i64, usiz
         (λ found. HasNext tokens.now at (Kind.Number found.1) found.0 × (found.2 ≡ at + 1)) }
 {
     match next(tokens, at) {
-        Some(token) => match &token.kind {
+        Some(token) => match token.kind {
             TokenKind::Number(number) => Some((token.spot, *number, at + 1)),
             _ => None,
         },
@@ -129,7 +131,7 @@ pub(crate) fn past_text(tokens: &Tokens, at: usize) -> Option<(Spot, &Str, usize
         (λ found. HasNext tokens.now at (Kind.Text found.1.now) found.0 × (found.2 ≡ at + 1)) }
 {
     match next(tokens, at) {
-        Some(token) => match &token.kind {
+        Some(token) => match token.kind {
             TokenKind::Text(text) => Some((token.spot, text, at + 1)),
             _ => None,
         },

@@ -8,3 +8,4 @@ pub mod Parts
 pub mod ReadingLemmas
 pub mod TextLemmas
 pub mod WordLemmas
+pub mod StoredTokens

@@ -10,3 +10,4 @@ pub mod Inside
 pub mod Laws
 pub mod Limits
 pub mod NamedTokens
+pub mod StoredTokens

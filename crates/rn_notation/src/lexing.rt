@@ -10,8 +10,8 @@ ghost use Rattle.rn_notation.specs.Reading.{IsSlice, Ascend};
 use crate::piece::Piece;
 use crate::scanning::first_piece;
 use crate::spots::spot_on;
-use crate::token::{Cause, LexFault, Lexed, Spot, Token};
-use rn_items::Items;
+use crate::token::{Cause, LexFault, Lexed, Spot};
+use crate::tokens::Recent;
 use rn_value::NoMemory;
 use std::alloc::Global;
 
@@ -32,7 +32,8 @@ fn read(alloc: Global, bytes: &[u8]) -> Result<Lexed, NoMemory>
     ensures reads { IfOk result (λ lexed. IsReadingOf bytes.now lexed.tokens lexed.fault) }
     ensures end { IfOk result (λ lexed. lexed.end ≡ spot_after bytes.now) }
 {
-    let mut tokens = Vec::new(alloc);
+    let mut tokens = crate::tokens::Tokens::new(alloc);
+    let mut recent = Recent::new(alloc)?;
     let mut spot = Spot { line: 1, column: 1 };
     let mut rest = bytes;
     while !rest.is_empty() {
@@ -47,18 +48,13 @@ fn read(alloc: Global, bytes: &[u8]) -> Result<Lexed, NoMemory>
             }
             Piece::Token(kind, length) => {
                 let end = start + length;
-                tokens.push(Token {
-                    kind,
-                    start,
-                    end,
-                    spot,
-                })?;
+                tokens.push(&mut recent, kind, (start, end), spot)?;
                 spot = next;
                 rest = after;
             }
             Piece::Fault(cause, _) => {
                 return Ok(Lexed {
-                    tokens: Items::from_vec(tokens),
+                    tokens,
                     fault: Some(fault_at(cause, next)),
                     end: spot_on(next, after),
                 });
@@ -66,7 +62,7 @@ fn read(alloc: Global, bytes: &[u8]) -> Result<Lexed, NoMemory>
         }
     }
     Ok(Lexed {
-        tokens: Items::from_vec(tokens),
+        tokens,
         fault: None,
         end: spot,
     })

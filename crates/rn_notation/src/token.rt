@@ -1,5 +1,5 @@
 //! Tokens, and the faults of a text that is none.
-use rn_items::Items;
+use crate::tokens::Tokens;
 use rn_value::Str;
 
 /// A spot in a text. Lines and columns count from 1, and a column is a byte.
@@ -26,7 +26,8 @@ pub enum TokenKind {
     Sign(u32),
 }
 
-/// A token, which is the bytes of the source from `start` up to `end`.
+/// A token, which is the bytes of the source from `start` up to `end`. Contracts see `Tokens` as a
+/// list of these.
 #[derive(Debug, Drop, PartialEq, Eq)]
 pub struct Token {
     pub kind: TokenKind,
@@ -35,7 +36,14 @@ pub struct Token {
     pub spot: Spot,
 }
 
-pub type Tokens = Items<Token>;
+/// A token of `Tokens`, which lend its kind.
+#[derive(Clone, Copy, Debug)]
+pub struct TokenRef<'a> {
+    pub kind: &'a TokenKind,
+    pub start: usize,
+    pub end: usize,
+    pub spot: Spot,
+}
 
 /// The first fault of a text that isn't made of tokens.
 #[derive(Clone, Copy, Debug, PartialEq, Eq)]

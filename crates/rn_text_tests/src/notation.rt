@@ -1,5 +1,5 @@
 //! Tokens and faults of texts.
-use rn_notation::{LexFault, Lexed, Spot, Token, TokenKind, lex, sign, word};
+use rn_notation::{LexFault, Lexed, Spot, TokenKind, Tokens, lex, sign, word};
 use rn_value::NoMemory;
 use std::alloc::Global;
 use std::test::Fail;
@@ -94,10 +94,12 @@ fn tokens_of(alloc: Global, bytes: &[u8]) -> Result<Lexed, NoMemory> {
     lex(alloc, bytes)
 }
 
-fn put_kinds(alloc: Global, tokens: &[Token], shown: &mut String) -> Result<(), NoMemory> {
-    for token in tokens {
-        shown.push_str(kind_shown(alloc, &token.kind)?.as_str())?;
-        shown.push(' ')?;
+fn put_kinds(alloc: Global, tokens: &Tokens, shown: &mut String) -> Result<(), NoMemory> {
+    for at in 0..tokens.len() {
+        if let Some(token) = tokens.get(at) {
+            shown.push_str(kind_shown(alloc, token.kind)?.as_str())?;
+            shown.push(' ')?;
+        }
     }
     Ok(())
 }
@@ -106,17 +108,19 @@ fn put_kinds(alloc: Global, tokens: &[Token], shown: &mut String) -> Result<(), 
 fn kinds(alloc: Global, bytes: &[u8]) -> Result<String, NoMemory> {
     let lexed = tokens_of(alloc, bytes)?;
     let mut shown = String::new(alloc);
-    put_kinds(alloc, lexed.tokens.as_slice(), &mut shown)?;
+    put_kinds(alloc, &lexed.tokens, &mut shown)?;
     if let Some(fault) = lexed.fault {
         shown.push_str(fault_shown(alloc, fault)?.as_str())?;
     }
     Ok(shown)
 }
 
-fn put_places(alloc: Global, tokens: &[Token], shown: &mut String) -> Result<(), NoMemory> {
-    for token in tokens {
-        shown.push_str(spot_shown(alloc, token.spot)?.as_str())?;
-        shown.push_str(format!(in alloc; " {}-{} ", token.start, token.end)?.as_str())?;
+fn put_places(alloc: Global, tokens: &Tokens, shown: &mut String) -> Result<(), NoMemory> {
+    for at in 0..tokens.len() {
+        if let Some(token) = tokens.get(at) {
+            shown.push_str(spot_shown(alloc, token.spot)?.as_str())?;
+            shown.push_str(format!(in alloc; " {}-{} ", token.start, token.end)?.as_str())?;
+        }
     }
     Ok(())
 }
@@ -125,7 +129,7 @@ fn put_places(alloc: Global, tokens: &[Token], shown: &mut String) -> Result<(),
 fn places(alloc: Global, bytes: &[u8]) -> Result<String, NoMemory> {
     let lexed = tokens_of(alloc, bytes)?;
     let mut shown = String::new(alloc);
-    put_places(alloc, lexed.tokens.as_slice(), &mut shown)?;
+    put_places(alloc, &lexed.tokens, &mut shown)?;
     shown.push_str(spot_shown(alloc, lexed.end)?.as_str())?;
     Ok(shown)
 }
@@ -163,6 +167,12 @@ fn signs_and_words(rt: HostRuntime) -> Result<(), Fail> {
         (b"in inn step i In a_1", "IN inn step i In a_1 "),
         (b"_a", "P1 1:1"),
         (b"a / b // c / d\n/ e", "a / b / e "),
+        // Kinds that come again, and names whose numbers are one.
+        (
+            b"a \"a\" a b a \"b\" b 1 1 \"1\"",
+            "a 'a' a b a 'b' b 1 1 '1' ",
+        ),
+        (b"aaa fas aaa gcd fas aaa", "aaa fas aaa gcd fas aaa "),
     ];
     assert_eq!(&rt; first_unlike(rt.alloc(), &rows)?, None);
     Ok(())

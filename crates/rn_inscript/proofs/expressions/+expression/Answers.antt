@@ -148,7 +148,7 @@ list-returns-in_err-inside-clause-reads t c = λ around fits. failed_as 6 IsPrim
     (list_far c.args.tokens.now c.args.seen around c.args.levels c.requires.next c.requires.kind fits c.in_err-inside.ensures.0)
 
 pub list-returns-in-Some-clause-reads : goal.list-returns-in-Some-clause-reads
-list-returns-in-Some-clause-reads t c = λ around fits. ended_at (c.list_at.ensures ∙ ap (λ es. at_spot c.args.token.now.spot (F.List es)) c.new.ensures) (c.in-Some.ensures.1 ∙ ap past c.in_ok-inside.ensures.1)
+list-returns-in-Some-clause-reads t c = λ around fits. ended_at (c.list_at.ensures ∙ ap (λ es. at_spot c.args.token.spot (F.List es)) c.new.ensures) (c.in-Some.ensures.1 ∙ ap past c.in_ok-inside.ensures.1)
     (list_empty (record { next = c.requires.next; kind = c.requires.kind; fits = fits; some = c.in_ok-inside.ensures.0 }) (subst (λ s. IsNextSign c.args.tokens.now s.at 1) c.in_ok-inside.ensures.1 c.in-Some.ensures.0))
 
 pub list-returns-in_err-elements-clause-reads : goal.list-returns-in_err-elements-clause-reads
@@ -157,11 +157,11 @@ list-returns-in_err-elements-clause-reads t c = λ around fits. failed 6 IsPrima
 
 pub list-returns-in_err-tail-clause-reads : goal.list-returns-in_err-tail-clause-reads
 list-returns-in_err-tail-clause-reads t c = λ around fits. failed 6 IsPrimary c.args.tokens.now c.args.seen (ready around c.args.seen.operators) around c.from_residual-in_err-tail.result c.in_err-tail.field-0.0 c.from_residual-in_err-tail.ensures.1
-    (tail_fails c.args.token.now.spot c.in_ok-elements.elements c.in_err-tail.field-0.0 (elements_read (record { next = c.requires.next; kind = c.requires.kind; fits = fits; some = c.in_ok-inside.ensures.0 }) (subst (λ s. IsNotNextSign c.args.tokens.now s.at 1) c.in_ok-inside.ensures.1 c.in_default.ensures) (subst (λ s. IsSoFar 3 IsExprs c.args.tokens.now s (ready (bracket ∷ around) s.operators) (bracket ∷ around) (Done c.in_ok-elements.elements) c.in_ok-elements.after) c.in_ok-inside.ensures.1 (c.in_ok-elements.ensures.reads (bracket ∷ around) refl (omega (arith, c.in_ok-inside.ensures.0))))) c.in-Some-past_sign.ensures.0 (subst (λ s. Reads 4 IsExpr c.args.tokens.now s (bracket ∷ around) (Err c.in_err-tail.field-0.0)) c.in-Some-past_sign.ensures.1 (c.in_err-tail.ensures.reads (bracket ∷ around) refl (omega (arith, c.in_ok-inside.ensures.0)))))
+    (tail_fails c.args.token.spot c.in_ok-elements.elements c.in_err-tail.field-0.0 (elements_read (record { next = c.requires.next; kind = c.requires.kind; fits = fits; some = c.in_ok-inside.ensures.0 }) (subst (λ s. IsNotNextSign c.args.tokens.now s.at 1) c.in_ok-inside.ensures.1 c.in_default.ensures) (subst (λ s. IsSoFar 3 IsExprs c.args.tokens.now s (ready (bracket ∷ around) s.operators) (bracket ∷ around) (Done c.in_ok-elements.elements) c.in_ok-elements.after) c.in_ok-inside.ensures.1 (c.in_ok-elements.ensures.reads (bracket ∷ around) refl (omega (arith, c.in_ok-inside.ensures.0))))) c.in-Some-past_sign.ensures.0 (subst (λ s. Reads 4 IsExpr c.args.tokens.now s (bracket ∷ around) (Err c.in_err-tail.field-0.0)) c.in-Some-past_sign.ensures.1 (c.in_err-tail.ensures.reads (bracket ∷ around) refl (omega (arith, c.in_ok-inside.ensures.0)))))
 
 pub list-returns-in_err-end-clause-reads : goal.list-returns-in_err-end-clause-reads
 list-returns-in_err-end-clause-reads t c = λ around fits. failed_as 6 IsPrimary c.args.tokens.now c.args.seen (ready around c.args.seen.operators) around c.from_residual-in_err-end.result c.in_err-end.field-0.0 (Fault.P2 c.in_ok-tail.after_tail.at) c.from_residual-in_err-end.ensures.1 c.in_err-end.ensures.1
-    (tail_stuck c.args.token.now.spot c.in_ok-elements.elements (elements_read (record { next = c.requires.next; kind = c.requires.kind; fits = fits; some = c.in_ok-inside.ensures.0 }) (subst (λ s. IsNotNextSign c.args.tokens.now s.at 1) c.in_ok-inside.ensures.1 c.in_default.ensures) (subst (λ s. IsSoFar 3 IsExprs c.args.tokens.now s (ready (bracket ∷ around) s.operators) (bracket ∷ around) (Done c.in_ok-elements.elements) c.in_ok-elements.after) c.in_ok-inside.ensures.1 (c.in_ok-elements.ensures.reads (bracket ∷ around) refl (omega (arith, c.in_ok-inside.ensures.0))))) c.in-Some-past_sign.ensures.0 c.in_ok-tail.ensures.moved.1 (subst (λ s. IsSoFar 4 IsExpr c.args.tokens.now s (ready (bracket ∷ around) s.operators) (bracket ∷ around) (Done c.in_ok-tail.tail) c.in_ok-tail.after_tail) c.in-Some-past_sign.ensures.1 (c.in_ok-tail.ensures.reads (bracket ∷ around) refl (omega (arith, c.in_ok-inside.ensures.0)))) c.in_err-end.ensures.0)
+    (tail_stuck c.args.token.spot c.in_ok-elements.elements (elements_read (record { next = c.requires.next; kind = c.requires.kind; fits = fits; some = c.in_ok-inside.ensures.0 }) (subst (λ s. IsNotNextSign c.args.tokens.now s.at 1) c.in_ok-inside.ensures.1 c.in_default.ensures) (subst (λ s. IsSoFar 3 IsExprs c.args.tokens.now s (ready (bracket ∷ around) s.operators) (bracket ∷ around) (Done c.in_ok-elements.elements) c.in_ok-elements.after) c.in_ok-inside.ensures.1 (c.in_ok-elements.ensures.reads (bracket ∷ around) refl (omega (arith, c.in_ok-inside.ensures.0))))) c.in-Some-past_sign.ensures.0 c.in_ok-tail.ensures.moved.1 (subst (λ s. IsSoFar 4 IsExpr c.args.tokens.now s (ready (bracket ∷ around) s.operators) (bracket ∷ around) (Done c.in_ok-tail.tail) c.in_ok-tail.after_tail) c.in-Some-past_sign.ensures.1 (c.in_ok-tail.ensures.reads (bracket ∷ around) refl (omega (arith, c.in_ok-inside.ensures.0)))) c.in_err-end.ensures.0)
 
 pub list-returns-in_err-with_tail-clause-reads : goal.list-returns-in_err-with_tail-clause-reads
 list-returns-in_err-with_tail-clause-reads t c = λ around fits. failed 6 IsPrimary c.args.tokens.now c.args.seen (ready around c.args.seen.operators) around c.from_residual-in_err-with_tail.result Fault.NoMemory c.from_residual-in_err-with_tail.ensures.1
@@ -169,15 +169,15 @@ list-returns-in_err-with_tail-clause-reads t c = λ around fits. failed 6 IsPrim
 
 pub list-returns-in-Some-past_sign-clause-reads : goal.list-returns-in-Some-past_sign-clause-reads
 list-returns-in-Some-past_sign-clause-reads t c = λ around fits. ended_at c.in_ok-with_tail.ensures c.in_ok-end.ensures.1
-    (tail_read c.args.token.now.spot c.in_ok-elements.elements (elements_read (record { next = c.requires.next; kind = c.requires.kind; fits = fits; some = c.in_ok-inside.ensures.0 }) (subst (λ s. IsNotNextSign c.args.tokens.now s.at 1) c.in_ok-inside.ensures.1 c.in_default.ensures) (subst (λ s. IsSoFar 3 IsExprs c.args.tokens.now s (ready (bracket ∷ around) s.operators) (bracket ∷ around) (Done c.in_ok-elements.elements) c.in_ok-elements.after) c.in_ok-inside.ensures.1 (c.in_ok-elements.ensures.reads (bracket ∷ around) refl (omega (arith, c.in_ok-inside.ensures.0))))) c.in-Some-past_sign.ensures.0 (subst (λ s. IsSoFar 4 IsExpr c.args.tokens.now s (ready (bracket ∷ around) s.operators) (bracket ∷ around) (Done c.in_ok-tail.tail) c.in_ok-tail.after_tail) c.in-Some-past_sign.ensures.1 (c.in_ok-tail.ensures.reads (bracket ∷ around) refl (omega (arith, c.in_ok-inside.ensures.0)))) c.in_ok-end.ensures.0)
+    (tail_read c.args.token.spot c.in_ok-elements.elements (elements_read (record { next = c.requires.next; kind = c.requires.kind; fits = fits; some = c.in_ok-inside.ensures.0 }) (subst (λ s. IsNotNextSign c.args.tokens.now s.at 1) c.in_ok-inside.ensures.1 c.in_default.ensures) (subst (λ s. IsSoFar 3 IsExprs c.args.tokens.now s (ready (bracket ∷ around) s.operators) (bracket ∷ around) (Done c.in_ok-elements.elements) c.in_ok-elements.after) c.in_ok-inside.ensures.1 (c.in_ok-elements.ensures.reads (bracket ∷ around) refl (omega (arith, c.in_ok-inside.ensures.0))))) c.in-Some-past_sign.ensures.0 (subst (λ s. IsSoFar 4 IsExpr c.args.tokens.now s (ready (bracket ∷ around) s.operators) (bracket ∷ around) (Done c.in_ok-tail.tail) c.in_ok-tail.after_tail) c.in-Some-past_sign.ensures.1 (c.in_ok-tail.ensures.reads (bracket ∷ around) refl (omega (arith, c.in_ok-inside.ensures.0)))) c.in_ok-end.ensures.0)
 
 pub list-returns-in_err-end-2-clause-reads : goal.list-returns-in_err-end-2-clause-reads
 list-returns-in_err-end-2-clause-reads t c = λ around fits. failed_as 6 IsPrimary c.args.tokens.now c.args.seen (ready around c.args.seen.operators) around c.from_residual-in_err-end-2.result c.in_err-end-2.field-0.0 (Fault.P2 c.in_ok-elements.after.at) c.from_residual-in_err-end-2.ensures.1 c.in_err-end-2.ensures.1
-    (list_stuck c.args.token.now.spot c.in_ok-elements.elements (elements_read (record { next = c.requires.next; kind = c.requires.kind; fits = fits; some = c.in_ok-inside.ensures.0 }) (subst (λ s. IsNotNextSign c.args.tokens.now s.at 1) c.in_ok-inside.ensures.1 c.in_default.ensures) (subst (λ s. IsSoFar 3 IsExprs c.args.tokens.now s (ready (bracket ∷ around) s.operators) (bracket ∷ around) (Done c.in_ok-elements.elements) c.in_ok-elements.after) c.in_ok-inside.ensures.1 (c.in_ok-elements.ensures.reads (bracket ∷ around) refl (omega (arith, c.in_ok-inside.ensures.0))))) c.in_default-past_sign.ensures c.in_ok-elements.ensures.moved.1 c.in_err-end-2.ensures.0)
+    (list_stuck c.args.token.spot c.in_ok-elements.elements (elements_read (record { next = c.requires.next; kind = c.requires.kind; fits = fits; some = c.in_ok-inside.ensures.0 }) (subst (λ s. IsNotNextSign c.args.tokens.now s.at 1) c.in_ok-inside.ensures.1 c.in_default.ensures) (subst (λ s. IsSoFar 3 IsExprs c.args.tokens.now s (ready (bracket ∷ around) s.operators) (bracket ∷ around) (Done c.in_ok-elements.elements) c.in_ok-elements.after) c.in_ok-inside.ensures.1 (c.in_ok-elements.ensures.reads (bracket ∷ around) refl (omega (arith, c.in_ok-inside.ensures.0))))) c.in_default-past_sign.ensures c.in_ok-elements.ensures.moved.1 c.in_err-end-2.ensures.0)
 
 pub list-returns-clause-reads : goal.list-returns-clause-reads
 list-returns-clause-reads t c = λ around fits. ended_at c.list_at-2.ensures c.in_ok-end-2.ensures.1
-    (list_read c.args.token.now.spot c.in_ok-elements.elements (elements_read (record { next = c.requires.next; kind = c.requires.kind; fits = fits; some = c.in_ok-inside.ensures.0 }) (subst (λ s. IsNotNextSign c.args.tokens.now s.at 1) c.in_ok-inside.ensures.1 c.in_default.ensures) (subst (λ s. IsSoFar 3 IsExprs c.args.tokens.now s (ready (bracket ∷ around) s.operators) (bracket ∷ around) (Done c.in_ok-elements.elements) c.in_ok-elements.after) c.in_ok-inside.ensures.1 (c.in_ok-elements.ensures.reads (bracket ∷ around) refl (omega (arith, c.in_ok-inside.ensures.0))))) c.in_default-past_sign.ensures c.in_ok-end-2.ensures.0)
+    (list_read c.args.token.spot c.in_ok-elements.elements (elements_read (record { next = c.requires.next; kind = c.requires.kind; fits = fits; some = c.in_ok-inside.ensures.0 }) (subst (λ s. IsNotNextSign c.args.tokens.now s.at 1) c.in_ok-inside.ensures.1 c.in_default.ensures) (subst (λ s. IsSoFar 3 IsExprs c.args.tokens.now s (ready (bracket ∷ around) s.operators) (bracket ∷ around) (Done c.in_ok-elements.elements) c.in_ok-elements.after) c.in_ok-inside.ensures.1 (c.in_ok-elements.ensures.reads (bracket ∷ around) refl (omega (arith, c.in_ok-inside.ensures.0))))) c.in_default-past_sign.ensures c.in_ok-end-2.ensures.0)
 
 pub listed-returns-in-Some-clause-reads : goal.listed-returns-in-Some-clause-reads
 listed-returns-in-Some-clause-reads t c = λ around fits. ended_at c.new.ensures c.in-Some.ensures.1 (listed_empty c.args.tokens.now c.args.seen around c.args.close c.requires.close c.in-Some.ensures.0)
@@ -197,10 +197,10 @@ pub bracketed-returns-else-opening-eq-LEFT_BRACE-clause-reads : goal.bracketed-r
 bracketed-returns-else-opening-eq-LEFT_BRACE-clause-reads t c = λ around fits. let h : begins_primary (Kind.Sign c.args.opening) ≡ false = grind (arith, nat_tests) in none_begins c.args.tokens.now c.args.seen around (Kind.Sign c.args.opening) c.requires.next c.requires.kind h
 
 pub primary-returns-in-Number-clause-reads : goal.primary-returns-in-Number-clause-reads
-primary-returns-in-Number-clause-reads t c = λ around fits. ended_at (search rules) c.past.ensures (leaf_read c.args.tokens.now c.args.seen around (Kind.Number c.in-Number.n) (at_spot c.in-Some.token.now.spot (F.Int c.in-Number.n)) c.in-Some.ensures c.in-Number.is refl refl (λ rest. IsPrimary.number c.in-Number.is) (λ ts e rest x. number-only c.in-Number.n c.in-Number.is x))
+primary-returns-in-Number-clause-reads t c = λ around fits. ended_at (search rules) c.past.ensures (leaf_read c.args.tokens.now c.args.seen around (Kind.Number c.in-Number.n) (at_spot c.in-Some.token.spot (F.Int c.in-Number.n)) c.in-Some.ensures c.in-Number.is refl refl (λ rest. IsPrimary.number c.in-Number.is) (λ ts e rest x. number-only c.in-Number.n c.in-Number.is x))
 
 pub primary-returns-in_ok-copy_text-in-Text-clause-reads : goal.primary-returns-in_ok-copy_text-in-Text-clause-reads
-primary-returns-in_ok-copy_text-in-Text-clause-reads t c = λ around fits. ended_at (ap (λ s. at_spot c.in-Some.token.now.spot (F.Text s)) c.in_ok-copy_text-in-Text.ensures) c.past-in-Text.ensures (leaf_read c.args.tokens.now c.args.seen around (Kind.Text c.in-Text.text) (at_spot c.in-Some.token.now.spot (F.Text c.in-Text.text)) c.in-Some.ensures c.in-Text.is refl refl (λ rest. IsPrimary.text c.in-Text.is) (λ ts e rest x. text-only c.in-Text.text c.in-Text.is x))
+primary-returns-in_ok-copy_text-in-Text-clause-reads t c = λ around fits. ended_at (ap (λ s. at_spot c.in-Some.token.spot (F.Text s)) c.in_ok-copy_text-in-Text.ensures) c.past-in-Text.ensures (leaf_read c.args.tokens.now c.args.seen around (Kind.Text c.in-Text.text) (at_spot c.in-Some.token.spot (F.Text c.in-Text.text)) c.in-Some.ensures c.in-Text.is refl refl (λ rest. IsPrimary.text c.in-Text.is) (λ ts e rest x. text-only c.in-Text.text c.in-Text.is x))
 
 pub primary-returns-in-Word-clause-reads : goal.primary-returns-in-Word-clause-reads
 primary-returns-in-Word-clause-reads t c = λ around fits. c.this.ensures.reads around

@@ -39,5 +39,5 @@ returns-clause-reads c = λ around fits.
       | then-is_step+in_default w ↦ subst (λ s. IsNotNextSign c.args.tokens.now s.at 4) c.past-after.ensures w.in_default.ensures
       | else-is_step w ↦ absurd (search (rules, step))
     ] in
-    ended_at (ap (λ s. at_spot c.args.token.now.spot (F.Name s)) c.in_ok-text.ensures) c.past-after.ensures
+    ended_at (ap (λ s. at_spot c.args.token.spot (F.Name s)) c.in_ok-text.ensures) c.past-after.ensures
     (name_read c.args.tokens.now c.args.seen around c.args.name.now c.requires.next c.requires.name other)

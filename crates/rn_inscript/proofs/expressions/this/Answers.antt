@@ -16,5 +16,5 @@ returns-then-number-ne-THIS-clause-reads c = λ around.
 pub returns-clause-reads : goal.returns-clause-reads
 returns-clause-reads c = λ around.
     let is : c.args.number ≡ 17 = grind (arith, nat_tests) in
-    let kind : c.args.token.now.kind ≡ this_word = c.requires.kind ∙ ap Kind.Word is in
-    ended_at refl c.past.ensures (leaf_read c.args.tokens.now c.args.seen around this_word (at_spot c.args.token.now.spot F.This) c.requires.next kind refl refl (λ rest. IsPrimary.this kind) (λ ts e rest x. this-only kind x))
+    let kind : c.args.token.kind.now ≡ this_word = c.requires.kind ∙ ap Kind.Word is in
+    ended_at refl c.past.ensures (leaf_read c.args.tokens.now c.args.seen around this_word (at_spot c.args.token.spot F.This) c.requires.next kind refl refl (λ rest. IsPrimary.this kind) (λ ts e rest x. this-only kind x))

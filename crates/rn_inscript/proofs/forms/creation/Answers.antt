@@ -25,5 +25,5 @@ returns-in_err-net-clause-reads c = failed 0 IsInscribed c.args.tokens.now c.arg
     (new_fails c.args.tokens.now c.args.seen c.args.name.now c.in_err-net.field-0.0 c.requires.next c.requires.kind c.requires.follows c.requires.new (subst (λ s. IsNoName c.args.tokens.now s.at c.in_err-net.field-0.0) (c.past-3.ensures ∙ ap past (c.past-2.ensures ∙ ap past c.past.ensures)) c.in_err-net.ensures))
 
 pub returns-clause-reads : goal.returns-clause-reads
-returns-clause-reads c = ended_at (ap (λ s. I.New (name_at c.args.token.now.spot s) c.in_ok-net.net) c.in_ok-text.ensures) (c.in_ok-net.ensures.1 ∙ ap past (c.past-3.ensures ∙ ap past (c.past-2.ensures ∙ ap past c.past.ensures)))
+returns-clause-reads c = ended_at (ap (λ s. I.New (name_at c.args.token.spot s) c.in_ok-net.net) c.in_ok-text.ensures) (c.in_ok-net.ensures.1 ∙ ap past (c.past-3.ensures ∙ ap past (c.past-2.ensures ∙ ap past c.past.ensures)))
     (new_read c.args.tokens.now c.args.seen c.args.name.now c.in_ok-net.net c.requires.next c.requires.kind c.requires.follows c.requires.new (subst (λ s. IsNextName c.args.tokens.now s.at c.in_ok-net.net) (c.past-3.ensures ∙ ap past (c.past-2.ensures ∙ ap past c.past.ensures)) c.in_ok-net.ensures.0))
