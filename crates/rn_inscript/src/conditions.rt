@@ -77,6 +77,7 @@ fn alternatives(
         all.push(alternative)?;
         seen = after;
     }
+    all.shrink_to_fit();
     Ok((Items::from_vec(all), seen))
 }
 
@@ -102,6 +103,7 @@ fn both(
         all.push(condition)?;
         seen = after;
     }
+    all.shrink_to_fit();
     Ok((Items::from_vec(all), seen))
 }
 

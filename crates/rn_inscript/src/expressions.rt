@@ -368,6 +368,7 @@ fn exprs(
         all.push(e)?;
         seen = after;
     }
+    all.shrink_to_fit();
     Ok((Items::from_vec(all), seen))
 }
 

@@ -176,5 +176,6 @@ pub(crate) fn constants_up_to(
         now = after;
     }
     let (_, end) = expect_sign(tokens, now, close)?;
+    all.shrink_to_fit();
     Ok((Items::from_vec(all), end))
 }

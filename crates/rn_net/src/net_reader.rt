@@ -47,11 +47,12 @@ fn inscriptions_up_to(
     ensures moved { Moves tokens.now at result }
     ensures reads { Reads AreInscriptionsUpTo tokens.now at between between result }
 {
-    let mut all = Items::new(alloc);
+    let mut all = Vec::new(alloc);
     let mut now = at;
     'inscriptions: loop {
         if let Some((_, end)) = past_sign(tokens, now, sign::RIGHT_BRACE) {
-            return Ok((all, end));
+            all.shrink_to_fit();
+            return Ok((Items::from_vec(all), end));
         }
         let (more, after) = inscription(alloc, tokens, now)?;
         all.push(more)?;

@@ -38,7 +38,7 @@ both-loop-all-preserved t c = record {
 }
 
 pub both-returns-clause-reads : goal.both-returns-clause-reads
-both-returns-clause-reads t c = λ around base fits. ended_at c.from_vec.ensures refl (all_read conjunctions (c.loop-all.invariant.reads around base fits) (none-of 21 c.args.tokens.now c.loop-all.seen.at c.in_default.ensures))
+both-returns-clause-reads t c = λ around base fits. ended_at (c.from_vec.ensures ∙ c.shrink_to_fit.ensures.items) refl (all_read conjunctions (c.loop-all.invariant.reads around base fits) (none-of 21 c.args.tokens.now c.loop-all.seen.at c.in_default.ensures))
 
 pub alternatives-returns-in_err-first-clause-reads : goal.alternatives-returns-in_err-first-clause-reads
 alternatives-returns-in_err-first-clause-reads t c = λ around base fits. failed 1 IsAlternatives c.args.tokens.now c.args.seen (ready around c.args.seen.operators) around c.from_residual.result c.in_err-first.field-0.0 c.from_residual.ensures.1
@@ -67,7 +67,7 @@ alternatives-loop-all-preserved t c = record {
 }
 
 pub alternatives-returns-clause-reads : goal.alternatives-returns-clause-reads
-alternatives-returns-clause-reads t c = λ around base fits. ended_at c.from_vec.ensures refl (all_read disjunctions (c.loop-all.invariant.reads around base fits) (none-of 22 c.args.tokens.now c.loop-all.seen.at c.in_default.ensures))
+alternatives-returns-clause-reads t c = λ around base fits. ended_at (c.from_vec.ensures ∙ c.shrink_to_fit.ensures.items) refl (all_read disjunctions (c.loop-all.invariant.reads around base fits) (none-of 22 c.args.tokens.now c.loop-all.seen.at c.in_default.ensures))
 
 pub cond-returns-in_err-any-clause-reads : goal.cond-returns-in_err-any-clause-reads
 cond-returns-in_err-any-clause-reads t c = λ around base fits. failed 1 IsCond c.args.tokens.now c.args.seen (ready around c.args.seen.operators) around c.from_residual.result c.in_err-any.field-0.0 c.from_residual.ensures.1

@@ -114,7 +114,7 @@ exprs-loop-after_comma-preserved t c = record {
 }
 
 pub exprs-returns-clause-reads : goal.exprs-returns-clause-reads
-exprs-returns-clause-reads t c = λ around base fits. ended_at c.from_vec.ensures refl (all_read lists (c.loop-after_comma.invariant.reads around base fits) (none-of 6 c.args.tokens.now c.loop-after_comma.seen.at c.in_default.ensures))
+exprs-returns-clause-reads t c = λ around base fits. ended_at (c.from_vec.ensures ∙ c.shrink_to_fit.ensures.items) refl (all_read lists (c.loop-after_comma.invariant.reads around base fits) (none-of 6 c.args.tokens.now c.loop-after_comma.seen.at c.in_default.ensures))
 
 pub parenthesised-returns-in_err-inside-clause-reads : goal.parenthesised-returns-in_err-inside-clause-reads
 parenthesised-returns-in_err-inside-clause-reads t c = λ around fits. failed_as 6 IsPrimary c.args.tokens.now c.args.seen (ready around c.args.seen.operators) around c.from_residual.result c.in_err-inside.field-0.0 (Fault.P5 c.args.seen.at) c.from_residual.ensures.1 c.in_err-inside.ensures.1

@@ -59,7 +59,7 @@ constants_up_to-returns-in_err-end-clause-reads t c = λ depth fits last there. 
     (kind_stuck (λ spot. done c.loop-next.all.items) c.args.tokens.now c.loop-next.now (row_close constant_row (Kind.Sign c.args.close) c.args.tokens.now c.loop-next.now (c.loop-next.invariant.reads depth fits) c.in_default.ensures) c.loop-next.invariant.moved.1 c.in_err-end.ensures.0)
 
 pub constants_up_to-returns-clause-reads : goal.constants_up_to-returns-clause-reads
-constants_up_to-returns-clause-reads t c = λ depth fits last there. same_end c.from_vec.ensures (kind_read (λ spot. done c.loop-next.all.items) c.args.tokens.now c.loop-next.now _ last (row_close constant_row (Kind.Sign c.args.close) c.args.tokens.now c.loop-next.now (c.loop-next.invariant.reads depth fits) c.in_default.ensures) c.in_ok-end.ensures.0 c.in_ok-end.ensures.1 (end_small c.args.close depth c.requires.close) there)
+constants_up_to-returns-clause-reads t c = λ depth fits last there. same_end (c.from_vec.ensures ∙ c.shrink_to_fit.ensures.items) (kind_read (λ spot. done c.loop-next.all.items) c.args.tokens.now c.loop-next.now _ last (row_close constant_row (Kind.Sign c.args.close) c.args.tokens.now c.loop-next.now (c.loop-next.invariant.reads depth fits) c.in_default.ensures) c.in_ok-end.ensures.0 c.in_ok-end.ensures.1 (end_small c.args.close depth c.requires.close) there)
 
 pub tuple-returns-in_err-levels_inside-clause-reads : goal.tuple-returns-in_err-levels_inside-clause-reads
 tuple-returns-in_err-levels_inside-clause-reads t c = λ depth fits. failed_as IsConstant c.args.tokens.now c.args.at (declaring depth) (declaring depth) c.from_residual.result c.in_err-levels_inside.field-0.0 (Fault.P5 c.args.at) c.from_residual.ensures.1 c.in_err-levels_inside.ensures.1

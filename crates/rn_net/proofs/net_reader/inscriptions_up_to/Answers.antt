@@ -13,15 +13,15 @@ use Rattle.rn_net.proofs.NetPhrases.{inscriptions, inscription_sort, many_on, ma
 use Rattle.rn_net.proofs.net_reader.inscriptions_up_to.Goals as goal
 
 pub returns-in-Some-clause-reads : goal.returns-in-Some-clause-reads
-returns-in-Some-clause-reads c = many_close inscriptions c.args.tokens.now c.inscriptions.now _ between c.inscriptions.invariant.reads c.in-Some.ensures.0 c.in-Some.ensures.1 refl refl
+returns-in-Some-clause-reads c = same_end (c.from_vec.ensures ∙ c.shrink_to_fit.ensures.items) (many_close inscriptions c.args.tokens.now c.inscriptions.now _ between c.inscriptions.invariant.reads c.in-Some.ensures.0 c.in-Some.ensures.1 refl refl)
 
 pub returns-in_err-more-clause-reads : goal.returns-in_err-more-clause-reads
 returns-in_err-more-clause-reads c = failed AreInscriptionsUpTo c.args.tokens.now c.args.at between between c.from_residual.result c.in_err-more.field-0.0 c.from_residual.ensures.1
-    (then_fails inscription_sort (λ a. many_on inscriptions (with_one c.inscriptions.all a)) (length c.args.tokens.now) c.in_err-more.field-0.0 (many_next inscriptions c.args.tokens.now c.inscriptions.now c.inscriptions.invariant.reads c.in_default.ensures) c.in_err-more.ensures.reads)
+    (then_fails inscription_sort (λ a. many_on inscriptions (with_one c.inscriptions.all.items a)) (length c.args.tokens.now) c.in_err-more.field-0.0 (many_next inscriptions c.args.tokens.now c.inscriptions.now c.inscriptions.invariant.reads c.in_default.ensures) c.in_err-more.ensures.reads)
 
 pub inscriptions-preserved : goal.inscriptions-preserved
 inscriptions-preserved c = record {
   moved = (omega (arith, c.in_ok-more.ensures.moved.0, c.inscriptions.invariant.moved.0), c.in_ok-more.ensures.moved.1);
-  reads = subst (λ all. Stage AreInscriptionsUpTo (drop c.args.at c.args.tokens.now) between (many_on inscriptions all) (drop c.in_ok-more.after c.args.tokens.now) between) (let h : with_one c.inscriptions.all c.in_ok-more.more ≡ c.push.new.self = search rules in h)
-      (then_read inscription_sort (λ a. many_on inscriptions (with_one c.inscriptions.all a)) (many_next inscriptions c.args.tokens.now c.inscriptions.now c.inscriptions.invariant.reads c.in_default.ensures) c.in_ok-more.ensures.reads);
+  reads = subst (λ all. Stage AreInscriptionsUpTo (drop c.args.at c.args.tokens.now) between (many_on inscriptions all) (drop c.in_ok-more.after c.args.tokens.now) between) (let h : with_one c.inscriptions.all.items c.in_ok-more.more ≡ c.push.new.self.items = search rules in h)
+      (then_read inscription_sort (λ a. many_on inscriptions (with_one c.inscriptions.all.items a)) (many_next inscriptions c.args.tokens.now c.inscriptions.now c.inscriptions.invariant.reads c.in_default.ensures) c.in_ok-more.ensures.reads);
 }
