@@ -45,3 +45,4 @@ pub mod OccurringLemmas
 pub mod NumberingLemmas
 pub mod NetNumbers
 pub mod ReportLemmas
+pub mod GivenLemmas

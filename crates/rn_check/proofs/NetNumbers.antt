@@ -6,16 +6,12 @@ use Rattle.std.specs.List.{list_any, AllByRecursion}
 use Rattle.std.proofs.lemmas.List.{length-map}
 use Rattle.std.proofs.lemmas.List.Elements.{All-from_recursion}
 use Rattle.rn_notation.specs.declared.token.Spot.{Spot}
-use Rattle.rn_model.specs.declared.system.Transition.{Transition}
 use Rattle.rn_model.specs.Limits.{most_nets, most_channels, most_vars, most_places, most_transitions}
 use Rattle.rn_inscript.specs.declared.inscriptions.PName.{PName}
 use Rattle.rn_net.specs.declared.plain.Plain.{Plain}
 use Rattle.rn_net.specs.declared.plain.PNet.{PNet}
-use Rattle.rn_net.specs.declared.plain.PTransition.{PTransition}
 use Rattle.rn_model.specs.declared.system.Net.{Net}
-use Rattle.rn_model.specs.declared.system.Var.{Var}
-use Rattle.rn_model.specs.declared.system.Place.{Place}
-use Rattle.rn_check.specs.Numbering.{number_in, kind_of, value_of, with_vars}
+use Rattle.rn_check.specs.Numbering.{number_in, kind_of}
 use Rattle.rn_check.specs.declared.fault.Rule.TheVariants as Rule
 use Rattle.rn_check.specs.declared.fault.Fault.{Fault}
 use Rattle.rn_check.specs.Faults.{broken_if, past_limit}
@@ -23,8 +19,9 @@ use Rattle.rn_check.specs.Names.{same_name, names_faults, declared_faults}
 use Rattle.rn_check.specs.Declarations.{kind_faults, place_faults}
 use Rattle.rn_check.specs.Transitions.{transition_faults}
 use Rattle.rn_check.specs.Systems.{channels_faults, scope_of, net_faults, system_faults, text_start}
-use Rattle.rn_check.specs.Numbering.{Numbers, inscribed, net_of}
-use Rattle.rn_check.specs.NumbersFound.{key_of, channel_by, AreFew, HasNetNumbers, HasNumbers, net_by}
+use Rattle.rn_check.specs.Numbering.{net_of}
+use Rattle.rn_check.specs.NumbersFound.{key_of, channel_by, AreFew, HasNetNumbers, HasNumbers}
+use Rattle.rn_check.specs.NumbersFound.{transitions_by, bare_net, net_by}
 use Rattle.rn_check.proofs.Faultless.{both_nil, each_nil, within_limit}
 use Rattle.rn_check.proofs.DeclaredNames.{declared_few}
 use Rattle.rn_check.proofs.NumberLemmas.{channel_is}
@@ -98,39 +95,41 @@ nets_are plain =
     (fun_ext (λ name. fun_ext (λ count.
     ap (λ o. unwrap_or o 0) (channel_is 0 plain.channels name count))))
 
-abbrev made_of_names : List (List ℕ) → (List ℕ → ℕ → ℕ) → List (List ℕ) → List (List ℕ) → ℕ →
-    List PTransition → List Transition
-made_of_names nets channel vars places count trs =
-    let to : Numbers = record {
-      var = number_in vars;
-      place = number_in places;
-      net = number_in nets;
-      channel = channel;
+-- the net that was made of what its names and numbers are
+pub net_made : (nets : List (List ℕ)) (channel : List ℕ → ℕ → ℕ) (net : PNet)
+    (vars places : List (List ℕ)) (begun made : Net) → vars ≡ map (λ v. v.name.text) net.vars →
+    places ≡ map (λ p. p.name.text) net.places → begun ≡ bare_net net →
+    made
+    ≡ record begun {
+      transitions = transitions_by
+          (record {
+            var = number_in vars;
+            place = number_in places;
+            net = number_in nets;
+            channel = channel;
+          })
+          (length begun.vars) net.transitions;
+    } →
+    made ≡ net_by nets channel net
+net_made nets channel net vars places begun made v p b m =
+    let of : List (List ℕ) → List (List ℕ) → Net → Net = λ vs ps n. record n {
+      transitions = transitions_by
+          (record { var = number_in vs; place = number_in ps; net = number_in nets; channel = channel })
+          (length n.vars) net.transitions;
     } in
-    map (λ t. with_vars count (inscribed to t.name.text (map (λ i. i.form) t.inscriptions))) trs
-
--- the net that was made of these parts
-pub net_made : (nets : List (List ℕ)) (channel : List ℕ → ℕ → ℕ) (net : PNet) (name : List ℕ)
-    (vs : List Var) (ps : List Place) (ts : List Transition) (vars places : List (List ℕ)) (count : ℕ)
-    (trs : List PTransition) → name ≡ net.name.text →
-    vs ≡ map (λ v. record { name = v.name.text; kind = kind_of v.kind }) net.vars →
-    ps
-    ≡ map (λ p. record { name = p.name.text; kind = kind_of p.kind; initial = map value_of p.initial })
-    net.places →
-    ts ≡ made_of_names nets channel vars places count trs → vars ≡ map (λ v. v.name.text) net.vars →
-    places ≡ map (λ p. p.name.text) net.places → count ≡ length net.vars → trs ≡ net.transitions →
-    record { name = name; vars = vs; places = ps; transitions = ts } ≡ net_by nets channel net
-net_made nets channel net name vs ps ts vars places count trs e1 e2 e3 e4 e5 e6 e7 e8 =
-    let of : List ℕ → List Var → List Place → List Transition → Net = λ n v p t.
-    record { name = n; vars = v; places = p; transitions = t } in
-    let names : List (List ℕ) = map (λ v. v.name.text) net.vars in
-    let others : List (List ℕ) = map (λ p. p.name.text) net.places in
-    ap (λ n. of n vs ps ts) e1
-    ∙ ap (λ v. of net.name.text v ps ts) e2
-    ∙ ap (λ p. of net.name.text (net_by nets channel net).vars p ts) e3
-    ∙ ap (of net.name.text (net_by nets channel net).vars (net_by nets channel net).places)
-    (e4
-    ∙ ap (λ v. made_of_names nets channel v places count trs) e5
-    ∙ ap (λ p. made_of_names nets channel names p count trs) e6
-    ∙ ap (λ n. made_of_names nets channel names others n trs) e7
-    ∙ ap (made_of_names nets channel names others (length net.vars)) e8)
+    m
+    ∙ ap (of vars places) b
+    ∙ ap (λ vs. of vs places (bare_net net)) v
+    ∙ ap (λ ps. of (map (λ v. v.name.text) net.vars) ps (bare_net net)) p
+    ∙ ap
+    (λ count. record (bare_net net) {
+      transitions = transitions_by
+          (record {
+            var = number_in (map (λ v. v.name.text) net.vars);
+            place = number_in (map (λ p. p.name.text) net.places);
+            net = number_in nets;
+            channel = channel;
+          })
+          count net.transitions;
+    })
+    (length-map net.vars (λ v. record { name = v.name.text; kind = kind_of v.kind }))

@@ -11,6 +11,7 @@ use Rattle.rn_inscript.specs.declared.inscriptions.PInscribed.{PInscribed}
 use Rattle.rn_inscript.specs.declared.inscriptions.PInscribed.TheVariants as I
 use Rattle.rn_inscript.specs.declared.inscriptions.PInscription.{PInscription}
 use Rattle.rn_check.specs.Numbering.{Numbers, inscribed}
+use Rattle.rn_check.specs.NumbersFound.{bare_transition}
 use Rattle.rn_check.specs.Numbering.{equality_of, guard_of, action_of, creation_of, uplink_of}
 use Rattle.rn_check.specs.Numbering.{downlink_of, arc_of}
 
@@ -39,20 +40,6 @@ inscribed_is to name is =
       flat_map-map (arc_of to) (λ i. i.form) is,
     ) refl
 
-abbrev bare_of : List ℕ → Transition
-bare_of name = record {
-  name = name;
-  vars = [];
-  action_vars = [];
-  equalities = [];
-  guards = [];
-  actions = [];
-  creations = [];
-  uplink = None;
-  downlinks = [];
-  arcs = [];
-}
-
 abbrev with_local : Numbers → List PInscription → Transition → Transition
 with_local to is t = record t {
   equalities = flat_map (λ i. equality_of to i.form) is;
@@ -69,16 +56,12 @@ with_joined to is t = record t {
 }
 
 -- the transition that was made in these steps
-pub made_of : (to : Numbers) (name copied : List ℕ) (is slice : List PInscription)
-    (first second third : Transition) → first ≡ bare_of copied → second ≡ with_local to slice first →
-    third ≡ with_joined to slice second → copied ≡ name → slice ≡ is →
+pub made_of : (to : Numbers) (name : List ℕ) (is : List PInscription)
+    (first second third : Transition) → first ≡ bare_transition name →
+    second ≡ with_local to is first → third ≡ with_joined to is second →
     third ≡ inscribed to name (map (λ i. i.form) is)
-made_of to name copied is slice first second third a b c named same =
-    c
-    ∙ ap (with_joined to slice) (b ∙ ap (with_local to slice) a)
-    ∙ ap (λ n. with_joined to slice (with_local to slice (bare_of n))) named
-    ∙ ap (λ s. with_joined to s (with_local to s (bare_of name))) same
-    ∙ inscribed_is to name is
+made_of to name is first second third a b c =
+    c ∙ ap (with_joined to is) (b ∙ ap (with_local to is) a) ∙ inscribed_is to name is
 
 -- what one more inscription gives
 pub given_more : {A B : Type 0} (f : A → List B) (xs : List A) (i : ℕ) (x : A) (made now all : List B) →

@@ -9,7 +9,9 @@ use Rattle.rn_inscript.specs.declared.exprs.PExpr.{PExpr}
 use Rattle.rn_net.specs.declared.plain.PChannel.{PChannel}
 use Rattle.rn_check.specs.declared.inscribed.Tables.{Tables}
 use Rattle.rn_model.specs.declared.system.Net.{Net}
+use Rattle.rn_model.specs.declared.system.Transition.{Transition}
 use Rattle.rn_net.specs.declared.plain.PNet.{PNet}
+use Rattle.rn_net.specs.declared.plain.PTransition.{PTransition}
 use Rattle.rn_net.specs.declared.plain.Plain.{Plain}
 use Rattle.rn_check.specs.Systems.{channels_faults}
 use Rattle.rn_check.specs.Names.{same_name, names_faults}
@@ -68,6 +70,37 @@ pub record HasNumbers (plain : Plain) : Type 0 where
   pub few_nets : AreFew plain.nets
   pub each : All HasNetNumbers plain.nets
 
+-- a transition in which nothing is inscribed
+abbrev pub bare_transition : List ℕ → Transition
+bare_transition name = record {
+  name = name;
+  vars = [];
+  action_vars = [];
+  equalities = [];
+  guards = [];
+  actions = [];
+  creations = [];
+  uplink = None;
+  downlinks = [];
+  arcs = [];
+}
+
+-- a net's transitions, where names have these numbers, and it has so many variables
+abbrev pub transitions_by : Numbers → ℕ → List PTransition → List Transition
+transitions_by to count =
+    map (λ t. with_vars count (inscribed to t.name.text (map (λ i. i.form) t.inscriptions)))
+
+-- the net without its transitions
+abbrev pub bare_net : PNet → Net
+bare_net net = record {
+  name = net.name.text;
+  vars = map (λ v. record { name = v.name.text; kind = kind_of v.kind }) net.vars;
+  places = map
+      (λ p. record { name = p.name.text; kind = kind_of p.kind; initial = map value_of p.initial })
+      net.places;
+  transitions = [];
+}
+
 -- the net with numbers in place of names, where those of nets and channels are these
 abbrev pub net_by : List (List ℕ) → (List ℕ → ℕ → ℕ) → PNet → Net
 net_by nets channel net =
@@ -77,18 +110,4 @@ net_by nets channel net =
       net = number_in nets;
       channel = channel;
     } in
-    record {
-      name = net.name.text;
-      vars = map (λ v. record { name = v.name.text; kind = kind_of v.kind }) net.vars;
-      places = map
-          (λ p. record {
-            name = p.name.text;
-            kind = kind_of p.kind;
-            initial = map value_of p.initial;
-          })
-          net.places;
-      transitions = map
-          (λ t. with_vars (length net.vars)
-          (inscribed to t.name.text (map (λ i. i.form) t.inscriptions)))
-          net.transitions;
-    }
+    record (bare_net net) { transitions = transitions_by to (length net.vars) net.transitions }

@@ -51,5 +51,5 @@ pub fn check_system(alloc: Global, plain: Plain) -> Result<System, CheckFault>
     if let Some(fault) = first_fault(alloc, &plain)? {
         return Err(fault.report());
     }
-    Ok(system_of(alloc, &plain)?)
+    Ok(system_of(alloc, plain)?)
 }

@@ -1,5 +1,5 @@
 //! Which variables of a net occur in a transition.
-ghost use Rattle.std.specs.Prelude.{◌≡◌, ◌<◌, ℕ, true, false, not, ◌&&◌, IfOk, filter, length};
+ghost use Rattle.std.specs.Prelude.{◌≡◌, ◌<◌, ℕ, true, false, not, ◌&&◌, IfOk, OnOk, filter, length};
 ghost use Rattle.std.specs.Prelude.{slice_index_or as get_or};
 ghost use Rattle.std.specs.List.{range_with_len};
 ghost use Rattle.rn_model.specs.Good.{occurring};
@@ -60,18 +60,28 @@ fn marked_alone(alloc: Global, marks: &[bool], here: &[bool], count: u32) -> Res
     Ok(Items::from_vec(made))
 }
 
-/// The transition with its variables, where its net has so many.
-pub(crate) fn with_vars(alloc: Global, t: Transition, count: u32) -> Result<Transition, NoMemory>
-    ensures { IfOk result (λ made. made ≡ with_vars count t) }
+/// The variables of a transition, and its action variables, where its net has so many.
+fn marked_vars(alloc: Global, t: &Transition, count: u32) -> Result<(Nums, Nums), NoMemory>
+    ensures { IfOk result (λ made. record t.now { vars = made.0; action_vars = made.1 }
+        ≡ with_vars count t.now) }
 {
     let mut occurring = Vec::new(alloc);
-    put_occurring(&t, &mut occurring)?;
+    put_occurring(t, &mut occurring)?;
     let mut set = Vec::new(alloc);
     put_set_vars(t.actions.as_slice(), &mut set)?;
     let occurs = marks_of(alloc, occurring.as_slice(), count)?;
     let acts = marks_of(alloc, set.as_slice(), count)?;
-    let mut t = t;
-    t.vars = marked_alone(alloc, occurs.as_slice(), acts.as_slice(), count)?;
-    t.action_vars = marked(alloc, acts.as_slice(), count)?;
-    Ok(t)
+    let vars = marked_alone(alloc, occurs.as_slice(), acts.as_slice(), count)?;
+    let action_vars = marked(alloc, acts.as_slice(), count)?;
+    Ok((vars, action_vars))
+}
+
+/// Puts the variables of a transition, where its net has so many.
+pub(crate) fn put_vars(alloc: Global, t: &mut Transition, count: u32) -> Result<(), NoMemory>
+    ensures { OnOk result (t.new ≡ with_vars count t.old) }
+{
+    let (vars, action_vars) = marked_vars(alloc, t, count)?;
+    t.vars = vars;
+    t.action_vars = action_vars;
+    Ok(())
 }

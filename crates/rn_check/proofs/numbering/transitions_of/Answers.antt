@@ -1,18 +1,17 @@
--- One more transition.
-use Rattle.std.proofs.Common.{◌∙◌, ◌++◌, ◌∷◌, [], ap, sym, map}
-use Rattle.rn_model.specs.declared.system.Transition.{Transition}
-use Rattle.rn_net.specs.declared.plain.PTransition.{PTransition}
-use Rattle.rn_check.specs.Numbering.{inscribed, with_vars}
-use Rattle.rn_check.specs.NumbersFound.{numbers_by}
-use Rattle.rn_check.proofs.ToldLemmas.{map_more}
+-- All transitions, one after another.
+use Rattle.std.proofs.Common.{◌≡◌, ◌∙◌, rules, ap, length}
+use Rattle.std.specs.Vec.Iter.{into_iter_items, into_iter_len}
+use Rattle.rn_check.specs.NumbersFound.{numbers_by, transitions_by}
+use Rattle.rn_check.proofs.GivenLemmas.{all_given}
 use Rattle.rn_check.proofs.numbering.transitions_of.Goals as goal
 
-pub loop-t-preserved : goal.loop-t-preserved
-loop-t-preserved c =
-    let made : PTransition → Transition = λ t.
-    with_vars c.args.count
-    (inscribed (numbers_by c.args.tables.now) t.name.text (map (λ i. i.form) t.inscriptions)) in
-    c.in_ok-push.ensures.items
-    ∙ ap (λ t. c.loop-t.made.items ++ t ∷ []) c.in_ok-transition_of.ensures
-    ∙ ap (λ ts. ts ++ made c.t-item.result ∷ []) c.loop-t.invariant
-    ∙ sym (map_more made c.args.transitions.now c.loop-t.t-index c.t-item.result c.loop-t-test.true c.t-item.is)
+pub returns : goal.returns
+returns c =
+    let gives : into_iter_items c.into_iter-t-iterator.result ≡ c.args.transitions.items = search rules in
+    let many : into_iter_len c.into_iter-t-iterator.result ≡ length c.args.transitions.items = search rules in
+    c.from_vec.ensures
+    ∙ c.loop-t.invariant
+    ∙ ap (transitions_by (numbers_by c.args.tables.now) c.args.count)
+    (all_given c.into_iter-t-iterator.result c.loop-t.t-iterator c.next.new.self c.next.result
+    c.args.transitions.items gives many c.loop-t.yielded c.loop-t.yielded_by c.in-None.is
+    c.next.ensures.steps)
