@@ -1,5 +1,5 @@
 -- What a loop over a vector that it owns is given.
-use Rattle.std.proofs.Common.{◌≡◌, List, Option, Some, None, length, map, sym, subst, ◌∙◌}
+use Rattle.std.proofs.Common.{◌≡◌, List, Option, Some, None, length, sym, subst, ◌∙◌}
 use Rattle.std.specs.Prelude.{All}
 use Rattle.std.specs.Iterator.{Yields}
 use Rattle.std.specs.Vec.Iter.{into_iter_items, into_iter_len, into_iter_steps}

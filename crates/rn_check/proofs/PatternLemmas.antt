@@ -3,7 +3,6 @@ use Rattle.std.proofs.Common.{◌≡◌, ◌≢◌, ℕ, zero, suc, Bool, true, 
 use Rattle.std.proofs.Common.{map, refl, sym, ap, ◌∙◌, ◌+◌, ◌<◌, drop, get_or, slice_get, unwrap_or, arith}
 use Rattle.std.proofs.Common.{add-one, append_assoc, drop-cons, drop_of_length-le}
 use Rattle.rn_check.specs.declared.pattern.Pattern.{Pattern}
-use Rattle.rn_check.specs.declared.pattern.Pattern.TheVariants as Pattern
 use Rattle.rn_check.specs.Patterns.{share, all_share, both_of, all_both}
 
 and_false : (b c : Bool) → c ≡ false → (b && c) ≡ false
