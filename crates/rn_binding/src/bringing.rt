@@ -11,6 +11,7 @@ use rn_agree::{node_on, transition_of};
 use rn_calc::{NodeValues, evaluate};
 use rn_growing::{Caller, Growing, Head, Site, Way};
 use rn_model::{Binding, Expr, NetArc, Node, System};
+use rn_shared::Shared;
 use rn_value::{NoMemory, Path, copy_inst};
 use std::alloc::Global;
 
@@ -19,6 +20,7 @@ fn head_of(alloc: Global, node: &Node) -> Result<Head, NoMemory>
     ensures { IfOk result (λ head. head ≡ head_of node.now) }
 {
     let path = Path::from_vec(Vec::from_slice(alloc, node.path.as_slice())?);
+    let path = Shared::new(alloc, path)?;
     let inst = copy_inst(alloc, &node.inst)?;
     Ok(Head {
         path,

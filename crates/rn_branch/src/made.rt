@@ -14,8 +14,8 @@ ghost use Rattle.rn_branch.specs.Making.{IsMadeNode};
 use crate::parts::transition_in;
 use rn_growing::{Decision, Growing, Head};
 use rn_model::{Binding, Node, Nodes, System};
-use rn_search::{Problem, copy_head};
-use rn_value::{NoMemory, Vals, Value};
+use rn_search::Problem;
+use rn_value::{NoMemory, Path, Vals, Value, copy_inst};
 use std::alloc::Global;
 
 // The values to which these variables of a node are forced, or `None` where one isn't.
@@ -58,10 +58,11 @@ fn node_of(
     let Some(values) = values_of(alloc, growing, head.path.as_slice(), vars)? else {
         return Ok(None);
     };
-    let head = copy_head(alloc, head)?;
+    let path = Path::from_vec(Vec::from_slice(alloc, head.path.as_slice())?);
+    let inst = copy_inst(alloc, &head.inst)?;
     Ok(Some(Node {
-        path: head.path,
-        inst: head.inst,
+        path,
+        inst,
         net: head.net,
         transition: head.transition,
         values: Vals::from_vec(values),

@@ -44,7 +44,7 @@ fn all_from(
     if !may_start(marked.system, net, transition) {
         return Ok(Vec::new(alloc));
     }
-    let problem = problem_at(alloc, marked, number, net, transition);
+    let problem = problem_at(alloc, marked, number, net, transition)?;
     let mut branch = room.open(alloc, marked.system, 0);
     let found = rn_choices::all(alloc, &problem, &mut branch, &mut room.choices)?;
     room.branch = branch.into_room();

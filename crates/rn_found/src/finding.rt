@@ -52,7 +52,7 @@ fn find_from<A: Asked>(
     if !may_start(marked.system, net, transition) {
         return Ok(None);
     }
-    let problem = problem_at(alloc, marked, number, net, transition);
+    let problem = problem_at(alloc, marked, number, net, transition)?;
     let mut branch = room.open(alloc, marked.system, token);
     let found = rn_choices::find_while(alloc, &problem, &mut branch, &mut room.choices, asked)?;
     room.branch = branch.into_room();

@@ -1,5 +1,5 @@
 //! What is searched.
-ghost use Rattle.std.specs.Prelude.{◌≡◌};
+ghost use Rattle.std.specs.Prelude.{◌≡◌, IfOk};
 ghost use Rattle.rn_search.specs.Missing.{MayStart};
 ghost use Rattle.rn_found.specs.Starting.{IsSearchable, start_of};
 
@@ -8,6 +8,7 @@ use rn_channel::Uplinks;
 use rn_model::System;
 use rn_search::Problem;
 use rn_table::Table;
+use rn_value::NoMemory;
 use std::alloc::Global;
 
 /// A table of a system with its uplinks, and within how many levels of calls bindings are looked
@@ -27,19 +28,19 @@ pub(crate) fn problem_at<'a>(
     number: u32,
     net: u32,
     transition: u32,
-) -> Problem<'a>
+) -> Result<Problem<'a>, NoMemory>
     requires searched { IsSearchable marked.system.now marked.uplinks.now
         marked.table.now }
     requires starts { MayStart marked.system.now marked.table.now.marking
         (start_of number net transition) }
-    ensures { result ≡ record { system = marked.entry.system.now; marking = marked.entry.table.now.marking; depth = marked.entry.depth; start = start_of number net transition } }
+    ensures { IfOk result (λ problem. problem ≡ record { system = marked.entry.system.now; marking = marked.entry.table.now.marking; depth = marked.entry.depth; start = start_of number net transition }) }
 {
-    let start = start_at(alloc, number, net, transition);
-    Problem::new(
+    let start = start_at(alloc, number, net, transition)?;
+    Ok(Problem::new(
         marked.system,
         marked.uplinks,
         marked.table,
         marked.depth,
         start,
-    )
+    ))
 }

@@ -1,5 +1,5 @@
 //! Where a firing may start.
-ghost use Rattle.std.specs.Prelude.{◌≡◌, ◌<◌, ◌↔◌, IsTrue, None, length};
+ghost use Rattle.std.specs.Prelude.{◌≡◌, ◌<◌, ◌↔◌, IfOk, IsTrue, None, length};
 ghost use Rattle.rn_model.specs.Good.{Good};
 ghost use Rattle.rn_model.specs.Systems.{net_at, transition_at};
 ghost use Rattle.rn_found.specs.Starting.{start_of};
@@ -7,7 +7,8 @@ ghost use Rattle.rn_found.specs.Starting.{start_of};
 use rn_growing::Head;
 use rn_items::Items;
 use rn_model::{System, Transition};
-use rn_value::InstRef;
+use rn_shared::Shared;
+use rn_value::{InstRef, NoMemory};
 use std::alloc::Global;
 
 // The transitions of a net.
@@ -39,13 +40,18 @@ pub(crate) fn may_start(system: &System, net: u32, transition: u32) -> bool
 }
 
 /// The start by a transition of an instance.
-pub(crate) fn start_at(alloc: Global, number: u32, net: u32, transition: u32) -> Head
-    ensures { result ≡ start_of number net transition }
+pub(crate) fn start_at(
+    alloc: Global,
+    number: u32,
+    net: u32,
+    transition: u32,
+) -> Result<Head, NoMemory>
+    ensures { IfOk result (λ start. start ≡ start_of number net transition) }
 {
-    Head {
-        path: Items::new(alloc),
+    Ok(Head {
+        path: Shared::new(alloc, Items::new(alloc))?,
         inst: InstRef::Old(number),
         net,
         transition,
-    }
+    })
 }

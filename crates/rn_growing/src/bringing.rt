@@ -159,7 +159,7 @@ fn bring_creations(
     for j in 0..creations.len() {
         let path = Items::from_vec(Vec::from_slice(alloc, head.path.as_slice())?);
         let made = Value::Inst(InstRef::New(path, j as u8));
-        let var = laid.unknown(alloc, head.path.as_slice(), Unknown::Var(creations[j].var))?;
+        let var = laid.unknown(alloc, &head.path, Unknown::Var(creations[j].var))?;
         if !give(alloc, laid, var, made)? {
             return Ok(false);
         }

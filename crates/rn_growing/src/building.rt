@@ -45,7 +45,7 @@ pub(crate) fn build(
             Ok(Some(id))
         }
         Expr::Var(x) => {
-            let id = laid.unknown(alloc, head.path.as_slice(), Unknown::Var(*x))?;
+            let id = laid.unknown(alloc, &head.path, Unknown::Var(*x))?;
             Ok(Some(id))
         }
         Expr::This => {
@@ -135,7 +135,7 @@ pub(crate) fn build_hole(
     ensures grows { Grows laid.old laid.new }
 {
     let way = Items::from_vec(Vec::from_slice(alloc, way)?);
-    laid.unknown(alloc, head.path.as_slice(), Unknown::Hole(site, way))
+    laid.unknown(alloc, &head.path, Unknown::Hole(site, way))
 }
 
 fn int_value(n: &i64) -> Value

@@ -1,5 +1,6 @@
 //! What is decided of a binding.
 use rn_items::Items;
+use rn_shared::Shared;
 use rn_value::{InstRef, Path, Value};
 
 /// Where an expression stands in its transition. Each number is an index in the order of the text,
@@ -20,7 +21,7 @@ pub type Way = Items<usize>;
 /// A node without its values.
 #[derive(Debug, Drop, PartialEq, Eq)]
 pub struct Head {
-    pub path: Path,
+    pub path: Shared<Path>,
     pub inst: InstRef,
     pub net: u32,
     pub transition: u32,

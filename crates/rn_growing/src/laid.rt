@@ -11,9 +11,10 @@ ghost use Rattle.rn_growing.specs.Layouts.{IsLaidIn, asked, id_of};
 use crate::slot::{Frame, Slot, Unknown};
 use crate::slots::Slots;
 use rn_items::Items;
+use rn_shared::Shared;
 use rn_term::{Ids, Mark, Store, Term};
 use rn_unify::unify;
-use rn_value::{NoMemory, Value};
+use rn_value::{NoMemory, Path, Value};
 use std::alloc::Global;
 use std::marker::Model;
 
@@ -88,17 +89,17 @@ impl Laid {
     pub(crate) fn unknown(
         &mut self,
         alloc: Global,
-        path: &[u32],
+        path: &Shared<Path>,
         unknown: Unknown,
     ) -> Result<usize, NoMemory>
         ensures built { IfOk result
             (λ id. Builds self.old (λ a. Some (asked a path.now unknown)) self.new id) }
         ensures grows { Grows self.old self.new }
     {
-        match self.slots.id(path, &unknown) {
+        match self.slots.id(path.as_slice(), &unknown) {
             Some(id) => Ok(id),
             None => {
-                let path = Items::from_vec(Vec::from_slice(alloc, path)?);
+                let path = path.share()?;
                 let _kept = self.store.mark();
                 let id = self.store.new_var()?;
                 self.slots.push(alloc, Slot { path, unknown, id })?;

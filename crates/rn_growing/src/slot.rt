@@ -3,6 +3,7 @@ ghost use Rattle.std.specs.Prelude.{◌≡◌};
 ghost use Rattle.rn_growing.specs.Layouts.{same_site, same_unknown};
 
 use crate::decision::{Site, Way};
+use rn_shared::Shared;
 use rn_term::Mark;
 use rn_value::Path;
 
@@ -17,7 +18,7 @@ pub(crate) enum Unknown {
 /// The id that stands for an unknown of the node on a path.
 #[derive(Debug, Drop)]
 pub(crate) struct Slot {
-    pub(crate) path: Path,
+    pub(crate) path: Shared<Path>,
     pub(crate) unknown: Unknown,
     pub(crate) id: usize,
 }

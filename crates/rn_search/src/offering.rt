@@ -20,6 +20,7 @@ use rn_bag::Bag;
 use rn_growing::{Caller, Decision, Head};
 use rn_items::Items;
 use rn_model::Downlink;
+use rn_shared::Shared;
 use rn_value::{InstRef, NoMemory, Value, copy};
 use std::alloc::Global;
 use std::ops::Range;
@@ -284,7 +285,7 @@ fn child(
     let mut path = Vec::from_slice(alloc, from.path.as_slice())?;
     path.push(downlink)?;
     let head = Head {
-        path: Items::from_vec(path),
+        path: Shared::new(alloc, Items::from_vec(path))?,
         inst,
         net,
         transition,

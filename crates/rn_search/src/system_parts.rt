@@ -6,7 +6,6 @@ ghost use Rattle.rn_growing.specs.Decisions.{transition_in};
 ghost use Rattle.rn_search.specs.Points.{node_on};
 
 use rn_growing::{Decision, Head};
-use rn_items::Items;
 use rn_model::{System, Transition};
 use rn_value::{NoMemory, copy_inst};
 use std::alloc::Global;
@@ -33,13 +32,13 @@ pub(crate) fn node_on(decision: &Decision) -> &Head
     }
 }
 
-/// The same node, which shares no memory with the first.
+/// The same node. Both share the path.
 pub fn copy_head(alloc: Global, head: &Head) -> Result<Head, NoMemory>
     ensures { IfOk result (λ h. h ≡ head.now) }
 {
-    let path = Vec::from_slice(alloc, head.path.as_slice())?;
+    let path = head.path.share()?;
     Ok(Head {
-        path: Items::from_vec(path),
+        path,
         inst: copy_inst(alloc, &head.inst)?,
         net: head.net,
         transition: head.transition,

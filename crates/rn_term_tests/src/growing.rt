@@ -1,5 +1,5 @@
 //! Entries of a start by a table of equalities, creations, and undoing.
-ghost use Rattle.std.specs.Prelude.{◌≡◌, ◌↔◌, ◌≤◌, [], All, IsTrue, length};
+ghost use Rattle.std.specs.Prelude.{◌≡◌, ◌↔◌, ◌≤◌, [], All, IfOk, IsTrue, length};
 ghost use Rattle.rn_growing.specs.Grown.{HasFewCreations};
 
 use crate::making::{are_same, numbers, text, two};
@@ -8,19 +8,20 @@ use rn_growing::{
 };
 use rn_items::{Boxed, Items};
 use rn_model::{Creation, Creations, Expr, Net, OpKind, Pairs, System, Transition};
+use rn_shared::Shared;
 use rn_value::{InstRef, NoMemory, Value};
 use std::alloc::Global;
 use std::test::Fail;
 
-fn start(alloc: Global) -> Head
-    ensures { result.path ≡ [] }
+fn start(alloc: Global) -> Result<Head, NoMemory>
+    ensures { IfOk result (λ start. start.path ≡ []) }
 {
-    Head {
-        path: Items::new(alloc),
+    Ok(Head {
+        path: Shared::new(alloc, Items::new(alloc))?,
         inst: InstRef::Old(1),
         net: 0,
         transition: 0,
-    }
+    })
 }
 
 fn has_few(system: &System) -> bool
@@ -181,7 +182,7 @@ fn is_entered(alloc: Global, growing: &mut Growing, expected: &Forced) -> Result
     requires { growing.old.decisions ≡ [] }
 {
     let before = growing.mark();
-    if !growing.enter(alloc, start(alloc), None)? {
+    if !growing.enter(alloc, start(alloc)?, None)? {
         return Ok(expected.is_none());
     }
     let Some(values) = expected else {
@@ -258,8 +259,8 @@ fn target_in(
 ) -> Result<Option<InstRef>, NoMemory>
     requires { growing.old.decisions ≡ [] }
 {
-    let _entered = growing.enter(alloc, start(alloc), None)?;
-    growing.target(alloc, &start(alloc), Site::Target(0), target)
+    let _entered = growing.enter(alloc, start(alloc)?, None)?;
+    growing.target(alloc, &start(alloc)?, Site::Target(0), target)
 }
 
 // The target that is told is the first instance, or there is none.

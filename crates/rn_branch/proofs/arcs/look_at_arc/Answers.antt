@@ -15,7 +15,7 @@ pub returns-then-was_found : goal.returns-then-was_found
 returns-then-was_found c =
     was_found_before c.args.problem.now c.args.growing.now c.args.node c.args.head.now
     c.args.transition.now c.requires.at c.args.k
-    (ap (λ p. list_any (finds p c.args.k) c.args.growing.now.decisions) (sym c.as_slice.ensures)
+    (ap (λ p. list_any (finds p c.args.k) c.args.growing.now.decisions) (sym (c.as_slice.ensures ∙ c.deref.ensures))
     ∙ sym c.was_found.ensures ∙ c.if-was_found.true)
 
 pub returns-then-not-finds_token : goal.returns-then-not-finds_token
@@ -23,7 +23,7 @@ returns-then-not-finds_token c =
     forces_list c.args.problem.now c.args.growing.now c.args.node c.args.head.now
     c.args.transition.now c.requires.at c.args.k c.arc_at-arc.result.now c.arc_at-arc.ensures
     (sym c.finds_values.ensures ∙ c.if-not-finds_values.false)
-    (ap (λ p. list_any (finds p c.args.k) c.args.growing.now.decisions) (sym c.as_slice.ensures)
+    (ap (λ p. list_any (finds p c.args.k) c.args.growing.now.decisions) (sym (c.as_slice.ensures ∙ c.deref.ensures))
     ∙ sym c.was_found.ensures ∙ c.if-was_found.false)
     (sym c.finds_token.ensures ∙ c.if-not-finds_token.true)
 
@@ -33,5 +33,5 @@ look_for_token-requires-clause-token c = record {
   there = c.arc_at-arc.ensures;
   token = sym c.finds_token.ensures ∙ c.if-not-finds_token.false;
   none = ap (λ p. list_any (finds p c.args.k) c.args.growing.now.decisions)
-      (sym c.as_slice.ensures) ∙ sym c.was_found.ensures ∙ c.if-was_found.false;
+      (sym (c.as_slice.ensures ∙ c.deref.ensures)) ∙ sym c.was_found.ensures ∙ c.if-was_found.false;
 }

@@ -1,5 +1,5 @@
 -- By the value to which the target is forced.
-use Rattle.std.proofs.Common.{◌∙◌, ap, subst, arith}
+use Rattle.std.proofs.Common.{◌∙◌, ap, length, subst, arith}
 use Rattle.std.specs.Prelude.{Some, None}
 use Rattle.std.proofs.lemmas.Option.{slice_get_within}
 use Rattle.rn_search.specs.declared.point.Point.TheVariants as P
@@ -39,8 +39,9 @@ returns-in_default-value c =
 
 pub returns-then-len-depth : goal.returns-then-len-depth
 returns-then-len-depth c =
+    let long = ap length c.deref.ensures in
     is_too_deep c.args.problem.now c.args.growing.now c.args.node c.args.head.now
-    c.args.transition.now c.requires.at c.args.i c.requires.open (omega arith)
+    c.args.transition.now c.requires.at c.args.i c.requires.open (omega (arith, long))
 
 pub returns-in_default-called_on : goal.returns-in_default-called_on
 returns-in_default-called_on c =
@@ -57,6 +58,7 @@ returns-in_default-called_on c =
 
 pub returns : goal.returns
 returns c =
+    let long = ap length c.deref.ensures in
     chooses_call c.args.problem.now c.args.growing.now c.args.node c.args.head.now
     c.args.transition.now c.requires.at c.args.i c.requires.open _ c.in-Some.value
     c.in-Inst.inst c.in-Some-called_on.called c.alternatives-of.result c.in-Some.is c.in-Inst.is
@@ -68,7 +70,7 @@ returns c =
     (subst (λ ds. IsCalledOn c.system.result.now ds c.in-Inst.inst
     (Some c.in-Some-called_on.called)) c.decisions-decisions.ensures
     c.in-Some-called_on.ensures))
-    (omega arith)
+    (omega (arith, long))
     (c.alternatives-of.ensures.count
     ∙ ap (λ ds. alternatives c.args.problem.now ds (P.Call c.args.node c.args.i
     c.in-Some-called_on.called)) c.decisions-decisions.ensures)

@@ -1,5 +1,5 @@
 -- By the form of the target.
-use Rattle.std.proofs.Common.{◌≡◌, inl, inr, subst}
+use Rattle.std.proofs.Common.{◌∙◌, ◌≡◌, inl, inr, subst}
 use Rattle.std.specs.Prelude.{Some, ◌↔◌}
 use Rattle.std.proofs.lemmas.Result.{IfOk-weaker}
 use Rattle.rn_value.specs.declared.value.Value.{Value}
@@ -18,7 +18,7 @@ returns-in-Var c =
     IfOk-weaker _ _ _ (λ told tells. var_target c.args.growing.now c.args.head.now
     (target c.args.i) c.args.expr.now c.in-Var.x c.in-Var.is told
     (subst (λ p. (v : Value) → (told ≡ Some v) ↔ IsForcedTo c.args.growing.now.system
-    c.args.growing.now.decisions (λ a. Some (a.var p c.in-Var.x)) v) c.as_slice.ensures tells))
+    c.args.growing.now.decisions (λ a. Some (a.var p c.in-Var.x)) v) (c.as_slice.ensures ∙ c.deref.ensures) tells))
     c.value.ensures
 
 pub returns-in_default : goal.returns-in_default

@@ -1,5 +1,5 @@
 -- By what is decided of it, and what is known of its variables.
-use Rattle.std.proofs.Common.{true, false, sym, subst, rules, SFits, w64, to_z-of_z}
+use Rattle.std.proofs.Common.{◌∙◌, true, false, sym, subst, rules, SFits, w64, to_z-of_z}
 use Rattle.rn_choices.specs.declared.next.Next.TheVariants.{Forced}
 use Rattle.rn_search.specs.declared.point.Point.TheVariants as P
 use Rattle.rn_branch.specs.Knowing.{KnowsVars, known_env}
@@ -14,7 +14,7 @@ returns-then-was_computed c =
     c.args.application.now.form.now c.requires.at c.requires.is
     (answers c.was_computed.result true c.args.growing.now.decisions c.as_slice.result.now
     c.args.head.now.path c.as_slice-way.result.now c.args.application.now.way
-    c.args.application.now.site c.was_computed.ensures c.as_slice.ensures
+    c.args.application.now.site c.was_computed.ensures (c.as_slice.ensures ∙ c.deref.ensures)
     c.as_slice-way.ensures c.if-was_computed.true)
 
 pub returns-in_default : goal.returns-in_default
@@ -24,7 +24,7 @@ returns-in_default c =
     c.args.application.now.form.now c.requires.at c.requires.is
     (answers c.was_computed.result false c.args.growing.now.decisions c.as_slice.result.now
     c.args.head.now.path c.as_slice-way.result.now c.args.application.now.way
-    c.args.application.now.site c.was_computed.ensures c.as_slice.ensures
+    c.args.application.now.site c.was_computed.ensures (c.as_slice.ensures ∙ c.deref.ensures)
     c.as_slice-way.ensures c.if-was_computed.false)
     (subst (KnowsVars c.args.growing.now c.args.head.now c.args.application.now.form.now)
     c.in_default.is c.in_ok-known.ensures)
@@ -40,7 +40,7 @@ returns-in-Some-2 c =
     c.args.application.now.form.now c.requires.at c.requires.is
     (answers c.was_computed.result false c.args.growing.now.decisions c.as_slice.result.now
     c.args.head.now.path c.as_slice-way.result.now c.args.application.now.way
-    c.args.application.now.site c.was_computed.ensures c.as_slice.ensures
+    c.args.application.now.site c.was_computed.ensures (c.as_slice.ensures ∙ c.deref.ensures)
     c.as_slice-way.ensures c.if-was_computed.false)
     (known_env c.in-Some.known)
     (subst (KnowsVars c.args.growing.now c.args.head.now c.args.application.now.form.now)
@@ -54,7 +54,7 @@ returns c =
     c.args.application.now.form.now c.requires.at c.requires.is
     (answers c.was_computed.result false c.args.growing.now.decisions c.as_slice.result.now
     c.args.head.now.path c.as_slice-way.result.now c.args.application.now.way
-    c.args.application.now.site c.was_computed.ensures c.as_slice.ensures
+    c.args.application.now.site c.was_computed.ensures (c.as_slice.ensures ∙ c.deref.ensures)
     c.as_slice-way.ensures c.if-was_computed.false)
     (known_env c.in-Some.known)
     (subst (KnowsVars c.args.growing.now c.args.head.now c.args.application.now.form.now)

@@ -6,14 +6,14 @@ use Rattle.rn_found.proofs.every.all_from.Goals as goal
 
 pub all-requires : goal.all-requires
 all-requires c =
-    opened_at c.problem_at-problem.result c.args.marked.system.now c.open-branch.result
-    (sym (ap (λ (p : Sought). p.system) c.problem_at-problem.ensures)) c.open-branch.ensures
+    opened_at c.in_ok-problem.problem c.args.marked.system.now c.open-branch.result
+    (sym (ap (λ (p : Sought). p.system) c.in_ok-problem.ensures)) c.open-branch.ensures
 
 pub returns : goal.returns
 returns c =
     let found = c.in_ok-found.found.items in
     subst
     (λ (p : Sought). AreJust p.system p.marking p.depth (λ b. StartsAt b p.start) found)
-    c.problem_at-problem.ensures
-    (just_found c.problem_at-problem.result found c.in_ok-found.ensures.all
+    c.in_ok-problem.ensures
+    (just_found c.in_ok-problem.problem found c.in_ok-found.ensures.all
     c.in_ok-found.ensures.once)

@@ -8,19 +8,19 @@ use Rattle.rn_found.proofs.finding.find_from.Goals as goal
 
 pub find_while-requires : goal.find_while-requires
 find_while-requires g c =
-    opened_at c.problem_at-problem.result c.args.marked.system.now c.open-branch.result
-    (sym (ap (λ (p : Sought). p.system) c.problem_at-problem.ensures)) c.open-branch.ensures
+    opened_at c.in_ok-problem.problem c.args.marked.system.now c.open-branch.result
+    (sym (ap (λ (p : Sought). p.system) c.in_ok-problem.ensures)) c.open-branch.ensures
 
 pub returns-clause-found : goal.returns-clause-found
 returns-clause-found g c =
     let found = c.in_ok-found.found in
     subst (λ (p : Sought). IfSome found (λ b. Enabled p.system p.marking b p.depth))
-    c.problem_at-problem.ensures
-    (found_enabled c.problem_at-problem.result found c.in_ok-found.ensures.found)
+    c.in_ok-problem.ensures
+    (found_enabled c.in_ok-problem.problem found c.in_ok-found.ensures.found)
 
 pub returns-clause-none : goal.returns-clause-none
 returns-clause-none g c =
     let found = c.in_ok-found.found in
     subst (λ (p : Sought). IfNone found (IsNoStart p.system p.marking p.depth p.start))
-    c.problem_at-problem.ensures
-    (none_found c.problem_at-problem.result found c.in_ok-found.ensures.none)
+    c.in_ok-problem.ensures
+    (none_found c.in_ok-problem.problem found c.in_ok-found.ensures.none)

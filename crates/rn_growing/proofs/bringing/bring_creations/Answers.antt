@@ -16,14 +16,13 @@ pub returns-then-not-branch-clause-brings : goal.returns-then-not-branch-clause-
 returns-then-not-branch-clause-brings c =
     let j = c.loop-j.j in
     let path : c.from_vec-path.result ≡ c.args.head.now.path = c.from_vec-path.ensures
-    ∙ c.in_ok-from_slice.ensures.items ∙ c.as_slice.ensures in
+    ∙ c.in_ok-from_slice.ensures.items ∙ c.as_slice.ensures ∙ c.deref.ensures in
     let creation = get_or c.args.creations.now j _ in
     let there : slice_get c.args.creations.now j ≡ Some creation =
     slice_get-get_or c.args.creations.now j _ c.loop-j-test.true in
     let var : Builds c.loop-j.laid (λ a. Some (a.var c.args.head.now.path creation.var))
     c.unknown.new.self c.in_ok-var.var =
-    subst (λ p. Builds c.loop-j.laid (λ a. Some (a.var p creation.var)) c.unknown.new.self
-    c.in_ok-var.var) c.as_slice-in-loop-j.ensures c.in_ok-var.ensures.built in
+    c.in_ok-var.ensures.built in
     let gets : GetsValue c.unknown.new.self c.in_ok-var.var
     (Value.Inst (New c.args.head.now.path j)) c.give.new.laid false =
     subst (λ p. GetsValue c.unknown.new.self c.in_ok-var.var (Value.Inst (New p j))
@@ -51,14 +50,13 @@ pub loop-j-preserved : goal.loop-j-preserved
 loop-j-preserved c =
     let j = c.loop-j.j in
     let path : c.from_vec-path.result ≡ c.args.head.now.path = c.from_vec-path.ensures
-    ∙ c.in_ok-from_slice.ensures.items ∙ c.as_slice.ensures in
+    ∙ c.in_ok-from_slice.ensures.items ∙ c.as_slice.ensures ∙ c.deref.ensures in
     let creation = get_or c.args.creations.now j _ in
     let there : slice_get c.args.creations.now j ≡ Some creation =
     slice_get-get_or c.args.creations.now j _ c.loop-j-test.true in
     let var : Builds c.loop-j.laid (λ a. Some (a.var c.args.head.now.path creation.var))
     c.unknown.new.self c.in_ok-var.var =
-    subst (λ p. Builds c.loop-j.laid (λ a. Some (a.var p creation.var)) c.unknown.new.self
-    c.in_ok-var.var) c.as_slice-in-loop-j.ensures c.in_ok-var.ensures.built in
+    c.in_ok-var.ensures.built in
     let gets : GetsValue c.unknown.new.self c.in_ok-var.var
     (Value.Inst (New c.args.head.now.path j)) c.give.new.laid true =
     subst (λ p. GetsValue c.unknown.new.self c.in_ok-var.var (Value.Inst (New p j))

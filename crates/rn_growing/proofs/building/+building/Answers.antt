@@ -44,8 +44,7 @@ build-returns-in_ok-id-in-Var-clause-built t c =
     c.in_ok-id-in-Var.id
     (var_is c.args.head.now (site_of c.args.site) c.args.way.now.items c.args.expr.now c.in-Var.x
     c.in-Var.is)
-    (subst (λ p. Builds c.args.laid.now (λ a. Some (a.var p c.in-Var.x)) c.unknown.new.self
-    c.in_ok-id-in-Var.id) c.as_slice.ensures c.in_ok-id-in-Var.ensures.built)
+    c.in_ok-id-in-Var.ensures.built
 
 pub build-returns-in_ok-id-in-This-clause-built : goal.build-returns-in_ok-id-in-This-clause-built
 build-returns-in_ok-id-in-This-clause-built t c =
@@ -65,7 +64,7 @@ build-returns-in_ok-id-in-Some-clause-built t c =
     c.build_parts.new.laid c.in-Some.ids =
     subst (λ es. BuildsAll c.args.laid.now
     (λ a. parts_at a c.args.head.now (site_of c.args.site) c.args.way.now.items 0 es)
-    c.build_parts.new.laid c.in-Some.ids) c.as_slice-in-Tuple.ensures
+    c.build_parts.new.laid c.in-Some.ids) c.as_slice.ensures
     (rw c.in-Some.is at c.in_ok-ids-in-Tuple.ensures.built) in
     builds_as c.args.laid.now c.tuple.new.self
     (λ a. option_map (λ vs. Value.Tuple vs)

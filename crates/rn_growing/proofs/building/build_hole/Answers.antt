@@ -7,12 +7,7 @@ use Rattle.rn_growing.proofs.building.build_hole.Goals as goal
 pub returns-clause-built : goal.returns-clause-built
 returns-clause-built c =
     let way : c.from_vec-way.result ≡ c.args.way.now = search rules in
-    let path : c.as_slice.result.now ≡ c.args.head.now.path = search rules in
     subst (λ w. IfOk c.unknown.result
     (λ id. Builds c.args.laid.now
     (λ a. Some (a.hole c.args.head.now.path (site_of c.args.site) w)) c.unknown.new.self id))
-    way
-    (subst (λ p. IfOk c.unknown.result
-    (λ id. Builds c.args.laid.now
-    (λ a. Some (a.hole p (site_of c.args.site) c.from_vec-way.result)) c.unknown.new.self id))
-    path c.unknown.ensures.built)
+    way c.unknown.ensures.built

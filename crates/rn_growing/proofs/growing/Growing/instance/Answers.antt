@@ -1,4 +1,4 @@
-use Rattle.std.proofs.Common.{◌≡◌, ap, subst}
+use Rattle.std.proofs.Common.{◌≡◌, ◌∙◌, ap, subst}
 use Rattle.std.specs.Prelude.{None, Some, ◌↔◌}
 use Rattle.std.proofs.lemmas.Option.{same_Some}
 use Rattle.rn_value.specs.declared.value.InstRef.{InstRef}
@@ -15,7 +15,7 @@ returns-in-Some c =
     let given : (v : Value) → (Some c.in-Some.value ≡ Some v) ↔ IsGiven c.self.inside.laid
     c.args.head.now.path c.args.unknown.now v =
     subst (λ p. (v : Value) → (Some c.in-Some.value ≡ Some v) ↔ IsGiven c.self.inside.laid p
-    c.args.unknown.now v) c.as_slice.ensures (rw c.in-Some.is at c.in_ok-value.ensures) in
+    c.args.unknown.now v) (c.as_slice.ensures ∙ c.deref.ensures) (rw c.in-Some.is at c.in_ok-value.ensures) in
     let names : (i : InstRef) → (c.instance_in.result ≡ Some i) ↔
     (Some c.in-Some.value ≡ Some (Worth.Inst i)) =
     λ i. (
@@ -35,7 +35,7 @@ returns-in-None c =
     let given : (v : Value) → (None ≡ Some v) ↔ IsGiven c.self.inside.laid c.args.head.now.path
     c.args.unknown.now v =
     subst (λ p. (v : Value) → (None ≡ Some v) ↔ IsGiven c.self.inside.laid p c.args.unknown.now
-    v) c.as_slice.ensures (rw c.in-None.is at c.in_ok-value.ensures) in
+    v) (c.as_slice.ensures ∙ c.deref.ensures) (rw c.in-None.is at c.in_ok-value.ensures) in
     subst (λ g. (i : InstRef) → (None ≡ Some i) ↔ IsForcedTo g.system g.decisions
     (λ a. Some (asked a c.args.head.now.path c.args.unknown.now)) (Worth.Inst i))
     c.self.view_is

@@ -1,5 +1,5 @@
 -- By the least number of levels that suffices.
-use Rattle.std.proofs.Common.{rules, ◌≡◌, ◌∙◌, ◌-◌, ap}
+use Rattle.std.proofs.Common.{rules, ◌≡◌, ◌∙◌, ◌-◌, ap, length}
 use Rattle.rn_search.proofs.Levels.{none_lack, some_lack, some_suffice}
 use Rattle.rn_search.proofs.problem.Problem.has_levels.Goals as goal
 
@@ -9,7 +9,7 @@ returns-in-Some-clause-lacks c few =
     let deep : c.self.inside.depth ≡ c.args.self.now.depth = search rules in
     some_lack c.self.inside.system.now c.args.self.now.system c.self.inside.uplinks.now
     c.args.head.now c.args.self.now.depth c.saturating_sub-left.result c.len.result same
-    c.self.invariant.own c.requires.net c.requires.transition c.len.ensures
+    c.self.invariant.own c.requires.net c.requires.transition (c.len.ensures ∙ ap length c.deref.ensures)
     (c.saturating_sub-left.ensures ∙ ap (λ d. d - c.len.result) deep) c.in-Some.height
     (λ s own net there. c.in-Some.ensures s own net there) few
 
@@ -19,7 +19,7 @@ returns-in-Some-clause-has c deepest enough =
     let deep : c.self.inside.depth ≡ c.args.self.now.depth = search rules in
     some_suffice c.self.inside.system.now c.args.self.now.system c.self.inside.uplinks.now
     c.args.head.now c.args.self.now.depth c.saturating_sub-left.result c.len.result same
-    c.self.invariant.own c.requires.net c.requires.transition c.len.ensures
+    c.self.invariant.own c.requires.net c.requires.transition (c.len.ensures ∙ ap length c.deref.ensures)
     (c.saturating_sub-left.ensures ∙ ap (λ d. d - c.len.result) deep) c.in-Some.height
     c.calls_need_levels.ensures.more (λ s own net there. c.in-Some.ensures s own net there) enough
 
@@ -29,6 +29,6 @@ returns-in-None-clause-lacks c few =
     let deep : c.self.inside.depth ≡ c.args.self.now.depth = search rules in
     none_lack c.self.inside.system.now c.args.self.now.system c.self.inside.uplinks.now
     c.args.head.now c.args.self.now.depth c.saturating_sub-left.result c.len.result same
-    c.self.invariant.own c.requires.net c.requires.transition c.len.ensures
+    c.self.invariant.own c.requires.net c.requires.transition (c.len.ensures ∙ ap length c.deref.ensures)
     (c.saturating_sub-left.ensures ∙ ap (λ d. d - c.len.result) deep)
     (λ s own net there. c.in-None.ensures s own net there) few
