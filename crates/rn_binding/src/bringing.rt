@@ -1,33 +1,35 @@
 //! Whether an item of a binding may come in now, and bringing it in with the binding's own value.
-ghost use Rattle.std.specs.Prelude.{◌≡◌, Contains, IfOk, OnOk, []};
+ghost use Rattle.std.specs.Prelude.{◌≡◌, Contains, IfOk, IfSome, OnOk, []};
+ghost use Rattle.std.specs.Option.{option_copied};
+ghost use Rattle.rn_model.specs.Bindings.{node_at};
 ghost use Rattle.rn_model.specs.Derivation.{entry, found, computed, items_of};
+ghost use Rattle.rn_agree.specs.Paths.{AscendByPath};
 ghost use Rattle.rn_growing.specs.Decisions.{head_of, site_of};
 ghost use Rattle.rn_binding.specs.Parts.{item_of};
 ghost use Rattle.rn_binding.specs.Passing.{IsGiven, IsFollowed, BringsItem};
 
 use crate::forcing::is_expr_forced;
+use crate::headed::{Headed, copy_head};
 use crate::part::Part;
-use rn_agree::{node_on, transition_of};
+use rn_agree::{node_index, transition_of};
 use rn_calc::{NodeValues, evaluate};
 use rn_growing::{Caller, Growing, Head, Site, Way};
 use rn_model::{Binding, Expr, NetArc, Node, System};
-use rn_shared::Shared;
-use rn_value::{NoMemory, Path, copy_inst};
+use rn_value::NoMemory;
 use std::alloc::Global;
 
-// A node without its values.
-fn head_of(alloc: Global, node: &Node) -> Result<Head, NoMemory>
-    ensures { IfOk result (λ head. head ≡ head_of node.now) }
+// The node on this path, beside its head.
+fn headed_on<'a, 'b>(
+    binding: &Binding,
+    headed: &'b [Headed<'a>],
+    path: &[u32],
+) -> Option<&'b Headed<'a>>
+    requires ascending { AscendByPath binding.now.nodes }
+    requires headed { headed.now ≡ binding.now.nodes }
+    ensures node { option_copied result ≡ node_at binding.now path.now }
+    ensures there { IfSome result (λ node. Contains binding.now.nodes node.now) }
 {
-    let path = Path::from_vec(Vec::from_slice(alloc, node.path.as_slice())?);
-    let path = Shared::new(alloc, path)?;
-    let inst = copy_inst(alloc, &node.inst)?;
-    Ok(Head {
-        path,
-        inst,
-        net: node.net,
-        transition: node.transition,
-    })
+    headed.get(node_index(binding, path)?)
 }
 
 // A child comes in once its caller was entered and the target of its downlink is forced. The start
@@ -36,10 +38,14 @@ pub(crate) fn bring_entry(
     alloc: Global,
     system: &System,
     binding: &Binding,
+    headed: &[Headed<'_>],
     growing: &mut Growing<'_>,
     node: &Node,
+    head: &Head,
 ) -> Result<bool, NoMemory>
     requires given { IsGiven system.now binding.now }
+    requires headed { headed.now ≡ binding.now.nodes }
+    requires head { head.now ≡ head_of node.now }
     requires followed { IsFollowed system.now binding.now growing.old }
     requires item { Contains binding.now.nodes node.now }
     ensures brings { IfOk result (λ yes. BringsItem system.now binding.now growing.old
@@ -53,21 +59,24 @@ pub(crate) fn bring_entry(
     let Some((i, front)) = path.split_last() else {
         return Ok(false);
     };
-    let Some(caller) = node_on(binding, front) else {
+    let Some(caller) = headed_on(binding, headed, front) else {
         return Ok(false);
     };
     if !growing.was_entered(front) {
         return Ok(false);
     }
-    let Some(downlink) = transition_of(system, caller).downlinks.get(*i as usize) else {
+    let Some(downlink) = transition_of(system, caller.node())
+        .downlinks
+        .get(*i as usize)
+    else {
         return Ok(false);
     };
-    let from = head_of(alloc, caller)?;
+    let from = copy_head(alloc, caller.head())?;
     let site = Site::Target(*i as usize);
     let Some(_inst) = growing.target(alloc, &from, site, &downlink.target)? else {
         return Ok(false);
     };
-    let head = head_of(alloc, node)?;
+    let head = copy_head(alloc, head)?;
     growing.enter(
         alloc,
         head,
@@ -85,10 +94,12 @@ pub(crate) fn bring_found(
     binding: &Binding,
     growing: &mut Growing<'_>,
     node: &Node,
+    head: &Head,
     k: usize,
     arc: &NetArc,
 ) -> Result<bool, NoMemory>
     requires given { IsGiven system.now binding.now }
+    requires head { head.now ≡ head_of node.now }
     requires followed { IsFollowed system.now binding.now growing.old }
     requires item { Contains (items_of system.now binding.now) (found node.now k arc.now) }
     ensures brings { IfOk result (λ yes. BringsItem system.now binding.now growing.old
@@ -106,7 +117,7 @@ pub(crate) fn bring_found(
     let Some(value) = evaluate(alloc, &arc.inscription, &values)? else {
         return Ok(false);
     };
-    let head = head_of(alloc, node)?;
+    let head = copy_head(alloc, head)?;
     growing.find(alloc, head, k, value)
 }
 
@@ -117,11 +128,13 @@ pub(crate) fn bring_computed(
     binding: &Binding,
     growing: &mut Growing<'_>,
     node: &Node,
+    head: &Head,
     site: Site,
     way: &[usize],
     form: &Expr,
 ) -> Result<bool, NoMemory>
     requires given { IsGiven system.now binding.now }
+    requires head { head.now ≡ head_of node.now }
     requires followed { IsFollowed system.now binding.now growing.old }
     requires item { Contains (items_of system.now binding.now)
         (computed node.now (site_of site) (record { way = way.now; form = form.now })) }
@@ -143,7 +156,7 @@ pub(crate) fn bring_computed(
     let Some(value) = evaluate(alloc, form, &values)? else {
         return Ok(false);
     };
-    let head = head_of(alloc, node)?;
+    let head = copy_head(alloc, head)?;
     let way = Way::from_vec(Vec::from_slice(alloc, way)?);
     growing.compute(alloc, head, site, way, value)
 }
@@ -154,10 +167,12 @@ pub(crate) fn bring(
     alloc: Global,
     system: &System,
     binding: &Binding,
+    headed: &[Headed<'_>],
     growing: &mut Growing<'_>,
     part: &Part<'_>,
 ) -> Result<bool, NoMemory>
     requires given { IsGiven system.now binding.now }
+    requires headed { headed.now ≡ binding.now.nodes }
     requires followed { IsFollowed system.now binding.now growing.old }
     requires item { Contains (items_of system.now binding.now) (item_of part.now) }
     ensures brings { IfOk result (λ yes. BringsItem system.now binding.now growing.old
@@ -165,15 +180,37 @@ pub(crate) fn bring(
     ensures followed { IfOk result (λ yes. IsFollowed system.now binding.now growing.new) }
 {
     match part {
-        Part::Entry(node) => bring_entry(alloc, system, binding, growing, node),
-        Part::Found(node, k, arc) => { bring_found(alloc, system, binding, growing, node, *k, arc) }
+        Part::Entry(node) => {
+            bring_entry(
+                alloc,
+                system,
+                binding,
+                headed,
+                growing,
+                node.node(),
+                node.head(),
+            )
+        }
+        Part::Found(node, k, arc) => {
+            bring_found(
+                alloc,
+                system,
+                binding,
+                growing,
+                node.node(),
+                node.head(),
+                *k,
+                arc,
+            )
+        }
         Part::Computed(node, site, way, form) => {
             bring_computed(
                 alloc,
                 system,
                 binding,
                 growing,
-                node,
+                node.node(),
+                node.head(),
                 *site,
                 way.as_slice(),
                 form,
@@ -187,14 +224,16 @@ pub(crate) fn enter_start(
     alloc: Global,
     system: &System,
     binding: &Binding,
+    headed: &[Headed<'_>],
     growing: &mut Growing<'_>,
 ) -> Result<(), NoMemory>
     requires given { IsGiven system.now binding.now }
+    requires headed { headed.now ≡ binding.now.nodes }
     requires empty { growing.old ≡ record { system = system.now; decisions = [] } }
     ensures { OnOk result (IsFollowed system.now binding.now growing.new) }
 {
-    if let Some(start) = node_on(binding, &[]) {
-        let head = head_of(alloc, start)?;
+    if let Some(start) = headed_on(binding, headed, &[]) {
+        let head = copy_head(alloc, start.head())?;
         let _entered = growing.enter(alloc, head, None)?;
     }
     Ok(())

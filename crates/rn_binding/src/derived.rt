@@ -6,6 +6,7 @@ ghost use Rattle.rn_binding.specs.Passing.{IsGiven, IsFollowed, IsPassed, Ends};
 
 use crate::bringing::{bring, enter_start};
 use crate::forcing::are_all_forced;
+use crate::headed::{Headed, headed_of};
 use crate::part::Part;
 use crate::parts::parts_of;
 use rn_growing::Growing;
@@ -18,11 +19,13 @@ fn pass(
     alloc: Global,
     system: &System,
     binding: &Binding,
+    headed: &[Headed<'_>],
     growing: &mut Growing<'_>,
     parts: &[Part<'_>],
     pending: &[usize],
 ) -> Result<Vec<usize>, NoMemory>
     requires given { IsGiven system.now binding.now }
+    requires headed { headed.now ≡ binding.now.nodes }
     requires followed { IsFollowed system.now binding.now growing.old }
     requires within { AllWithin parts.now pending.now }
     requires items { (item : Item) → Contains (picked parts.now pending.now) item
@@ -34,7 +37,7 @@ fn pass(
     let mut left = Vec::new(alloc);
     for k in 0..pending.len() {
         let i = pending[k];
-        if !bring(alloc, system, binding, growing, &parts[i])? {
+        if !bring(alloc, system, binding, headed, growing, &parts[i])? {
             left.push(i)?;
         }
     }
@@ -58,17 +61,27 @@ fn bring_all(
     alloc: Global,
     system: &System,
     binding: &Binding,
+    headed: &[Headed<'_>],
     growing: &mut Growing<'_>,
     parts: &[Part<'_>],
 ) -> Result<bool, NoMemory>
     requires given { IsGiven system.now binding.now }
+    requires headed { headed.now ≡ binding.now.nodes }
     requires followed { IsFollowed system.now binding.now growing.old }
     requires items { map item_of parts.now ≡ items_of system.now binding.now }
     ensures { IfOk result (λ all. Ends system.now binding.now growing.new all) }
 {
     let mut pending = all_of(alloc, parts)?;
     loop {
-        let left = pass(alloc, system, binding, growing, parts, pending.as_slice())?;
+        let left = pass(
+            alloc,
+            system,
+            binding,
+            headed,
+            growing,
+            parts,
+            pending.as_slice(),
+        )?;
         if left.len() == pending.len() {
             return Ok(left.is_empty());
         }
@@ -86,10 +99,19 @@ pub(crate) fn is_derived(
     requires given { IsGiven system.now binding.now }
     ensures { IfOk result (λ yes. IsTrue yes ↔ Derived system.now binding.now) }
 {
-    let parts = parts_of(alloc, system, binding)?;
+    let headed = headed_of(alloc, binding.nodes.as_slice())?;
+    let headed = headed.as_slice();
+    let parts = parts_of(alloc, system, headed)?;
     let mut growing = Growing::open(alloc, system);
-    enter_start(alloc, system, binding, &mut growing)?;
-    if !bring_all(alloc, system, binding, &mut growing, parts.as_slice())? {
+    enter_start(alloc, system, binding, headed, &mut growing)?;
+    if !bring_all(
+        alloc,
+        system,
+        binding,
+        headed,
+        &mut growing,
+        parts.as_slice(),
+    )? {
         return Ok(false);
     }
     are_all_forced(alloc, system, &growing, binding.nodes.as_slice())

@@ -7,6 +7,7 @@ mod candidate;
 mod certifying;
 mod derived;
 mod forcing;
+mod headed;
 mod part;
 mod parts;
 

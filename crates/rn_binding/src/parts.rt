@@ -2,14 +2,15 @@
 ghost use Rattle.std.specs.Prelude.{◌≡◌, ◌++◌, All, OnOk, IfOk, map, flat_map};
 ghost use Rattle.std.specs.List.{enumerate_from};
 ghost use Rattle.rn_model.specs.Bindings.{IsNodeOf};
-ghost use Rattle.rn_model.specs.Derivation.{computed_at, sites_of, node_items, items_of};
+ghost use Rattle.rn_model.specs.Derivation.{computed_at, sites_of, node_items};
 ghost use Rattle.rn_model.specs.Derivation.{finds_values};
 ghost use Rattle.rn_binding.specs.Parts.{item_of, found_at};
 
 use crate::applications::{Application, applications_of};
+use crate::headed::Headed;
 use crate::part::Part;
 use rn_agree::transition_of;
-use rn_model::{ArcKind, Binding, NetArc, Node, System, Transition};
+use rn_model::{ArcKind, NetArc, System, Transition};
 use rn_value::NoMemory;
 use std::alloc::Global;
 
@@ -24,7 +25,7 @@ fn finds_values(kind: ArcKind) -> bool
 
 // Puts what the arcs of a node find.
 fn put_found<'a>(
-    node: &'a Node,
+    node: &'a Headed<'a>,
     arcs: &'a [NetArc],
     parts: &mut Vec<Part<'a>>,
 ) -> Result<(), NoMemory>
@@ -42,7 +43,7 @@ fn put_found<'a>(
 // Puts the operator applications of a node.
 fn put_computed<'a>(
     alloc: Global,
-    node: &'a Node,
+    node: &'a Headed<'a>,
     transition: &'a Transition,
     parts: &mut Vec<Part<'a>>,
 ) -> Result<(), NoMemory>
@@ -61,14 +62,14 @@ fn put_computed<'a>(
 fn put_node<'a>(
     alloc: Global,
     system: &'a System,
-    node: &'a Node,
+    node: &'a Headed<'a>,
     parts: &mut Vec<Part<'a>>,
 ) -> Result<(), NoMemory>
     requires { IsNodeOf system.now node.now }
     ensures { OnOk result (map item_of parts.new.items ≡ map item_of parts.old.items
         ++ node_items system.now node.now) }
 {
-    let transition = transition_of(system, node);
+    let transition = transition_of(system, node.node());
     parts.push(Part::Entry(node))?;
     put_found(node, transition.arcs.as_slice(), parts)?;
     put_computed(alloc, node, transition, parts)
@@ -78,13 +79,13 @@ fn put_node<'a>(
 pub(crate) fn parts_of<'a>(
     alloc: Global,
     system: &'a System,
-    binding: &'a Binding,
+    nodes: &'a [Headed<'a>],
 ) -> Result<Vec<Part<'a>>, NoMemory>
-    requires { All (IsNodeOf system.now) binding.now.nodes }
-    ensures { IfOk result (λ parts. map item_of parts.items ≡ items_of system.now binding.now) }
+    requires { All (IsNodeOf system.now) nodes.now }
+    ensures { IfOk result
+        (λ parts. map item_of parts.items ≡ flat_map (node_items system.now) nodes.now) }
 {
-    let mut parts = Vec::new(alloc);
-    let nodes = binding.nodes.as_slice();
+    let mut parts = Vec::with_capacity(alloc, nodes.len())?;
     for i in 0..nodes.len() {
         put_node(alloc, system, &nodes[i], &mut parts)?;
     }

@@ -58,7 +58,7 @@ compute-requires-clause-may_come c =
     (computed_comes c.args.system.now c.args.binding.now c.requires.given c.args.growing.now
     c.requires.followed c.args.node.now c.args.site
     (record { way = c.args.way.now; form = c.args.form.now }) c.requires.item
-    c.in_ok-head.head c.from_vec-way.result c.in-Some.value c.in_ok-head.ensures way
+    c.in_ok-head.head c.from_vec-way.result c.in-Some.value (c.in_ok-head.ensures ∙ c.requires.head) way
     (ap (worth c.args.form.now) (sym c.new-values.ensures) ∙ sym c.in_ok-value.ensures.value
     ∙ c.in-Some.is)
     (tested (λ p. computes p c.args.site c.args.way.now) c.was_computed.result false
@@ -76,7 +76,7 @@ compute-requires-clause-fresh c =
     (computed_comes c.args.system.now c.args.binding.now c.requires.given c.args.growing.now
     c.requires.followed c.args.node.now c.args.site
     (record { way = c.args.way.now; form = c.args.form.now }) c.requires.item
-    c.in_ok-head.head c.from_vec-way.result c.in-Some.value c.in_ok-head.ensures way
+    c.in_ok-head.head c.from_vec-way.result c.in-Some.value (c.in_ok-head.ensures ∙ c.requires.head) way
     (ap (worth c.args.form.now) (sym c.new-values.ensures) ∙ sym c.in_ok-value.ensures.value
     ∙ c.in-Some.is)
     (tested (λ p. computes p c.args.site c.args.way.now) c.was_computed.result false
@@ -94,7 +94,7 @@ returns-clause-brings c =
     IfOk-weaker _ _ _ (λ yes tries. ((computed_comes c.args.system.now c.args.binding.now c.requires.given c.args.growing.now
     c.requires.followed c.args.node.now c.args.site
     (record { way = c.args.way.now; form = c.args.form.now }) c.requires.item
-    c.in_ok-head.head c.from_vec-way.result c.in-Some.value c.in_ok-head.ensures way
+    c.in_ok-head.head c.from_vec-way.result c.in-Some.value (c.in_ok-head.ensures ∙ c.requires.head) way
     (ap (worth c.args.form.now) (sym c.new-values.ensures) ∙ sym c.in_ok-value.ensures.value
     ∙ c.in-Some.is)
     (tested (λ p. computes p c.args.site c.args.way.now) c.was_computed.result false
@@ -112,7 +112,7 @@ returns-clause-followed c =
     IfOk-weaker _ _ _ (λ yes tries. ((computed_comes c.args.system.now c.args.binding.now c.requires.given c.args.growing.now
     c.requires.followed c.args.node.now c.args.site
     (record { way = c.args.way.now; form = c.args.form.now }) c.requires.item
-    c.in_ok-head.head c.from_vec-way.result c.in-Some.value c.in_ok-head.ensures way
+    c.in_ok-head.head c.from_vec-way.result c.in-Some.value (c.in_ok-head.ensures ∙ c.requires.head) way
     (ap (worth c.args.form.now) (sym c.new-values.ensures) ∙ sym c.in_ok-value.ensures.value
     ∙ c.in-Some.is)
     (tested (λ p. computes p c.args.site c.args.way.now) c.was_computed.result false

@@ -3,6 +3,7 @@ use Rattle.std.proofs.Common.{◌∙◌, ap, sym, refl, length, true, false}
 use Rattle.std.specs.Prelude.{slice_get}
 use Rattle.std.specs.Option.{option_copied}
 use Rattle.std.proofs.lemmas.Result.{IfOk-weaker}
+use Rattle.rn_model.specs.Systems.{transition_of}
 use Rattle.rn_growing.specs.Decided.{enters}
 use Rattle.rn_binding.proofs.ComingCalls.{start_out, orphan_out, early_out, no_downlink_out}
 use Rattle.rn_binding.proofs.ComingValues.{tested}
@@ -27,8 +28,8 @@ returns-in_default-clause-brings c =
     c.args.growing.now.decisions c.as_slice-path.result.now c.args.node.now.path
     c.was_entered.ensures c.as_slice-path.ensures c.if-was_entered.false) (ap length (sym c.as_slice-path.ensures) ∙ c.in_default.ensures.cases))
 
-pub returns-in_default-node_on-clause-brings : goal.returns-in_default-node_on-clause-brings
-returns-in_default-node_on-clause-brings c =
+pub returns-in_default-headed_on-clause-brings : goal.returns-in_default-headed_on-clause-brings
+returns-in_default-headed_on-clause-brings c =
     entry_out c.args.system.now c.args.binding.now c.requires.given c.args.growing.now
     c.requires.followed c.args.node.now c.requires.item
     (orphan_out c.args.system.now c.args.binding.now c.requires.given c.args.growing.now.decisions
@@ -37,7 +38,7 @@ returns-in_default-node_on-clause-brings c =
     c.args.growing.now.decisions c.as_slice-path.result.now c.args.node.now.path
     c.was_entered.ensures c.as_slice-path.ensures c.if-was_entered.false) c.in-Some.front.now c.in-Some.i.now
     (sym c.as_slice-path.ensures ∙ c.in-Some.ensures.cases.0)
-    (sym c.node_on.ensures.node ∙ ap option_copied c.in_default-node_on.is))
+    (sym c.headed_on.ensures.node ∙ ap option_copied c.in_default-headed_on.is))
 
 pub returns-then-not-was_entered-clause-brings : goal.returns-then-not-was_entered-clause-brings
 returns-then-not-was_entered-clause-brings c =
@@ -62,9 +63,9 @@ returns-in_default-get-clause-brings c =
     (tested enters c.was_entered.result false
     c.args.growing.now.decisions c.as_slice-path.result.now c.args.node.now.path
     c.was_entered.ensures c.as_slice-path.ensures c.if-was_entered.false) c.in-Some.front.now c.in-Some.i.now
-    (sym c.as_slice-path.ensures ∙ c.in-Some.ensures.cases.0) c.in-Some-node_on.caller.now
-    (sym c.node_on.ensures.node ∙ ap option_copied c.in-Some-node_on.is)
-    (ap (λ t. slice_get t.downlinks c.in-Some.i.now) (sym c.transition_of.ensures)
+    (sym c.as_slice-path.ensures ∙ c.in-Some.ensures.cases.0) c.in-Some-headed_on.caller.now
+    (sym c.headed_on.ensures.node ∙ ap option_copied c.in-Some-headed_on.is)
+    (ap (λ t. slice_get t.downlinks c.in-Some.i.now) (sym (c.transition_of.ensures ∙ ap (transition_of c.args.system.now) c.node.ensures))
     ∙ sym c.get.ensures.value ∙ ap option_copied c.in_default-get.is))
 
 pub returns-in_default-2-clause-brings : goal.returns-in_default-2-clause-brings
@@ -75,10 +76,10 @@ returns-in_default-2-clause-brings c =
     c.args.growing.now.decisions c.as_slice-path.result.now c.args.node.now.path
     c.was_entered.ensures c.as_slice-path.ensures c.if-was_entered.false)
     c.in-Some.front.now c.in-Some.i.now
-    (sym c.as_slice-path.ensures ∙ c.in-Some.ensures.cases.0) c.in-Some-node_on.caller.now
-    (sym c.node_on.ensures.node ∙ ap option_copied c.in-Some-node_on.is)
-    c.in_ok-from.from c.in_ok-from.ensures c.in-Some-get.downlink.now
-    (ap (λ t. slice_get t.downlinks c.in-Some.i.now) (sym c.transition_of.ensures)
+    (sym c.as_slice-path.ensures ∙ c.in-Some.ensures.cases.0) c.in-Some-headed_on.caller.now
+    (sym c.headed_on.ensures.node ∙ ap option_copied c.in-Some-headed_on.is)
+    c.in_ok-from.from (c.in_ok-from.ensures ∙ c.head.ensures) c.in-Some-get.downlink.now
+    (ap (λ t. slice_get t.downlinks c.in-Some.i.now) (sym (c.transition_of.ensures ∙ ap (transition_of c.args.system.now) c.node.ensures))
     ∙ sym c.get.ensures.value ∙ ap option_copied c.in-Some-get.is)
     (λ inst told. c.in_default-2.not-Some inst ((c.in_ok-_inst.ensures inst).1 told))
 
@@ -90,12 +91,12 @@ enter-requires-clause-may_come c =
     c.args.growing.now.decisions c.as_slice-path.result.now c.args.node.now.path
     c.was_entered.ensures c.as_slice-path.ensures c.if-was_entered.false)
     c.in-Some.front.now c.in-Some.i.now
-    (sym c.as_slice-path.ensures ∙ c.in-Some.ensures.cases.0) c.in-Some-node_on.caller.now
-    (sym c.node_on.ensures.node ∙ ap option_copied c.in-Some-node_on.is)
-    c.in_ok-from.from c.in_ok-from.ensures c.in-Some-get.downlink.now
-    (ap (λ t. slice_get t.downlinks c.in-Some.i.now) (sym c.transition_of.ensures)
+    (sym c.as_slice-path.ensures ∙ c.in-Some.ensures.cases.0) c.in-Some-headed_on.caller.now
+    (sym c.headed_on.ensures.node ∙ ap option_copied c.in-Some-headed_on.is)
+    c.in_ok-from.from (c.in_ok-from.ensures ∙ c.head.ensures) c.in-Some-get.downlink.now
+    (ap (λ t. slice_get t.downlinks c.in-Some.i.now) (sym (c.transition_of.ensures ∙ ap (transition_of c.args.system.now) c.node.ensures))
     ∙ sym c.get.ensures.value ∙ ap option_copied c.in-Some-get.is)
-    c.in_ok-head.head c.in-Some-2._inst c.in_ok-head.ensures c.in-Some-node_on.ensures.there
+    c.in_ok-head.head c.in-Some-2._inst (c.in_ok-head.ensures ∙ c.requires.head) c.in-Some-headed_on.ensures.there
     (tested enters c.was_entered-2.result true
     c.args.growing.now.decisions c.in-Some.front.now c.in-Some.front.now
     c.was_entered-2.ensures refl c.if-not-was_entered.false)
@@ -109,12 +110,12 @@ enter-requires-clause-fresh c =
     c.args.growing.now.decisions c.as_slice-path.result.now c.args.node.now.path
     c.was_entered.ensures c.as_slice-path.ensures c.if-was_entered.false)
     c.in-Some.front.now c.in-Some.i.now
-    (sym c.as_slice-path.ensures ∙ c.in-Some.ensures.cases.0) c.in-Some-node_on.caller.now
-    (sym c.node_on.ensures.node ∙ ap option_copied c.in-Some-node_on.is)
-    c.in_ok-from.from c.in_ok-from.ensures c.in-Some-get.downlink.now
-    (ap (λ t. slice_get t.downlinks c.in-Some.i.now) (sym c.transition_of.ensures)
+    (sym c.as_slice-path.ensures ∙ c.in-Some.ensures.cases.0) c.in-Some-headed_on.caller.now
+    (sym c.headed_on.ensures.node ∙ ap option_copied c.in-Some-headed_on.is)
+    c.in_ok-from.from (c.in_ok-from.ensures ∙ c.head.ensures) c.in-Some-get.downlink.now
+    (ap (λ t. slice_get t.downlinks c.in-Some.i.now) (sym (c.transition_of.ensures ∙ ap (transition_of c.args.system.now) c.node.ensures))
     ∙ sym c.get.ensures.value ∙ ap option_copied c.in-Some-get.is)
-    c.in_ok-head.head c.in-Some-2._inst c.in_ok-head.ensures c.in-Some-node_on.ensures.there
+    c.in_ok-head.head c.in-Some-2._inst (c.in_ok-head.ensures ∙ c.requires.head) c.in-Some-headed_on.ensures.there
     (tested enters c.was_entered-2.result true
     c.args.growing.now.decisions c.in-Some.front.now c.in-Some.front.now
     c.was_entered-2.ensures refl c.if-not-was_entered.false)
@@ -128,12 +129,12 @@ returns-clause-brings c =
     c.args.growing.now.decisions c.as_slice-path.result.now c.args.node.now.path
     c.was_entered.ensures c.as_slice-path.ensures c.if-was_entered.false)
     c.in-Some.front.now c.in-Some.i.now
-    (sym c.as_slice-path.ensures ∙ c.in-Some.ensures.cases.0) c.in-Some-node_on.caller.now
-    (sym c.node_on.ensures.node ∙ ap option_copied c.in-Some-node_on.is)
-    c.in_ok-from.from c.in_ok-from.ensures c.in-Some-get.downlink.now
-    (ap (λ t. slice_get t.downlinks c.in-Some.i.now) (sym c.transition_of.ensures)
+    (sym c.as_slice-path.ensures ∙ c.in-Some.ensures.cases.0) c.in-Some-headed_on.caller.now
+    (sym c.headed_on.ensures.node ∙ ap option_copied c.in-Some-headed_on.is)
+    c.in_ok-from.from (c.in_ok-from.ensures ∙ c.head.ensures) c.in-Some-get.downlink.now
+    (ap (λ t. slice_get t.downlinks c.in-Some.i.now) (sym (c.transition_of.ensures ∙ ap (transition_of c.args.system.now) c.node.ensures))
     ∙ sym c.get.ensures.value ∙ ap option_copied c.in-Some-get.is)
-    c.in_ok-head.head c.in-Some-2._inst c.in_ok-head.ensures c.in-Some-node_on.ensures.there
+    c.in_ok-head.head c.in-Some-2._inst (c.in_ok-head.ensures ∙ c.requires.head) c.in-Some-headed_on.ensures.there
     (tested enters c.was_entered-2.result true
     c.args.growing.now.decisions c.in-Some.front.now c.in-Some.front.now
     c.was_entered-2.ensures refl c.if-not-was_entered.false)
@@ -147,12 +148,12 @@ returns-clause-followed c =
     c.args.growing.now.decisions c.as_slice-path.result.now c.args.node.now.path
     c.was_entered.ensures c.as_slice-path.ensures c.if-was_entered.false)
     c.in-Some.front.now c.in-Some.i.now
-    (sym c.as_slice-path.ensures ∙ c.in-Some.ensures.cases.0) c.in-Some-node_on.caller.now
-    (sym c.node_on.ensures.node ∙ ap option_copied c.in-Some-node_on.is)
-    c.in_ok-from.from c.in_ok-from.ensures c.in-Some-get.downlink.now
-    (ap (λ t. slice_get t.downlinks c.in-Some.i.now) (sym c.transition_of.ensures)
+    (sym c.as_slice-path.ensures ∙ c.in-Some.ensures.cases.0) c.in-Some-headed_on.caller.now
+    (sym c.headed_on.ensures.node ∙ ap option_copied c.in-Some-headed_on.is)
+    c.in_ok-from.from (c.in_ok-from.ensures ∙ c.head.ensures) c.in-Some-get.downlink.now
+    (ap (λ t. slice_get t.downlinks c.in-Some.i.now) (sym (c.transition_of.ensures ∙ ap (transition_of c.args.system.now) c.node.ensures))
     ∙ sym c.get.ensures.value ∙ ap option_copied c.in-Some-get.is)
-    c.in_ok-head.head c.in-Some-2._inst c.in_ok-head.ensures c.in-Some-node_on.ensures.there
+    c.in_ok-head.head c.in-Some-2._inst (c.in_ok-head.ensures ∙ c.requires.head) c.in-Some-headed_on.ensures.there
     (tested enters c.was_entered-2.result true
     c.args.growing.now.decisions c.in-Some.front.now c.in-Some.front.now
     c.was_entered-2.ensures refl c.if-not-was_entered.false)

@@ -37,7 +37,7 @@ pub find-requires-clause-may_come : goal.find-requires-clause-may_come
 find-requires-clause-may_come c =
     (found_comes c.args.system.now c.args.binding.now c.requires.given c.args.growing.now
     c.requires.followed c.args.node.now c.args.k c.args.arc.now c.requires.item
-    c.in_ok-head.head c.in-Some.value c.in_ok-head.ensures
+    c.in_ok-head.head c.in-Some.value (c.in_ok-head.ensures ∙ c.requires.head)
     (ap (worth c.args.arc.now.inscription) (sym c.new-values.ensures) ∙ sym c.in_ok-value.ensures.value
     ∙ c.in-Some.is)
     (tested (λ p. finds p c.args.k) c.was_found.result false
@@ -51,7 +51,7 @@ pub find-requires-clause-fresh : goal.find-requires-clause-fresh
 find-requires-clause-fresh c =
     (found_comes c.args.system.now c.args.binding.now c.requires.given c.args.growing.now
     c.requires.followed c.args.node.now c.args.k c.args.arc.now c.requires.item
-    c.in_ok-head.head c.in-Some.value c.in_ok-head.ensures
+    c.in_ok-head.head c.in-Some.value (c.in_ok-head.ensures ∙ c.requires.head)
     (ap (worth c.args.arc.now.inscription) (sym c.new-values.ensures) ∙ sym c.in_ok-value.ensures.value
     ∙ c.in-Some.is)
     (tested (λ p. finds p c.args.k) c.was_found.result false
@@ -65,7 +65,7 @@ pub returns-clause-brings : goal.returns-clause-brings
 returns-clause-brings c =
     IfOk-weaker _ _ _ (λ yes tries. ((found_comes c.args.system.now c.args.binding.now c.requires.given c.args.growing.now
     c.requires.followed c.args.node.now c.args.k c.args.arc.now c.requires.item
-    c.in_ok-head.head c.in-Some.value c.in_ok-head.ensures
+    c.in_ok-head.head c.in-Some.value (c.in_ok-head.ensures ∙ c.requires.head)
     (ap (worth c.args.arc.now.inscription) (sym c.new-values.ensures) ∙ sym c.in_ok-value.ensures.value
     ∙ c.in-Some.is)
     (tested (λ p. finds p c.args.k) c.was_found.result false
@@ -79,7 +79,7 @@ pub returns-clause-followed : goal.returns-clause-followed
 returns-clause-followed c =
     IfOk-weaker _ _ _ (λ yes tries. ((found_comes c.args.system.now c.args.binding.now c.requires.given c.args.growing.now
     c.requires.followed c.args.node.now c.args.k c.args.arc.now c.requires.item
-    c.in_ok-head.head c.in-Some.value c.in_ok-head.ensures
+    c.in_ok-head.head c.in-Some.value (c.in_ok-head.ensures ∙ c.requires.head)
     (ap (worth c.args.arc.now.inscription) (sym c.new-values.ensures) ∙ sym c.in_ok-value.ensures.value
     ∙ c.in-Some.is)
     (tested (λ p. finds p c.args.k) c.was_found.result false

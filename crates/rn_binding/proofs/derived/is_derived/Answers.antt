@@ -28,4 +28,4 @@ returns c =
     c.in_ok-bring_all.field-0 c.in_ok-bring_all.ensures c.if-not-branch.false) decides)
     (subst (λ ns. IfOk c.are_all_forced.result
     (λ yes. IsTrue yes ↔ All (AreVarsForced c.args.system.now c.bring_all.new.growing) ns))
-    c.as_slice-2.ensures c.are_all_forced.ensures)
+    c.as_slice-3.ensures c.are_all_forced.ensures)

@@ -3,6 +3,7 @@ use Rattle.std.proofs.Common.{◌≡◌, ◌++◌, ◌∷◌, [], map, ap, ◌�
 use Rattle.std.proofs.lemmas.List.{map-append}
 use Rattle.std.specs.Prelude.{OnOk}
 use Rattle.rn_model.specs.Derivation.{entry}
+use Rattle.rn_model.specs.Systems.{transition_of}
 use Rattle.rn_binding.specs.Parts.{item_of}
 use Rattle.rn_binding.proofs.PuttingParts.{node_put}
 use Rattle.rn_binding.proofs.parts.put_node.Goals as goal
@@ -15,5 +16,6 @@ returns c =
     subst (λ xs. OnOk c.put_computed.result (map item_of c.put_computed.new.parts.items ≡ xs))
     (node_put c.args.system.now c.args.node.now c.transition_of-transition.result.now
     c.as_slice.result.now (map item_of c.args.parts.now.items) (map item_of c.push.new.self.items)
-    (map item_of c.put_found.new.parts.items) c.transition_of-transition.ensures
+    (map item_of c.put_found.new.parts.items) (c.transition_of-transition.ensures
+    ∙ ap (transition_of c.args.system.now) c.node.ensures)
     c.as_slice.ensures first c.in_ok-put_found.ensures) c.put_computed.ensures
