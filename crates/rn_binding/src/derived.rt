@@ -9,7 +9,7 @@ use crate::forcing::are_all_forced;
 use crate::headed::{Headed, headed_of};
 use crate::part::Part;
 use crate::parts::parts_of;
-use rn_growing::Growing;
+use rn_growing::{Growing, Room};
 use rn_model::{Binding, System};
 use rn_value::NoMemory;
 use std::alloc::Global;
@@ -49,7 +49,7 @@ fn all_of(alloc: Global, parts: &[Part<'_>]) -> Result<Vec<usize>, NoMemory>
     ensures picks { IfOk result (λ all. picked parts.now all.items ≡ map item_of parts.now) }
     ensures within { IfOk result (λ all. AllWithin parts.now all.items) }
 {
-    let mut all = Vec::new(alloc);
+    let mut all = Vec::with_capacity(alloc, parts.len())?;
     for i in 0..parts.len() {
         all.push(i)?;
     }
@@ -102,7 +102,8 @@ pub(crate) fn is_derived(
     let headed = headed_of(alloc, binding.nodes.as_slice())?;
     let headed = headed.as_slice();
     let parts = parts_of(alloc, system, headed)?;
-    let mut growing = Growing::open(alloc, system);
+    let room = Room::with_room(alloc, parts.len())?;
+    let mut growing = Growing::open_in(room, system);
     enter_start(alloc, system, binding, headed, &mut growing)?;
     if !bring_all(
         alloc,

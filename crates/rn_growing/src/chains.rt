@@ -81,7 +81,7 @@ fn spread(alloc: Global, keys: &[usize], wide: usize) -> Result<Links, NoMemory>
     ensures wide { IfOk result (λ links. length links.buckets.items ≡ wide) }
 {
     let mut links = Links {
-        befores: Vec::new(alloc),
+        befores: Vec::with_capacity(alloc, wide)?,
         buckets: vec![in alloc; 0; wide]?,
     };
     for i in 0..keys.len() {
@@ -114,6 +114,16 @@ impl Chains {
                 buckets: Vec::new(alloc),
             },
         }
+    }
+
+    /// No keys, with room for so many.
+    pub(crate) fn with_room(alloc: Global, keys: usize) -> Result<Chains, NoMemory>
+        ensures { IfOk result (λ chains. chains ≡ []) }
+    {
+        Ok(Chains {
+            keys: Vec::with_capacity(alloc, keys)?,
+            links: spread(alloc, &[], keys)?,
+        })
     }
 
     pub(crate) fn len(&self) -> usize

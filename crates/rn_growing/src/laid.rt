@@ -50,6 +50,18 @@ impl Laid {
         }
     }
 
+    /// The same, with room for so many slots.
+    pub(crate) fn with_room(alloc: Global, slots: usize) -> Result<Laid, NoMemory>
+        ensures { IfOk result
+            (λ laid. laid ≡ record { store = record { terms = []; notes = [] }; slots = [] }) }
+    {
+        let slots = Slots::with_room(alloc, slots)?;
+        Ok(Laid {
+            store: Store::new(alloc),
+            slots,
+        })
+    }
+
     /// The sizes as they are.
     pub(crate) fn frame(&self) -> Frame
         ensures now { laid_at self.now result ≡ self.now }

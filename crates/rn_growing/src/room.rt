@@ -3,6 +3,7 @@ use crate::chains::Chains;
 use crate::decision::Decision;
 use crate::laid::Laid;
 use crate::slot::Frame;
+use rn_value::NoMemory;
 use std::alloc::Global;
 use std::marker::Model;
 
@@ -35,5 +36,18 @@ impl Room {
             frames: Vec::new(alloc),
             keys: Chains::new(alloc),
         }
+    }
+
+    /// It has room for so many decisions from the start.
+    pub fn with_room(alloc: Global, decisions: usize) -> Result<Room, NoMemory> {
+        let frames = Vec::with_capacity(alloc, decisions)?;
+        let keys = Chains::with_room(alloc, decisions)?;
+        let laid = Laid::with_room(alloc, decisions)?;
+        Ok(Room {
+            laid,
+            decisions: Vec::with_capacity(alloc, decisions)?,
+            frames,
+            keys,
+        })
     }
 }

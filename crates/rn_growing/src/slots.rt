@@ -1,5 +1,5 @@
 //! The slots of unknowns, each found by its key.
-ghost use Rattle.std.specs.Prelude.{◌≡◌, ◌++◌, ◌∷◌, [], None, OnErr, OnOk, length, take};
+ghost use Rattle.std.specs.Prelude.{◌≡◌, ◌++◌, ◌∷◌, [], IfOk, None, OnErr, OnOk, length, take};
 ghost use Rattle.rn_growing.specs.Indexed.{is_slot};
 ghost use Rattle.rn_growing.specs.Keys.{unknown_key};
 ghost use Rattle.rn_growing.specs.Layouts.{id_of};
@@ -55,6 +55,16 @@ impl Slots {
             slots: Vec::new(alloc),
             keys: Chains::new(alloc),
         }
+    }
+
+    /// No slots, with room for so many.
+    pub(crate) fn with_room(alloc: Global, slots: usize) -> Result<Slots, NoMemory>
+        ensures { IfOk result (λ made. made ≡ []) }
+    {
+        Ok(Slots {
+            slots: Vec::with_capacity(alloc, slots)?,
+            keys: Chains::with_room(alloc, slots)?,
+        })
     }
 
     pub(crate) fn len(&self) -> usize
