@@ -9,11 +9,11 @@ ghost use Rattle.rn_binding.specs.Parts.{item_of};
 ghost use Rattle.rn_binding.specs.Passing.{IsGiven, IsFollowed, BringsItem};
 
 use crate::forcing::is_expr_forced;
-use crate::headed::{Headed, copy_head};
+use crate::headed::Headed;
 use crate::part::Part;
 use rn_agree::{node_index, transition_of};
 use rn_calc::{NodeValues, evaluate};
-use rn_growing::{Caller, Growing, Head, Site, Way};
+use rn_growing::{Caller, Growing, Head, Site, Way, copy_head};
 use rn_model::{Binding, Expr, NetArc, Node, System};
 use rn_value::NoMemory;
 use std::alloc::Global;

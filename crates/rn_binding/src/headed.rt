@@ -70,20 +70,6 @@ fn head_of(alloc: Global, node: &Node) -> Result<Head, NoMemory>
     })
 }
 
-/// The same node. Both share the path.
-pub(crate) fn copy_head(alloc: Global, head: &Head) -> Result<Head, NoMemory>
-    ensures { IfOk result (λ h. h ≡ head.now) }
-{
-    let path = head.path.share()?;
-    let inst = copy_inst(alloc, &head.inst)?;
-    Ok(Head {
-        path,
-        inst,
-        net: head.net,
-        transition: head.transition,
-    })
-}
-
 /// Nodes beside their heads.
 pub(crate) fn headed_of<'a>(alloc: Global, nodes: &'a [Node]) -> Result<Vec<Headed<'a>>, NoMemory>
     ensures { IfOk result (λ headed. headed.items ≡ nodes.now) }

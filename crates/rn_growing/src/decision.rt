@@ -1,7 +1,10 @@
 //! What is decided of a binding.
+ghost use Rattle.std.specs.Prelude.{◌≡◌, IfOk};
+
 use rn_items::Items;
 use rn_shared::Shared;
-use rn_value::{InstRef, Path, Value};
+use rn_value::{InstRef, NoMemory, Path, Value, copy_inst};
+use std::alloc::Global;
 
 /// Where an expression stands in its transition. Each number is an index in the order of the text,
 /// from 0.
@@ -25,6 +28,20 @@ pub struct Head {
     pub inst: InstRef,
     pub net: u32,
     pub transition: u32,
+}
+
+/// The same node. Both share the path.
+pub fn copy_head(alloc: Global, head: &Head) -> Result<Head, NoMemory>
+    ensures { IfOk result (λ h. h ≡ head.now) }
+{
+    let path = head.path.share()?;
+    let inst = copy_inst(alloc, &head.inst)?;
+    Ok(Head {
+        path,
+        inst,
+        net: head.net,
+        transition: head.transition,
+    })
 }
 
 /// A node that calls, and the index of its downlink.

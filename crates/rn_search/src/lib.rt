@@ -15,4 +15,4 @@ pub use laws::{
 };
 pub use point::{Called, Point};
 pub use problem::Problem;
-pub use system_parts::{copy_head, transition_in};
+pub use system_parts::transition_in;

@@ -14,10 +14,10 @@ ghost use Rattle.rn_search.specs.declared.point.Point.TheVariants as P;
 
 use crate::point::{Called, Point};
 use crate::problem::Problem;
-use crate::system_parts::{copy_head, node_on, transition_in};
+use crate::system_parts::{node_on, transition_in};
 use crate::tokens::{first_token_after, index_of};
 use rn_bag::Bag;
-use rn_growing::{Caller, Decision, Head};
+use rn_growing::{Caller, Decision, Head, copy_head};
 use rn_items::Items;
 use rn_model::Downlink;
 use rn_shared::Shared;
