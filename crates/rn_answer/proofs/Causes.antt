@@ -7,14 +7,14 @@ use Rattle.rn_net.specs.declared.refusal.Refusal.TheVariants.{P1, P2, P3, P4, P5
 use Rattle.rn_net.specs.declared.refusal.Refusal.TheVariants as R
 use Rattle.rn_net.specs.Refusals.{IsReason}
 use Rattle.rn_net.specs.Texts.{Spells}
-use Rattle.rn_check.specs.declared.fault.Rule.{Rule}
-use Rattle.rn_check.specs.declared.fault.Rule.TheVariants as Rule
-use Rattle.rn_check.specs.declared.fault.CheckFault.{CheckFault}
-use Rattle.rn_check.specs.declared.fault.CheckFault.TheVariants.{C1, C2, C3, C4, C5, C6}
-use Rattle.rn_check.specs.declared.fault.CheckFault.TheVariants.{C7, C8, C9, C10, C11}
-use Rattle.rn_check.specs.declared.fault.CheckFault.TheVariants as C
-use Rattle.rn_check.specs.Faults.{report_of}
-use Rattle.rn_check.specs.Checked.{BreaksFirst}
+use Rattle.rn_declared.specs.declared.fault.Rule.{Rule}
+use Rattle.rn_declared.specs.declared.fault.Rule.TheVariants as Rule
+use Rattle.rn_declared.specs.declared.fault.CheckFault.{CheckFault}
+use Rattle.rn_declared.specs.declared.fault.CheckFault.TheVariants.{C1, C2, C3, C4, C5, C6}
+use Rattle.rn_declared.specs.declared.fault.CheckFault.TheVariants.{C7, C8, C9, C10, C11}
+use Rattle.rn_declared.specs.declared.fault.CheckFault.TheVariants as C
+use Rattle.rn_declared.specs.Faults.{report_of}
+use Rattle.rn_rules.specs.Broken.{BreaksFirst}
 use Rattle.rn_answer.specs.declared.answer.Answer.{Answer}
 use Rattle.rn_answer.specs.declared.stopped.Stopped.{Stopped}
 use Rattle.rn_answer.specs.declared.stopped.Stopped.TheVariants.{Refused, ReadFault, NoMemory}

@@ -6,10 +6,11 @@ use Rattle.rn_model.proofs.EnablingLemmas.{not_in_nil}
 use Rattle.rn_notation.specs.declared.token.Spot.{Spot}
 use Rattle.rn_net.specs.declared.plain.Plain.{Plain}
 use Rattle.rn_net.specs.Laws.{OneSpelled, SpelledIsNotRefused}
-use Rattle.rn_check.specs.declared.fault.Rule.{Rule}
-use Rattle.rn_check.specs.Checked.{Checked, BreaksFirst}
-use Rattle.rn_check.specs.Faults.{broken}
-use Rattle.rn_check.specs.SpelledForms.{CheckedTextsAreGood}
+use Rattle.rn_declared.specs.declared.fault.Rule.{Rule}
+use Rattle.rn_check.specs.Checked.{Checked}
+use Rattle.rn_rules.specs.Broken.{BreaksFirst}
+use Rattle.rn_declared.specs.Faults.{broken}
+use Rattle.rn_check.specs.Laws.{CheckedTextsAreGood}
 use Rattle.rn_told.specs.Laws.{TextsTell}
 use Rattle.rn_told.specs.Runs.{Verdict, TellsRecord}
 use Rattle.rn_written.specs.Laws.{LogsHaveText}

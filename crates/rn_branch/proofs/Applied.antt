@@ -15,10 +15,13 @@ use Rattle.rn_search.specs.Points.{holes_of, node_of, node_on}
 use Rattle.rn_search.specs.Sought.{Sought}
 use Rattle.rn_binding.specs.declared.applications.Application.{Application}
 use Rattle.rn_binding.specs.Applications.{application_of}
-use Rattle.rn_branch.specs.Applying.{AreApplied, AreAppliedIn, IsEntryAt, KeepsApplied}
-use Rattle.rn_branch.specs.Branches.{IsBranchOf}
-use Rattle.rn_branch.specs.Settling.{KeepsSettled}
-use Rattle.rn_branch.proofs.ListsBeside.{zip_at, zip_last, zip_lengths, zip_take}
+use Rattle.rn_looking.specs.Applying.{AreApplied, AreAppliedIn}
+use Rattle.rn_branch.specs.GoingOn.{IsEntryAt}
+use Rattle.rn_branch.specs.Keeping.{KeepsApplied}
+use Rattle.rn_looking.specs.Branches.{IsBranchOf}
+use Rattle.rn_branch.specs.Keeping.{KeepsSettled}
+use Rattle.rn_looking.proofs.AppliedAt.{applied_at}
+use Rattle.rn_looking.proofs.ListsBeside.{zip_last, zip_take}
 
 pub applied_more : (system : System) (g : Grown) (d : Decision)
     (applications : List (List Application)) (found : List Application) →
@@ -37,21 +40,6 @@ applied_fewer system g count applications keeps = record {
   same = keeps.same;
   applied = zip_take (AreApplied g.system) count g.decisions applications keeps.applied;
 }
-
--- those of the node that a decision at an index enters
-module _ (system : System) (ds : List Decision) (applications : List (List Application)) (k : ℕ)
-    (head : Head) (caller : Option Caller) (applied : AreAppliedIn system ds applications)
-    (at : slice_get ds k ≡ Some (Entered head caller)) where
-  pub applied_within : k < length applications
-  applied_within =
-      let low = slice_get_within ds k (Entered head caller) at in
-      omega (arith, low, zip_lengths (AreApplied system) ds applications applied)
-
-  pub applied_at : (found : List Application) → found ≡ get_or applications k found →
-      map application_of found ≡ holes_of (transition_in system head)
-  applied_at found is =
-      zip_at (AreApplied system) ds applications k (Entered head caller) found applied at
-      (stands_at applications k found applied_within is)
 
 -- those of the node of such a decision
 pub applied_on : (sought : Sought) (ds : List Decision) (applications : List (List Application))

@@ -22,11 +22,12 @@ use Rattle.rn_search.specs.Room.{room}
 use Rattle.rn_search.specs.Solving.{Passes}
 use Rattle.rn_search.specs.Standing.{MayBeMade}
 use Rattle.rn_search.proofs.Solved.{whole_is_only}
-use Rattle.rn_branch.specs.Branches.{IsBranchOf, IsAtEnd, AreHeadsIn}
-use Rattle.rn_branch.specs.Looks.{Looked}
-use Rattle.rn_branch.specs.Things.{IsOfEntries}
-use Rattle.rn_branch.specs.declared.look.Look.{Look}
-use Rattle.rn_branch.specs.declared.look.Look.TheVariants as L
+use Rattle.rn_looking.specs.Branches.{IsBranchOf}
+use Rattle.rn_branch.specs.GoingOn.{IsAtEnd, AreHeadsIn}
+use Rattle.rn_looking.specs.Looks.{Looked}
+use Rattle.rn_looking.specs.Things.{IsOfEntries}
+use Rattle.rn_looking.specs.declared.look.Look.{Look}
+use Rattle.rn_looking.specs.declared.look.Look.TheVariants as L
 use Rattle.rn_branch.proofs.GoingOn.{all_are_done, begins, goes_on, waits_in_vain}
 use Rattle.rn_branch.proofs.Pushing.{heads_in, none_offered, stands_after, pushed_after}
 use Rattle.rn_branch.proofs.Pushing.{room_after, kept_after, none_after, stands_before}

@@ -20,8 +20,8 @@ use Rattle.rn_search.specs.Ending.{IsAsked, AreDone}
 use Rattle.rn_search.proofs.Allowed.{start_is_allowed}
 use Rattle.rn_search.proofs.Ends.{stuck_leads_nowhere}
 use Rattle.rn_search.proofs.Offered.{start_is_offered}
-use Rattle.rn_branch.specs.Looks.{AreAllDecided, AreAllClosed, IsOneLeft, GoesOn}
-use Rattle.rn_branch.specs.Things.{IsOfNode, IsOfEntries}
+use Rattle.rn_looking.specs.Looks.{AreAllDecided, AreAllClosed, IsOneLeft, GoesOn}
+use Rattle.rn_looking.specs.Things.{IsOfNode, IsOfEntries}
 
 of_entries : (ds : List Decision) (head : Head) (d : Decision) → IsEntered ds head →
     IsOfNode head d → IsOfEntries ds (length ds) d

@@ -35,9 +35,9 @@ use Rattle.rn_growing.specs.Turns.{IsEntered, SameThing}
 use Rattle.rn_growing.proofs.Growth.{only_one}
 use Rattle.rn_search.specs.Ending.{IsMadeOf}
 use Rattle.rn_search.specs.Standing.{AreSound, IsHead}
-use Rattle.rn_branch.specs.Forced.{IsVarForcedTo}
+use Rattle.rn_looking.specs.Forced.{IsVarForcedTo}
 use Rattle.rn_branch.specs.Making.{AreMadeNodes, IsMadeNode, entered_by}
-use Rattle.rn_branch.proofs.ListsBeside.{zip_beside, zip_left, zip_lengths, zip_right}
+use Rattle.rn_looking.proofs.ListsBeside.{zip_beside, zip_left, zip_lengths, zip_right}
 
 -- The nodes that are entered are just those that decisions enter, in order.
 in_heads : (ds : List Decision) (head : Head) → IsEntered ds head →

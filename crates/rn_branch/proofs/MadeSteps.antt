@@ -21,11 +21,11 @@ use Rattle.rn_growing.specs.Grown.{Grown}
 use Rattle.rn_search.specs.Sought.{Sought}
 use Rattle.rn_search.specs.Ending.{IsMadeOf}
 use Rattle.rn_search.specs.Standing.{AreSound, IsHead}
-use Rattle.rn_branch.specs.Branches.{IsBranchOf}
-use Rattle.rn_branch.specs.Forced.{IsVarForcedTo, IsVarForcedIn}
+use Rattle.rn_looking.specs.Branches.{IsBranchOf}
+use Rattle.rn_looking.specs.Forced.{IsVarForcedTo, IsVarForcedIn}
 use Rattle.rn_branch.specs.Making.{AreAllForced, AreMadeNodes, AreValues, IsForcedAt, IsMadeNode}
 use Rattle.rn_branch.specs.Making.{entered_by}
-use Rattle.rn_branch.proofs.ListsBeside.{zip_more, zip_last}
+use Rattle.rn_looking.proofs.ListsBeside.{zip_more, zip_last}
 use Rattle.rn_branch.proofs.MadeNodes.{made_of_them}
 
 -- what is told of a variable

@@ -35,7 +35,8 @@ use Rattle.rn_search.proofs.Falling.{room_falls}
 use Rattle.rn_search.proofs.Offered.{leading_is_solvable}
 use Rattle.rn_search.proofs.Sound.{sound_by_one, sound_by_fewer}
 use Rattle.rn_channel.specs.Answering.{answering}
-use Rattle.rn_branch.specs.Branches.{IsBranchOf, AreHeadsIn}
+use Rattle.rn_looking.specs.Branches.{IsBranchOf}
+use Rattle.rn_branch.specs.GoingOn.{AreHeadsIn}
 
 -- each decision, and the start, is on a node of the system
 pub heads_in : (sought : Sought) (ds : List Decision) →

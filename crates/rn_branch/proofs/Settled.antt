@@ -14,12 +14,9 @@ use Rattle.rn_growing.specs.Turns.{IsEntered}
 use Rattle.rn_growing.specs.Grown.{Grown, first_decisions, with_decision}
 use Rattle.rn_growing.proofs.Growth.{at_in, either_at, front_at}
 use Rattle.rn_search.specs.Ending.{IsAsked}
-use Rattle.rn_search.specs.Sought.{Sought}
-use Rattle.rn_branch.specs.Looks.{Looked}
-use Rattle.rn_branch.specs.Settling.{AreSettled, KeepsSettled}
-use Rattle.rn_branch.specs.Things.{IsOfEntries, IsOfNode}
-use Rattle.rn_branch.specs.declared.look.Look.{Look}
-use Rattle.rn_branch.specs.declared.look.Look.TheVariants.{Done}
+use Rattle.rn_looking.specs.Settling.{AreSettled}
+use Rattle.rn_branch.specs.Keeping.{KeepsSettled}
+use Rattle.rn_looking.specs.Things.{IsOfEntries, IsOfNode}
 
 in_front : {A : Type 0} (xs ys : List A) (k : ℕ) (x : A) → k < length xs →
     slice_get (xs ++ ys) k ≡ Some x → slice_get xs k ≡ Some x
@@ -53,15 +50,6 @@ module _ (system : System) (ds more : List Decision) where
         (asked_before head (of.2.1.0, at_in ds k entry there) d of.2.1.2 asked) in
         (before.0, Contains-append_left ds more before.0 before.1, before.2);
   }
-
--- decisions are settled of which a look says that all is decided
-pub settled_by_look : (sought : Sought) (ds : List Decision) (n : ℕ) (look : Look) →
-    n ≤ length ds → look ≡ Done → Looked sought ds (IsOfEntries ds n) look →
-    AreSettled sought.system ds n
-settled_by_look sought ds n look within is looked = record {
-  within = within;
-  decided = subst (Looked sought ds (IsOfEntries ds n)) is looked;
-}
 
 -- What is kept where one more decision is made,
 pub keeps_more : (g : Grown) (d : Decision) (settled : ℕ) (before : List ℕ) →

@@ -39,13 +39,13 @@ use Rattle.rn_search.proofs.Offered.{leading_is_solvable}
 use Rattle.rn_search.proofs.Sound.{sound_by_one}
 use Rattle.rn_search.proofs.Takes.{taken_are_there}
 use Rattle.rn_branch.specs.declared.offer.Offer.{Offer}
-use Rattle.rn_branch.specs.Branches.{IsBranchOf, IsLookedAt}
-use Rattle.rn_branch.specs.Forced.{IsVarForcedTo}
-use Rattle.rn_branch.specs.Guards.{KnowsGuard}
+use Rattle.rn_looking.specs.Branches.{IsBranchOf, IsLookedAt}
+use Rattle.rn_looking.specs.Forced.{IsVarForcedTo}
+use Rattle.rn_looking.specs.Guards.{KnowsGuard}
 use Rattle.rn_branch.specs.Offers.{IsOffer, IsTakenUp, NoneLeadBy}
 use Rattle.rn_branch.specs.Testing.{FailsGuard}
-use Rattle.rn_branch.proofs.GuardLooks.{among_vars, untrue_is_stuck}
-use Rattle.rn_branch.proofs.KnownValues.{has_its_value}
+use Rattle.rn_looking.proofs.GuardLooks.{among_vars, untrue_is_stuck}
+use Rattle.rn_looking.proofs.KnownValues.{has_its_value}
 use Rattle.rn_branch.proofs.Pushing.{none_offered, stands_after}
 use Rattle.rn_branch.proofs.TakenTokens.{its_taking}
 

@@ -23,7 +23,8 @@ use Rattle.rn_search.specs.Points.{node_on}
 use Rattle.rn_search.specs.Ending.{IsMadeOf}
 use Rattle.rn_search.specs.Solving.{IsWhole}
 use Rattle.rn_search.proofs.Ends.{leading_forces}
-use Rattle.rn_branch.specs.Branches.{IsBranchOf, IsAtEnd}
+use Rattle.rn_looking.specs.Branches.{IsBranchOf}
+use Rattle.rn_branch.specs.GoingOn.{IsAtEnd}
 use Rattle.rn_branch.specs.Making.{AreAllForced}
 use Rattle.rn_branch.proofs.Pushing.{first_enters}
 

@@ -1,14 +1,5 @@
-pub mod Applying
-pub mod Branches
-pub mod Calling
-pub mod Equating
-pub mod Forced
-pub mod Guards
-pub mod Knowing
-pub mod Looks
+pub mod GoingOn
+pub mod Keeping
 pub mod Making
 pub mod Offers
-pub mod Settling
 pub mod Testing
-pub mod Things
-pub mod UntrueParts

@@ -9,7 +9,7 @@ use Rattle.rn_growing.specs.declared.decision.Decision.TheVariants.{Entered}
 use Rattle.rn_growing.specs.Decisions.{head_of, transition_in}
 use Rattle.rn_growing.specs.Turns.{IsEntered}
 use Rattle.rn_growing.specs.Grown.{Grown}
-use Rattle.rn_branch.specs.Forced.{IsVarForcedTo, IsVarForcedIn}
+use Rattle.rn_looking.specs.Forced.{IsVarForcedTo, IsVarForcedIn}
 
 -- the values to which variables are forced, each at its variable's index
 abbrev pub AreValues : Grown → List ℕ → List ℕ → List Value → Type 0

@@ -1,6 +1,6 @@
 -- Guards that are known but for one variable, which an arc's token would be.
-use Rattle.std.specs.Prelude.{ℕ, ◌≡◌, ◌≤◌, ◌⊎◌, List, ◌∷◌, Option, Some, None, slice_get, take}
-use Rattle.std.specs.Prelude.{length, map, Contains, All}
+use Rattle.std.specs.Prelude.{ℕ, ◌≡◌, ◌≤◌, List, ◌∷◌, Option, Some, None, slice_get, take}
+use Rattle.std.specs.Prelude.{length, Contains, All}
 use Rattle.rn_value.specs.declared.value.Value.{Value}
 use Rattle.rn_model.specs.declared.expr.Cond.{Cond}
 use Rattle.rn_model.specs.Evaluation.{Env, IsTrueUnder}
@@ -13,14 +13,8 @@ use Rattle.rn_branch.specs.declared.offer.Offer.{Offer}
 use Rattle.rn_branch.specs.declared.testing.Test.{Test}
 use Rattle.rn_branch.specs.declared.testing.Tests.{Tests}
 use Rattle.rn_branch.specs.declared.trial.Trial.{Trial}
-use Rattle.rn_branch.specs.Forced.{IsVarForcedTo}
-use Rattle.rn_branch.specs.Guards.{vars_of_guard}
-
--- These are the variables but one, each beside the value to which it is forced.
-pub record AreOthersOf (g : Grown) (path : List ℕ) (x : ℕ) (vars : List ℕ)
-    (others : List (ℕ × Value)) : Type 0 where
-  pub forced : All (λ p. IsVarForcedTo g path p.0 p.1) others
-  pub each : (y : ℕ) → Contains vars y → (x ≡ y) ⊎ Contains (map (λ p. p.0) others) y
+use Rattle.rn_looking.specs.Guards.{vars_of_guard}
+use Rattle.rn_looking.specs.Knowing.{AreOthersOf}
 
 -- a test is of a guard of a node, which is known but for a variable
 abbrev pub IsTest : Grown → Head → ℕ → Test → Type 0

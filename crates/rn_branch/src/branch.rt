@@ -8,13 +8,12 @@ ghost use Rattle.rn_search.specs.Allowing.{Allows};
 ghost use Rattle.rn_search.specs.Points.{holes_of, node_of, offered};
 ghost use Rattle.rn_search.specs.Solving.{Passes};
 ghost use Rattle.rn_search.specs.declared.point.Point.TheVariants as P;
-ghost use Rattle.rn_branch.specs.Applying.{AreAppliedIn, IsEntryAt};
-ghost use Rattle.rn_branch.specs.Branches.{AreHeadsIn, IsHeadIn};
-ghost use Rattle.rn_branch.specs.Settling.{IsNextOf};
+ghost use Rattle.rn_looking.specs.Applying.{AreAppliedIn};
+ghost use Rattle.rn_branch.specs.GoingOn.{IsEntryAt};
+ghost use Rattle.rn_branch.specs.GoingOn.{AreHeadsIn, IsHeadIn};
+ghost use Rattle.rn_branch.specs.GoingOn.{IsNextOf};
 
-use crate::look::Look;
 use crate::made::binding_of;
-use crate::parts::transition_in;
 use crate::room::Room;
 use crate::settling::Settling;
 use crate::testing::{Tests, forget_beyond};
@@ -25,6 +24,7 @@ use rn_binding::{Application, Candidate, applications_of};
 use rn_choices::{Grows, Next};
 use rn_growing::{Decision, Way, copy_head};
 use rn_items::Items;
+use rn_looking::{Look, transition_in};
 use rn_model::{Binding, System};
 use rn_search::{Point, Problem};
 use rn_value::{NoMemory, Value};
@@ -225,7 +225,8 @@ impl<'a> Grows for Branch<'a> {
     ghost use Rattle.rn_search.specs.Room.{room};
     ghost use Rattle.rn_search.proofs.Following.{fewer_lead};
     ghost use Rattle.rn_search.proofs.Alternatives.{one_way};
-    ghost use Rattle.rn_branch.specs.Branches.{IsBranchOf, IsAtEnd};
+    ghost use Rattle.rn_looking.specs.Branches.{IsBranchOf};
+    ghost use Rattle.rn_branch.specs.GoingOn.{IsAtEnd};
 
     type Problem = Problem<'a>;
 

@@ -6,13 +6,14 @@ ghost use Rattle.rn_model.specs.Systems.{net_at};
 ghost use Rattle.rn_model.specs.declared.binding.Binding.{Binding as Bound};
 ghost use Rattle.rn_search.specs.Sought.{Leads};
 ghost use Rattle.rn_search.specs.Ending.{IsMadeOf};
-ghost use Rattle.rn_branch.specs.Branches.{IsBranchOf, IsAtEnd};
-ghost use Rattle.rn_branch.specs.Forced.{IsVarForcedIn};
+ghost use Rattle.rn_looking.specs.Branches.{IsBranchOf};
+ghost use Rattle.rn_branch.specs.GoingOn.{IsAtEnd};
+ghost use Rattle.rn_looking.specs.Forced.{IsVarForcedIn};
 ghost use Rattle.rn_branch.specs.Making.{AreAllForced, AreMadeNodes, AreValues, IsForcedAt};
 ghost use Rattle.rn_branch.specs.Making.{IsMadeNode};
 
-use crate::parts::transition_in;
 use rn_growing::{Decision, Growing, Head};
+use rn_looking::transition_in;
 use rn_model::{Binding, Node, Nodes, System};
 use rn_search::Problem;
 use rn_value::{NoMemory, Path, Vals, Value, copy_inst};

@@ -1,5 +1,5 @@
 //! The vectors of branches, from one to the next.
-use crate::tested::Tested;
+use rn_looking::Tested;
 use std::alloc::Global;
 use std::marker::Model;
 

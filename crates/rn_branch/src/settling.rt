@@ -3,18 +3,16 @@
 ghost use Rattle.std.specs.Prelude.{◌≡◌, ◌≤◌, [], IfOk, OnErr, length};
 ghost use Rattle.rn_growing.specs.Grown.{HasFewCreations, IsNew, Tries, first_decisions};
 ghost use Rattle.rn_growing.specs.Turns.{MayCome};
-ghost use Rattle.rn_branch.specs.Applying.{AreApplied, AreAppliedIn};
-ghost use Rattle.rn_branch.specs.Branches.{IsBranchOf};
-ghost use Rattle.rn_branch.specs.Looks.{Looked};
-ghost use Rattle.rn_branch.specs.Things.{IsOfEntries};
+ghost use Rattle.rn_looking.specs.Applying.{AreApplied, AreAppliedIn};
+ghost use Rattle.rn_looking.specs.Branches.{IsBranchOf};
+ghost use Rattle.rn_looking.specs.Looks.{Looked};
+ghost use Rattle.rn_looking.specs.Things.{IsOfEntries};
 
-use crate::look::Look;
-use crate::looking::look_at_all;
 use crate::room::Room;
-use crate::tested::Tested;
 use rn_binding::{Application, applications_of};
 use rn_growing::{Decision, Growing};
 use rn_items::Items;
+use rn_looking::{Look, Tested, look_at_all};
 use rn_model::System;
 use rn_search::{Problem, transition_in};
 use rn_value::NoMemory;
@@ -49,8 +47,8 @@ impl<'a> Model for Settling<'a> {
     ghost use Rattle.rn_value.specs.contracts.value.Kind as kind;
     ghost use Rattle.rn_model.specs.contracts.expr.Expr as expr;
     ghost use Rattle.rn_model.specs.contracts.expr.Cond as cond;
-    ghost use Rattle.rn_branch.specs.Settling.{KeepsSettled};
-    ghost use Rattle.rn_branch.specs.Applying.{KeepsApplied};
+    ghost use Rattle.rn_branch.specs.Keeping.{KeepsSettled};
+    ghost use Rattle.rn_branch.specs.Keeping.{KeepsApplied};
     ghost use Rattle.std.specs.Coded.{codes};
 
     ghost Value = { Grown };

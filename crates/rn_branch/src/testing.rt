@@ -6,12 +6,11 @@ ghost use Rattle.rn_growing.specs.declared.decision.Decision.TheVariants as D;
 ghost use Rattle.rn_growing.specs.Decisions.{transition_in};
 ghost use Rattle.rn_branch.specs.Testing.{AreKept, FailsGuard, IsTest, RestOn};
 
-use crate::guard_vars::put_guard;
-use crate::known::values_but;
 use crate::offer::Offer;
 use crate::trial::Trial;
 use rn_calc::is_true;
 use rn_growing::{Growing, Head};
+use rn_looking::{put_guard, values_but};
 use rn_model::{Cond, Transition};
 use rn_value::{NoMemory, Value};
 use std::alloc::Global;

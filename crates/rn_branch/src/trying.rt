@@ -2,7 +2,7 @@
 ghost use Rattle.std.specs.Prelude.{IfOk, IsTrue};
 ghost use Rattle.rn_search.specs.Allowing.{Allows};
 ghost use Rattle.rn_search.specs.declared.point.Point.TheVariants as P;
-ghost use Rattle.rn_branch.specs.Branches.{IsBranchOf};
+ghost use Rattle.rn_looking.specs.Branches.{IsBranchOf};
 ghost use Rattle.rn_branch.specs.Offers.{NoneLeadBy};
 ghost use Rattle.rn_branch.specs.Testing.{AreKept};
 

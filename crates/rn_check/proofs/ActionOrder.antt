@@ -23,15 +23,16 @@ use Rattle.rn_inscript.specs.declared.inscriptions.PInscribed.TheVariants as I
 use Rattle.rn_inscript.specs.declared.inscriptions.PInscription.{PInscription}
 use Rattle.rn_net.specs.declared.plain.Plain.{Plain}
 use Rattle.rn_net.specs.declared.plain.PNet.{PNet}
-use Rattle.rn_check.specs.declared.fault.Rule.TheVariants as Rule
-use Rattle.rn_check.specs.Faults.{broken_if}
-use Rattle.rn_check.specs.Expressions.{seen_of, misfit}
-use Rattle.rn_check.specs.Actions.{set_name, set_names, is_set_by, value_faults}
-use Rattle.rn_check.specs.Transitions.{Progress, inscription_faults, inscriptions_faults, after}
-use Rattle.rn_check.specs.Transitions.{in_action}
-use Rattle.rn_check.specs.Names.{number_among}
-use Rattle.rn_check.specs.Numbering.{expr_of, action_of, is_among}
-use Rattle.rn_check.proofs.Faultless.{both_nil, unbroken}
+use Rattle.rn_declared.specs.declared.fault.Rule.TheVariants as Rule
+use Rattle.rn_declared.specs.Faults.{broken_if}
+use Rattle.rn_rules.specs.Expressions.{seen_of, misfit}
+use Rattle.rn_rules.specs.Actions.{set_name, set_names, is_set_by, value_faults}
+use Rattle.rn_rules.specs.Transitions.{Progress, inscription_faults, inscriptions_faults, after}
+use Rattle.rn_rules.specs.Transitions.{in_action}
+use Rattle.rn_declared.specs.Names.{number_among}
+use Rattle.rn_numbered.specs.Numbered.{expr_of, action_of}
+use Rattle.rn_occurring.specs.TransitionVars.{is_among}
+use Rattle.rn_declared.proofs.Faultless.{both_nil, unbroken}
 use Rattle.rn_check.proofs.InscriptionParts.{set_parts}
 use Rattle.rn_check.proofs.ExpressionFacts.{Stands, vars_stand}
 use Rattle.rn_check.proofs.ItsVars.{among_there, there_among}

@@ -12,12 +12,13 @@ use Rattle.std.proofs.lemmas.List.Kept.{AllPairs-cons}
 use Rattle.rn_items.proofs.Numbers.{numbers_themselves}
 use Rattle.rn_net.specs.declared.plain.Plain.{Plain}
 use Rattle.rn_net.specs.declared.plain.PNet.{PNet}
-use Rattle.rn_check.specs.Names.{same_name, number_from, number_among}
-use Rattle.rn_check.specs.Patterns.{pattern_of}
-use Rattle.rn_check.specs.Systems.{scope_of}
-use Rattle.rn_check.specs.Numbering.{numbers_of}
-use Rattle.rn_check.proofs.DeclaredNames.{any_left, any_last}
-use Rattle.rn_check.proofs.ScopeKinds.{same_texts, number_below}
+use Rattle.rn_declared.specs.Names.{same_name, number_from, number_among}
+use Rattle.rn_declared.specs.Patterns.{pattern_of}
+use Rattle.rn_rules.specs.Systems.{scope_of}
+use Rattle.rn_numbering.specs.Numbering.{numbers_of}
+use Rattle.rn_declared.proofs.DeclaredNames.{any_left, any_last}
+use Rattle.rn_check.proofs.ScopeKinds.{same_texts}
+use Rattle.rn_numbered.proofs.NumberLemmas.{number_below}
 
 -- A number that is found isn't below the first.
 pub number_after : (n m : ℕ) (names : List (List ℕ)) (name : List ℕ) →

@@ -16,15 +16,15 @@ use Rattle.rn_inscript.specs.declared.conds.PSimple.{PSimple, map-PSimple, roll-
 use Rattle.rn_inscript.specs.declared.conds.PSimple.{fold-PSimple, fold-roll-PSimple}
 use Rattle.rn_inscript.specs.declared.conds.PSimple.TheOpen as T
 use Rattle.rn_inscript.specs.Conditions.{any_of}
-use Rattle.rn_check.specs.declared.fault.Fault.{Fault}
-use Rattle.rn_check.specs.declared.fault.Rule.TheVariants as Rule
-use Rattle.rn_check.specs.Faults.{broken}
-use Rattle.rn_check.specs.Expressions.{Where, seen_of}
-use Rattle.rn_check.specs.Conditions.{condition_faults, simple_seen, simple_faults, compared_faults}
-use Rattle.rn_check.specs.Conditions.{bare_faults}
-use Rattle.rn_check.specs.Numbering.{expr_of, cond_of, simple_of_form}
-use Rattle.rn_check.specs.WellFormed.{exprs_in, simple_exprs_step}
-use Rattle.rn_check.proofs.Faultless.{both_nil}
+use Rattle.rn_declared.specs.declared.fault.Fault.{Fault}
+use Rattle.rn_declared.specs.declared.fault.Rule.TheVariants as Rule
+use Rattle.rn_declared.specs.Faults.{broken}
+use Rattle.rn_rules.specs.Expressions.{Where, seen_of}
+use Rattle.rn_rules.specs.Conditions.{condition_faults, simple_seen, simple_faults, compared_faults}
+use Rattle.rn_rules.specs.Conditions.{bare_faults}
+use Rattle.rn_numbered.specs.Numbered.{expr_of, cond_of, simple_of_form}
+use Rattle.rn_spelled.specs.WellFormed.{exprs_in, simple_exprs_step}
+use Rattle.rn_declared.proofs.Faultless.{both_nil}
 
 abbrev Told : Type 0
 Told = Where → List Fault

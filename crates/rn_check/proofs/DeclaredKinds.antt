@@ -16,12 +16,13 @@ use Rattle.rn_net.specs.declared.kinds.PKindForm.{PKindForm, map-PKindForm, roll
 use Rattle.rn_net.specs.declared.kinds.PKindForm.{fold-PKindForm, fold-roll-PKindForm}
 use Rattle.rn_net.specs.declared.kinds.PKindForm.TheOpen as F
 use Rattle.rn_net.specs.Kinds.{kind_at}
-use Rattle.rn_check.specs.declared.pattern.Pattern.{Pattern}
-use Rattle.rn_check.specs.declared.pattern.Pattern.TheOpen as P
-use Rattle.rn_check.specs.Patterns.{gives_step, gives_kind, share, pattern_of, pattern_step}
-use Rattle.rn_check.specs.Numbering.{kind_of, kind_of_form}
-use Rattle.rn_check.proofs.PatternKinds.{gives-Int, gives-Text, gives-Tuple, gives-List}
-use Rattle.rn_check.proofs.PatternKinds.{gives-Net, share_gives}
+use Rattle.rn_declared.specs.declared.pattern.Pattern.{Pattern}
+use Rattle.rn_declared.specs.declared.pattern.Pattern.TheOpen as P
+use Rattle.rn_declared.specs.Patterns.{gives_step, gives_kind, share, pattern_of, pattern_step}
+use Rattle.rn_numbered.specs.Numbered.{kind_of, kind_of_form}
+use Rattle.rn_numbered.proofs.NumberedForms.{form_kind, kind-at}
+use Rattle.rn_declared.proofs.PatternKinds.{gives-Int, gives-Text, gives-Tuple, gives-List}
+use Rattle.rn_declared.proofs.PatternKinds.{gives-Net, share_gives}
 
 abbrev same_at : K.Kind-F Kind → K.Kind-F Kind → Bool
 same_at x z = same_kind_step (map-Kind Kind (Kind → Bool) same_kind x) z
@@ -81,19 +82,12 @@ GivesItself kind = (k : Kind) → gives_kind (pattern_of kind) k ≡ same_kind (
 abbrev form_pattern : PKindForm → Pattern
 form_pattern = fold-PKindForm Pattern Pattern pattern_step (λ kind. kind.form)
 
-abbrev pub form_kind : PKindForm → Kind
-form_kind = fold-PKindForm Kind Kind kind_of_form (λ kind. kind.form)
-
 abbrev FormGivesItself : PKindForm → Type 0
 FormGivesItself form = (k : Kind) → gives_kind (form_pattern form) k ≡ same_kind (form_kind form) k
 
 pub pattern-at : (s : Spot) (f : PKindForm) → pattern_of (kind_at s f) ≡ form_pattern f
 pattern-at s f =
     fold-roll-PKind Pattern Pattern pattern_step (λ kind. kind.form) (record { form = f; spot = s })
-
-pub kind-at : (s : Spot) (f : PKindForm) → kind_of (kind_at s f) ≡ form_kind f
-kind-at s f =
-    fold-roll-PKind Kind Kind kind_of_form (λ kind. kind.form) (record { form = f; spot = s })
 
 abbrev Part : Type 0
 Part = (kind : PKind) × GivesItself kind

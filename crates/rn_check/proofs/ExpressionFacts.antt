@@ -21,19 +21,21 @@ use Rattle.rn_inscript.specs.declared.exprs.PForm.{PForm, map-PForm, roll-PForm,
 use Rattle.rn_inscript.specs.declared.exprs.PForm.{fold-roll-PForm}
 use Rattle.rn_inscript.specs.declared.exprs.PForm.TheOpen as F
 use Rattle.rn_inscript.specs.Expressions.{at_spot}
-use Rattle.rn_check.specs.declared.fault.Rule.TheVariants as Rule
-use Rattle.rn_check.specs.declared.fault.Fault.{Fault}
-use Rattle.rn_check.specs.declared.pattern.Pattern.TheVariants as Pattern
-use Rattle.rn_check.specs.Faults.{broken_if, past_limit}
-use Rattle.rn_check.specs.Expressions.{Where, Seen, seen_of, seen_form, whole, tuple_of, listed}
-use Rattle.rn_check.specs.Expressions.{with_element, with_elements, operand_faults, operands_faults}
-use Rattle.rn_check.specs.Expressions.{apart, misfit}
-use Rattle.rn_check.specs.Numbering.{expr_of, expr_of_form}
-use Rattle.rn_check.specs.WellFormed.{tails_step, tails_follow}
-use Rattle.rn_check.proofs.ExpressionKinds.{Parts, Forms, Numbered, form_seen, form_expr, seen-at}
-use Rattle.rn_check.proofs.ExpressionKinds.{expr-at, seen-roll, expr-roll}
-use Rattle.rn_check.proofs.Faultless.{both_nil, unbroken, holds, within_limit}
-use Rattle.rn_check.proofs.NarrowKinds.{le_test}
+use Rattle.rn_declared.specs.declared.fault.Rule.TheVariants as Rule
+use Rattle.rn_declared.specs.declared.fault.Fault.{Fault}
+use Rattle.rn_declared.specs.declared.pattern.Pattern.TheVariants as Pattern
+use Rattle.rn_declared.specs.Faults.{broken_if, past_limit}
+use Rattle.rn_rules.specs.Expressions.{Where, Seen, seen_of, seen_form, whole, tuple_of, listed}
+use Rattle.rn_rules.specs.Expressions.{with_element, with_elements, operand_faults, operands_faults}
+use Rattle.rn_rules.specs.Expressions.{apart, misfit}
+use Rattle.rn_numbered.specs.Numbered.{expr_of, expr_of_form}
+use Rattle.rn_spelled.specs.WellFormed.{tails_step, tails_follow}
+use Rattle.rn_check.proofs.ExpressionKinds.{Parts, Forms, form_seen, seen-at}
+use Rattle.rn_numbered.proofs.NumberedForms.{Numbered, form_expr}
+use Rattle.rn_numbered.proofs.NumberedForms.{expr-at, expr-roll}
+use Rattle.rn_check.proofs.ExpressionKinds.{seen-roll}
+use Rattle.rn_declared.proofs.Faultless.{both_nil, unbroken, holds, within_limit}
+use Rattle.std.proofs.lemmas.Bool.{le-leb}
 
 -- the equations of expressions
 module _ {A : Type 0} (step : O.Expr-F A → A) where
@@ -224,7 +226,7 @@ module _ (at : Where) (var : List ℕ → ℕ) where
             at-Tuple expr_narrow_step es
             ∙ true_both (nat_le (length (map expr_narrow es)) most_parts)
             (list_all (λ n. n) (map expr_narrow es))
-            (le_test (length (map expr_narrow es)) most_parts
+            (le-leb (length (map expr_narrow es)) most_parts
             (omega (arith, few, one, two, three, four, five, six)))
             (all_narrow parts (tuple_faultless parts none.0) t);
         vars = λ e.

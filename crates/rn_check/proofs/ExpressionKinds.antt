@@ -20,21 +20,23 @@ use Rattle.rn_inscript.specs.declared.exprs.PForm.{PForm, map-PForm, roll-PForm,
 use Rattle.rn_inscript.specs.declared.exprs.PForm.{fold-roll-PForm}
 use Rattle.rn_inscript.specs.declared.exprs.PForm.TheOpen as F
 use Rattle.rn_inscript.specs.Expressions.{at_spot}
-use Rattle.rn_check.specs.declared.fault.Rule.TheVariants as Rule
-use Rattle.rn_check.specs.declared.pattern.Pattern.{Pattern}
-use Rattle.rn_check.specs.declared.pattern.Pattern.TheVariants as Pattern
-use Rattle.rn_check.specs.declared.pattern.Pattern.TheOpen as P
-use Rattle.rn_check.specs.Faults.{broken_if, past_limit}
-use Rattle.rn_check.specs.Patterns.{gives_step, gives_kind}
-use Rattle.rn_check.specs.Expressions.{Where, Seen, seen_of, seen_form, whole, tuple_of, listed}
-use Rattle.rn_check.specs.Expressions.{with_element, with_elements, operand_faults, operands_faults}
-use Rattle.rn_check.specs.Expressions.{apart}
-use Rattle.rn_check.specs.Numbering.{expr_of, expr_of_form}
-use Rattle.rn_check.proofs.PatternKinds.{gives-Int, gives-Text, gives-Tuple, gives-List, gives-Net}
-use Rattle.rn_check.proofs.PatternKinds.{both_gives}
-use Rattle.rn_check.proofs.Faultless.{both_nil, not_apart, operand_fits}
+use Rattle.rn_declared.specs.declared.fault.Rule.TheVariants as Rule
+use Rattle.rn_declared.specs.declared.pattern.Pattern.{Pattern}
+use Rattle.rn_declared.specs.declared.pattern.Pattern.TheVariants as Pattern
+use Rattle.rn_declared.specs.declared.pattern.Pattern.TheOpen as P
+use Rattle.rn_declared.specs.Faults.{broken_if, past_limit}
+use Rattle.rn_declared.specs.Patterns.{gives_step, gives_kind}
+use Rattle.rn_rules.specs.Expressions.{Where, Seen, seen_of, seen_form, whole, tuple_of, listed}
+use Rattle.rn_rules.specs.Expressions.{with_element, with_elements, operand_faults, operands_faults}
+use Rattle.rn_rules.specs.Expressions.{apart}
+use Rattle.rn_numbered.specs.Numbered.{expr_of, expr_of_form}
+use Rattle.rn_numbered.proofs.NumberedForms.{Numbered, form_expr, expr-at, expr-roll}
+use Rattle.rn_declared.proofs.PatternKinds.{gives-Int, gives-Text, gives-Tuple, gives-List, gives-Net}
+use Rattle.rn_declared.proofs.PatternKinds.{both_gives}
+use Rattle.rn_declared.proofs.Faultless.{both_nil}
+use Rattle.rn_check.proofs.FaultlessExpressions.{not_apart, operand_fits}
 
--- expressions and their forms as the rules see them, and as the model has them
+-- expressions and their forms as the rules see them
 abbrev pub Parts : Type 0
 Parts = Where → Seen
 
@@ -44,28 +46,13 @@ Forms = Spot → Where → Seen
 abbrev pub form_seen : PForm → Forms
 form_seen = fold-PForm Forms Parts seen_form (λ e. e.form e.spot)
 
-abbrev pub Numbered : Type 0
-Numbered = (List ℕ → ℕ) → Expr
-
-abbrev pub form_expr : PForm → Numbered
-form_expr = fold-PForm Numbered Numbered expr_of_form (λ e. e.form)
-
 pub seen-at : (s : Spot) (f : PForm) → seen_of (at_spot s f) ≡ form_seen f s
 seen-at s f =
     fold-roll-PExpr Forms Parts seen_form (λ e. e.form e.spot) (record { form = f; spot = s })
 
-pub expr-at : (s : Spot) (f : PForm) → expr_of (at_spot s f) ≡ form_expr f
-expr-at s f =
-    fold-roll-PExpr Numbered Numbered expr_of_form (λ e. e.form) (record { form = f; spot = s })
-
 pub seen-roll : (x : F.PForm-F PForm PExpr) →
     form_seen (roll-PForm x) ≡ seen_form (map-PForm PForm PExpr Forms Parts form_seen seen_of x)
 seen-roll x = fold-roll-PForm Forms Parts seen_form (λ e. e.form e.spot) x
-
-pub expr-roll : (x : F.PForm-F PForm PExpr) →
-    form_expr (roll-PForm x)
-    ≡ expr_of_form (map-PForm PForm PExpr Numbered Numbered form_expr expr_of x)
-expr-roll x = fold-roll-PForm Numbered Numbered expr_of_form (λ e. e.form) x
 
 module _ (kinds : ℕ → Kind) where
   opened : (e : Expr) (k : Kind) →

@@ -29,24 +29,27 @@ use Rattle.rn_net.specs.declared.plain.PVar.{PVar}
 use Rattle.rn_net.specs.declared.plain.PPlace.{PPlace}
 use Rattle.rn_net.specs.declared.plain.PTransition.{PTransition}
 use Rattle.rn_net.specs.declared.plain.PNet.{PNet}
-use Rattle.rn_check.specs.declared.fault.Rule.TheVariants as Rule
-use Rattle.rn_check.specs.Faults.{broken_if, past_limit}
-use Rattle.rn_check.specs.Patterns.{pattern_of}
-use Rattle.rn_check.specs.Names.{same_name, name_faults, names_faults, declared_faults}
-use Rattle.rn_check.specs.Declarations.{Part, kind_part, kind_faults, parts_faults, const_part}
-use Rattle.rn_check.specs.Declarations.{fits, token_faults, place_faults}
-use Rattle.rn_check.specs.Transitions.{transition_faults}
-use Rattle.rn_check.specs.Systems.{same_channel, channel_faults, channels_faults, scope_of}
-use Rattle.rn_check.specs.Systems.{net_faults, system_faults, text_start}
-use Rattle.rn_check.specs.Numbering.{kind_of, value_of, transition_of, net_of, system_of}
-use Rattle.rn_check.specs.WellFormed.{IsShallowKind, IsWellFormed, IsWellFormedChannel}
-use Rattle.rn_check.specs.WellFormed.{IsWellFormedNet, IsWellFormedVar, IsWellFormedPlace}
-use Rattle.rn_check.specs.WellFormed.{IsWellFormedTransition}
-use Rattle.rn_check.specs.Laws.{CheckedSystemsAreGood}
-use Rattle.rn_check.proofs.Faultless.{both_nil, each_nil, unbroken, holds, within_limit}
+use Rattle.rn_declared.specs.declared.fault.Rule.TheVariants as Rule
+use Rattle.rn_declared.specs.Faults.{broken_if, past_limit}
+use Rattle.rn_declared.specs.Patterns.{pattern_of}
+use Rattle.rn_declared.specs.Names.{same_name, name_faults, names_faults, declared_faults}
+use Rattle.rn_declared.specs.Declarations.{Part, kind_part, kind_faults, parts_faults, const_part}
+use Rattle.rn_declared.specs.Declarations.{fits, token_faults, place_faults}
+use Rattle.rn_rules.specs.Transitions.{transition_faults}
+use Rattle.rn_declared.specs.Channels.{same_channel, channel_faults, channels_faults}
+use Rattle.rn_rules.specs.Systems.{scope_of}
+use Rattle.rn_rules.specs.Systems.{net_faults, system_faults, text_start}
+use Rattle.rn_numbered.specs.Numbered.{kind_of, value_of}
+use Rattle.rn_numbering.specs.Numbering.{transition_of, net_of, system_of}
+use Rattle.rn_spelled.specs.WellFormed.{IsShallowKind, IsWellFormed, IsWellFormedChannel}
+use Rattle.rn_spelled.specs.WellFormed.{IsWellFormedNet, IsWellFormedVar, IsWellFormedPlace}
+use Rattle.rn_spelled.specs.WellFormed.{IsWellFormedTransition}
+use Rattle.rn_check.specs.Laws.{CheckedSystemsAreGood, CheckedTextsAreGood}
+use Rattle.rn_spelled.proofs.SpelledTexts.{spelled_forms_are_well_formed}
+use Rattle.rn_declared.proofs.Faultless.{both_nil, each_nil, unbroken, holds, within_limit}
 use Rattle.rn_check.proofs.DeclaredKinds.{gives_itself, same_as_itself}
-use Rattle.rn_check.proofs.DeclaredNames.{nat_le_holds, any_left, any_last, IsIn, short_and_new}
-use Rattle.rn_check.proofs.DeclaredNames.{declared_apart, declared_short, declared_few}
+use Rattle.rn_declared.proofs.DeclaredNames.{nat_le_holds, any_left, any_last, IsIn, short_and_new}
+use Rattle.rn_declared.proofs.DeclaredNames.{declared_apart, declared_short, declared_few}
 use Rattle.rn_check.proofs.NarrowKinds.{kind_is_narrow}
 use Rattle.rn_check.proofs.TokenKinds.{token_narrow, token_apart, token_kinded}
 use Rattle.rn_check.proofs.ScopeKinds.{same_texts, var_of, place_of, channel_of}
@@ -386,3 +389,8 @@ module _ (plain : Plain) where
 pub checked_systems_are_good : CheckedSystemsAreGood
 checked_systems_are_good plain system checked good =
     subst Good (sym checked.means) (system_good plain checked.unbroken good)
+
+pub checked_texts_are_good : CheckedTextsAreGood
+checked_texts_are_good bytes plain system spelled checked =
+    checked_systems_are_good plain system checked
+    (spelled_forms_are_well_formed bytes plain spelled)

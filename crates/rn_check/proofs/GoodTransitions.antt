@@ -29,15 +29,17 @@ use Rattle.rn_inscript.specs.declared.inscriptions.PInscription.{PInscription}
 use Rattle.rn_net.specs.declared.plain.Plain.{Plain}
 use Rattle.rn_net.specs.declared.plain.PNet.{PNet}
 use Rattle.rn_net.specs.declared.plain.PTransition.{PTransition}
-use Rattle.rn_check.specs.Faults.{past_limit}
-use Rattle.rn_check.specs.Actions.{set_names}
-use Rattle.rn_check.specs.Transitions.{inscriptions_faults, at_first, transition_faults}
-use Rattle.rn_check.specs.Systems.{scope_of}
-use Rattle.rn_check.specs.Numbering.{Numbers, numbers_of, net_of, system_of, transition_of}
-use Rattle.rn_check.specs.Numbering.{inscribed, is_among, equality_of, guard_of}
-use Rattle.rn_check.specs.Numbering.{action_of, creation_of, uplink_of, downlink_of, arc_of}
-use Rattle.rn_check.specs.WellFormed.{IsWellFormedTransition, IsWellFormedInscription}
-use Rattle.rn_check.proofs.Faultless.{both_nil, within_limit}
+use Rattle.rn_declared.specs.Faults.{past_limit}
+use Rattle.rn_rules.specs.Actions.{set_names}
+use Rattle.rn_rules.specs.Transitions.{inscriptions_faults, at_first, transition_faults}
+use Rattle.rn_rules.specs.Systems.{scope_of}
+use Rattle.rn_numbered.specs.Numbered.{Numbers}
+use Rattle.rn_numbering.specs.Numbering.{numbers_of, net_of, system_of, transition_of}
+use Rattle.rn_numbered.specs.Numbered.{inscribed, equality_of, guard_of}
+use Rattle.rn_occurring.specs.TransitionVars.{is_among}
+use Rattle.rn_numbered.specs.Numbered.{action_of, creation_of, uplink_of, downlink_of, arc_of}
+use Rattle.rn_spelled.specs.WellFormed.{IsWellFormedTransition, IsWellFormedInscription}
+use Rattle.rn_declared.proofs.Faultless.{both_nil, within_limit}
 use Rattle.rn_check.proofs.TransitionKinds.{is_well_kinded}
 use Rattle.rn_check.proofs.ScopeKinds.{var_of}
 use Rattle.rn_check.proofs.TransitionFacts as Facts

@@ -3,14 +3,14 @@ use Rattle.std.proofs.Common.{◌≡◌, List, [], ◌∷◌, length, map, refl,
 use Rattle.rn_notation.specs.declared.token.Spot.{Spot}
 use Rattle.rn_inscript.specs.declared.exprs.PExpr.{PExpr}
 use Rattle.rn_inscript.specs.declared.inscriptions.PName.{PName}
-use Rattle.rn_check.specs.declared.fault.Rule.TheVariants as Rule
-use Rattle.rn_check.specs.Faults.{broken_if}
-use Rattle.rn_check.specs.Expressions.{Where, seen_of}
-use Rattle.rn_check.specs.Calls.{call_faults, target_faults}
-use Rattle.rn_check.specs.Actions.{set_faults, value_faults}
-use Rattle.rn_check.specs.Transitions.{Scope, Progress, in_action, elsewhere, set_action_faults}
-use Rattle.rn_check.specs.Transitions.{channel_faults, uplink_faults, downlink_faults}
-use Rattle.rn_check.proofs.Faultless.{both_nil}
+use Rattle.rn_declared.specs.declared.fault.Rule.TheVariants as Rule
+use Rattle.rn_declared.specs.Faults.{broken_if}
+use Rattle.rn_rules.specs.Expressions.{Where, seen_of}
+use Rattle.rn_rules.specs.Calls.{call_faults, target_faults}
+use Rattle.rn_rules.specs.Actions.{set_faults, value_faults}
+use Rattle.rn_rules.specs.Transitions.{Scope, Progress, in_action, elsewhere, set_action_faults}
+use Rattle.rn_rules.specs.Transitions.{channel_faults, uplink_faults, downlink_faults}
+use Rattle.rn_declared.proofs.Faultless.{both_nil}
 
 seens_are : (at : Where) (args : List PExpr) →
     map (λ seen. seen at) (map seen_of args) ≡ map (λ e. seen_of e at) args

@@ -15,8 +15,8 @@ use Rattle.rn_model.specs.declared.system.Transition.{Transition}
 use Rattle.rn_model.specs.Systems.{vars_in}
 use Rattle.rn_model.specs.Good.{HasItsVars, occurring, set_var, all_exprs}
 use Rattle.rn_model.proofs.AskedValues.{later}
-use Rattle.rn_check.specs.Numbering.{is_among, with_vars}
-use Rattle.rn_check.proofs.DeclaredNames.{any_left}
+use Rattle.rn_occurring.specs.TransitionVars.{is_among, with_vars}
+use Rattle.rn_declared.proofs.DeclaredNames.{any_left}
 
 pub among_there : (xs : List ℕ) (x : ℕ) → is_among xs x ≡ true → Contains xs x
 among_there [] x e = absurd (let no : ⊥ = cc in no)

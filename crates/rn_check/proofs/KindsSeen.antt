@@ -18,22 +18,24 @@ use Rattle.rn_inscript.specs.declared.exprs.PExpr.{PExpr, PExpr-F, ind-PExpr}
 use Rattle.rn_inscript.specs.declared.exprs.PForm.{PForm, map-PForm, roll-PForm}
 use Rattle.rn_inscript.specs.declared.exprs.PForm.TheOpen as F
 use Rattle.rn_inscript.specs.Expressions.{at_spot}
-use Rattle.rn_check.specs.declared.fault.Rule.TheVariants as Rule
-use Rattle.rn_check.specs.declared.pattern.Pattern.{Pattern}
-use Rattle.rn_check.specs.declared.pattern.Pattern.TheVariants as Pattern
-use Rattle.rn_check.specs.declared.pattern.Pattern.TheOpen as P
-use Rattle.rn_check.specs.Faults.{broken_if, past_limit}
-use Rattle.rn_check.specs.Patterns.{gives_step, gives_kind}
-use Rattle.rn_check.specs.Expressions.{Where, Seen, seen_of, seen_form, whole, tuple_of, listed}
-use Rattle.rn_check.specs.Expressions.{with_element, with_elements}
-use Rattle.rn_check.specs.Expressions.{apart}
-use Rattle.rn_check.specs.Numbering.{expr_of, expr_of_form}
-use Rattle.rn_check.proofs.PatternKinds.{gives-Any, gives-Int, gives-Text, gives-Tuple, gives-List}
-use Rattle.rn_check.proofs.PatternKinds.{gives-Net}
-use Rattle.rn_check.proofs.BothKinds.{gives_both}
-use Rattle.rn_check.proofs.Faultless.{both_nil}
-use Rattle.rn_check.proofs.ExpressionKinds.{Parts, Forms, Numbered, form_seen, form_expr, seen-at}
-use Rattle.rn_check.proofs.ExpressionKinds.{expr-at, seen-roll, expr-roll, has-Int, has-Text}
+use Rattle.rn_declared.specs.declared.fault.Rule.TheVariants as Rule
+use Rattle.rn_declared.specs.declared.pattern.Pattern.{Pattern}
+use Rattle.rn_declared.specs.declared.pattern.Pattern.TheVariants as Pattern
+use Rattle.rn_declared.specs.declared.pattern.Pattern.TheOpen as P
+use Rattle.rn_declared.specs.Faults.{broken_if, past_limit}
+use Rattle.rn_declared.specs.Patterns.{gives_step, gives_kind}
+use Rattle.rn_rules.specs.Expressions.{Where, Seen, seen_of, seen_form, whole, tuple_of, listed}
+use Rattle.rn_rules.specs.Expressions.{with_element, with_elements}
+use Rattle.rn_rules.specs.Expressions.{apart}
+use Rattle.rn_numbered.specs.Numbered.{expr_of, expr_of_form}
+use Rattle.rn_declared.proofs.PatternKinds.{gives-Any, gives-Int, gives-Text, gives-Tuple, gives-List}
+use Rattle.rn_declared.proofs.PatternKinds.{gives-Net}
+use Rattle.rn_declared.proofs.BothKinds.{gives_both}
+use Rattle.rn_declared.proofs.Faultless.{both_nil}
+use Rattle.rn_check.proofs.ExpressionKinds.{Parts, Forms, form_seen, seen-at}
+use Rattle.rn_numbered.proofs.NumberedForms.{Numbered, form_expr}
+use Rattle.rn_numbered.proofs.NumberedForms.{expr-at, expr-roll}
+use Rattle.rn_check.proofs.ExpressionKinds.{seen-roll, has-Int, has-Text}
 use Rattle.rn_check.proofs.ExpressionKinds.{has-Var, has-This, has-Step, has-Tuple, has-List}
 use Rattle.rn_check.proofs.ExpressionKinds.{has-Cons, has-Neg, has-Op}
 

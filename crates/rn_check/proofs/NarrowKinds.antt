@@ -4,7 +4,6 @@ use Rattle.std.proofs.Common.{refl, sym}
 use Rattle.std.proofs.Common.{ap, ◌∙◌, subst, length, arith}
 use Rattle.std.specs.Prelude.{nat_le, flat_map}
 use Rattle.std.specs.List.{list_all}
-use Rattle.std.proofs.lemmas.Bool.Decides.{nat_tests}
 use Rattle.std.proofs.lemmas.List.{length-map}
 use Rattle.rn_notation.specs.declared.token.Spot.{Spot}
 use Rattle.rn_items.proofs.Bools.{true_both}
@@ -18,16 +17,14 @@ use Rattle.rn_net.specs.declared.kinds.PKindForm.{PKindForm, map-PKindForm, roll
 use Rattle.rn_net.specs.declared.kinds.PKindForm.{fold-PKindForm, fold-roll-PKindForm}
 use Rattle.rn_net.specs.declared.kinds.PKindForm.TheOpen as F
 use Rattle.rn_net.specs.Kinds.{kind_at}
-use Rattle.rn_check.specs.declared.fault.Fault.{Fault}
-use Rattle.rn_check.specs.Faults.{past_limit}
-use Rattle.rn_check.specs.Declarations.{Part, kind_part, kind_form_faults}
-use Rattle.rn_check.specs.Declarations.{kind_faults}
-use Rattle.rn_check.specs.Numbering.{kind_of, kind_of_form}
-use Rattle.rn_check.proofs.DeclaredKinds.{kind-at, form_kind}
-use Rattle.rn_check.proofs.Faultless.{both_nil, within_limit}
-
-pub le_test : (a b : ℕ) → a ≤ b → nat_le a b ≡ true
-le_test a b h = grind (arith, nat_tests)
+use Rattle.rn_declared.specs.declared.fault.Fault.{Fault}
+use Rattle.rn_declared.specs.Faults.{past_limit}
+use Rattle.rn_declared.specs.Declarations.{Part, kind_part, kind_form_faults}
+use Rattle.rn_declared.specs.Declarations.{kind_faults}
+use Rattle.rn_numbered.specs.Numbered.{kind_of, kind_of_form}
+use Rattle.rn_numbered.proofs.NumberedForms.{kind-at, form_kind}
+use Rattle.rn_declared.proofs.Faultless.{both_nil, within_limit}
+use Rattle.std.proofs.lemmas.Bool.{le-leb}
 
 narrow-out : (k : Kind) →
     kind_narrow k ≡ kind_narrow_step (map-Kind Kind Bool kind_narrow (out-Kind k))
@@ -94,7 +91,7 @@ few_parts spot part f g xs e =
     let two = length-map xs part in
     let three = length-map (map f xs) g in
     let four = length-map xs f in
-    le_test (length (map g (map f xs))) most_parts (omega (arith, few, one, two, three, four))
+    le-leb (length (map g (map f xs))) most_parts (omega (arith, few, one, two, three, four))
 
 open_kind : (y : F.PKindForm-F FormOf KindOf) →
     kind_form_faults (map-PKindForm PKindForm PKind (List Fault) Part form_faults kind_part

@@ -2,12 +2,12 @@
 use Rattle.std.proofs.Common.{◌≡◌, refl, sym, ap, ◌∙◌, subst, Some, Err, Result}
 use Rattle.rn_notation.specs.declared.token.Spot.{Spot}
 use Rattle.rn_model.specs.declared.system.System.{System}
-use Rattle.rn_check.specs.declared.fault.Rule.{Rule}
-use Rattle.rn_check.specs.declared.fault.Rule.TheVariants as R
-use Rattle.rn_check.specs.declared.fault.Fault.{Fault}
-use Rattle.rn_check.specs.declared.fault.CheckFault.{CheckFault}
-use Rattle.rn_check.specs.declared.fault.CheckFault.TheVariants as C
-use Rattle.rn_check.specs.Faults.{broken, report_of}
+use Rattle.rn_declared.specs.declared.fault.Rule.{Rule}
+use Rattle.rn_declared.specs.declared.fault.Rule.TheVariants as R
+use Rattle.rn_declared.specs.declared.fault.Fault.{Fault}
+use Rattle.rn_declared.specs.declared.fault.CheckFault.{CheckFault}
+use Rattle.rn_declared.specs.declared.fault.CheckFault.TheVariants as C
+use Rattle.rn_declared.specs.Faults.{broken, report_of}
 use Rattle.rn_check.specs.Checked.{Answers}
 
 -- the rule that is reported, broken at its spot

@@ -21,11 +21,14 @@ use Rattle.rn_net.specs.declared.plain.PNet.{PNet}
 use Rattle.rn_net.specs.declared.plain.PVar.{PVar}
 use Rattle.rn_net.specs.declared.plain.PPlace.{PPlace}
 use Rattle.rn_net.specs.declared.plain.PChannel.{PChannel}
-use Rattle.rn_check.specs.declared.pattern.Pattern.{Pattern}
-use Rattle.rn_check.specs.Patterns.{gives_kind, pattern_of}
-use Rattle.rn_check.specs.Names.{same_name, number_from, number_among}
-use Rattle.rn_check.specs.Systems.{scope_of, channel_from, same_channel}
-use Rattle.rn_check.specs.Numbering.{kind_of, value_of, net_of, system_of, numbers_of}
+use Rattle.rn_declared.specs.declared.pattern.Pattern.{Pattern}
+use Rattle.rn_declared.specs.Patterns.{gives_kind, pattern_of}
+use Rattle.rn_declared.specs.Names.{same_name, number_from, number_among}
+use Rattle.rn_rules.specs.Systems.{scope_of}
+use Rattle.rn_declared.specs.Channels.{channel_from, same_channel}
+use Rattle.rn_numbered.specs.Numbered.{kind_of, value_of}
+use Rattle.rn_numbering.specs.Numbering.{net_of, system_of, numbers_of}
+use Rattle.rn_numbered.proofs.NumberLemmas.{number_below}
 use Rattle.rn_check.proofs.DeclaredKinds.{gives_itself}
 
 pub same_texts : (a b : List ℕ) → pointwise nat_eq a b ≡ true → a ≡ b
@@ -93,19 +96,6 @@ channel_found n zero (d ∷ channels) name count c e is =
 channel_found n (suc k) (d ∷ channels) name count c e is =
     later_found n k channels name count c (same_channel d name count)
     (λ e. channel_found (n + 1) k channels name count c e is) e
-
--- A name that is declared has a number below how many are.
-pub number_below : (n m : ℕ) (names : List (List ℕ)) (name : List ℕ) →
-    number_from n names name ≡ Some m → m < n + length names
-number_below n m [] name e = absurd (let no : ⊥ = cc in no)
-number_below n m (d ∷ names) name e =
-    by (same_name d name) (number_below (n + 1) m names name) e
-  where
-    by : (b : Bool) → (number_from (n + 1) names name ≡ Some m → m < n + 1 + length names) →
-        (if b then Some n else number_from (n + 1) names name) ≡ Some m →
-        m < n + suc (length names)
-    by true later e = let same = same_Some n m e in omega (arith, same)
-    by false later e = let more = later e in omega (arith, more)
 
 pub found_below : (names : List (List ℕ)) (name : List ℕ) (o : Option ℕ) →
     number_among names name ≡ o → is_some o ≡ true → unwrap_or o 0 < length names

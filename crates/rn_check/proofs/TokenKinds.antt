@@ -20,17 +20,17 @@ use Rattle.rn_net.specs.declared.constants.PConstForm.{roll-PConstForm, fold-PCo
 use Rattle.rn_net.specs.declared.constants.PConstForm.{fold-roll-PConstForm}
 use Rattle.rn_net.specs.declared.constants.PConstForm.TheOpen as C
 use Rattle.rn_net.specs.Constants.{constant_at}
-use Rattle.rn_check.specs.declared.fault.Fault.{Fault}
-use Rattle.rn_check.specs.declared.pattern.Pattern.{Pattern, out-Pattern, map-Pattern}
-use Rattle.rn_check.specs.declared.pattern.Pattern.{fold_out-Pattern}
-use Rattle.rn_check.specs.declared.pattern.Pattern.TheOpen as P
-use Rattle.rn_check.specs.Faults.{past_limit}
-use Rattle.rn_check.specs.Patterns.{gives_kind, gives_step}
-use Rattle.rn_check.specs.Declarations.{Part, const_part, const_form_faults, fits, fits_form}
-use Rattle.rn_check.specs.Declarations.{all_fit}
-use Rattle.rn_check.specs.Numbering.{value_of, value_of_form}
+use Rattle.rn_declared.specs.declared.fault.Fault.{Fault}
+use Rattle.rn_declared.specs.declared.pattern.Pattern.{Pattern, out-Pattern, map-Pattern}
+use Rattle.rn_declared.specs.declared.pattern.Pattern.{fold_out-Pattern}
+use Rattle.rn_declared.specs.declared.pattern.Pattern.TheOpen as P
+use Rattle.rn_declared.specs.Faults.{past_limit}
+use Rattle.rn_declared.specs.Patterns.{gives_kind, gives_step}
+use Rattle.rn_declared.specs.Declarations.{Part, const_part, const_form_faults, fits, fits_form}
+use Rattle.rn_declared.specs.Declarations.{all_fit}
+use Rattle.rn_numbered.specs.Numbered.{value_of, value_of_form}
 use Rattle.rn_check.proofs.NarrowKinds.{few_parts}
-use Rattle.rn_check.proofs.Faultless.{both_nil}
+use Rattle.rn_declared.proofs.Faultless.{both_nil}
 
 -- the equations of values
 module _ {A : Type 0} (step : V.Value-F A → A) where

@@ -33,25 +33,27 @@ use Rattle.rn_inscript.specs.declared.inscriptions.PInscribed.TheVariants as I
 use Rattle.rn_inscript.specs.declared.inscriptions.PInscription.{PInscription}
 use Rattle.rn_net.specs.declared.plain.Plain.{Plain}
 use Rattle.rn_net.specs.declared.plain.PNet.{PNet}
-use Rattle.rn_check.specs.declared.fault.Rule.TheVariants as Rule
-use Rattle.rn_check.specs.declared.pattern.Pattern.{Pattern}
-use Rattle.rn_check.specs.Faults.{broken, broken_if}
-use Rattle.rn_check.specs.Expressions.{Where, Seen, seen_of, apart, misfit, operand_faults}
-use Rattle.rn_check.specs.Expressions.{operands_faults, variable_faults}
-use Rattle.rn_check.specs.Conditions.{compared_faults, sides_faults, condition_faults}
-use Rattle.rn_check.specs.Arcs.{asked_of, is_clear, is_variable, inscribed_faults, arc_faults}
-use Rattle.rn_check.specs.Calls.{channel_call_faults, call_faults, target_faults, is_no_net}
-use Rattle.rn_check.specs.Actions.{is_set_by, value_faults}
-use Rattle.rn_check.specs.Transitions.{Progress, Scope, inscription_faults, inscriptions_faults}
-use Rattle.rn_check.specs.Transitions.{after, in_action, in_output, elsewhere}
-use Rattle.rn_check.specs.Names.{same_name, number_among}
-use Rattle.rn_check.specs.Systems.{scope_of}
-use Rattle.rn_check.specs.Numbering.{Numbers, expr_of, cond_of, numbers_of, equality_of, guard_of}
-use Rattle.rn_check.specs.Numbering.{action_of, creation_of, uplink_of, downlink_of, arc_of}
-use Rattle.rn_check.specs.Numbering.{inscription_of, is_among}
-use Rattle.rn_check.specs.WellFormed.{IsWellFormedExpr, IsShallowCond, IsWellFormedInscription}
-use Rattle.rn_check.specs.WellFormed.{exprs_of, conds_of, exprs_in}
-use Rattle.rn_check.proofs.Faultless.{both_nil, unbroken, holds}
+use Rattle.rn_declared.specs.declared.fault.Rule.TheVariants as Rule
+use Rattle.rn_declared.specs.declared.pattern.Pattern.{Pattern}
+use Rattle.rn_declared.specs.Faults.{broken, broken_if}
+use Rattle.rn_rules.specs.Expressions.{Where, Seen, seen_of, apart, misfit, operand_faults}
+use Rattle.rn_rules.specs.Expressions.{operands_faults, variable_faults}
+use Rattle.rn_rules.specs.Conditions.{compared_faults, sides_faults, condition_faults}
+use Rattle.rn_rules.specs.Arcs.{asked_of, is_clear, is_variable, inscribed_faults, arc_faults}
+use Rattle.rn_rules.specs.Calls.{channel_call_faults, call_faults, target_faults, is_no_net}
+use Rattle.rn_rules.specs.Actions.{is_set_by, value_faults}
+use Rattle.rn_rules.specs.Transitions.{Progress, Scope, inscription_faults, inscriptions_faults}
+use Rattle.rn_rules.specs.Transitions.{after, in_action, in_output, elsewhere}
+use Rattle.rn_declared.specs.Names.{same_name, number_among}
+use Rattle.rn_rules.specs.Systems.{scope_of}
+use Rattle.rn_numbered.specs.Numbered.{Numbers, expr_of, cond_of, equality_of, guard_of}
+use Rattle.rn_numbering.specs.Numbering.{numbers_of}
+use Rattle.rn_numbered.specs.Numbered.{action_of, creation_of, uplink_of, downlink_of, arc_of}
+use Rattle.rn_numbered.specs.Numbered.{inscription_of}
+use Rattle.rn_occurring.specs.TransitionVars.{is_among}
+use Rattle.rn_spelled.specs.WellFormed.{IsWellFormedExpr, IsShallowCond, IsWellFormedInscription}
+use Rattle.rn_spelled.specs.WellFormed.{exprs_of, conds_of, exprs_in}
+use Rattle.rn_declared.proofs.Faultless.{both_nil, unbroken, holds}
 use Rattle.rn_check.proofs.InscriptionParts.{set_parts, uplink_part, downlink_parts}
 use Rattle.rn_check.proofs.ScopeKinds.{same_texts}
 use Rattle.rn_check.proofs.ExpressionFacts.{Stands, is_narrow, vars_stand, without_step}

@@ -40,35 +40,39 @@ use Rattle.rn_net.specs.declared.kinds.PKind.{PKind}
 use Rattle.rn_net.specs.declared.plain.Plain.{Plain}
 use Rattle.rn_net.specs.declared.plain.PNet.{PNet}
 use Rattle.rn_net.specs.declared.plain.PTransition.{PTransition}
-use Rattle.rn_check.specs.declared.fault.Rule.TheVariants as Rule
-use Rattle.rn_check.specs.declared.pattern.Pattern.{Pattern}
-use Rattle.rn_check.specs.declared.pattern.Pattern.TheVariants as Pattern
-use Rattle.rn_check.specs.declared.pattern.Pattern.TheOpen as P
-use Rattle.rn_check.specs.Faults.{broken, broken_if, past_limit}
-use Rattle.rn_check.specs.Patterns.{gives_kind, gives_step, share, pattern_of}
-use Rattle.rn_check.specs.Expressions.{Where, Seen, seen_of, apart, misfit, operand_faults}
-use Rattle.rn_check.specs.Expressions.{operands_faults, variable_faults}
-use Rattle.rn_check.specs.Conditions.{compared_faults, sides_faults, condition_faults}
-use Rattle.rn_check.specs.Arcs.{asked_of, is_clear, is_name, is_variable, inscribed_faults}
-use Rattle.rn_check.specs.Arcs.{arc_faults}
-use Rattle.rn_check.specs.Calls.{misfits, channel_call_faults, call_faults, target_faults}
-use Rattle.rn_check.specs.Calls.{is_no_net, creation_faults}
-use Rattle.rn_check.specs.Actions.{value_faults}
-use Rattle.rn_check.specs.Transitions.{Progress, Scope, inscription_faults, inscriptions_faults}
-use Rattle.rn_check.specs.Transitions.{after, in_action, in_output, elsewhere, at_first}
-use Rattle.rn_check.specs.Transitions.{transition_faults}
-use Rattle.rn_check.specs.Systems.{scope_of}
-use Rattle.rn_check.specs.Numbering.{Numbers, kind_of, expr_of, expr_of_form, cond_of, net_of}
-use Rattle.rn_check.specs.Numbering.{system_of, numbers_of, equality_of, guard_of, action_of}
-use Rattle.rn_check.specs.Numbering.{creation_of, uplink_of, downlink_of, arc_of, inscription_of}
-use Rattle.rn_check.specs.Numbering.{transition_of}
-use Rattle.rn_check.specs.WellFormed.{exprs_in}
-use Rattle.rn_check.proofs.PatternKinds.{gives-List, share_gives, gives_some}
+use Rattle.rn_declared.specs.declared.fault.Rule.TheVariants as Rule
+use Rattle.rn_declared.specs.declared.pattern.Pattern.{Pattern}
+use Rattle.rn_declared.specs.declared.pattern.Pattern.TheVariants as Pattern
+use Rattle.rn_declared.specs.declared.pattern.Pattern.TheOpen as P
+use Rattle.rn_declared.specs.Faults.{broken, broken_if, past_limit}
+use Rattle.rn_declared.specs.Patterns.{gives_kind, gives_step, share, pattern_of}
+use Rattle.rn_rules.specs.Expressions.{Where, Seen, seen_of, apart, misfit, operand_faults}
+use Rattle.rn_rules.specs.Expressions.{operands_faults, variable_faults}
+use Rattle.rn_rules.specs.Conditions.{compared_faults, sides_faults, condition_faults}
+use Rattle.rn_rules.specs.Arcs.{asked_of, is_clear, is_name, is_variable, inscribed_faults}
+use Rattle.rn_rules.specs.Arcs.{arc_faults}
+use Rattle.rn_rules.specs.Calls.{misfits, channel_call_faults, call_faults, target_faults}
+use Rattle.rn_rules.specs.Calls.{is_no_net, creation_faults}
+use Rattle.rn_rules.specs.Actions.{value_faults}
+use Rattle.rn_rules.specs.Transitions.{Progress, Scope, inscription_faults, inscriptions_faults}
+use Rattle.rn_rules.specs.Transitions.{after, in_action, in_output, elsewhere, at_first}
+use Rattle.rn_rules.specs.Transitions.{transition_faults}
+use Rattle.rn_rules.specs.Systems.{scope_of}
+use Rattle.rn_numbered.specs.Numbered.{Numbers, kind_of, expr_of, expr_of_form, cond_of}
+use Rattle.rn_numbering.specs.Numbering.{net_of}
+use Rattle.rn_numbering.specs.Numbering.{system_of, numbers_of}
+use Rattle.rn_numbered.specs.Numbered.{equality_of, guard_of, action_of}
+use Rattle.rn_numbered.specs.Numbered.{creation_of, uplink_of, downlink_of, arc_of, inscription_of}
+use Rattle.rn_numbering.specs.Numbering.{transition_of}
+use Rattle.rn_spelled.specs.WellFormed.{exprs_in}
+use Rattle.rn_declared.proofs.PatternKinds.{gives-List, share_gives, gives_some}
 use Rattle.rn_check.proofs.DeclaredKinds.{gives_itself}
-use Rattle.rn_check.proofs.Faultless.{both_nil, unbroken, holds, not_apart, fits_asked}
-use Rattle.rn_check.proofs.Faultless.{only_net, net_shared, operand_fits}
+use Rattle.rn_declared.proofs.Faultless.{both_nil, unbroken, holds}
+use Rattle.rn_check.proofs.FaultlessExpressions.{not_apart, fits_asked}
+use Rattle.rn_check.proofs.FaultlessExpressions.{only_net, net_shared, operand_fits}
 use Rattle.rn_check.proofs.InscriptionParts.{set_parts, uplink_part, downlink_parts}
-use Rattle.rn_check.proofs.ExpressionKinds.{has_its_kinds, Numbered, form_expr}
+use Rattle.rn_check.proofs.ExpressionKinds.{has_its_kinds}
+use Rattle.rn_numbered.proofs.NumberedForms.{Numbered, form_expr}
 use Rattle.rn_check.proofs.ScopeKinds.{channel_of, place_of, the_var, the_place, the_channel}
 use Rattle.rn_check.proofs.ScopeKinds.{the_net, vars_are_known}
 use Rattle.rn_check.proofs.ConditionParts.{comparisons_have}

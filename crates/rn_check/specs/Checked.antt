@@ -1,23 +1,11 @@
 -- What the checker accepts.
-use Rattle.std.specs.Prelude.{◌≡◌, [], Contains, Result, Err}
-use Rattle.rn_notation.specs.declared.token.Spot.{Spot}
+use Rattle.std.specs.Prelude.{◌≡◌, [], Result, Err}
 use Rattle.rn_net.specs.declared.plain.Plain.{Plain}
 use Rattle.rn_model.specs.declared.system.System.{System}
-use Rattle.rn_check.specs.declared.fault.CheckFault.{CheckFault}
-use Rattle.rn_check.specs.declared.fault.CheckFault.TheVariants as C
-use Rattle.rn_check.specs.declared.fault.Rule.{Rule}
-use Rattle.rn_check.specs.Faults.{IsFirstOf, broken}
-use Rattle.rn_check.specs.Systems.{system_faults}
-use Rattle.rn_check.specs.Numbering.{system_of}
-
--- this rule is broken at this spot
-abbrev pub Breaks : Plain → Rule → Spot → Type 0
-Breaks plain rule spot = Contains (system_faults plain) (broken rule spot)
-
--- This rule is broken at this spot, none is at an earlier spot, and none of a lower number at the
--- same.
-abbrev pub BreaksFirst : Plain → Rule → Spot → Type 0
-BreaksFirst plain rule spot = IsFirstOf (system_faults plain) (broken rule spot)
+use Rattle.rn_declared.specs.declared.fault.CheckFault.{CheckFault}
+use Rattle.rn_declared.specs.declared.fault.CheckFault.TheVariants as C
+use Rattle.rn_rules.specs.Systems.{system_faults}
+use Rattle.rn_numbering.specs.Numbering.{system_of}
 
 -- No rule is broken, and the system is the plain form with numbers in place of names.
 pub record Checked (plain : Plain) (system : System) : Type 0 where

@@ -1,20 +1,21 @@
 -- Laws over what the checker accepts. Each is the contract of a function that does nothing.
-use Rattle.std.specs.Prelude.{◌≡◌, ◌↔◌, true, []}
+use Rattle.std.specs.Prelude.{◌≡◌, ◌↔◌, ℕ, List, []}
 use Rattle.rn_value.specs.declared.value.Kind.{Kind}
 use Rattle.rn_inscript.specs.declared.exprs.PExpr.{PExpr}
 use Rattle.rn_net.specs.declared.plain.Plain.{Plain}
 use Rattle.rn_net.specs.declared.plain.PNet.{PNet}
+use Rattle.rn_net.specs.Texts.{Spells}
 use Rattle.rn_model.specs.declared.system.System.{System}
 use Rattle.rn_model.specs.Good.{Good}
 use Rattle.rn_model.specs.Systems.{var_kind_in}
 use Rattle.rn_model.specs.Kinds.{HasExprKind}
-use Rattle.rn_check.specs.declared.pattern.Pattern.{Pattern}
-use Rattle.rn_check.specs.Patterns.{Gives, share, both_of}
-use Rattle.rn_check.specs.Expressions.{Where, seen_of}
-use Rattle.rn_check.specs.Numbering.{net_of, numbers_of, expr_of}
-use Rattle.rn_check.specs.Systems.{scope_of}
+use Rattle.rn_declared.specs.Patterns.{Gives}
+use Rattle.rn_rules.specs.Expressions.{Where, seen_of}
+use Rattle.rn_numbering.specs.Numbering.{net_of, numbers_of}
+use Rattle.rn_numbered.specs.Numbered.{expr_of}
+use Rattle.rn_rules.specs.Systems.{scope_of}
 use Rattle.rn_check.specs.Checked.{Checked}
-use Rattle.rn_check.specs.WellFormed.{IsWellFormed}
+use Rattle.rn_spelled.specs.WellFormed.{IsWellFormed}
 
 -- an expression in which nothing is broken has, with numbers in place of names, exactly the kinds
 -- that come of its pattern
@@ -29,12 +30,7 @@ abbrev pub CheckedSystemsAreGood : Type 0
 CheckedSystemsAreGood = (plain : Plain) (system : System) → Checked plain system →
     IsWellFormed plain → Good system
 
--- Patterns share a kind exactly where some kind comes of both.
-abbrev pub PatternsShareKinds : Type 0
-PatternsShareKinds = (p q : Pattern) →
-    (share p q ≡ true) ↔ ((kind : Kind) × Gives p kind × Gives q kind)
-
--- Of what two patterns that share a kind have in common come exactly the kinds that come of both.
-abbrev pub BothGiveTheirKinds : Type 0
-BothGiveTheirKinds = (p q : Pattern) (kind : Kind) → share p q ≡ true →
-    Gives (both_of p q) kind ↔ (Gives p kind × Gives q kind)
+-- A text in which nothing is broken means a good system.
+abbrev pub CheckedTextsAreGood : Type 0
+CheckedTextsAreGood = (bytes : List ℕ) (plain : Plain) (system : System) → Spells bytes plain →
+    Checked plain system → Good system

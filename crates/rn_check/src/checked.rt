@@ -1,34 +1,22 @@
 //! The check of a net text.
-ghost use Rattle.std.specs.Prelude.{◌≡◌, ◌↔◌, ℕ, List, [], None, Some, Ok, Err, IfOk};
+ghost use Rattle.std.specs.Prelude.{◌≡◌, ℕ, List, Ok, Err, IfOk};
 ghost use Rattle.rn_model.specs.declared.system.System.{System as Made};
 ghost use Rattle.rn_model.specs.Good.{Good};
 ghost use Rattle.rn_net.specs.Texts.{Spells};
 ghost use Rattle.rn_notation.specs.declared.token.Spot.{Spot};
-ghost use Rattle.rn_check.specs.declared.fault.Rule.{Rule};
-ghost use Rattle.rn_check.specs.Faults.{broken, report_of};
-ghost use Rattle.rn_check.specs.Systems.{system_faults};
-ghost use Rattle.rn_check.specs.Checked.{BreaksFirst, Checked, Answers};
-ghost use Rattle.rn_check.specs.WellFormed.{IsWellFormed};
+ghost use Rattle.rn_declared.specs.declared.fault.Rule.{Rule};
+ghost use Rattle.rn_declared.specs.Faults.{report_of};
+ghost use Rattle.rn_rules.specs.Broken.{BreaksFirst};
+ghost use Rattle.rn_check.specs.Checked.{Checked, Answers};
+ghost use Rattle.rn_spelled.specs.WellFormed.{IsWellFormed};
 
-use crate::fault::{CheckFault, Fault};
-use crate::first::First;
-use crate::nets::see_system;
-use crate::numbering::system_of;
+use rn_declared::CheckFault;
 use rn_model::System;
 use rn_net::Plain;
+use rn_numbering::system_of;
+use rn_rules::first_fault;
 use rn_value::NoMemory;
 use std::alloc::Global;
-
-/// The first broken rule of a net text, and where it is broken; none where none is broken.
-pub fn first_fault(alloc: Global, plain: &Plain) -> Result<Option<Fault>, NoMemory>
-    ensures unbroken { IfOk result (λ fault. (fault ≡ None) ↔ (system_faults plain.now ≡ [])) }
-    ensures first { IfOk result (λ fault. (rule : Rule) (spot : Spot) →
-        (fault ≡ Some (broken rule spot)) ↔ BreaksFirst plain.now rule spot) }
-{
-    let mut first = First { fault: None };
-    see_system(alloc, plain, &mut first)?;
-    Ok(first.fault)
-}
 
 /// The system that a net text means, or why it means none.
 ///

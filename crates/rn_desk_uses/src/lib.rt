@@ -3,8 +3,6 @@
 
 mod post;
 mod sheet;
-#[cfg(test)]
-mod tests;
 mod turns;
 mod worker;
 

@@ -11,7 +11,7 @@ use Rattle.rn_choices.specs.Leading.{NoneLeads}
 use Rattle.rn_growing.specs.Grown.{Grown}
 use Rattle.rn_search.specs.Sought.{Sought, Leads, StartsAt}
 use Rattle.rn_search.proofs.Sound.{none_are_sound}
-use Rattle.rn_branch.specs.Branches.{IsBranchOf}
+use Rattle.rn_looking.specs.Branches.{IsBranchOf}
 use Rattle.rn_found.specs.Starting.{AreJust, IsNoStart}
 
 -- some assignment

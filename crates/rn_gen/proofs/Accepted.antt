@@ -4,11 +4,11 @@ use Rattle.rn_notation.specs.declared.token.Spot.{Spot}
 use Rattle.rn_net.specs.declared.plain.Plain.{Plain}
 use Rattle.rn_net.specs.Texts.{Spells}
 use Rattle.rn_net.specs.Laws.{OneSpelled, SpelledIsNotRefused}
-use Rattle.rn_check.specs.declared.fault.Rule.{Rule}
-use Rattle.rn_check.specs.Faults.{broken}
-use Rattle.rn_check.specs.Checked.{BreaksFirst}
-use Rattle.rn_check.specs.Numbering.{system_of}
-use Rattle.rn_check.specs.Systems.{system_faults}
+use Rattle.rn_declared.specs.declared.fault.Rule.{Rule}
+use Rattle.rn_declared.specs.Faults.{broken}
+use Rattle.rn_rules.specs.Broken.{BreaksFirst}
+use Rattle.rn_numbering.specs.Numbering.{system_of}
+use Rattle.rn_rules.specs.Systems.{system_faults}
 use Rattle.rn_print.specs.Nets.{canonical_text}
 use Rattle.rn_gen.specs.Workload.{workload}
 use Rattle.rn_gen.specs.Laws.{WorkloadIsAccepted, WorkloadIsCanonical, WorkloadIsNotRefused}

@@ -8,15 +8,16 @@ use Rattle.rn_notation.specs.declared.token.Token.{Token}
 use Rattle.rn_inscript.specs.Expressions.{joined}
 use Rattle.rn_net.specs.declared.kinds.PKindForm.TheVariants as K
 use Rattle.rn_net.specs.Kinds.{kind_at}
-use Rattle.rn_check.specs.declared.pattern.Pattern.TheVariants as Pattern
-use Rattle.rn_check.specs.Patterns.{pattern_of}
-use Rattle.rn_check.specs.Transitions.{Scope, transition_faults, channel_faults, uplink_faults, downlink_faults}
-use Rattle.rn_check.specs.Systems.{channels_faults, scope_of, net_faults, system_faults, text_start}
-use Rattle.rn_check.specs.Names.{same_name, declared_faults}
-use Rattle.rn_check.specs.Declarations.{kind_faults, place_faults}
-use Rattle.rn_check.specs.Faults.{broken_if, past_limit}
-use Rattle.rn_check.specs.declared.fault.Fault.{Fault}
-use Rattle.rn_check.specs.declared.fault.Rule.TheVariants as Rule
+use Rattle.rn_declared.specs.declared.pattern.Pattern.TheVariants as Pattern
+use Rattle.rn_declared.specs.Patterns.{pattern_of}
+use Rattle.rn_rules.specs.Transitions.{Scope, transition_faults, channel_faults, uplink_faults, downlink_faults}
+use Rattle.rn_declared.specs.Channels.{channels_faults}
+use Rattle.rn_rules.specs.Systems.{scope_of, net_faults, system_faults, text_start}
+use Rattle.rn_declared.specs.Names.{same_name, declared_faults}
+use Rattle.rn_declared.specs.Declarations.{kind_faults, place_faults}
+use Rattle.rn_declared.specs.Faults.{broken_if, past_limit}
+use Rattle.rn_declared.specs.declared.fault.Fault.{Fault}
+use Rattle.rn_declared.specs.declared.fault.Rule.TheVariants as Rule
 use Rattle.rn_model.specs.Limits.{most_vars, most_places, most_transitions, most_nets, most_channels}
 use Rattle.std.specs.List.{list_any}
 use Rattle.rn_gen.proofs.Streams.{past}

@@ -22,19 +22,19 @@ use Rattle.rn_net.specs.declared.constants.PConstForm.TheVariants as C
 use Rattle.rn_net.specs.declared.constants.PConstForm.TheOpen as Open
 use Rattle.rn_net.specs.Kinds.{kind_at}
 use Rattle.rn_net.specs.Constants.{constant_at}
-use Rattle.rn_check.specs.declared.fault.Rule.TheVariants as Rule
-use Rattle.rn_check.specs.declared.fault.Fault.{Fault}
-use Rattle.rn_check.specs.declared.pattern.Pattern.{Pattern, out-Pattern}
-use Rattle.rn_check.specs.declared.pattern.Pattern.TheVariants as Pattern
-use Rattle.rn_check.specs.Faults.{broken_if}
-use Rattle.rn_check.specs.Patterns.{pattern_of, pattern_step, share}
-use Rattle.rn_check.specs.Declarations.{Part, kind_part, kind_faults, kind_form_faults, const_part, const_form_faults, fits, fits_form, token_faults, place_faults}
-use Rattle.rn_check.specs.Expressions.{Where, seen_of, seen_form, whole, misfit, operand_faults, operands_faults}
-use Rattle.rn_check.specs.Conditions.{condition_faults, simple_faults, compared_faults}
-use Rattle.rn_check.specs.Arcs.{arc_faults, asked_of, is_clear, inscribed_faults}
-use Rattle.rn_check.specs.Calls.{call_faults, target_faults, creation_faults}
-use Rattle.rn_check.specs.Transitions.{Scope}
-use Rattle.rn_check.proofs.PatternKinds.{share-out}
+use Rattle.rn_declared.specs.declared.fault.Rule.TheVariants as Rule
+use Rattle.rn_declared.specs.declared.fault.Fault.{Fault}
+use Rattle.rn_declared.specs.declared.pattern.Pattern.{Pattern, out-Pattern}
+use Rattle.rn_declared.specs.declared.pattern.Pattern.TheVariants as Pattern
+use Rattle.rn_declared.specs.Faults.{broken_if}
+use Rattle.rn_declared.specs.Patterns.{pattern_of, pattern_step, share}
+use Rattle.rn_declared.specs.Declarations.{Part, kind_part, kind_faults, kind_form_faults, const_part, const_form_faults, fits, fits_form, token_faults, place_faults}
+use Rattle.rn_rules.specs.Expressions.{Where, seen_of, seen_form, whole, misfit, operand_faults, operands_faults}
+use Rattle.rn_rules.specs.Conditions.{condition_faults, simple_faults, compared_faults}
+use Rattle.rn_rules.specs.Arcs.{arc_faults, asked_of, is_clear, inscribed_faults}
+use Rattle.rn_rules.specs.Calls.{call_faults, target_faults, creation_faults}
+use Rattle.rn_rules.specs.Transitions.{Scope}
+use Rattle.rn_declared.proofs.PatternKinds.{share-out}
 use Rattle.rn_check.proofs.DeclaredKinds.{pattern-at}
 use Rattle.rn_check.proofs.ExpressionKinds.{Forms, Parts, seen-at}
 use Rattle.rn_gen.proofs.Forms.{Stream, var_at, int_at, compared, int_place, net_place}

@@ -6,8 +6,9 @@ use Rattle.rn_net.specs.declared.plain.Plain.{Plain}
 use Rattle.rn_net.specs.declared.refusal.Refusal.{Refusal}
 use Rattle.rn_net.specs.Texts.{Spells}
 use Rattle.rn_net.specs.Refusals.{IsRefused}
-use Rattle.rn_check.specs.declared.fault.Rule.{Rule}
-use Rattle.rn_check.specs.Checked.{Checked, BreaksFirst}
+use Rattle.rn_declared.specs.declared.fault.Rule.{Rule}
+use Rattle.rn_check.specs.Checked.{Checked}
+use Rattle.rn_rules.specs.Broken.{BreaksFirst}
 use Rattle.rn_print.specs.Nets.{canonical_text}
 use Rattle.rn_gen.specs.declared.text.TheConstants.{MOST_WORKERS}
 use Rattle.rn_gen.specs.Workload.{workload}

@@ -4,8 +4,6 @@
 mod boxed;
 mod items;
 mod memory;
-#[cfg(test)]
-mod tests;
 
 pub use boxed::Boxed;
 pub use items::Items;

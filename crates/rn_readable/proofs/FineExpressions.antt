@@ -16,9 +16,9 @@ use Rattle.rn_inscript.specs.declared.exprs.PForm.{PForm, fold_out-PForm}
 use Rattle.rn_inscript.specs.declared.exprs.PForm.TheVariants as F
 use Rattle.rn_inscript.specs.Expressions.{at_spot, IsExpr, IsTerms, IsProduct, IsFactors, IsUnary}
 use Rattle.rn_inscript.specs.Expressions.{IsPrimary, IsListed, IsExprs, IsMoreExprs}
-use Rattle.rn_check.specs.Numbering.{expr_of, expr_of_form}
-use Rattle.rn_check.proofs.ExpressionKinds.{Numbered, form_expr, expr-at}
-use Rattle.rn_check.proofs.KindDepths.{push}
+use Rattle.rn_numbered.specs.Numbered.{expr_of, expr_of_form}
+use Rattle.rn_numbered.proofs.NumberedForms.{Numbered, form_expr, expr-at}
+use Rattle.rn_spelled.proofs.KindDepths.{push}
 use Rattle.rn_lines.specs.Laws.{has_sixty_four_bits}
 use Rattle.rn_readable.proofs.FineReadings.{constants_step, constants_fine}
 use Rattle.rn_readable.proofs.FineTokens.{IsFineKind, AreFineTokens}

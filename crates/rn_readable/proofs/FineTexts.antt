@@ -49,10 +49,12 @@ use Rattle.rn_net.specs.Nets.{IsSystem, AreItems, IsChannel, IsNet, AreParts, Ar
 use Rattle.rn_net.specs.Nets.{AreMoreNames, IsKindOfPlace, AreInitial, IsTransition}
 use Rattle.rn_net.specs.Nets.{AreInscriptions}
 use Rattle.rn_net.specs.Texts.{Spells}
-use Rattle.rn_check.specs.Numbering.{value_of, value_of_form, Numbers, numbers_of}
-use Rattle.rn_check.specs.Numbering.{equality_of, action_of, uplink_of, downlink_of, arc_of}
-use Rattle.rn_check.specs.Numbering.{transition_of, net_of, system_of, expr_of, kind_of}
-use Rattle.rn_check.proofs.KindDepths.{push}
+use Rattle.rn_numbered.specs.Numbered.{value_of, value_of_form, Numbers}
+use Rattle.rn_numbering.specs.Numbering.{numbers_of}
+use Rattle.rn_numbered.specs.Numbered.{equality_of, action_of, uplink_of, downlink_of, arc_of}
+use Rattle.rn_numbering.specs.Numbering.{transition_of, net_of, system_of}
+use Rattle.rn_numbered.specs.Numbered.{expr_of, kind_of}
+use Rattle.rn_spelled.proofs.KindDepths.{push}
 use Rattle.rn_readable.proofs.MendedValues.{mended, IsFine, int_is_fine, text_is_fine}
 use Rattle.rn_readable.proofs.MendedValues.{mended-Tuple, mended-List}
 use Rattle.rn_readable.proofs.FineReadings.{constants_step}

@@ -30,7 +30,7 @@ use Rattle.rn_model.proofs.EnablingLemmas.{not_in_nil}
 use Rattle.rn_model.proofs.SoundRuns.{runs_end_sound}
 use Rattle.rn_told.specs.Readable.{IsReadable, HasReadableValues, IsReadableEnd}
 use Rattle.rn_told.specs.Readable.{IsReadableEntry, IsReadableRun}
-use Rattle.rn_check.proofs.WellFormedTexts.{checked_texts_are_good}
+use Rattle.rn_check.proofs.GoodSystems.{checked_texts_are_good}
 use Rattle.rn_readable.specs.Laws.{LogsAreReadable}
 use Rattle.rn_readable.proofs.MendedValues.{fine_within}
 use Rattle.rn_readable.proofs.ShallowValues.{of_var_kind, of_place_kind}

@@ -1,12 +1,8 @@
-//! Tests of values, tokens and inscriptions.
+//! Tests of what values, tokens and expressions answer to a caller other than the program.
 #![tactic(auto)]
 
 #[cfg(test)]
 mod inscript;
-#[cfg(test)]
-mod inscript_limits;
-#[cfg(test)]
-mod inscript_shown;
 #[cfg(test)]
 mod notation;
 #[cfg(test)]

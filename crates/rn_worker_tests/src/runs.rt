@@ -1,7 +1,6 @@
 //! What threads leave: workers that meet between search and commit, and instances that are dropped
 //! during a run.
 use crate::nets::run_text;
-use rn_gen::gen_text;
 use rn_model::{Entry, Reason};
 use rn_worker::{Finished, MeetGate, NoGate};
 use std::test::Fail;
@@ -61,16 +60,6 @@ fn two_workers_meet(rt: HostRuntime) -> Result<(), Fail> {
 }
 
 #[test]
-fn one_worker_meets_none(rt: HostRuntime) -> Result<(), Fail> {
-    let gate = MeetGate::new(10);
-    let finished = run_text(&rt, rt.alloc(), TWO, 1, 0, &gate)?;
-    assert!(rt; !gate.met());
-    assert!(rt; first_worker(&finished) == 1 && is_dead(&finished));
-    assert_eq!(rt; finished.state.length(), 3);
-    Ok(())
-}
-
-#[test]
 fn instances_are_dropped(rt: HostRuntime) -> Result<(), Fail> {
     for (workers, sweep_every) in [(1, 1), (4, 7), (4, 0), (64, 2)] {
         let finished = run_text(&rt, rt.alloc(), MAKES, workers, sweep_every, &NoGate)?;
@@ -99,23 +88,6 @@ fn many_live_instances_are_listed_rarely(rt: HostRuntime) -> Result<(), Fail> {
         assert_eq!(rt; fired(&finished), 200);
         assert!(rt; kept.len() == 101, "after {sweep_every}");
         assert_eq!(rt; swept(&finished), during);
-    }
-    Ok(())
-}
-
-// The workload makes an instance for each copy and lets it go. So each is dropped once it isn't live
-// any more, and `main` is left.
-#[test]
-fn a_workload_is_dropped(rt: HostRuntime) -> Result<(), Fail> {
-    for (copies, sweep_every, least, most) in [(1, 1, 1, 1), (1, 0, 0, 0), (3, 2, 0, 3)] {
-        let text = gen_text(rt.alloc(), copies)?;
-        let finished = run_text(&rt, rt.alloc(), text.as_slice(), 1, sweep_every, &NoGate)?;
-        let dropped = swept(&finished);
-        let kept = finished.state.table().instances()?;
-        assert_eq!(rt; fired(&finished), 5 * copies as u64);
-        assert!(rt; is_dead(&finished), "{copies} copies");
-        assert!(rt; kept.as_slice() == [1].as_slice(), "{copies} copies");
-        assert!(rt; least <= dropped && dropped <= most, "{copies} copies");
     }
     Ok(())
 }

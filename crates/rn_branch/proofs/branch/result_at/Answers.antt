@@ -4,7 +4,8 @@ use Rattle.std.specs.Prelude.{map}
 use Rattle.rn_growing.specs.Decisions.{transition_in}
 use Rattle.rn_search.specs.Points.{holes_of, node_of}
 use Rattle.rn_binding.specs.Applications.{application_of}
-use Rattle.rn_branch.proofs.Applied.{applied_on, applied_within}
+use Rattle.rn_branch.proofs.Applied.{applied_on}
+use Rattle.rn_looking.proofs.AppliedAt.{applied_within}
 use Rattle.rn_branch.proofs.NodesThere.{net_is_there, transition_is_there}
 use Rattle.rn_branch.proofs.branch.result_at.Goals as goal
 

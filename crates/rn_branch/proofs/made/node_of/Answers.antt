@@ -1,7 +1,7 @@
 -- The parts of the node, copied.
 use Rattle.std.proofs.Common.{◌≡◌, ◌∙◌, refl, rules, subst}
 use Rattle.std.specs.Prelude.{All}
-use Rattle.rn_branch.specs.Forced.{IsVarForcedIn}
+use Rattle.rn_looking.specs.Forced.{IsVarForcedIn}
 use Rattle.rn_branch.specs.Making.{AreValues}
 use Rattle.rn_branch.proofs.MadeSteps.{node_free, node_made}
 use Rattle.rn_branch.proofs.made.node_of.Goals as goal

@@ -1,9 +1,9 @@
 -- The first fault is reported, and without one the system is made.
 use Rattle.std.proofs.Common.{◌∙◌, sym, ap, Some}
 use Rattle.rn_check.proofs.GoodSystems.{checked_systems_are_good}
-use Rattle.rn_check.proofs.NetNumbers.{numbered}
+use Rattle.rn_check.proofs.DeclaredNumbers.{numbered}
 use Rattle.rn_check.proofs.ReportLemmas.{one_report, reported}
-use Rattle.rn_check.proofs.WellFormedTexts.{checked_texts_are_good}
+use Rattle.rn_check.proofs.GoodSystems.{checked_texts_are_good}
 use Rattle.rn_check.proofs.checked.check_system.Goals as goal
 
 pub returns-in-Some-clause-refused : goal.returns-in-Some-clause-refused

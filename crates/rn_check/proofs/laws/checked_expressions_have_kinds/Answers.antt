@@ -1,6 +1,6 @@
 use Rattle.std.proofs.Common.{sym, ap, ◌∙◌}
 use Rattle.rn_model.specs.Systems.{var_kind_in}
-use Rattle.rn_check.specs.Numbering.{net_of, numbers_of}
+use Rattle.rn_numbering.specs.Numbering.{net_of, numbers_of}
 use Rattle.rn_check.proofs.ExpressionKinds.{has_its_kinds}
 use Rattle.rn_check.proofs.KindsSeen.{kinds_are_seen}
 use Rattle.rn_check.proofs.ScopeKinds.{vars_are_known, vars_are_seen}

@@ -7,12 +7,13 @@ use Rattle.rn_search.specs.Sought.{Sought, Leads}
 use Rattle.rn_search.specs.Points.{offers}
 use Rattle.rn_search.specs.Allowing.{Allows}
 use Rattle.rn_growing.specs.Grown.{Grown}
-use Rattle.rn_branch.specs.Branches.{IsAtEnd, IsBranchOf}
-use Rattle.rn_branch.specs.Looks.{Looked}
-use Rattle.rn_branch.specs.Settling.{IsNextOf}
-use Rattle.rn_branch.specs.Things.{IsOfEntries}
-use Rattle.rn_branch.specs.declared.look.Look.{Look}
-use Rattle.rn_branch.specs.declared.look.Look.TheVariants.{Done, Waits, Goes}
+use Rattle.rn_branch.specs.GoingOn.{IsAtEnd}
+use Rattle.rn_looking.specs.Branches.{IsBranchOf}
+use Rattle.rn_looking.specs.Looks.{Looked}
+use Rattle.rn_branch.specs.GoingOn.{IsNextOf}
+use Rattle.rn_looking.specs.Things.{IsOfEntries}
+use Rattle.rn_looking.specs.declared.look.Look.{Look}
+use Rattle.rn_looking.specs.declared.look.Look.TheVariants.{Done, Waits, Goes}
 use Rattle.rn_branch.proofs.BranchSteps.{branch_inside, next_done, next_first, next_goes, next_stuck}
 use Rattle.rn_branch.proofs.branch.BranchGrows.next.Goals as goal
 

@@ -1,7 +1,7 @@
 -- As they are kept.
 use Rattle.std.proofs.Common.{subst, sym}
 use Rattle.rn_growing.specs.Grown.{Grown}
-use Rattle.rn_branch.specs.Applying.{AreAppliedIn}
+use Rattle.rn_looking.specs.Applying.{AreAppliedIn}
 use Rattle.rn_branch.proofs.settling.Settling.applications.Goals as goal
 
 pub returns : goal.returns

@@ -3,8 +3,8 @@ use Rattle.std.proofs.Common.{◌≡◌, ◌++◌, ◌∷◌, [], rules, sym, su
 use Rattle.std.specs.Prelude.{true, false}
 use Rattle.rn_growing.specs.Grown.{Grown, Tries, IsNew}
 use Rattle.rn_growing.specs.Turns.{MayCome}
-use Rattle.rn_branch.specs.Applying.{KeepsApplied}
-use Rattle.rn_branch.specs.Settling.{KeepsSettled}
+use Rattle.rn_branch.specs.Keeping.{KeepsApplied}
+use Rattle.rn_branch.specs.Keeping.{KeepsSettled}
 use Rattle.rn_branch.proofs.Applied.{applied_more, keeps_same}
 use Rattle.rn_branch.proofs.Settled.{keeps_more}
 use Rattle.rn_branch.proofs.settling.Settling.decide.Goals as goal

@@ -1,10 +1,10 @@
 -- What was settled stays so, and maybe more is.
 use Rattle.std.proofs.Common.{length, sym, subst}
-use Rattle.rn_branch.specs.Applying.{AreAppliedIn}
-use Rattle.rn_branch.specs.Branches.{IsBranchOf}
-use Rattle.rn_branch.specs.Looks.{Looked}
-use Rattle.rn_branch.specs.Settling.{AreSettled}
-use Rattle.rn_branch.specs.Things.{IsOfEntries}
+use Rattle.rn_looking.specs.Applying.{AreAppliedIn}
+use Rattle.rn_looking.specs.Branches.{IsBranchOf}
+use Rattle.rn_looking.specs.Looks.{Looked}
+use Rattle.rn_looking.specs.Settling.{AreSettled}
+use Rattle.rn_looking.specs.Things.{IsOfEntries}
 use Rattle.rn_branch.proofs.Settled.{keeps_settled}
 use Rattle.rn_branch.proofs.settling.Settling.look.Goals as goal
 

@@ -4,8 +4,8 @@ use Rattle.std.specs.Prelude.{Some, slice_get}
 use Rattle.std.proofs.lemmas.List.{take_all}
 use Rattle.rn_growing.specs.Grown.{Grown, first_decisions}
 use Rattle.rn_growing.proofs.Growth.{stands_at}
-use Rattle.rn_branch.specs.Applying.{KeepsApplied}
-use Rattle.rn_branch.specs.Settling.{KeepsSettled}
+use Rattle.rn_branch.specs.Keeping.{KeepsApplied}
+use Rattle.rn_branch.specs.Keeping.{KeepsSettled}
 use Rattle.rn_branch.proofs.Applied.{applied_fewer}
 use Rattle.rn_branch.proofs.Settled.{keeps_fewer}
 use Rattle.rn_branch.proofs.settling.Settling.undo.Goals as goal

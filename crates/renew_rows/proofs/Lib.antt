@@ -1,0 +1,4 @@
+pub mod CountingLemmas
+mod LineLemmas
+mod Repeating
+mod Writing

@@ -1,7 +1,0 @@
--- The variables so far.
-use Rattle.std.proofs.Common.{take}
-use Rattle.rn_branch.specs.Testing.{AreOthersOf}
-use Rattle.rn_branch.proofs.known.values_but.Given as goal
-
-abbrev pub invariant-loop-x : goal.invariant-loop-x
-invariant-loop-x l = AreOthersOf l.growing l.path l.but (take l.x-index l.vars) l.pairs.items

@@ -1,0 +1,13 @@
+//! Tests of library calls that no command shows.
+#![tactic(auto)]
+
+#[cfg(test)]
+mod desks;
+#[cfg(test)]
+mod lists;
+#[cfg(test)]
+mod searches;
+#[cfg(test)]
+mod streams;
+#[cfg(test)]
+mod values;

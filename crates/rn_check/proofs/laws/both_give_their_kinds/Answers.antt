@@ -1,5 +1,0 @@
-use Rattle.rn_check.proofs.BothKinds.{both_give_their_kinds}
-use Rattle.rn_check.proofs.laws.both_give_their_kinds.Goals as goal
-
-pub returns : goal.returns
-returns c = both_give_their_kinds

@@ -1,0 +1,13 @@
+pub mod FirstLemmas
+pub mod ToldLemmas
+pub mod Faultless
+pub mod PatternLemmas
+pub mod TableLemmas
+pub mod KindLemmas
+pub mod NameLemmas
+pub mod DeclaredNames
+pub mod ChannelLemmas
+pub mod PlaceLemmas
+pub mod PatternKinds
+pub mod SharedKinds
+pub mod BothKinds

@@ -1,0 +1,52 @@
+//! Tables of names: the number of the first declaration of each.
+ghost use Rattle.std.specs.Prelude.{◌≡◌, ◌+◌, ◌<◌, ◌^◌, ◌↔◌, ℕ, [], Option, None, Some, IfOk, OnOk, IsTrue, List, is_none, option_copied};
+ghost use Rattle.rn_declared.specs.Tables.{found_in, with_name};
+
+use crate::pattern::{Pattern, Patterns};
+use rn_value::{NoMemory, Str, copy_text};
+use std::alloc::Global;
+use std::collections::BTreeMap;
+
+/// The numbers of names, each that of the first declaration of the name.
+#[derive(Drop)]
+pub struct Table {
+    pub numbers: BTreeMap<Str, usize>,
+}
+
+impl Table {
+    /// A table in which no name is declared.
+    pub fn new(alloc: Global) -> Table
+        ensures { (name : List ℕ) → found_in result name ≡ None }
+    {
+        Table {
+            numbers: BTreeMap::new(alloc),
+        }
+    }
+
+    /// The number of a name that was declared.
+    pub fn number(&self, name: &Str) -> Option<usize>
+        ensures { result ≡ found_in self.now name.now }
+    {
+        self.numbers.get(name).copied()
+    }
+
+    /// Declares a name under this number, and says whether it is new.
+    pub fn declare(&mut self, alloc: Global, name: &Str, number: usize) -> Result<bool, NoMemory>
+        ensures new { IfOk result (λ new. new ≡ is_none (found_in self.old name.now)) }
+        ensures found { OnOk result ((other : List ℕ) →
+            found_in self.new other ≡ with_name (found_in self.old) name.now number other) }
+    {
+        if self.numbers.contains_key(name) {
+            return Ok(false);
+        }
+        self.numbers.insert(copy_text(alloc, name)?, number)?;
+        Ok(true)
+    }
+}
+
+/// Names that were declared with a kind, as variables and places are.
+#[derive(Drop)]
+pub struct Declared {
+    pub table: Table,
+    pub patterns: Patterns,
+}

@@ -1,9 +1,0 @@
-use Rattle.std.proofs.Common.{sym, subst}
-use Rattle.rn_fire_tests.specs.Watching.{IsWatched}
-use Rattle.rn_fire_tests.proofs.GrowingStates.{either_watched}
-use Rattle.rn_fire_tests.proofs.steps.repeat_step.Goals as goal
-
-pub repeat-requires-clause-watched : goal.repeat-requires-clause-watched
-repeat-requires-clause-watched c =
-    subst (IsWatched c.args.state.now) (sym c.one_of-watched.ensures)
-    (either_watched c.args.state.now c.args.pair.now c.args.which c.requires.paired)

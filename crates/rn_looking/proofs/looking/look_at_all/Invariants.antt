@@ -1,0 +1,11 @@
+use Rattle.rn_looking.specs.Looks.{Looked}
+use Rattle.rn_looking.specs.Settling.{AreSettled}
+use Rattle.rn_looking.specs.Things.{IsOfEntries}
+use Rattle.rn_looking.proofs.looking.look_at_all.Given as goal
+
+-- what the look at the first decisions came to, and how many of them are settled
+abbrev pub invariant-loop-node : goal.invariant-loop-node
+invariant-loop-node l = record {
+  looked : Looked l.problem l.growing.decisions (IsOfEntries l.growing.decisions l.node) l.best;
+  settled : AreSettled l.problem.system l.growing.decisions l.settled;
+}

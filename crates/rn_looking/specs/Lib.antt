@@ -1,0 +1,11 @@
+pub mod Applying
+pub mod Branches
+pub mod Calling
+pub mod Equating
+pub mod Forced
+pub mod Guards
+pub mod Knowing
+pub mod Looks
+pub mod Settling
+pub mod Things
+pub mod UntrueParts

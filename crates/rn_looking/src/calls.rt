@@ -1,0 +1,205 @@
+//! Looking at the calls of a node.
+ghost use Rattle.std.specs.Prelude.{◌≡◌, ◌<◌, ◌^◌, ◌++◌, ◌∷◌, [], ℕ, IfOk, Some, length, nat_lt};
+ghost use Rattle.std.specs.Prelude.{IsTrue, slice_get};
+ghost use Rattle.rn_choices.specs.declared.next.Next.TheVariants.{Stuck};
+ghost use Rattle.rn_growing.specs.Decisions.{transition_in};
+ghost use Rattle.rn_model.specs.Derivation.{target};
+ghost use Rattle.rn_model.specs.Kinds.{HasExprKind};
+ghost use Rattle.rn_value.specs.declared.value.Kind.{Kind};
+ghost use Rattle.rn_value.specs.declared.value.Kind.TheVariants as K;
+ghost use Rattle.rn_search.specs.Making.{makes};
+ghost use Rattle.rn_looking.specs.Branches.{IsLookedAt};
+ghost use Rattle.rn_looking.specs.Calling.{IsCalledOn, IsMaker, IsTarget};
+ghost use Rattle.rn_looking.specs.Looks.{GoesOn, Looked};
+ghost use Rattle.rn_looking.specs.Things.{IsOnCall, IsOnCalls, IsToBeCalled};
+
+use crate::best::{better, is_best};
+use crate::look::Look;
+use rn_choices::Next;
+use rn_growing::{Decision, Growing, Head};
+use rn_model::{Downlink, Expr, System, Transition};
+use rn_search::{Called, Point, Problem, transition_in, what_may_be_cut};
+use rn_value::{InstRef, NoMemory, Path, Value, copy_inst};
+use std::alloc::Global;
+
+// Whether the transition of a node has a creation of this index.
+fn has_creation(system: &System, head: &Head, j: u8) -> bool
+    ensures { result ≡ nat_lt j (length (transition_in system.now head.now).creations) }
+{
+    match transition_in(system, head) {
+        Some(transition) => (j as usize) < transition.creations.len(),
+        None => false,
+    }
+}
+
+// Whether a decision enters the node on a path, and its transition has this creation.
+fn makes(system: &System, path: &[u32], j: u8, decision: &Decision) -> bool
+    ensures { result ≡ makes system.now path.now j decision.now }
+{
+    match decision {
+        Decision::Entered(head, _) => head.path.as_slice() == path && has_creation(system, head, j),
+        Decision::Found(_, _, _) => false,
+        Decision::Computed(_, _, _, _) => false,
+    }
+}
+
+// The index of the decision by which an instance is made.
+fn maker_of(system: &System, decisions: &[Decision], path: &[u32], j: u8) -> Option<usize>
+    ensures { IsMaker system.now decisions.now path.now j result }
+{
+    for k in 0..decisions.len() {
+        if makes(system, path, j, &decisions[k]) {
+            return Some(k);
+        }
+    }
+    None
+}
+
+// The instance that is called, where it is there or made.
+fn called_on(system: &System, decisions: &[Decision], inst: &InstRef) -> Option<Called>
+    ensures { IsCalledOn system.now decisions.now inst.now result }
+{
+    match inst {
+        InstRef::Old(number) => Some(Called::Kept(*number)),
+        InstRef::New(path, j) => match maker_of(system, decisions, path.as_slice(), *j) {
+            Some(k) => Some(Called::Made(k, *j)),
+            None => None,
+        },
+    }
+}
+
+// The value to which the target of a call is forced.
+fn target_of(
+    alloc: Global,
+    growing: &Growing<'_>,
+    head: &Head,
+    i: usize,
+    expr: &Expr,
+) -> Result<Option<Value>, NoMemory>
+    requires { (kinds : ℕ → Kind) × HasExprKind kinds expr.now K.Net }
+    ensures { IfOk result (λ value. IsTarget growing.now head.now (target i) expr.now value) }
+{
+    let _ = i;
+    match expr {
+        Expr::This => Ok(Some(Value::Inst(copy_inst(alloc, &head.inst)?))),
+        Expr::Var(x) => growing.value(alloc, head.path.as_slice(), *x),
+        _ => Ok(None),
+    }
+}
+
+// The downlink of an index.
+fn downlink_at(transition: &Transition, i: usize) -> &Downlink
+    requires { i < length transition.now.downlinks }
+    ensures { slice_get transition.now.downlinks i ≡ Some result.now }
+{
+    &transition.downlinks.as_slice()[i]
+}
+
+// Looks at a call that wasn't answered yet.
+fn look_for_answer(
+    alloc: Global,
+    problem: &Problem<'_>,
+    growing: &Growing<'_>,
+    node: usize,
+    head: &Head,
+    transition: &Transition,
+    i: usize,
+) -> Result<Look, NoMemory>
+    requires at { IsLookedAt problem.now growing.now node head.now transition.now }
+    requires open { IsToBeCalled growing.now.decisions head.now transition.now i }
+    ensures { IfOk result (λ look. Looked problem.now growing.now.decisions
+        (IsOnCall head.now i) look) }
+{
+    let downlink = downlink_at(transition, i);
+    let Some(value) = target_of(alloc, growing, head, i, &downlink.target)? else {
+        return Ok(Look::Waits);
+    };
+    let Value::Inst(inst) = &value else {
+        return Ok(Look::Goes(Next::Stuck));
+    };
+    if head.path.len() >= problem.depth() as usize {
+        return Ok(Look::Goes(Next::Stuck));
+    }
+    let decisions = growing.decisions();
+    let Some(called) = called_on(problem.system(), decisions, inst) else {
+        return Ok(Look::Goes(Next::Stuck));
+    };
+    let point = Point::Call(node, i, called);
+    let of = problem.alternatives(decisions, point);
+    Ok(Look::Goes(Next::Choose(point, of, 0)))
+}
+
+/// Whether a node's calls need more levels than are left. Then the decisions lead to no binding.
+pub(crate) fn lacks_levels(
+    problem: &Problem<'_>,
+    growing: &Growing<'_>,
+    node: usize,
+    head: &Head,
+    transition: &Transition,
+) -> bool
+    requires { IsLookedAt problem.now growing.now node head.now transition.now }
+    ensures { IsTrue result → GoesOn problem.now growing.now.decisions Stuck }
+{
+    let _ = growing;
+    let _ = node;
+    let _ = transition;
+    what_may_be_cut();
+    !problem.has_levels(head)
+}
+
+// The path of the child at a downlink.
+fn child_path(alloc: Global, head: &Head, i: usize) -> Result<Path, NoMemory>
+    requires { i < 2 ^ 32 }
+    ensures { IfOk result (λ path. path ≡ head.now.path ++ i ∷ []) }
+{
+    let mut path = Vec::with_capacity(alloc, head.path.len().saturating_add(1))?;
+    path.extend_from_slice(head.path.as_slice())?;
+    path.push(i as u32)?;
+    Ok(Path::from_vec(path))
+}
+
+// Looks at one of them.
+fn look_at_call(
+    alloc: Global,
+    problem: &Problem<'_>,
+    growing: &Growing<'_>,
+    node: usize,
+    head: &Head,
+    transition: &Transition,
+    i: usize,
+) -> Result<Look, NoMemory>
+    requires at { IsLookedAt problem.now growing.now node head.now transition.now }
+    requires within { i < length transition.now.downlinks }
+    ensures { IfOk result (λ look. Looked problem.now growing.now.decisions
+        (IsOnCall head.now i) look) }
+{
+    let path = child_path(alloc, head, i)?;
+    if growing.was_entered(path.as_slice()) {
+        return Ok(Look::Done);
+    }
+    look_for_answer(alloc, problem, growing, node, head, transition, i)
+}
+
+/// Looks at the calls of a node.
+pub(crate) fn look_at_calls(
+    alloc: Global,
+    problem: &Problem<'_>,
+    growing: &Growing<'_>,
+    node: usize,
+    head: &Head,
+    transition: &Transition,
+) -> Result<Look, NoMemory>
+    requires { IsLookedAt problem.now growing.now node head.now transition.now }
+    ensures { IfOk result (λ look. Looked problem.now growing.now.decisions
+        (IsOnCalls head.now (length transition.now.downlinks)) look) }
+{
+    let mut best = Look::Done;
+    for i in 0..transition.downlinks.len() {
+        let look = look_at_call(alloc, problem, growing, node, head, transition, i)?;
+        best = better(best, look);
+        if is_best(best) {
+            return Ok(best);
+        }
+    }
+    Ok(best)
+}

@@ -1,0 +1,103 @@
+//! What is known of the flexible arcs of a node.
+ghost use Rattle.std.specs.Prelude.{◌≡◌, ◌<◌, ◌↔◌, [], IfOk, IsTrue, length, unwrap_or};
+ghost use Rattle.std.specs.Option.{option_copied};
+ghost use Rattle.rn_model.specs.Lists.{IsWithin};
+ghost use Rattle.rn_model.specs.Markings.{tokens};
+ghost use Rattle.rn_choices.specs.declared.next.Next.TheVariants.{Stuck};
+ghost use Rattle.rn_looking.specs.declared.told.Told.TheVariants.{Fails};
+ghost use Rattle.rn_looking.specs.Branches.{IsLookedAt};
+ghost use Rattle.rn_looking.specs.Looks.{GoesOn};
+
+use crate::arcs::{arc_at, known_value};
+use crate::parts::is_flexible;
+use crate::told::{Told, unless_waits};
+use rn_arcs::elements_of;
+use rn_bag::Bag;
+use rn_growing::{Growing, Head};
+use rn_items::Items;
+use rn_model::Transition;
+use rn_search::Problem;
+use rn_table::Table;
+use rn_value::{InstRef, NoMemory, Vals, sort};
+use std::alloc::Global;
+
+// The tokens of a place of an instance, where there are some.
+fn bag_at<'a>(table: &'a Table, inst: &InstRef, place: u32) -> Option<&'a Bag>
+    ensures { unwrap_or (option_copied result) [] ≡ tokens table.now.marking inst.now place }
+{
+    match inst {
+        InstRef::Old(number) => table.bag(*number, place),
+        InstRef::New(_, _) => None,
+    }
+}
+
+// Whether a place holds each of these values as often as they have it. Each of them is looked up
+// once they are sorted.
+fn holds_all(table: &Table, inst: &InstRef, place: u32, values: Vals) -> Result<bool, NoMemory>
+    ensures { IfOk result (λ yes. IsTrue yes
+        ↔ IsWithin values (tokens table.now.marking inst.now place)) }
+{
+    let mut sorted = values.into_vec();
+    sort(&mut sorted)?;
+    let sorted = Items::from_vec(sorted);
+    match bag_at(table, inst, place) {
+        Some(bag) => Ok(bag.has_all(&sorted)),
+        None => Ok(sorted.is_empty()),
+    }
+}
+
+// What is known of an arc: it fails where it is a flexible arc, its list is known, and its place
+// doesn't hold each element as often as the list has it.
+fn test_arc(
+    alloc: Global,
+    problem: &Problem<'_>,
+    growing: &Growing<'_>,
+    node: usize,
+    head: &Head,
+    transition: &Transition,
+    k: usize,
+) -> Result<Told, NoMemory>
+    requires at { IsLookedAt problem.now growing.now node head.now transition.now }
+    requires within { k < length transition.now.arcs }
+    ensures { IfOk result (λ told. told ≡ Fails → GoesOn problem.now growing.now.decisions Stuck) }
+{
+    let _ = node;
+    let arc = arc_at(transition, k);
+    if !is_flexible(arc.kind) {
+        return Ok(Told::Holds);
+    }
+    let Some(list) = known_value(alloc, growing, head, &arc.inscription)? else {
+        return Ok(Told::Waits);
+    };
+    let values = elements_of(alloc, list);
+    if holds_all(problem.table(), &head.inst, arc.place, values)? {
+        Ok(Told::Holds)
+    } else {
+        Ok(Told::Fails)
+    }
+}
+
+/// What is known of the flexible arcs of a node. One fails where its list is known, and its place
+/// doesn't hold each element of that as often. Then the decisions lead to no binding: each has the
+/// forced values, and so takes all elements of this list.
+pub(crate) fn test_lists(
+    alloc: Global,
+    problem: &Problem<'_>,
+    growing: &Growing<'_>,
+    node: usize,
+    head: &Head,
+    transition: &Transition,
+) -> Result<Told, NoMemory>
+    requires { IsLookedAt problem.now growing.now node head.now transition.now }
+    ensures { IfOk result (λ told. told ≡ Fails → GoesOn problem.now growing.now.decisions Stuck) }
+{
+    let mut waits = false;
+    for k in 0..transition.arcs.len() {
+        match test_arc(alloc, problem, growing, node, head, transition, k)? {
+            Told::Fails => return Ok(Told::Fails),
+            Told::Waits => waits = true,
+            Told::Holds => {}
+        }
+    }
+    Ok(unless_waits(waits))
+}

@@ -1,0 +1,67 @@
+//! What is known of the guards of a node.
+ghost use Rattle.std.specs.Prelude.{◌≡◌, ◌⊎◌, IfOk};
+ghost use Rattle.rn_choices.specs.declared.next.Next.TheVariants.{Stuck};
+ghost use Rattle.rn_looking.specs.declared.told.Told.TheVariants.{Fails};
+ghost use Rattle.rn_looking.specs.Branches.{IsLookedAt};
+ghost use Rattle.rn_looking.specs.Guards.{IsKnownUntrue};
+ghost use Rattle.rn_looking.specs.Looks.{GoesOn};
+ghost use Rattle.rn_looking.specs.UntrueParts.{IsPartlyUntrue};
+
+use crate::guard_parts::is_partly_untrue;
+use crate::known::known_in_guard;
+use crate::told::{Told, fails_or_waits, unless_waits};
+use rn_calc::is_true;
+use rn_growing::{Growing, Head};
+use rn_model::{Cond, Transition};
+use rn_search::Problem;
+use rn_value::NoMemory;
+use std::alloc::Global;
+
+// What is known of a guard of a node: it fails where all its variables are forced, and it isn't
+// true, or so is one of the conditions that it joins.
+fn test_guard(
+    alloc: Global,
+    growing: &Growing<'_>,
+    head: &Head,
+    guard: &Cond,
+) -> Result<Told, NoMemory>
+    ensures { IfOk result (λ told. told ≡ Fails → IsKnownUntrue growing.now head.now guard.now
+        ⊎ IsPartlyUntrue growing.now head.now guard.now) }
+{
+    match known_in_guard(alloc, growing, head, guard)? {
+        Some(known) => {
+            if is_true(alloc, guard, &known)? {
+                Ok(Told::Holds)
+            } else {
+                Ok(Told::Fails)
+            }
+        }
+        None => Ok(fails_or_waits(is_partly_untrue(alloc, growing, head, guard)?)),
+    }
+}
+
+/// What is known of the guards of a node. Where one of them fails, the decisions lead to no binding:
+/// each has the forced values, and a guard that isn't true.
+pub(crate) fn test_guards(
+    alloc: Global,
+    problem: &Problem<'_>,
+    growing: &Growing<'_>,
+    node: usize,
+    head: &Head,
+    transition: &Transition,
+) -> Result<Told, NoMemory>
+    requires { IsLookedAt problem.now growing.now node head.now transition.now }
+    ensures { IfOk result (λ told. told ≡ Fails → GoesOn problem.now growing.now.decisions Stuck) }
+{
+    let _ = problem;
+    let _ = node;
+    let mut waits = false;
+    for guard in transition.guards.as_slice() {
+        match test_guard(alloc, growing, head, guard)? {
+            Told::Fails => return Ok(Told::Fails),
+            Told::Waits => waits = true,
+            Told::Holds => {}
+        }
+    }
+    Ok(unless_waits(waits))
+}

@@ -1,0 +1,28 @@
+//! What a look at a binding that grows comes to: how a search for enabled bindings goes on.
+#![tactic(auto)]
+
+mod among;
+mod arcs;
+mod best;
+mod calls;
+mod equated;
+mod flexible;
+mod guard_parts;
+mod guard_vars;
+mod guards;
+mod inhibitors;
+mod known;
+mod look;
+mod looking;
+mod parts;
+mod results;
+mod tested;
+mod told;
+
+pub use among::SHARES;
+pub use guard_vars::put_guard;
+pub use known::values_but;
+pub use look::Look;
+pub use looking::look_at_all;
+pub use parts::transition_in;
+pub use tested::Tested;

@@ -1,0 +1,16 @@
+//! What a look at some things of a node came to.
+use rn_choices::Next;
+use rn_search::Point;
+
+/// What a look at some things that are asked came to.
+#[derive(Clone, Copy, Debug)]
+pub enum Look {
+    /// All of them are decided.
+    Done,
+
+    /// Some aren't, and none of those may come in.
+    Waits,
+
+    /// The search can go on so, or stops.
+    Goes(Next<Point>),
+}

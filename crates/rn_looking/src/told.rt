@@ -1,0 +1,44 @@
+//! What is known of a test of a node: of a guard, of an inhibitor or flexible arc, or of all of them.
+ghost use Rattle.std.specs.Prelude.{◌≡◌, ◌↔◌, IsTrue};
+ghost use Rattle.rn_looking.specs.declared.told.Told.TheVariants.{Fails, Holds};
+
+/// What is known of a test.
+#[derive(Clone, Copy, Debug)]
+pub(crate) enum Told {
+    /// Each binding to which the decisions lead passes it.
+    Holds,
+
+    /// It isn't known whether it does.
+    Waits,
+
+    /// None passes it.
+    Fails,
+}
+
+/// Tests of which none fails hold, unless one waits.
+pub(crate) fn unless_waits(waits: bool) -> Told
+    ensures { result ≡ Fails → ⊥ }
+{
+    if waits { Told::Waits } else { Told::Holds }
+}
+
+/// A test of which a part is known to fail, or that waits.
+pub(crate) fn fails_or_waits(fails: bool) -> Told
+    ensures { result ≡ Fails → IsTrue fails }
+{
+    if fails { Told::Fails } else { Told::Waits }
+}
+
+/// Whether a test is known to fail.
+pub(crate) fn has_failed(told: Told) -> bool
+    ensures { IsTrue result ↔ (told ≡ Fails) }
+{
+    matches!(told, Told::Fails)
+}
+
+/// Whether a test is known to hold.
+pub(crate) fn holds(told: Told) -> bool
+    ensures { IsTrue result ↔ (told ≡ Holds) }
+{
+    matches!(told, Told::Holds)
+}

@@ -1,0 +1,4 @@
+pub mod NumberLemmas
+pub mod NumberedForms
+pub mod GuardLemmas
+pub mod DownlinkLemmas

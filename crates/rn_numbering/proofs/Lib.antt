@@ -1,0 +1,3 @@
+pub mod NumberingLemmas
+pub mod NetNumbers
+pub mod GivenLemmas

@@ -1,0 +1,2 @@
+pub mod OccurringLemmas
+pub mod MarkLemmas

@@ -1,0 +1,2 @@
+pub mod TransitionVars
+pub mod OccurringParts

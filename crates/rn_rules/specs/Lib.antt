@@ -1,0 +1,10 @@
+pub mod Expressions
+pub mod Conditions
+pub mod Arcs
+pub mod Calls
+pub mod Actions
+pub mod Transitions
+pub mod Systems
+pub mod Broken
+pub mod Sights
+pub mod Scopes

@@ -1,0 +1,6 @@
+pub mod WithinLevels
+pub mod KindDepths
+pub mod ExpressionDepths
+pub mod ConditionDepths
+pub mod SpelledInscriptions
+pub mod SpelledTexts

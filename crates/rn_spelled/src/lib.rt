@@ -1,0 +1,4 @@
+//! What a text spells is well formed.
+#![tactic(auto)]
+
+pub mod laws;

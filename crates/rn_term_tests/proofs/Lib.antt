@@ -1,2 +1,0 @@
-pub mod NewVariables
-pub mod SmallStores
