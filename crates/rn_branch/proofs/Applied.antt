@@ -1,16 +1,11 @@
 -- The operator applications beside decisions, as these come and are taken back.
-use Rattle.std.proofs.Common.{◌≡◌, ℕ, ◌<◌, List, [], ◌∷◌, ◌++◌, get_or, length, map, take}
-use Rattle.std.proofs.Common.{◌∙◌, ap, sym, subst, arith}
-use Rattle.std.specs.Prelude.{Option, Some, option_map, slice_get, unwrap_or}
-use Rattle.std.proofs.lemmas.Option.{slice_get_within}
+use Rattle.std.proofs.Common.{◌≡◌, ℕ, List, [], ◌∷◌, ◌++◌, get_or, map, take}
+use Rattle.std.proofs.Common.{◌∙◌, ap, sym, subst}
+use Rattle.std.specs.Prelude.{option_map, unwrap_or}
 use Rattle.rn_model.specs.declared.system.System.{System}
-use Rattle.rn_growing.specs.declared.decision.Head.{Head}
-use Rattle.rn_growing.specs.declared.decision.Caller.{Caller}
 use Rattle.rn_growing.specs.declared.decision.Decision.{Decision}
-use Rattle.rn_growing.specs.declared.decision.Decision.TheVariants.{Entered}
 use Rattle.rn_growing.specs.Decisions.{transition_in}
 use Rattle.rn_growing.specs.Grown.{Grown, first_decisions, with_decision}
-use Rattle.rn_growing.proofs.Growth.{stands_at}
 use Rattle.rn_search.specs.Points.{holes_of, node_of, node_on}
 use Rattle.rn_search.specs.Sought.{Sought}
 use Rattle.rn_binding.specs.declared.applications.Application.{Application}

@@ -16,7 +16,7 @@ use Rattle.rn_growing.proofs.Growth.{at_in, either_at, front_at}
 use Rattle.rn_search.specs.Ending.{IsAsked}
 use Rattle.rn_looking.specs.Settling.{AreSettled}
 use Rattle.rn_branch.specs.Keeping.{KeepsSettled}
-use Rattle.rn_looking.specs.Things.{IsOfEntries, IsOfNode}
+use Rattle.rn_looking.specs.Things.{IsOfNode}
 
 in_front : {A : Type 0} (xs ys : List A) (k : ℕ) (x : A) → k < length xs →
     slice_get (xs ++ ys) k ≡ Some x → slice_get xs k ≡ Some x

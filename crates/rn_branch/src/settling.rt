@@ -1,6 +1,7 @@
 //! A binding that grows, with how many of its first decisions are settled, and the operator
 //! applications of its nodes.
-ghost use Rattle.std.specs.Prelude.{◌≡◌, ◌≤◌, [], IfOk, OnErr, length};
+ghost use Rattle.std.specs.Prelude.{◌≡◌, ◌<◌, ◌≤◌, [], IfOk, OnErr, OnOk, length};
+ghost use Rattle.std.specs.Prelude.{vec_capacity};
 ghost use Rattle.rn_growing.specs.Grown.{HasFewCreations, IsNew, Tries, first_decisions};
 ghost use Rattle.rn_growing.specs.Turns.{MayCome};
 ghost use Rattle.rn_looking.specs.Applying.{AreApplied, AreAppliedIn};
@@ -169,15 +170,17 @@ impl<'a> Settling<'a> {
         ensures tries { IfOk result (λ yes. Tries self.old decision self.new yes) }
     {
         let applications = applications_in(alloc, self.system, &decision)?;
-        self.before.reserve(1)?;
-        self.applications.reserve(1)?;
-        self.tested_before.reserve(1)?;
+        make_room(
+            &mut self.before,
+            &mut self.applications,
+            &mut self.tested_before,
+        )?;
         if !decide(alloc, &mut self.growing, decision)? {
             return Ok(false);
         }
-        self.before.push(self.settled)?;
-        self.applications.push(applications)?;
-        self.tested_before.push(self.tested)?;
+        self.before.push_reserved(self.settled);
+        self.applications.push_reserved(applications);
+        self.tested_before.push_reserved(self.tested);
         Ok(true)
     }
 
@@ -196,6 +199,25 @@ impl<'a> Settling<'a> {
         self.tested_before.truncate(count);
         self.growing.undo(count);
     }
+}
+
+// Room for what is kept beside one more decision.
+fn make_room(
+    before: &mut Vec<usize>,
+    applications: &mut Vec<Items<Application<'_>>>,
+    tested_before: &mut Vec<Tested>,
+) -> Result<(), NoMemory>
+    ensures before { before.new.items ≡ before.old.items }
+    ensures applications { applications.new.items ≡ applications.old.items }
+    ensures room { OnOk result (length before.new.items < vec_capacity before.new) }
+    ensures place { OnOk result (length applications.new.items < vec_capacity applications.new) }
+    ensures space { OnOk result
+        (length tested_before.new.items < vec_capacity tested_before.new) }
+{
+    before.reserve(1)?;
+    applications.reserve(1)?;
+    tested_before.reserve(1)?;
+    Ok(())
 }
 
 // What was tested before a decision, or nothing where that isn't kept.

@@ -28,30 +28,30 @@ returns-then-not-branch c = record {
 pub invariant_of-self-in_err-decide : goal.invariant_of-self-in_err-decide
 invariant_of-self-in_err-decide c =
     let same : c.decide.new.growing ≡ c.self.inside.growing = c.in_err-decide.ensures.err in
-    let is : c.reserve.new.self.items ≡ c.self.inside.before.items = search rules in
-    let are : c.reserve-2.new.self.items ≡ c.self.inside.applications.items = search rules in
+    let is : c.make_room.new.before.items ≡ c.self.inside.before.items = search rules in
+    let are : c.make_room.new.applications.items ≡ c.self.inside.applications.items = search rules in
     keeps_same c.self.inside.system.now c.self.inside.growing c.decide.new.growing
-    c.self.inside.settled c.self.inside.before.items c.reserve.new.self.items
-    c.self.inside.applications.items c.reserve-2.new.self.items same is are c.self.invariant
+    c.self.inside.settled c.self.inside.before.items c.make_room.new.before.items
+    c.self.inside.applications.items c.make_room.new.applications.items same is are c.self.invariant
 
 pub invariant_of-self-then-not-branch : goal.invariant_of-self-then-not-branch
 invariant_of-self-then-not-branch c =
     let same : c.decide.new.growing ≡ c.self.inside.growing =
     (let told : Tries c.self.inside.growing c.args.decision c.decide.new.growing false =
     rw c.if-not-branch.true at c.in_ok-decide.ensures.tries in told.0) in
-    let is : c.reserve.new.self.items ≡ c.self.inside.before.items = search rules in
-    let are : c.reserve-2.new.self.items ≡ c.self.inside.applications.items = search rules in
+    let is : c.make_room.new.before.items ≡ c.self.inside.before.items = search rules in
+    let are : c.make_room.new.applications.items ≡ c.self.inside.applications.items = search rules in
     keeps_same c.self.inside.system.now c.self.inside.growing c.decide.new.growing
-    c.self.inside.settled c.self.inside.before.items c.reserve.new.self.items
-    c.self.inside.applications.items c.reserve-2.new.self.items same is are c.self.invariant
+    c.self.inside.settled c.self.inside.before.items c.make_room.new.before.items
+    c.self.inside.applications.items c.make_room.new.applications.items same is are c.self.invariant
 
 pub invariant_of-self-2 : goal.invariant_of-self-2
 invariant_of-self-2 c =
     let told : Tries c.self.inside.growing c.args.decision c.decide.new.growing true =
     rw c.if-not-branch.false at c.in_ok-decide.ensures.tries in
-    let put : c.push.new.self.items ≡ c.self.inside.before.items ++ c.self.inside.settled ∷ [] =
+    let put : c.push_reserved.new.self.items ≡ c.self.inside.before.items ++ c.self.inside.settled ∷ [] =
     search rules in
-    let beside : c.push-2.new.self.items
+    let beside : c.push_reserved-2.new.self.items
     ≡ c.self.inside.applications.items ++ c.in_ok-applications.applications ∷ [] =
     search rules in (
       subst (KeepsSettled c.decide.new.growing c.self.inside.settled) (sym put)
