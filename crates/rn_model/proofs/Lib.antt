@@ -5,6 +5,7 @@ pub mod BindingOrder
 pub mod ConditionsByComparisons
 pub mod CountsAfterFiring
 pub mod CreationKeys
+pub mod CreationNumbers
 pub mod DeadInstances
 pub mod DefinedConditions
 pub mod DerivationLemmas

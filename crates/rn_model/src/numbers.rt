@@ -1,27 +1,64 @@
 //! The numbers of the instances that a binding makes.
-ghost use Rattle.std.specs.Prelude.{◌≡◌, ◌+◌, ◌^◌, ◌≤◌, ◌++◌, length, map, flat_map, IfOk, OnOk};
-ghost use Rattle.std.specs.List.{enumerate_from, position_or_len};
+ghost use Rattle.std.specs.Prelude.{◌≡◌, ◌+◌, ◌^◌, ◌≤◌, ◌++◌, ℕ, List, Some, None, length, map};
+ghost use Rattle.std.specs.Prelude.{flat_map, IfOk, OnOk, if◌then◌else◌};
+ghost use Rattle.std.specs.List.{enumerate_from};
 ghost use Rattle.rn_model.specs.Firing.{made_by, creations_of, named};
 ghost use Rattle.rn_model.specs.Firing.{renamed_value, renamed_node};
-ghost use Rattle.rn_model.specs.Numbers.{key_of, makes, numbered_by};
+ghost use Rattle.rn_model.specs.Numbers.{AreNumbersOf, key_of, makes, number_in, numbered_by};
 
 use crate::binding::{Binding, Node};
 use crate::system::{Creation, System};
 use rn_items::Items;
 use rn_value::{InstRef, NoMemory, Path, Vals, Value, copy_inst, copy_text};
 use std::alloc::Global;
+use std::collections::BTreeMap;
 
 /// A creation, by the path of its node and its index among those of the node's transition.
-#[derive(Debug, Drop)]
+#[derive(Debug, Drop, PartialEq, Eq, PartialOrd, Ord)]
 pub(crate) struct MadeBy {
     path: Path,
     index: usize,
 }
 
+/// The numbers of creations.
+#[derive(Drop)]
+pub(crate) struct Numbers {
+    by: BTreeMap<MadeBy, u32>,
+}
+
+impl Numbers {
+    fn none(alloc: Global) -> Numbers
+        ensures { (path : List ℕ) (j : ℕ) → number_in result path j ≡ None }
+    {
+        Numbers {
+            by: BTreeMap::new(alloc),
+        }
+    }
+
+    // The number of the creation of a path and index.
+    fn number(&self, alloc: Global, path: &[u32], index: u8) -> Result<Option<u32>, NoMemory>
+        ensures { IfOk result (λ number. number ≡ number_in self.now path.now index) }
+    {
+        let path = Items::from_vec(Vec::from_slice(alloc, path)?);
+        let key = MadeBy {
+            path,
+            index: index as usize,
+        };
+        Ok(self.by.get(&key).copied())
+    }
+
+    // Puts a creation with its number, in place of the one that it had.
+    fn put(&mut self, made: MadeBy, number: u32) -> Result<(), NoMemory>
+        ensures { OnOk result ((path : List ℕ) (j : ℕ) → number_in self.new path j
+            ≡ (if makes path j made then Some number else number_in self.old path j)) }
+    {
+        self.by.insert(made, number)?;
+        Ok(())
+    }
+}
+
 /// The binding as its firing names it: the instances that it makes have the numbers from `next`, in
 /// ascending order of path and then in the order of the creations. All else is copied.
-///
-/// Each name of a new instance is looked for among all creations of the binding.
 pub fn named(
     alloc: Global,
     system: &System,
@@ -32,7 +69,8 @@ pub fn named(
     ensures { IfOk result (λ b. b ≡ named system.now binding.now next) }
 {
     let made = creations_of(alloc, system, binding.nodes.as_slice())?;
-    named_by(alloc, binding, made.as_slice(), next)
+    let numbers = numbers_of(alloc, made, next)?;
+    named_by(alloc, binding, &numbers)
 }
 
 fn put_made(
@@ -84,32 +122,26 @@ fn creations_of(alloc: Global, system: &System, nodes: &[Node]) -> Result<Vec<Ma
     Ok(made)
 }
 
-fn is_made_by(made: &MadeBy, path: &[u32], index: u8) -> bool
-    ensures { result ≡ makes path.now index made.now }
+// The number of each creation, the first of which has this one. Of equal ones the first counts.
+fn numbers_of(alloc: Global, made: Vec<MadeBy>, next: u32) -> Result<Numbers, NoMemory>
+    requires { next + length made.items ≤ 2 ^ 32 }
+    ensures { IfOk result (AreNumbersOf made.items next) }
 {
-    made.path.as_slice() == path && made.index == index as usize
-}
-
-// The index of a creation, and how many there are where it isn't among them.
-fn index_among(made: &[MadeBy], path: &[u32], index: u8) -> usize
-    ensures { result ≡ position_or_len (makes path.now index) made.now }
-{
-    for (k, creation) in made.iter().enumerate() {
-        if is_made_by(creation, path, index) {
-            return k;
-        }
+    let mut made = made;
+    let mut numbers = Numbers::none(alloc);
+    while let Some(creation) = made.pop() {
+        let number = next + made.len() as u32;
+        numbers.put(creation, number)?;
     }
-    made.len()
+    Ok(numbers)
 }
 
-fn numbered(alloc: Global, inst: &InstRef, made: &[MadeBy], next: u32) -> Result<InstRef, NoMemory>
-    requires { next + length made.now ≤ 2 ^ 32 }
-    ensures { IfOk result (λ i. i ≡ numbered_by made.now next inst.now) }
+fn numbered(alloc: Global, inst: &InstRef, numbers: &Numbers) -> Result<InstRef, NoMemory>
+    ensures { IfOk result (λ i. i ≡ numbered_by numbers.now inst.now) }
 {
     if let InstRef::New(path, index) = inst {
-        let k = index_among(made, path.as_slice(), *index);
-        if k < made.len() {
-            return Ok(InstRef::Old(next + k as u32));
+        if let Some(number) = numbers.number(alloc, path.as_slice(), *index)? {
+            return Ok(InstRef::Old(number));
         }
     }
     copy_inst(alloc, inst)
@@ -117,64 +149,50 @@ fn numbered(alloc: Global, inst: &InstRef, made: &[MadeBy], next: u32) -> Result
 
 #[cycle(renaming)]
 #[tactic(auto, using(crate::proofs::NumberedInstances::renaming_rules))]
-fn renamed(alloc: Global, value: &Value, made: &[MadeBy], next: u32) -> Result<Value, NoMemory>
-    requires { next + length made.now ≤ 2 ^ 32 }
-    ensures { IfOk result (λ v. v ≡ renamed_value value.now (numbered_by made.now next)) }
+fn renamed(alloc: Global, value: &Value, numbers: &Numbers) -> Result<Value, NoMemory>
+    ensures { IfOk result (λ v. v ≡ renamed_value value.now (numbered_by numbers.now)) }
 {
     match value {
         Value::Int(n) => Ok(Value::Int(*n)),
         Value::Text(text) => Ok(Value::Text(copy_text(alloc, text)?)),
-        Value::Tuple(parts) => Ok(Value::Tuple(all_renamed(alloc, parts.as_slice(), made, next)?)),
-        Value::List(parts) => Ok(Value::List(all_renamed(alloc, parts.as_slice(), made, next)?)),
-        Value::Inst(inst) => Ok(Value::Inst(numbered(alloc, inst, made, next)?)),
+        Value::Tuple(parts) => Ok(Value::Tuple(all_renamed(alloc, parts.as_slice(), numbers)?)),
+        Value::List(parts) => Ok(Value::List(all_renamed(alloc, parts.as_slice(), numbers)?)),
+        Value::Inst(inst) => Ok(Value::Inst(numbered(alloc, inst, numbers)?)),
     }
 }
 
 #[cycle(renaming)]
-fn all_renamed(
-    alloc: Global,
-    values: &[Value],
-    made: &[MadeBy],
-    next: u32,
-) -> Result<Vals, NoMemory>
-    requires { next + length made.now ≤ 2 ^ 32 }
+fn all_renamed(alloc: Global, values: &[Value], numbers: &Numbers) -> Result<Vals, NoMemory>
     ensures { IfOk result (λ vs.
-        vs ≡ map (λ v. renamed_value v (numbered_by made.now next)) values.now) }
+        vs ≡ map (λ v. renamed_value v (numbered_by numbers.now)) values.now) }
 {
     let mut renamed_values = Vec::with_capacity(alloc, values.len())?;
     for value in values {
-        renamed_values.push(renamed(alloc, value, made, next)?)?;
+        renamed_values.push(renamed(alloc, value, numbers)?)?;
     }
     Ok(Items::from_vec(renamed_values))
 }
 
-fn named_node(alloc: Global, node: &Node, made: &[MadeBy], next: u32) -> Result<Node, NoMemory>
-    requires { next + length made.now ≤ 2 ^ 32 }
-    ensures { IfOk result (λ n. n ≡ renamed_node (numbered_by made.now next) node.now) }
+fn named_node(alloc: Global, node: &Node, numbers: &Numbers) -> Result<Node, NoMemory>
+    ensures { IfOk result (λ n. n ≡ renamed_node (numbered_by numbers.now) node.now) }
 {
     let path = Vec::from_slice(alloc, node.path.as_slice())?;
     Ok(Node {
         path: Items::from_vec(path),
-        inst: numbered(alloc, &node.inst, made, next)?,
+        inst: numbered(alloc, &node.inst, numbers)?,
         net: node.net,
         transition: node.transition,
-        values: all_renamed(alloc, node.values.as_slice(), made, next)?,
+        values: all_renamed(alloc, node.values.as_slice(), numbers)?,
     })
 }
 
-fn named_by(
-    alloc: Global,
-    binding: &Binding,
-    made: &[MadeBy],
-    next: u32,
-) -> Result<Binding, NoMemory>
-    requires { next + length made.now ≤ 2 ^ 32 }
+fn named_by(alloc: Global, binding: &Binding, numbers: &Numbers) -> Result<Binding, NoMemory>
     ensures { IfOk result (λ b.
-        b.nodes ≡ map (renamed_node (numbered_by made.now next)) binding.now.nodes) }
+        b.nodes ≡ map (renamed_node (numbered_by numbers.now)) binding.now.nodes) }
 {
     let mut nodes = Vec::with_capacity(alloc, binding.nodes.len())?;
     for node in binding.nodes.as_slice() {
-        nodes.push(named_node(alloc, node, made, next)?)?;
+        nodes.push(named_node(alloc, node, numbers)?)?;
     }
     Ok(Binding {
         nodes: Items::from_vec(nodes),

@@ -4,4 +4,4 @@ use Rattle.rn_model.specs.Numbers.{numbered_by}
 use Rattle.rn_model.proofs.numbers.named_by.Given as goal
 
 abbrev pub invariant-loop-node : goal.invariant-loop-node
-invariant-loop-node l = l.nodes.items ≡ map (renamed_node (numbered_by l.made l.next)) (take l.node-index l.node-items)
+invariant-loop-node l = l.nodes.items ≡ map (renamed_node (numbered_by l.numbers)) (take l.node-index l.node-items)
