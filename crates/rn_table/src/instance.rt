@@ -13,9 +13,9 @@ use std::alloc::Global;
 use std::marker::Model;
 use std::sync::Arc;
 
-/// An instance, whose bags copies share.
+/// A kept instance, whose bags copies share.
 #[derive(Drop)]
-pub(crate) struct Inst {
+pub struct Inst {
     number: u32,
     net: u32,
     bags: Vec<Arc<Bag>>,
@@ -53,20 +53,22 @@ impl Inst {
         Ok(Inst { number, net, bags })
     }
 
-    pub(crate) fn number(&self) -> u32
+    /// Its number.
+    pub fn number(&self) -> u32
         ensures { result ≡ self.now.number }
     {
         self.number
     }
 
-    pub(crate) fn net(&self) -> u32
+    /// Its net.
+    pub fn net(&self) -> u32
         ensures { result ≡ self.now.net }
     {
         self.net
     }
 
     /// The bag of a place.
-    pub(crate) fn bag(&self, place: u32) -> Option<&Bag>
+    pub fn bag(&self, place: u32) -> Option<&Bag>
         ensures { option_copied result ≡ slice_get self.now.places place }
     {
         match self.bags.get(place as usize) {

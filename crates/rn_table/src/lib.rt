@@ -16,6 +16,7 @@ mod sharing;
 mod table;
 
 pub use change::{Change, Nums, Row, Rows};
+pub use instance::Inst;
 pub use laws::{
     firings_are_changes, kept_after_removal, nets_are_few, same_is_left, tokens_after_change,
 };

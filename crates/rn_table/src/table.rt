@@ -83,7 +83,7 @@ impl Table {
     }
 
     /// The kept instance of a number.
-    fn find(&self, number: u32) -> Option<&Inst>
+    pub fn find(&self, number: u32) -> Option<&Inst>
         ensures { option_copied result ≡ instance_at self.now.marking number }
     {
         let at = leaf_of(number);
