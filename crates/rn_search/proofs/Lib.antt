@@ -12,6 +12,7 @@ pub mod Left
 pub mod Levels
 pub mod Made
 pub mod Narrowed
+pub mod Needed
 pub mod Offered
 pub mod OneBinding
 pub mod Solved

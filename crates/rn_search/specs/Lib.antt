@@ -4,6 +4,7 @@ pub mod Leaving
 pub mod Making
 pub mod Missing
 pub mod Narrowing
+pub mod Needing
 pub mod Offering
 pub mod Parting
 pub mod Points

@@ -14,6 +14,7 @@ ghost use Rattle.rn_search.specs.Allowing.{StartIsAllowed, TokensAreAllowed, Lis
 ghost use Rattle.rn_search.specs.Allowing.{ResultsAreAllowed, CallsAreAllowed};
 ghost use Rattle.rn_search.specs.Leaving.{LeftIsAsked, AskedIsLeft, NoneLeftIsDone};
 ghost use Rattle.rn_search.specs.Leaving.{LeftOutIsClosed, LeftIsNew};
+ghost use Rattle.rn_search.specs.Needing.{StartsFindTokens};
 ghost use Rattle.rn_search.specs.Narrowing.{KnownTokenIsIt, KnownFirstPart, EquatedTokenIsIt};
 ghost use Rattle.rn_search.specs.Parting.{KnownPartsHold};
 ghost use Rattle.rn_search.specs.Solving.{WholeIsOnly};
@@ -49,6 +50,12 @@ pub fn what_may_be_cut()
 {
     calls_need_levels();
 }
+
+/// In the place of each arc of a start that finds a token there is one. So a start of which one of
+/// these places is empty has nothing.
+pub fn starts_find_tokens()
+    ensures { StartsFindTokens }
+{}
 
 /// Where the inscription of an arc, or its first part, is known, just the tokens that have that
 /// value lead on; and where a guard asks that the inscription is the same as an expression that is
