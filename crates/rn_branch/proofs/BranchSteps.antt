@@ -64,8 +64,8 @@ module _ (sought : Sought) (inside self : Grown) (view : inside ≡ self)
       subst (λ g. NoneLeads (Leads sought) g.decisions) view
       (waits_in_vain sought inside.decisions branch_inside.sound.turns some looked.0 looked.1)
 
-  pub next_goes : (next : Next Point) → LookedAll (L.Goes next) → SaysOf next
-  next_goes next looked =
+  pub next_goes : (next : Next Point) (count : ℕ) → LookedAll (L.Goes next count) → SaysOf next
+  next_goes next count looked =
       subst (λ g. Says (Leads sought) (offers sought) (Allows sought) (IsAtEnd sought self)
       g.decisions next) view (goes_on sought inside.decisions (IsAtEnd sought self) next looked)
 
@@ -99,6 +99,16 @@ module _ (sought : Sought) (inside self : Grown) (view : inside ≡ self)
           subst (λ c. OnlyOf (Some c)) (sym same)
           (subst (λ g. IsOnly (Leads sought g.decisions) (Some b)) view
           (only.0 (passes.0 is)))
+
+  -- Alternatives that mean none are passed.
+  pub passed_are_vain : (ds : List Decision) → ds ≡ inside.decisions → (point : Point) (a : ℕ) →
+      offered sought ds point a ≡ None →
+      NoneLeads (Leads sought) (self.decisions ++ offers sought self.decisions point a ∷ [])
+  passed_are_vain ds are point a none =
+      subst (λ g. NoneLeads (Leads sought)
+      (g.decisions ++ offers sought g.decisions point a ∷ [])) view
+      (none_offered sought inside branch_inside point a
+      (ap (λ es. offered sought es point a) (sym are) ∙ none))
 
   -- Decisions that are made,
   module _ (ds : List Decision) (are : ds ≡ inside.decisions)

@@ -1,5 +1,6 @@
 -- How a branch goes on, by what a look at all that is asked said.
-use Rattle.std.proofs.Common.{◌≡◌, ◌<◌, List, [], ◌∷◌, length, refl, ap, ◌∙◌, arith}
+use Rattle.std.proofs.Common.{◌≡◌, ◌<◌, ℕ, List, [], ◌∷◌, length, refl, sym, ap, ◌∙◌, subst}
+use Rattle.std.proofs.Common.{arith}
 use Rattle.std.specs.Prelude.{Some, None}
 use Rattle.std.proofs.lemmas.Option.{slice_get-get_or}
 use Rattle.rn_model.specs.declared.system.System.{System}
@@ -20,6 +21,7 @@ use Rattle.rn_search.specs.Ending.{IsAsked, AreDone}
 use Rattle.rn_search.proofs.Allowed.{start_is_allowed}
 use Rattle.rn_search.proofs.Ends.{stuck_leads_nowhere}
 use Rattle.rn_search.proofs.Offered.{start_is_offered}
+use Rattle.rn_branch.specs.GoingOn.{IsSameButFirst}
 use Rattle.rn_looking.specs.Looks.{AreAllDecided, AreAllClosed, IsOneLeft, GoesOn}
 use Rattle.rn_looking.specs.Things.{IsOfNode, IsOfEntries}
 
@@ -87,6 +89,18 @@ goes_on sought ds ends Done goes = absurd goes
 goes_on sought ds ends Stuck goes = goes
 goes_on sought ds ends (Forced site) goes = goes
 goes_on sought ds ends (Choose site of first) goes = goes
+
+-- It goes on as itself, and a choice with whichever alternative first.
+pub same_next : (next : Next Point) → IsSameButFirst next next
+same_next Done = refl
+same_next Stuck = refl
+same_next (Forced site) = refl
+same_next (Choose site of first) = (first, refl)
+
+pub chosen_next : (next : Next Point) (site : Point) (of first begin : ℕ) →
+    next ≡ Choose site of first → IsSameButFirst next (Choose site of begin)
+chosen_next next site of first begin is =
+    subst (λ told. IsSameButFirst told (Choose site of begin)) (sym is) (begin, refl)
 
 -- Before any decision it goes on with the start.
 pub begins : (sought : Sought) (ds : List Decision) (ends : Type 0) →

@@ -1,6 +1,7 @@
 mod Applied
 mod BranchSteps
 mod GoingOn
+mod KeptTakings
 mod KeptTests
 mod MadeNodes
 mod MadeSteps

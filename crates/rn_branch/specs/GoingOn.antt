@@ -19,7 +19,14 @@ use Rattle.rn_looking.specs.declared.look.Look.TheVariants.{Done, Waits, Goes}
 abbrev pub IsNextOf : Look → Next Point → Type 0
 IsNextOf Done next = next ≡ N.Done
 IsNextOf Waits next = next ≡ N.Stuck
-IsNextOf (Goes goes) next = next ≡ goes
+IsNextOf (Goes goes count) next = next ≡ goes
+
+-- it goes on so, and a choice may begin with another alternative
+abbrev pub IsSameButFirst : Next Point → Next Point → Type 0
+IsSameButFirst N.Done next = next ≡ N.Done
+IsSameButFirst N.Stuck next = next ≡ N.Stuck
+IsSameButFirst (N.Forced site) next = next ≡ N.Forced site
+IsSameButFirst (N.Choose site of first) next = (begin : ℕ) × (next ≡ N.Choose site of begin)
 
 -- a decision at an index enters a node
 abbrev pub IsEntryAt : List Decision → ℕ → Type 0

@@ -2,4 +2,5 @@ pub mod GoingOn
 pub mod Keeping
 pub mod Making
 pub mod Offers
+pub mod Takings
 pub mod Testing

@@ -13,9 +13,11 @@ ghost use Rattle.rn_branch.specs.GoingOn.{IsEntryAt};
 ghost use Rattle.rn_branch.specs.GoingOn.{AreHeadsIn, IsHeadIn};
 ghost use Rattle.rn_branch.specs.GoingOn.{IsNextOf};
 
+use crate::beginning::begun;
 use crate::made::binding_of;
 use crate::room::Room;
 use crate::settling::Settling;
+use crate::takings::Takings;
 use crate::testing::{Tests, forget_beyond};
 use crate::trying::is_vain;
 use rn_agree::{does_agree, has_shape};
@@ -30,6 +32,10 @@ use rn_search::{Point, Problem};
 use rn_value::{NoMemory, Value};
 use std::alloc::Global;
 use std::marker::Model;
+use std::mem;
+
+/// At which alternatives it is asked how many are repeats of a token.
+const EIGHTH: usize = 8;
 
 /// What is decided of a binding in a search, and with which alternative choices of tokens begin.
 #[derive(Drop)]
@@ -43,6 +49,9 @@ pub struct Branch<'a> {
 
     /// Guards to be tested before a decision is made.
     tests: Option<Tests>,
+
+    /// What the decisions take.
+    takings: Takings,
 }
 
 impl<'a> Model for Branch<'a> {
@@ -51,6 +60,7 @@ impl<'a> Model for Branch<'a> {
     ghost use Rattle.rn_value.specs.contracts.value.Kind as kind;
     ghost use Rattle.rn_model.specs.contracts.expr.Expr as expr;
     ghost use Rattle.rn_model.specs.contracts.expr.Cond as cond;
+    ghost use Rattle.rn_branch.specs.Takings.{AreTakings};
     ghost use Rattle.rn_branch.specs.Testing.{AreKept};
     ghost use Rattle.std.specs.Coded.{codes};
 
@@ -66,7 +76,8 @@ impl<'a> Model for Branch<'a> {
 
     ghost view = { λ b. b.growing };
 
-    ghost invariant = { λ b. AreKept b.growing b.tests };
+    ghost invariant = { λ b. AreKept b.growing b.tests
+        × AreTakings b.growing.system b.growing.decisions b.takings };
 }
 
 impl<'a> Branch<'a> {
@@ -90,6 +101,7 @@ impl<'a> Branch<'a> {
             first,
             last: None,
             tests: None,
+            takings: Takings::new(alloc),
         }
     }
 
@@ -192,6 +204,12 @@ fn is_again(last: Option<Point>, site: Point) -> bool {
     }
 }
 
+// Whether it is looked at an alternative, how many tokens from it on are repeats: at each eighth, so
+// that it costs little where none is.
+fn is_asked(alternative: usize) -> bool {
+    alternative % EIGHTH == EIGHTH - 1
+}
+
 // Whether a binding that is made of decisions is enabled.
 fn is_enabled(alloc: Global, problem: &Problem<'_>, binding: &Binding) -> Result<bool, NoMemory>
     ensures { IfOk result (λ yes. IsTrue yes ↔ Passes problem.now binding.now) }
@@ -214,7 +232,7 @@ fn next_of(look: Look) -> Next<Point>
     match look {
         Look::Done => Next::Done,
         Look::Waits => Next::Stuck,
-        Look::Goes(next) => next,
+        Look::Goes(next, _) => next,
     }
 }
 
@@ -260,7 +278,7 @@ impl<'a> Grows for Branch<'a> {
             return Ok(Next::Forced(Point::Start));
         }
         let look = self.growing.look(self.alloc, problem, self.first)?;
-        Ok(next_of(look))
+        Ok(begun(problem, self.growing.decisions(), next_of(look)))
     }
 
     fn solution(
@@ -292,6 +310,7 @@ impl<'a> Grows for Branch<'a> {
             problem,
             self.growing.growing(),
             &mut self.tests,
+            &mut self.takings,
             site,
             alternative,
             again,
@@ -310,16 +329,31 @@ impl<'a> Grows for Branch<'a> {
         )? {
             Some(decision) => {
                 let tests = self.tests.take();
+                let takings = mem::replace(&mut self.takings, Takings::new(self.alloc));
                 let made = self.growing.decide(self.alloc, decision)?;
                 self.tests = tests;
+                self.takings = takings;
                 Ok(made)
             }
             None => Ok(false),
         }
     }
 
+    fn vain_from(&self, problem: &Problem<'a>, site: Point, alternative: usize) -> usize {
+        if !is_asked(alternative) {
+            return 0;
+        }
+        match site {
+            Point::Token(node, arc, from) => {
+                problem.repeats(self.growing.decisions(), node, arc, from, alternative)
+            }
+            _ => 0,
+        }
+    }
+
     fn undo(&mut self, _problem: &Problem<'a>, count: usize) {
         forget_beyond(&mut self.tests, count);
+        self.takings.truncate(count);
         self.growing.undo(count);
     }
 

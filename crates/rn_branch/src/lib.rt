@@ -1,13 +1,17 @@
 //! A branch of a search for enabled bindings: what is decided so far, and how it goes on.
 #![tactic(auto)]
 
+mod beginning;
 mod branch;
 mod made;
 mod offer;
 mod room;
 mod settling;
+mod taken_up;
 mod taking;
+mod takings;
 mod testing;
+mod token_key;
 mod trial;
 mod trying;
 

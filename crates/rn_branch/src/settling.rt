@@ -195,7 +195,7 @@ impl<'a> Settling<'a> {
         self.settled = self.before[count];
         self.before.truncate(count);
         self.applications.truncate(count);
-        self.tested = tested_at(self.tested_before.as_slice(), count);
+        self.tested = tested_at(self.tested_before.as_slice(), count).beginning_as(self.tested);
         self.tested_before.truncate(count);
         self.growing.undo(count);
     }

@@ -1,44 +1,58 @@
-//! Tokens that decisions take as often as they are there.
-ghost use Rattle.std.specs.Prelude.{◌≡◌, ◌≤◌, ◌∷◌, [], IsTrue, length};
+//! What one decision takes.
+ghost use Rattle.std.specs.Prelude.{◌≡◌, ◌∷◌, [], IfSome, IsTrue};
 ghost use Rattle.rn_value.specs.declared.value.Value.{Value as Taken};
 ghost use Rattle.rn_model.specs.Demands.{takes};
-ghost use Rattle.rn_model.specs.Lists.{count_of};
-ghost use Rattle.rn_growing.specs.declared.decision.Decision.TheVariants.{Found};
-ghost use Rattle.rn_search.specs.Taking.{taken_by, taken_so_far};
-ghost use Rattle.rn_branch.specs.Offers.{IsTakenUp};
+ghost use Rattle.rn_branch.specs.Takings.{Takes};
 
-use crate::offer::Offer;
-use rn_growing::{Decision, Head};
+use rn_growing::Decision;
 use rn_model::{ArcKind, System};
-use rn_search::{Problem, transition_in};
+use rn_search::transition_in;
 use rn_value::{InstRef, Value, same};
 
-/// How many decisions are looked through, the newest ones.
-const NEWEST: usize = 64;
+/// From so many decisions on, what they take is found by its key, and choices begin behind it.
+pub(crate) const MANY: usize = 24;
 
-// Whether an arc takes the token that it finds.
-fn takes_token(kind: ArcKind) -> bool
+/// A token that is taken from a place of an instance.
+#[derive(Drop)]
+pub(crate) struct Taking<'a> {
+    pub(crate) inst: &'a InstRef,
+    pub(crate) place: u32,
+    pub(crate) token: &'a Value,
+}
+
+/// Whether an arc takes the token that it finds.
+pub(crate) fn takes_token(kind: ArcKind) -> bool
     ensures { (v : Taken) → IsTrue result → takes kind v ≡ v ∷ [] }
 {
     matches!(kind, ArcKind::Input | ArcKind::Reserve)
 }
 
-// Whether an arc of a node takes its token from this place.
-fn takes_from(system: &System, head: &Head, k: usize, place: u32) -> bool
-    ensures { (v : Taken) → IsTrue result
-        → taken_by system.now head.now.inst place (Found head.now k v) ≡ v ∷ [] }
+/// What a decision takes, where it is the token of an arc that takes what it finds.
+pub(crate) fn taking_of<'a>(system: &System, decision: &'a Decision) -> Option<Taking<'a>>
+    ensures { IfSome result
+        (λ t. Takes system.now decision.now t.inst.now t.place t.token.now) }
 {
-    let Some(transition) = transition_in(system, head) else {
-        return false;
+    let Decision::Found(head, k, token) = decision else {
+        return None;
     };
-    match transition.arcs.get(k) {
-        Some(arc) => arc.place == place && takes_token(arc.kind),
-        None => false,
+    let Some(transition) = transition_in(system, head) else {
+        return None;
+    };
+    let Some(arc) = transition.arcs.get(*k) else {
+        return None;
+    };
+    if !takes_token(arc.kind) {
+        return None;
     }
+    Some(Taking {
+        inst: &head.inst,
+        place: arc.place,
+        token,
+    })
 }
 
-// Whether both are one instance that exists.
-fn is_same_old(one: &InstRef, other: &InstRef) -> bool
+/// Whether both are one instance that exists.
+pub(crate) fn is_same_old(one: &InstRef, other: &InstRef) -> bool
     ensures { IsTrue result → one.now ≡ other.now }
 {
     match (one, other) {
@@ -47,55 +61,19 @@ fn is_same_old(one: &InstRef, other: &InstRef) -> bool
     }
 }
 
-// Whether a decision takes a token of a place of an instance.
-fn takes_it(system: &System, decision: &Decision, inst: &InstRef, place: u32, token: &Value) -> bool
-    ensures { IsTrue result → taken_by system.now inst.now place decision.now ≡ token.now ∷ [] }
+/// Whether a decision takes a token of a place of an instance.
+pub(crate) fn takes_it(system: &System, decision: &Decision, taking: &Taking<'_>) -> bool
+    ensures { IsTrue result → Takes system.now decision.now taking.now.inst.now taking.now.place
+        taking.now.token.now }
 {
-    let Decision::Found(head, k, value) = decision else {
+    let Some(other) = taking_of(system, decision) else {
         return false;
     };
-    if !same(value, token) {
+    if other.place != taking.place {
         return false;
     }
-    if !is_same_old(&head.inst, inst) {
+    if !is_same_old(other.inst, taking.inst) {
         return false;
     }
-    takes_from(system, head, *k, place)
-}
-
-// How often the newest decisions take a token of a place of an instance.
-fn times_taken(
-    system: &System,
-    decisions: &[Decision],
-    inst: &InstRef,
-    place: u32,
-    token: &Value,
-) -> usize
-    ensures { result ≤ count_of token.now (taken_so_far system.now inst.now place decisions.now) }
-{
-    let mut times = 0;
-    for i in decisions.len().saturating_sub(NEWEST)..decisions.len() {
-        if takes_it(system, &decisions[i], inst, place, token) {
-            times += 1;
-        }
-    }
-    times
-}
-
-/// Whether an arc takes a token that decisions take as often as its place holds it. Of many
-/// decisions only the newest are looked through.
-pub(crate) fn is_taken_up(problem: &Problem<'_>, decisions: &[Decision], offer: &Offer<'_>) -> bool
-    ensures { IsTrue result → IsTakenUp problem.now decisions.now offer.now }
-{
-    if !takes_token(offer.arc.kind) {
-        return false;
-    }
-    let times = times_taken(
-        problem.system(),
-        decisions,
-        &offer.head.inst,
-        offer.arc.place,
-        offer.token,
-    );
-    times > 0 && offer.held.count(offer.token) <= times as u64
+    same(other.token, taking.token)
 }

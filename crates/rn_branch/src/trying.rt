@@ -4,10 +4,12 @@ ghost use Rattle.rn_search.specs.Allowing.{Allows};
 ghost use Rattle.rn_search.specs.declared.point.Point.TheVariants as P;
 ghost use Rattle.rn_looking.specs.Branches.{IsBranchOf};
 ghost use Rattle.rn_branch.specs.Offers.{NoneLeadBy};
+ghost use Rattle.rn_branch.specs.Takings.{AreTakings};
 ghost use Rattle.rn_branch.specs.Testing.{AreKept};
 
 use crate::offer::offer_at;
-use crate::taking::is_taken_up;
+use crate::taken_up::is_taken_up;
+use crate::takings::Takings;
 use crate::testing::{Tests, fails_kept, keep_tests};
 use rn_growing::Growing;
 use rn_model::Expr;
@@ -22,6 +24,7 @@ fn is_vain_token(
     problem: &Problem<'_>,
     growing: &Growing<'_>,
     kept: &mut Option<Tests>,
+    takings: &mut Takings,
     node: usize,
     k: usize,
     from: usize,
@@ -31,9 +34,11 @@ fn is_vain_token(
     requires branch { IsBranchOf problem.now growing.now }
     requires allows { Allows problem.now growing.now.decisions (P.Token node k from) a }
     requires kept { AreKept growing.now kept.old }
+    requires takings { AreTakings growing.now.system growing.now.decisions takings.old }
     ensures vain { IfOk result (λ yes. IsTrue yes
         → NoneLeadBy problem.now growing.now.decisions (P.Token node k from) a) }
     ensures kept { AreKept growing.now kept.new }
+    ensures takings { AreTakings growing.now.system growing.now.decisions takings.new }
 {
     let _ = problem.table();
     let _ = problem.system();
@@ -43,7 +48,7 @@ fn is_vain_token(
     let Some(offer) = offer_at(problem, growing.decisions(), node, k, index) else {
         return Ok(false);
     };
-    if is_taken_up(problem, growing.decisions(), &offer) {
+    if is_taken_up(alloc, problem, growing, takings, &offer)? {
         return Ok(true);
     }
     let Expr::Var(var) = &offer.arc.inscription else {
@@ -70,6 +75,7 @@ pub(crate) fn is_vain(
     problem: &Problem<'_>,
     growing: &Growing<'_>,
     kept: &mut Option<Tests>,
+    takings: &mut Takings,
     site: Point,
     a: usize,
     again: bool,
@@ -77,13 +83,17 @@ pub(crate) fn is_vain(
     requires branch { IsBranchOf problem.now growing.now }
     requires allows { Allows problem.now growing.now.decisions site a }
     requires kept { AreKept growing.now kept.old }
+    requires takings { AreTakings growing.now.system growing.now.decisions takings.old }
     ensures vain { IfOk result (λ yes. IsTrue yes
         → NoneLeadBy problem.now growing.now.decisions site a) }
     ensures kept { AreKept growing.now kept.new }
+    ensures takings { AreTakings growing.now.system growing.now.decisions takings.new }
 {
     match site {
         Point::Token(node, k, from) => {
-            is_vain_token(alloc, problem, growing, kept, node, k, from, a, again)
+            is_vain_token(
+                alloc, problem, growing, kept, takings, node, k, from, a, again,
+            )
         }
         _ => Ok(false),
     }

@@ -1,11 +1,14 @@
 -- Trying the alternatives of one choice.
-use Rattle.std.proofs.Common.{◌≡◌, ℕ, ◌+◌, ◌<◌, ◌≤◌, ◌⊎◌, ◌↔◌, ⊎_elim, inl, inr, List, [], ◌∷◌}
+use Rattle.std.proofs.Common.{◌≡◌, ℕ, ◌+◌, ◌-◌, ◌<◌, ◌≤◌, ◌⊎◌, ◌↔◌, ⊎_elim, inl, inr, List, [], ◌∷◌}
 use Rattle.std.proofs.Common.{◌++◌, length, take, subst, sym, ◌∙◌, ap, arith}
 use Rattle.std.proofs.Math.Nat.{eq-or-lt_of_le}
+use Rattle.std.proofs.lemmas.Bool.{cases_lt}
 use Rattle.std.proofs.lemmas.List.{length-take, length-take-le}
 use Rattle.rn_choices.specs.declared.choice.Choice.{Choice}
+use Rattle.rn_choices.specs.Turns.{turned}
 use Rattle.rn_choices.specs.Waiting.{WaitsAt, at_turn}
 use Rattle.rn_choices.specs.Leading.{NoneLeads}
+use Rattle.rn_choices.proofs.Turning.{turned_on}
 
 -- what waits at a choice goes on with the next alternative, or waits at what is left then
 next_or_later : {D T S : Type 0} (leads : List D → S → Type 0) (offers : List D → T → ℕ →
@@ -64,6 +67,26 @@ still n old mid new within is prefix =
     let kept : take n new ≡ mid = subst (λ k. take k new ≡ mid) long prefix in
     let short : length (take n new) ≡ length mid = ap length kept in
     (omega (arith, length-take n new), kept ∙ is)
+
+-- where no alternative from that of a turn on leads on, up to those before another turn, all wait
+-- from there on
+pub passed_over : {D T S : Type 0} (leads : List D → S → Type 0) (offers : List D → T → ℕ →
+    D) (before : List D) (c : Choice T) (turn next vain : ℕ) (s : S) → next ≤ turn + vain →
+    next ≤ turn + (c.of - turned c.first c.of turn) →
+    ((a : ℕ) → turned c.first c.of turn ≤ a → a < turned c.first c.of turn + vain →
+    NoneLeads leads (before ++ offers before c.site a ∷ [])) →
+    WaitsAt leads offers before (record c { tried = turn }) s →
+    WaitsAt leads offers before (record c { tried = next }) s
+passed_over leads offers before c turn next vain s few near none w =
+    let since = w.1 in
+    let below = w.2 in
+    ⊎_elim
+    (λ early.
+    let at = turned_on c.first c.of turn w.0 since below (omega (arith, early, near)) in
+    absurd (none (turned c.first c.of w.0) (omega (arith, at))
+    (omega (arith, at, since, early, few)) s w.3))
+    (λ from. (w.0, from, below, w.3))
+    (cases_lt w.0 next)
 
 -- nothing waits at a choice of which all is tried
 pub all_tried : {D T S : Type 0} (leads : List D → S → Type 0) (offers : List D → T → ℕ →

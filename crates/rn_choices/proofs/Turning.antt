@@ -30,6 +30,28 @@ turn_of first of d within below =
     (turn, less, same))
     (cases_lt d first)
 
+-- an alternative is tried at each turn
+pub turned_within : (first of turn : ℕ) → first ≤ of → turn < of → turned first of turn < of
+turned_within first of turn within below = grind (arith, nat_tests)
+
+-- the turns after one go on with the alternatives after its own, up to the last
+pub turned_on : (first of turn t : ℕ) → turn ≤ t → t < of →
+    t < turn + (of - turned first of turn) →
+    turned first of t ≡ turned first of turn + (t - turn)
+turned_on first of turn t later below near =
+    ⊎_elim
+    (λ early.
+    let here = early_turn first of turn early in
+    let before : t < of - first = omega arith in
+    let there = early_turn first of t before in
+    omega arith)
+    (λ late.
+    let here = late_turn first of turn late in
+    let behind : of - first ≤ t = omega arith in
+    let there = late_turn first of t behind in
+    omega arith)
+    (cases_lt turn (of - first))
+
 pub one_turn : (first of i j : ℕ) → first ≤ of → i < of → j < of →
     turned first of i ≡ turned first of j → i ≡ j
 one_turn first of i j within low high same = grind (arith, nat_tests)

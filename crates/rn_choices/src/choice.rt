@@ -1,6 +1,6 @@
 //! A choice that a search met, and the order in which its alternatives are tried.
 
-ghost use Rattle.std.specs.Prelude.{◌≡◌, ◌<◌, ◌≤◌};
+ghost use Rattle.std.specs.Prelude.{◌≡◌, ◌+◌, ◌-◌, ◌<◌, ◌≤◌};
 ghost use Rattle.rn_choices.specs.Turns.{turned};
 
 /// A choice that was met, and how far it has gone.
@@ -42,6 +42,19 @@ pub fn turn_round(first: usize, of: usize, turn: usize) -> usize
     } else {
         turn - after_first
     }
+}
+
+/// The turn after so many alternatives from the one of a turn on, but not past the last alternative,
+/// after which the first follows.
+pub(crate) fn turn_after(turn: usize, passed: usize, alternative: usize, of: usize) -> usize
+    requires some { 0 < passed }
+    requires turn { turn < of }
+    requires alternative { alternative < of }
+    ensures later { turn < result }
+    ensures passed { result ≤ turn + passed }
+    ensures last { result ≤ turn + (of - alternative) }
+{
+    turn.saturating_add(passed.min(of - alternative))
 }
 
 /// The alternative to begin with: `start`, where there is one of that number.

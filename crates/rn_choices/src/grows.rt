@@ -1,6 +1,6 @@
 //! What a search works on: something that grows by decisions towards a solution.
 
-ghost use Rattle.std.specs.Prelude.{◌≡◌, ◌<◌, ◌≤◌, ◌++◌, ◌∷◌, [], ℕ, List, length, take, true};
+ghost use Rattle.std.specs.Prelude.{◌≡◌, ◌+◌, ◌<◌, ◌≤◌, ◌++◌, ◌∷◌, [], ℕ, List, length, take, true};
 ghost use Rattle.std.specs.Prelude.{false, IsTrue, IfOk};
 ghost use Rattle.rn_choices.specs.Leading.{Says, NoneLeads, IsOnly};
 
@@ -66,6 +66,14 @@ pub trait Grows {
         requires ends { ends problem.now self.now }
         ensures { IfOk result (λ found. IsOnly (leads problem.now
             (decisions problem.now self.now)) found) };
+
+    /// How many alternatives from this one on are seen at once to lead to no solution. They needn't be
+    /// tried. It may be 0.
+    fn vain_from(&self, problem: &Self::Problem, site: Self::Site, alternative: usize) -> usize
+        requires { stands problem.now self.now }
+        ensures { (a : ℕ) → alternative ≤ a → a < alternative + result →
+            NoneLeads (leads problem.now) (decisions problem.now self.now
+            ++ offers problem.now (decisions problem.now self.now) site a ∷ []) };
 
     /// Makes one more decision. After `false`, where no solution begins with the decisions and this
     /// one, it may have been made or not.

@@ -10,7 +10,7 @@ ghost use Rattle.rn_choices.specs.Leading.{IsOnly, NoneLeads, Says};
 ghost use Rattle.rn_choices.specs.declared.next.Next.TheVariants.{Forced, Choose};
 
 use crate::asked::{Asked, ToTheEnd};
-use crate::choice::{Choice, start_at, turn_round};
+use crate::choice::{Choice, start_at, turn_after, turn_round};
 use crate::grows::Grows;
 use crate::next::Next;
 use crate::stack::Choices;
@@ -40,15 +40,19 @@ fn try_choice<G: Grows>(
         ⊎ WaitsAt (G.leads problem.now) (G.offers problem.now) (take choice.mark
         (G.decisions problem.now state.old)) (record choice { tried = turn + 1 }) s)) }
 {
-    for turn in choice.tried..choice.of {
+    let mut turn = choice.tried;
+    while turn < choice.of {
         state.undo(problem, choice.mark);
-        if state.push(
-            problem,
-            choice.site,
-            turn_round(choice.first, choice.of, turn),
-        )? {
+        let alternative = turn_round(choice.first, choice.of, turn);
+        let vain = state.vain_from(problem, choice.site, alternative);
+        if vain > 0 {
+            turn = turn_after(turn, vain, alternative, choice.of);
+            continue;
+        }
+        if state.push(problem, choice.site, alternative)? {
             return Ok(Some(turn));
         }
+        turn += 1;
     }
     state.undo(problem, choice.mark);
     Ok(None)

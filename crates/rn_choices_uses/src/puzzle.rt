@@ -109,6 +109,10 @@ impl<'a> Grows for Filling<'a> {
         Ok(Some(Items::from_vec(self.values.as_slice().to_vec(alloc)?)))
     }
 
+    fn vain_from(&self, _problem: &Puzzle<'a>, _site: usize, _alternative: usize) -> usize {
+        0
+    }
+
     fn push(
         &mut self,
         problem: &Puzzle<'a>,

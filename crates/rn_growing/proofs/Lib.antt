@@ -1,7 +1,6 @@
 pub mod BringingSteps
 pub mod BuildingLists
 pub mod BuildingSteps
-pub mod ChainSteps
 pub mod Followers
 pub mod ForcedInstances
 pub mod GoodSystems

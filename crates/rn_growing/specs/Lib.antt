@@ -1,5 +1,4 @@
 pub mod Building
-pub mod Chains
 pub mod Decided
 pub mod Decisions
 pub mod Entering

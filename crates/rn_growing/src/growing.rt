@@ -15,12 +15,12 @@ ghost use Rattle.rn_growing.specs.Turns.{MayCome};
 ghost use Rattle.rn_growing.specs.declared.decision.Decision.TheVariants as D;
 
 use crate::bringing::try_bring;
-use crate::chains::Chains;
 use crate::decision::{Caller, Decision, Head, Site, Way};
 use crate::laid::Laid;
 use crate::room::Room;
 use crate::slot::{Frame, Unknown};
 use crate::thing::{Thing, is_decided, key_of};
+use rn_chains::Chains;
 use rn_model::{Expr, System};
 use rn_value::{InstRef, NoMemory, Value, copy_inst};
 use std::alloc::Global;

@@ -3,7 +3,6 @@
 
 mod bringing;
 mod building;
-mod chains;
 mod decision;
 mod growing;
 mod keys;

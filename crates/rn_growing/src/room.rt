@@ -1,8 +1,8 @@
 //! The vectors of bindings, from one to the next.
-use crate::chains::Chains;
 use crate::decision::Decision;
 use crate::laid::Laid;
 use crate::slot::Frame;
+use rn_chains::Chains;
 use rn_value::NoMemory;
 use std::alloc::Global;
 use std::marker::Model;

@@ -4,9 +4,9 @@ ghost use Rattle.rn_growing.specs.Indexed.{is_slot};
 ghost use Rattle.rn_growing.specs.Keys.{unknown_key};
 ghost use Rattle.rn_growing.specs.Layouts.{id_of};
 
-use crate::chains::Chains;
 use crate::keys::{hole_key, path_key, stir};
 use crate::slot::{Slot, Unknown, are_same};
+use rn_chains::Chains;
 use rn_value::NoMemory;
 use std::alloc::Global;
 use std::marker::Model;

@@ -3,10 +3,10 @@ ghost use Rattle.std.specs.Prelude.{◌≡◌, map};
 ghost use Rattle.std.specs.List.{list_any};
 ghost use Rattle.rn_growing.specs.Decided.{decision_key, is_on, thing_key};
 
-use crate::chains::Chains;
 use crate::decision::{Decision, Site};
 use crate::keys::{hole_key, path_key, stir};
 use crate::slot::are_same_site;
+use rn_chains::Chains;
 
 /// What a decision is on: the entry of the node on a path, an arc of it, or an operator
 /// application of it.

@@ -3,6 +3,7 @@ use Rattle.std.proofs.Common.{◌≡◌, ℕ, ◌<◌, ◌⊎◌, List, [], ◌�
 use Rattle.std.proofs.Common.{inr, arith}
 use Rattle.rn_choices.specs.declared.next.Next.{Next}
 use Rattle.rn_choices.specs.declared.next.Next.TheVariants.{Choose}
+use Rattle.rn_choices.specs.declared.next.Next.TheVariants as N
 use Rattle.rn_model.specs.declared.system.System.{System}
 use Rattle.rn_growing.specs.declared.decision.Decision.{Decision}
 use Rattle.rn_search.specs.declared.point.Point.{Point}
@@ -13,7 +14,7 @@ use Rattle.rn_search.proofs.Ends.{may_is_asked}
 use Rattle.rn_looking.specs.declared.look.Look.{Look}
 use Rattle.rn_looking.specs.declared.look.Look.TheVariants.{Done, Waits, Goes}
 use Rattle.rn_looking.specs.Looks.{AreAllDecided, AreAllClosed, GoesOn, IsAmong, Looked, IsBetter}
-use Rattle.rn_looking.specs.Looks.{Urges}
+use Rattle.rn_looking.specs.Looks.{IsNarrowed, Urges}
 
 -- whatever is asked of all of these things is of one of these or of one of those
 abbrev pub AreCovered : System → List Decision → (Decision → Type 0) → (Decision → Type 0) →
@@ -29,8 +30,52 @@ looked_none sought ds On none d on asked = absurd (none d on)
 -- how the search goes on doesn't hang on the things that were looked at
 pub looked_best : (sought : Sought) (ds : List Decision) (On All : Decision → Type 0)
     (look : Look) → Looked sought ds On look → Urges look → Looked sought ds All look
-looked_best sought ds On All look looked (next, is) =
+looked_best sought ds On All look looked (next, (count, is)) =
     subst (Looked sought ds All) (sym is) (subst (Looked sought ds On) is looked)
+
+-- a look that goes on still does beside another
+pub still_urges : (a b r : Look) → Urges a → IsBetter a b r → Urges r
+still_urges (Goes next count) Done r urges is = (next, (count, is))
+still_urges (Goes next count) Waits r urges is = (next, (count, is))
+still_urges (Goes next count) (Goes after other) r urges is =
+    elim is [
+      | inl first ↦ (next, (count, first.1))
+      | inr second ↦ (after, (other, second.1))
+    ]
+still_urges Done b r (next, (count, never)) is = absurd (let no : ⊥ = cc in no)
+still_urges Waits b r (next, (count, never)) is = absurd (let no : ⊥ = cc in no)
+
+-- where one goes on, what counts of both says how the search goes on
+pub looked_urged : (sought : Sought) (ds : List Decision) (All Other : Decision → Type 0)
+    (a b r : Look) → Urges a → Looked sought ds All a → Looked sought ds Other b →
+    IsBetter a b r → Looked sought ds All r
+looked_urged sought ds All Other (Goes next count) Done r urges one two is =
+    subst (Looked sought ds All) (sym is) one
+looked_urged sought ds All Other (Goes next count) Waits r urges one two is =
+    subst (Looked sought ds All) (sym is) one
+looked_urged sought ds All Other (Goes next count) (Goes after other) r urges one two is =
+    elim is as (λ _. Looked sought ds All r) [
+      | inl first ↦ subst (Looked sought ds All) (sym first.1) one
+      | inr second ↦ subst (Looked sought ds All) (sym second.1) two
+    ]
+looked_urged sought ds All Other Done b r (next, (count, never)) one two is =
+    absurd (let no : ⊥ = cc in no)
+looked_urged sought ds All Other Waits b r (next, (count, never)) one two is =
+    absurd (let no : ⊥ = cc in no)
+
+-- a choice that counts as another number, or begins elsewhere, says the same
+pub looked_narrowed : (sought : Sought) (ds : List Decision) (On : Decision → Type 0)
+    (look r : Look) → Looked sought ds On look → IsNarrowed look r → Looked sought ds On r
+looked_narrowed sought ds On Done r looked is = subst (Looked sought ds On) (sym is) looked
+looked_narrowed sought ds On Waits r looked is = subst (Looked sought ds On) (sym is) looked
+looked_narrowed sought ds On (Goes (Choose point of first) count) r looked (begin, (other, is)) =
+    subst (Looked sought ds On) (sym is) looked
+looked_narrowed sought ds On (Goes N.Done count) r looked is =
+    subst (Looked sought ds On) (sym is) looked
+looked_narrowed sought ds On (Goes N.Stuck count) r looked is =
+    subst (Looked sought ds On) (sym is) looked
+looked_narrowed sought ds On (Goes (N.Forced point) count) r looked is =
+    subst (Looked sought ds On) (sym is) looked
 
 -- what a look at some things says of a part of them
 pub looked_part : (sought : Sought) (ds : List Decision) (On Part : Decision → Type 0) →
@@ -39,7 +84,7 @@ pub looked_part : (sought : Sought) (ds : List Decision) (On Part : Decision →
 looked_part sought ds On Part of Done looked = λ d part asked. looked d (of d part) asked
 looked_part sought ds On Part of Waits looked =
     (λ d part may. looked.0 d (of d part) may, looked.1)
-looked_part sought ds On Part of (Goes next) looked = looked
+looked_part sought ds On Part of (Goes next count) looked = looked
 
 module _ (sought : Sought) (ds : List Decision) (some : 0 < length ds) where
   done_is_closed : (On : Decision → Type 0) → AreAllDecided sought.system ds On →
@@ -69,19 +114,19 @@ module _ (sought : Sought) (ds : List Decision) (some : 0 < length ds) where
     looked_both Done Waits r one two is =
         subst (Looked sought ds All) (sym is)
         (both_closed (done_is_closed On one) two.0, two.1)
-    looked_both Done (Goes next) r one two is = subst (Looked sought ds All) (sym is) two
+    looked_both Done (Goes next count) r one two is = subst (Looked sought ds All) (sym is) two
     looked_both Waits Done r one two is =
         subst (Looked sought ds All) (sym is)
         (both_closed one.0 (done_is_closed Other two), one.1)
     looked_both Waits Waits r one two is =
         subst (Looked sought ds All) (sym is) (both_closed one.0 two.0, one.1)
-    looked_both Waits (Goes next) r one two is = subst (Looked sought ds All) (sym is) two
-    looked_both (Goes next) Done r one two is = subst (Looked sought ds All) (sym is) one
-    looked_both (Goes next) Waits r one two is = subst (Looked sought ds All) (sym is) one
-    looked_both (Goes next) (Goes after) r one two is =
+    looked_both Waits (Goes next count) r one two is = subst (Looked sought ds All) (sym is) two
+    looked_both (Goes next count) Done r one two is = subst (Looked sought ds All) (sym is) one
+    looked_both (Goes next count) Waits r one two is = subst (Looked sought ds All) (sym is) one
+    looked_both (Goes next count) (Goes after other) r one two is =
         elim is as (λ _. Looked sought ds All r) [
-          | inl first ↦ subst (Looked sought ds All) (sym first) one
-          | inr second ↦ subst (Looked sought ds All) (sym second) two
+          | inl first ↦ subst (Looked sought ds All) (sym first.1) one
+          | inr second ↦ subst (Looked sought ds All) (sym second.1) two
         ]
 
 -- where each may be tried, and one leads on, the search goes on with so many of them

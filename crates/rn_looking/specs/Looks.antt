@@ -1,5 +1,5 @@
 -- What a look at some things says.
-use Rattle.std.specs.Prelude.{ℕ, ◌≡◌, ◌⊎◌, List}
+use Rattle.std.specs.Prelude.{ℕ, ◌≡◌, ◌<◌, ◌≤◌, ◌⊎◌, List}
 use Rattle.rn_choices.specs.Leading.{Says}
 use Rattle.rn_choices.specs.declared.next.Next.{Next}
 use Rattle.rn_choices.specs.declared.next.Next.TheVariants.{Stuck, Forced, Choose}
@@ -34,19 +34,27 @@ GoesOn sought ds next = Says (Leads sought) (offers sought) (Allows sought) ⊥ 
 abbrev pub Looked : Sought → List Decision → (Decision → Type 0) → Look → Type 0
 Looked sought ds On Done = AreAllDecided sought.system ds On
 Looked sought ds On Waits = AreAllClosed sought.system ds On × IsOneLeft sought.system ds
-Looked sought ds On (Goes next) = GoesOn sought ds next
+Looked sought ds On (Goes next count) = GoesOn sought ds next
 
--- which of two looks counts: one that goes on, else one that waits
+-- which of two looks counts: the one that goes on, and counts as fewer alternatives, else one that
+-- waits
 abbrev pub IsBetter : Look → Look → Look → Type 0
 IsBetter Done other result = result ≡ other
-IsBetter Waits (Goes next) result = result ≡ Goes next
+IsBetter Waits (Goes next count) result = result ≡ Goes next count
 IsBetter Waits _ result = result ≡ Waits
-IsBetter (Goes next) (Goes then_next) result = (result ≡ Goes next) ⊎ (result ≡ Goes then_next)
-IsBetter (Goes next) _ result = result ≡ Goes next
+IsBetter (Goes next count) (Goes after other) result =
+    ((count ≤ other) × (result ≡ Goes next count)) ⊎ ((other < count) × (result ≡ Goes after other))
+IsBetter (Goes next count) _ result = result ≡ Goes next count
+
+-- the same choice, which may count as another number, and begin with another alternative
+abbrev pub IsNarrowed : Look → Look → Type 0
+IsNarrowed (Goes (Choose point of first) count) result =
+    (begin : ℕ) × ((other : ℕ) × (result ≡ Goes (Choose point of begin) other))
+IsNarrowed look result = result ≡ look
 
 -- it goes on
 abbrev pub Urges : Look → Type 0
-Urges look = (next : Next Point) × (look ≡ Goes next)
+Urges look = (next : Next Point) × ((count : ℕ) × (look ≡ Goes next count))
 
 -- how the search goes on with one of so many alternatives: where there is none it is stuck, one is
 -- forced, and of several one is chosen

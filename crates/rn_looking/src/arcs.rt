@@ -3,14 +3,15 @@ ghost use Rattle.std.specs.Prelude.{◌≡◌, ◌<◌, IfOk, IfSome, Some, leng
 ghost use Rattle.rn_looking.specs.Branches.{IsLookedAt};
 ghost use Rattle.rn_looking.specs.Equating.{IsKnownToken, IsTokenOf};
 ghost use Rattle.rn_looking.specs.Knowing.{IsKnownFirst, IsKnownTokenFirst, IsKnownValue};
-ghost use Rattle.rn_looking.specs.Looks.{Looked};
+ghost use Rattle.rn_looking.specs.Looks.{Looked, Urges};
 ghost use Rattle.rn_looking.specs.Things.{IsOnArc, IsOnArcs, FindsToken};
 
 use crate::among::among;
-use crate::best::{better, is_best};
+use crate::best::{better, count_of, goes_on, is_best};
 use crate::equated::{equated, known_worth};
 use crate::known::known_in;
 use crate::look::Look;
+use crate::narrowed::narrowed;
 use crate::parts::{finds_token, finds_values};
 use rn_calc::evaluate;
 use rn_choices::Next;
@@ -102,11 +103,11 @@ fn with_token(
     let _ = head;
     let _ = transition;
     let Some(value) = told else {
-        return Look::Goes(Next::Stuck);
+        return Look::Goes(Next::Stuck, 0);
     };
     match problem.only_token(growing.decisions(), node, k, value) {
-        Some(from) => Look::Goes(Next::Forced(Point::Token(node, k, from))),
-        None => Look::Goes(Next::Stuck),
+        Some(from) => Look::Goes(Next::Forced(Point::Token(node, k, from)), 1),
+        None => Look::Goes(Next::Stuck, 0),
     }
 }
 
@@ -130,7 +131,7 @@ fn with_first(
     let _ = transition;
     let range = problem.range_of_first(growing.decisions(), node, k, part);
     let of = range.end - range.start;
-    Look::Goes(among(Point::Token(node, k, range.start), of, first))
+    Look::Goes(among(Point::Token(node, k, range.start), of, first), of)
 }
 
 // Looks for the token of an arc.
@@ -158,7 +159,7 @@ fn look_for_token(
     }
     let point = Point::Token(node, k, 0);
     let of = problem.alternatives(growing.decisions(), point);
-    Ok(Look::Goes(among(point, of, first)))
+    Ok(Look::Goes(among(point, of, first), of))
 }
 
 // Looks at one of them.
@@ -185,9 +186,44 @@ fn look_at_arc(
         return Ok(Look::Done);
     }
     if !finds_token(arc.kind) {
-        return Ok(Look::Goes(Next::Forced(Point::List(node, k))));
+        return Ok(Look::Goes(Next::Forced(Point::List(node, k)), 1));
     }
     look_for_token(alloc, problem, growing, node, head, transition, k, first)
+}
+
+// Among fewer tokens than so many a choice isn't narrowed by guards.
+const SMALL: usize = 4;
+
+// Looks at the arcs of a node once more, and counts what passes its guards.
+fn look_by_guards(
+    alloc: Global,
+    problem: &Problem<'_>,
+    growing: &Growing<'_>,
+    node: usize,
+    head: &Head,
+    transition: &Transition,
+    first: usize,
+    known: Look,
+) -> Result<Look, NoMemory>
+    requires at { IsLookedAt problem.now growing.now node head.now transition.now }
+    requires urges { Urges known }
+    requires looked { Looked problem.now growing.now.decisions
+        (IsOnArcs head.now (length transition.now.arcs)) known }
+    ensures { IfOk result (λ look. Looked problem.now growing.now.decisions
+        (IsOnArcs head.now (length transition.now.arcs)) look) }
+{
+    let mut best = known;
+    for k in 0..transition.arcs.len() {
+        let look = look_at_arc(alloc, problem, growing, node, head, transition, k, first)?;
+        let arc = arc_at(transition, k);
+        let most = count_of(best);
+        let look = narrowed(alloc, problem, growing, head, transition, arc, look, most)?;
+        best = better(best, look);
+        if is_best(best) {
+            return Ok(best);
+        }
+    }
+    Ok(best)
 }
 
 /// Looks at what the arcs of a node find. Choices of a token begin with this one, round.
@@ -205,12 +241,19 @@ pub(crate) fn look_at_arcs(
         (IsOnArcs head.now (length transition.now.arcs)) look) }
 {
     let mut best = Look::Done;
+    let mut open = 0usize;
     for k in 0..transition.arcs.len() {
         let look = look_at_arc(alloc, problem, growing, node, head, transition, k, first)?;
+        if goes_on(look) {
+            open = open.saturating_add(1);
+        }
         best = better(best, look);
         if is_best(best) {
             return Ok(best);
         }
+    }
+    if open >= 2 && !transition.guards.is_empty() && count_of(best) >= SMALL && goes_on(best) {
+        return look_by_guards(alloc, problem, growing, node, head, transition, first, best);
     }
     Ok(best)
 }

@@ -3,38 +3,26 @@ ghost use Rattle.std.specs.Prelude.{◌≡◌, ◌↔◌, IsTrue};
 ghost use Rattle.rn_looking.specs.Looks.{IsBetter, Urges};
 
 use crate::look::Look;
-use rn_choices::Next;
-use rn_search::Point;
 
-// How many alternatives there are to be tried.
-fn alternatives_of(next: Next<Point>) -> usize {
-    match next {
-        Next::Done => 0,
-        Next::Stuck => 0,
-        Next::Forced(_) => 1,
-        Next::Choose(_, of, _) => of,
-    }
-}
-
-/// The look that goes on with fewer alternatives.
+/// The look that goes on, and counts as fewer alternatives.
 pub(crate) fn better(one: Look, other: Look) -> Look
     ensures { IsBetter one other result }
 {
     match one {
         Look::Done => other,
         Look::Waits => match other {
-            Look::Goes(next) => Look::Goes(next),
+            Look::Goes(next, count) => Look::Goes(next, count),
             _ => Look::Waits,
         },
-        Look::Goes(next) => match other {
-            Look::Goes(then) => {
-                if alternatives_of(then) < alternatives_of(next) {
-                    Look::Goes(then)
+        Look::Goes(next, count) => match other {
+            Look::Goes(then, fewer) => {
+                if fewer < count {
+                    Look::Goes(then, fewer)
                 } else {
-                    Look::Goes(next)
+                    Look::Goes(next, count)
                 }
             }
-            _ => Look::Goes(next),
+            _ => Look::Goes(next, count),
         },
     }
 }
@@ -44,7 +32,25 @@ pub(crate) fn is_best(look: Look) -> bool
     ensures { IsTrue result → Urges look }
 {
     match look {
-        Look::Goes(next) => alternatives_of(next) < 2,
+        Look::Goes(_, count) => count < 2,
+        _ => false,
+    }
+}
+
+/// As how many alternatives a look counts.
+pub(crate) fn count_of(look: Look) -> usize {
+    match look {
+        Look::Goes(_, count) => count,
+        _ => usize::MAX,
+    }
+}
+
+/// Whether the search can go on so, or stops.
+pub(crate) fn goes_on(look: Look) -> bool
+    ensures { IsTrue result → Urges look }
+{
+    match look {
+        Look::Goes(_, _) => true,
         _ => false,
     }
 }

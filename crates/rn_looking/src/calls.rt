@@ -13,6 +13,7 @@ ghost use Rattle.rn_looking.specs.Calling.{IsCalledOn, IsMaker, IsTarget};
 ghost use Rattle.rn_looking.specs.Looks.{GoesOn, Looked};
 ghost use Rattle.rn_looking.specs.Things.{IsOnCall, IsOnCalls, IsToBeCalled};
 
+use crate::answers::{Left, answers_left};
 use crate::best::{better, is_best};
 use crate::look::Look;
 use rn_choices::Next;
@@ -95,6 +96,31 @@ fn downlink_at(transition: &Transition, i: usize) -> &Downlink
     &transition.downlinks.as_slice()[i]
 }
 
+// As many answers, and an estimate of what is open already, from which on a call waits for tokens.
+const OPEN: usize = 16;
+
+// About how many combinations of answers are open already: two for each level of calls above, and
+// more where there are many decisions.
+fn open_before(depth: usize, decisions: usize) -> usize {
+    if depth > 8 {
+        return OPEN;
+    }
+    (1usize << depth).max(decisions / 4)
+}
+
+// As how many alternatives a call counts. Its answers may call further, and a token may decide them:
+// then it counts as more than there are, and where much is open already it comes after all tokens.
+fn counts_as(left: Left, depth: usize, decisions: usize) -> usize {
+    if left.count < 2 || !left.calls {
+        return left.count;
+    }
+    let all = left.count.saturating_mul(open_before(depth, decisions));
+    if all > OPEN {
+        return usize::MAX;
+    }
+    all * 8
+}
+
 // Looks at a call that wasn't answered yet.
 fn look_for_answer(
     alloc: Global,
@@ -115,18 +141,22 @@ fn look_for_answer(
         return Ok(Look::Waits);
     };
     let Value::Inst(inst) = &value else {
-        return Ok(Look::Goes(Next::Stuck));
+        return Ok(Look::Goes(Next::Stuck, 0));
     };
     if head.path.len() >= problem.depth() as usize {
-        return Ok(Look::Goes(Next::Stuck));
+        return Ok(Look::Goes(Next::Stuck, 0));
     }
     let decisions = growing.decisions();
     let Some(called) = called_on(problem.system(), decisions, inst) else {
-        return Ok(Look::Goes(Next::Stuck));
+        return Ok(Look::Goes(Next::Stuck, 0));
     };
     let point = Point::Call(node, i, called);
     let of = problem.alternatives(decisions, point);
-    Ok(Look::Goes(Next::Choose(point, of, 0)))
+    let left = answers_left(
+        alloc, problem, growing, node, head, i, downlink, inst, called,
+    )?;
+    let count = counts_as(left, head.path.len(), decisions.len());
+    Ok(Look::Goes(Next::Choose(point, of, left.first), count))
 }
 
 /// Whether a node's calls need more levels than are left. Then the decisions lead to no binding.

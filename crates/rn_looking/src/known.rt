@@ -20,6 +20,19 @@ pub(crate) struct Known<'a> {
     pairs: Vec<(u32, Value)>,
 }
 
+impl<'a> Known<'a> {
+    /// An instance, and values of variables.
+    pub(crate) fn of(this: &'a InstRef, pairs: Vec<(u32, Value)>) -> Known<'a> {
+        Known { this, pairs }
+    }
+
+    /// The values of variables.
+    pub(crate) fn into_pairs(self) -> Vec<(u32, Value)> {
+        let Known { this: _, pairs } = self;
+        pairs
+    }
+}
+
 impl Values for Known<'_> {
     ghost use Rattle.rn_looking.specs.Knowing.{known_env};
 

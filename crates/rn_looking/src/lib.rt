@@ -2,6 +2,7 @@
 #![tactic(auto)]
 
 mod among;
+mod answers;
 mod arcs;
 mod best;
 mod calls;
@@ -14,6 +15,7 @@ mod inhibitors;
 mod known;
 mod look;
 mod looking;
+mod narrowed;
 mod parts;
 mod results;
 mod tested;

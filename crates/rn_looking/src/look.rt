@@ -11,6 +11,6 @@ pub enum Look {
     /// Some aren't, and none of those may come in.
     Waits,
 
-    /// The search can go on so, or stops.
-    Goes(Next<Point>),
+    /// The search can go on so, or stops. It counts as so many alternatives: the fewer, the sooner.
+    Goes(Next<Point>, usize),
 }

@@ -1,17 +1,17 @@
 //! Looking at all that is asked of a binding that grows.
-ghost use Rattle.std.specs.Prelude.{◌≡◌, ◌<◌, IfOk, IsTrue, length, map};
+ghost use Rattle.std.specs.Prelude.{◌≡◌, ◌<◌, IfOk, IfSome, IsTrue, length, map};
 ghost use Rattle.rn_binding.specs.Applications.{application_of};
 ghost use Rattle.rn_search.specs.Points.{holes_of};
 ghost use Rattle.rn_looking.specs.declared.look.Look.TheVariants as L;
 ghost use Rattle.rn_looking.specs.Applying.{AreAppliedIn};
 ghost use Rattle.rn_looking.specs.Branches.{IsBranchOf, IsLookedAt};
 ghost use Rattle.rn_choices.specs.declared.next.Next.TheVariants.{Stuck};
-ghost use Rattle.rn_looking.specs.Looks.{GoesOn, Looked};
+ghost use Rattle.rn_looking.specs.Looks.{GoesOn, Looked, Urges};
 ghost use Rattle.rn_looking.specs.Settling.{AreSettled, LookedOn};
-ghost use Rattle.rn_looking.specs.Things.{IsOfNode, IsOfEntry};
+ghost use Rattle.rn_looking.specs.Things.{IsOfEntries, IsOfNode, IsOfEntry};
 
 use crate::arcs::look_at_arcs;
-use crate::best::{better, is_best};
+use crate::best::{better, goes_on, is_best};
 use crate::calls::{lacks_levels, look_at_calls};
 use crate::flexible::test_lists;
 use crate::guards::test_guards;
@@ -127,9 +127,18 @@ fn look_within(
         (IsOfNode head.now) look) }
 {
     if fails(alloc, problem, growing, node, head, transition, tested)? {
-        return Ok(Look::Goes(Next::Stuck));
+        return Ok(Look::Goes(Next::Stuck, 0));
     }
-    let results = look_at_results(alloc, problem, growing, node, head, transition, found)?;
+    let results = look_at_results(
+        alloc,
+        problem,
+        growing,
+        node,
+        head,
+        transition,
+        found,
+        &mut tested.result,
+    )?;
     if is_best(results) {
         return Ok(results);
     }
@@ -177,13 +186,118 @@ fn is_done(look: Look) -> bool
     match look {
         Look::Done => true,
         Look::Waits => false,
-        Look::Goes(_) => false,
+        Look::Goes(_, _) => false,
     }
 }
 
-/// Looks at all that is asked, and finds how it goes on best, and how many of the first decisions
-/// are settled. It begins after those that are known to be. The operator applications of the nodes
-/// stand beside the decisions.
+// From so many decisions on that may not be settled a look begins near where the last one ended.
+const MANY: usize = 16;
+
+// How many nodes are looked at beyond the first by which the search can go on with one of several
+// alternatives, and how many of the newest ones then.
+const FURTHER: usize = 16;
+
+const NEWEST: usize = 4;
+
+// Looks at what a decision asks. It counts where nothing better can come.
+fn look_at_best(
+    alloc: Global,
+    problem: &Problem<'_>,
+    growing: &Growing<'_>,
+    applications: &[Items<Application<'_>>],
+    node: usize,
+    first: usize,
+    tested: &mut Tested,
+) -> Result<Option<Look>, NoMemory>
+    requires branch { IsBranchOf problem.now growing.now }
+    requires applied { AreAppliedIn growing.now.system growing.now.decisions applications.now }
+    requires within { node < length growing.now.decisions }
+    ensures { IfOk result (λ best. IfSome best (λ look. Looked problem.now growing.now.decisions
+        (IsOfEntries growing.now.decisions (length growing.now.decisions)) look)) }
+{
+    let look = look_at_node(alloc, problem, growing, applications, node, first, tested)?;
+    if !is_best(look) {
+        return Ok(None);
+    }
+    tested.near = node;
+    Ok(Some(look))
+}
+
+// Where a look begins: with the newest decision, that by which one found last how to go on, and the
+// two beside that.
+fn place(k: usize, near: usize, end: usize) -> usize {
+    match k {
+        0 => end.saturating_sub(1),
+        1 => near,
+        2 => near.saturating_sub(1),
+        _ => near.saturating_add(1),
+    }
+}
+
+// Looks there.
+fn look_near(
+    alloc: Global,
+    problem: &Problem<'_>,
+    growing: &Growing<'_>,
+    applications: &[Items<Application<'_>>],
+    first: usize,
+    from: usize,
+    tested: &mut Tested,
+) -> Result<Option<Look>, NoMemory>
+    requires branch { IsBranchOf problem.now growing.now }
+    requires applied { AreAppliedIn growing.now.system growing.now.decisions applications.now }
+    ensures { IfOk result (λ best. IfSome best (λ look. Looked problem.now growing.now.decisions
+        (IsOfEntries growing.now.decisions (length growing.now.decisions)) look)) }
+{
+    let end = growing.mark();
+    if end.saturating_sub(from) < MANY {
+        return Ok(None);
+    }
+    let near = tested.near;
+    for k in 0..4 {
+        let node = place(k, near, end);
+        if from <= node && node < end {
+            let best = look_at_best(alloc, problem, growing, applications, node, first, tested)?;
+            if best.is_some() {
+                return Ok(best);
+            }
+        }
+    }
+    Ok(None)
+}
+
+// Looks at the newest decisions too, from one on, where it is known how the search can go on.
+fn look_at_newest(
+    alloc: Global,
+    problem: &Problem<'_>,
+    growing: &Growing<'_>,
+    applications: &[Items<Application<'_>>],
+    from: usize,
+    first: usize,
+    tested: &mut Tested,
+    known: Look,
+) -> Result<Look, NoMemory>
+    requires branch { IsBranchOf problem.now growing.now }
+    requires applied { AreAppliedIn growing.now.system growing.now.decisions applications.now }
+    requires urges { Urges known }
+    requires looked { Looked problem.now growing.now.decisions
+        (IsOfEntries growing.now.decisions (length growing.now.decisions)) known }
+    ensures { IfOk result (λ look. Looked problem.now growing.now.decisions
+        (IsOfEntries growing.now.decisions (length growing.now.decisions)) look) }
+{
+    let mut best = known;
+    let end = growing.mark();
+    for node in from.max(end.saturating_sub(NEWEST))..end {
+        let look = look_at_node(alloc, problem, growing, applications, node, first, tested)?;
+        best = better(best, look);
+    }
+    Ok(best)
+}
+
+/// Looks at what is asked, and finds how it goes on, and how many of the first decisions are
+/// settled. It begins after those that are known to be, or near where the last look found how to go
+/// on. Where it can go on, few more nodes are looked at; where it can't, all are. The operator
+/// applications of the nodes stand beside the decisions.
 pub fn look_at_all(
     alloc: Global,
     problem: &Problem<'_>,
@@ -198,16 +312,37 @@ pub fn look_at_all(
     requires settled { AreSettled problem.now.system growing.now.decisions from }
     ensures { IfOk result (λ looked. LookedOn problem.now growing.now.decisions looked.0 looked.1) }
 {
+    if let Some(nearest) = look_near(alloc, problem, growing, applications, first, from, tested)? {
+        return Ok((nearest, from));
+    }
     let mut best = Look::Done;
     let mut settled = from;
+    let mut further = 0usize;
     for node in from..growing.mark() {
         let look = look_at_node(alloc, problem, growing, applications, node, first, tested)?;
         best = better(best, look);
         if is_best(best) {
+            tested.near = node;
             return Ok((best, settled));
         }
         if is_done(best) {
             settled = node + 1;
+        }
+        if goes_on(best) {
+            if further == FURTHER {
+                let look = look_at_newest(
+                    alloc,
+                    problem,
+                    growing,
+                    applications,
+                    node + 1,
+                    first,
+                    tested,
+                    best,
+                )?;
+                return Ok((look, settled));
+            }
+            further = further.saturating_add(1);
         }
     }
     Ok((best, settled))

@@ -1,5 +1,5 @@
 //! Looking at the operator applications of a node.
-ghost use Rattle.std.specs.Prelude.{◌≡◌, ◌↔◌, ℤ, IfOk, Some, length, map, slice_get};
+ghost use Rattle.std.specs.Prelude.{◌≡◌, ◌↔◌, ℤ, IfOk, IfSome, Some, length, map, slice_get};
 ghost use Rattle.rn_value.specs.declared.value.Value.TheVariants as V;
 ghost use Rattle.rn_model.specs.Evaluation.{worth};
 ghost use Rattle.rn_looking.specs.Knowing.{known_env};
@@ -66,9 +66,48 @@ fn look_at_result(
         return Ok(Look::Waits);
     };
     match number_of(alloc, application.form, &known)? {
-        Some(n) => Ok(Look::Goes(Next::Forced(Point::Result(node, k, n)))),
-        None => Ok(Look::Goes(Next::Stuck)),
+        Some(n) => Ok(Look::Goes(Next::Forced(Point::Result(node, k, n)), 1)),
+        None => Ok(Look::Goes(Next::Stuck, 0)),
     }
+}
+
+// From so many operator applications on a look begins with those beside the one that was found last.
+const MANY: usize = 8;
+
+// Looks at the two operator applications beside the one that a look found last. It counts where
+// nothing better can come.
+fn look_near_result(
+    alloc: Global,
+    problem: &Problem<'_>,
+    growing: &Growing<'_>,
+    node: usize,
+    head: &Head,
+    transition: &Transition,
+    found: &[Application<'_>],
+    near: &mut usize,
+) -> Result<Option<Look>, NoMemory>
+    requires at { IsLookedAt problem.now growing.now node head.now transition.now }
+    requires are { map application_of found.now ≡ holes_of transition.now }
+    ensures { IfOk result (λ best. IfSome best (Looked problem.now growing.now.decisions
+        (IsOnHoles transition.now head.now (length (holes_of transition.now))))) }
+{
+    if found.len() < MANY {
+        return Ok(None);
+    }
+    let beside = [near.saturating_sub(1), near.saturating_add(1)];
+    for i in 0..2 {
+        let k = beside[i];
+        if k < found.len() {
+            let look = look_at_result(
+                alloc, problem, growing, node, head, transition, k, &found[k],
+            )?;
+            if is_best(look) {
+                *near = k;
+                return Ok(Some(look));
+            }
+        }
+    }
+    Ok(None)
 }
 
 /// Looks at the operator applications of a node, which are these.
@@ -80,12 +119,18 @@ pub(crate) fn look_at_results(
     head: &Head,
     transition: &Transition,
     found: &[Application<'_>],
+    near: &mut usize,
 ) -> Result<Look, NoMemory>
     requires at { IsLookedAt problem.now growing.now node head.now transition.now }
     requires are { map application_of found.now ≡ holes_of transition.now }
     ensures { IfOk result (λ look. Looked problem.now growing.now.decisions
         (IsOnHoles transition.now head.now (length (holes_of transition.now))) look) }
 {
+    if let Some(nearest) = look_near_result(
+        alloc, problem, growing, node, head, transition, found, near,
+    )? {
+        return Ok(nearest);
+    }
     let mut best = Look::Done;
     for k in 0..found.len() {
         let look = look_at_result(
@@ -93,6 +138,7 @@ pub(crate) fn look_at_results(
         )?;
         best = better(best, look);
         if is_best(best) {
+            *near = k;
             return Ok(best);
         }
     }

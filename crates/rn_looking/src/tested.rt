@@ -1,4 +1,4 @@
-//! Of how many nodes the tests are known to hold.
+//! Of how many nodes the tests are known to hold, and where a look begins.
 
 /// Of the nodes that so many of the first decisions enter, guards and inhibitor arcs are known to
 /// hold, and so are flexible arcs. They needn't be looked at again.
@@ -6,6 +6,12 @@
 pub struct Tested {
     pub(crate) guards: usize,
     pub(crate) lists: usize,
+
+    /// The decision by whose node a look found last how to go on, or that nothing does.
+    pub(crate) near: usize,
+
+    /// The operator application that a look found last to be known, by its number in its node.
+    pub(crate) result: usize,
 }
 
 impl Tested {
@@ -14,6 +20,8 @@ impl Tested {
         Tested {
             guards: 0,
             lists: 0,
+            near: 0,
+            result: 0,
         }
     }
 
@@ -22,6 +30,18 @@ impl Tested {
         Tested {
             guards: self.guards.max(count),
             lists: self.lists.max(count),
+            near: self.near,
+            result: self.result,
+        }
+    }
+
+    /// The same, but a look begins where one of another begins.
+    pub fn beginning_as(self, other: Tested) -> Tested {
+        Tested {
+            guards: self.guards,
+            lists: self.lists,
+            near: other.near,
+            result: other.result,
         }
     }
 

@@ -2,7 +2,7 @@
 use Rattle.std.proofs.Common.{◌≡◌, ℕ, zero, suc, ◌-◌, ◌<◌, ◌≤◌, Bool, true, false, Some, None}
 use Rattle.std.proofs.Common.{slice_get, List, [], ◌∷◌, length, take, drop, nat_eq, refl, sym, ap}
 use Rattle.std.proofs.Common.{◌∙◌, subst, arith, Contains}
-use Rattle.std.specs.Prelude.{option_and_then, if◌then◌else◌}
+use Rattle.std.specs.Prelude.{Option, option_and_then, if◌then◌else◌}
 use Rattle.std.proofs.lemmas.Bool.{eqb-true, true≢false}
 use Rattle.std.proofs.lemmas.Option.{slice_get_past, slice_get-get_or}
 use Rattle.std.specs.List.Sorted.{IsSorted}
@@ -88,6 +88,24 @@ again vs (suc i) v some at before =
     told vs (suc i) v false at
     (positive (count_of v (take (suc i) vs))
     (taken_counts vs i v (ap (slice_get vs) (sym place) ∙ before)))
+
+-- nor are those that equal one before them
+pub repeated : (vs : List Value) (index end k : ℕ) → 0 < index →
+    ((j : ℕ) → index - 1 ≤ j → j < end → slice_get vs j ≡ slice_get vs (index - 1)) →
+    index ≤ k → k < end → first_token vs k ≡ None
+repeated vs index end k some equal from below = by (slice_get vs (index - 1)) refl
+  where
+    here : slice_get vs k ≡ slice_get vs (index - 1)
+    here = equal k (omega (arith, from)) below
+
+    before : slice_get vs (k - 1) ≡ slice_get vs (index - 1)
+    before = equal (k - 1) (omega (arith, from, some)) (omega (arith, below))
+
+    by : (o : Option Value) → slice_get vs (index - 1) ≡ o → first_token vs k ≡ None
+    by None none =
+        ap (λ o. option_and_then (λ w. if nat_eq (count_of w (take k vs)) 0 then Some w else None)
+        o) (here ∙ none)
+    by (Some v) is = again vs k v (omega (arith, some, from)) (here ∙ is) (before ∙ is)
 
 -- the first one of all is, and so is one that doesn't equal the one before it
 pub first : (vs : List Value) (i : ℕ) (v : Value) → i ≡ 0 → slice_get vs i ≡ Some v →

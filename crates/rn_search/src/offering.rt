@@ -1,7 +1,7 @@
 //! What the alternatives of a point mean, and how many there are.
 ghost use Rattle.std.specs.Prelude.{◌≡◌, ◌<◌, ◌^◌, [], Some, IfOk, List, OnSome, ℕ, slice_get, length};
 ghost use Rattle.std.specs.Prelude.{Contains, IfSome, IfNone, IsTrue, ◌≤◌, ◌↔◌};
-ghost use Rattle.std.specs.Prelude.{unwrap_or};
+ghost use Rattle.std.specs.Prelude.{◌+◌, None, unwrap_or};
 ghost use Rattle.std.specs.Option.{option_copied};
 ghost use Rattle.rn_bag.specs.Cuts.{has_first};
 ghost use Rattle.rn_growing.specs.Decisions.{transition_in};
@@ -15,7 +15,7 @@ ghost use Rattle.rn_search.specs.declared.point.Point.TheVariants as P;
 use crate::point::{Called, Point};
 use crate::problem::Problem;
 use crate::system_parts::{node_on, transition_in};
-use crate::tokens::{first_token_after, index_of};
+use crate::tokens::{first_token_after, index_of, repeats_from};
 use rn_bag::Bag;
 use rn_growing::{Caller, Decision, Head, copy_head};
 use rn_items::Items;
@@ -64,8 +64,8 @@ impl<'a> Problem<'a> {
         }
     }
 
-    // The net of the instance on which a called transition occurs.
-    fn net_called(&self, decisions: &[Decision], called: Called) -> Option<u32>
+    /// The net of the instance on which a called transition occurs.
+    pub fn net_called(&self, decisions: &[Decision], called: Called) -> Option<u32>
         ensures { result ≡ net_called self.now decisions.now called }
     {
         match called {
@@ -102,8 +102,8 @@ impl<'a> Problem<'a> {
         }
     }
 
-    // The transitions that answer a downlink of a node.
-    fn answers(&self, decisions: &[Decision], node: usize, i: usize, called: Called) -> &[u32]
+    /// The transitions that answer a downlink of a node, by their indices in the net that is called.
+    pub fn answers(&self, decisions: &[Decision], node: usize, i: usize, called: Called) -> &[u32]
         ensures { result.now ≡ answers self.now decisions.now node i called }
     {
         let Some(net) = self.net_called(decisions, called) else {
@@ -243,6 +243,29 @@ impl<'a> Problem<'a> {
         match self.tokens_of(head, arc) {
             Some(bag) => bag.range_of_first(first),
             None => 0..0,
+        }
+    }
+
+    /// How many alternatives of an arc from one on are tokens that equal an earlier one, so that none
+    /// of them is a decision. It takes no memory.
+    pub fn repeats(
+        &self,
+        decisions: &[Decision],
+        node: usize,
+        arc: usize,
+        from: usize,
+        a: usize,
+    ) -> usize
+        ensures { (b : ℕ) → a ≤ b → b < a + result →
+            offered self.now decisions.now (P.Token node arc from) b ≡ None }
+    {
+        let head = self.node_of(decisions, node);
+        let Some(bag) = self.tokens_of(head, arc) else {
+            return 0;
+        };
+        match from.checked_add(a) {
+            Some(index) => repeats_from(bag, index),
+            None => 0,
         }
     }
 

@@ -1,5 +1,5 @@
 //! Tokens of a bag of which only the first of equal ones counts.
-ghost use Rattle.std.specs.Prelude.{◌≡◌, ◌↔◌, IsTrue, Some, slice_get, ◌+◌};
+ghost use Rattle.std.specs.Prelude.{◌≡◌, ◌≤◌, ◌<◌, ◌↔◌, ℕ, IsTrue, None, Some, slice_get, ◌+◌};
 ghost use Rattle.std.specs.Prelude.{Contains, IfSome, IfNone};
 ghost use Rattle.std.specs.Option.{option_copied};
 ghost use Rattle.rn_search.specs.Points.{first_token};
@@ -35,6 +35,16 @@ pub(crate) fn first_token_after(bag: &Bag, from: usize, a: usize) -> Option<&Val
         return None;
     }
     first_token(bag, from + a)
+}
+
+/// How many tokens from an index on equal the one before them.
+pub(crate) fn repeats_from(bag: &Bag, index: usize) -> usize
+    ensures { (k : ℕ) → index ≤ k → k < index + result → first_token bag.now k ≡ None }
+{
+    if index == 0 {
+        return 0;
+    }
+    bag.next_other(index - 1).saturating_sub(index)
 }
 
 /// The first index at which a token stands, where it is there.

@@ -3,13 +3,13 @@ use Rattle.std.proofs.Common.{◌≡◌, ◌+◌, subst, rules}
 use Rattle.std.specs.Prelude.{IsTrue}
 use Rattle.std.proofs.lemmas.Result.{IfOk-weaker}
 use Rattle.rn_search.specs.declared.point.Point.TheVariants as P
-use Rattle.rn_branch.specs.Offers.{IsOffer, IsTakenUp, NoneLeadBy}
+use Rattle.rn_branch.specs.Offers.{IsOffer, NoneLeadBy}
 use Rattle.rn_branch.specs.Testing.{FailsGuard}
 use Rattle.rn_branch.proofs.VainTokens.{failing_is_vain, taken_up_is_vain}
 use Rattle.rn_branch.proofs.trying.is_vain_token.Goals as goal
 
-pub returns-then-is_taken_up-clause-vain : goal.returns-then-is_taken_up-clause-vain
-returns-then-is_taken_up-clause-vain c told =
+pub returns-then-branch-clause-vain : goal.returns-then-branch-clause-vain
+returns-then-branch-clause-vain c told =
     let p = c.args.problem.now in
     let offer = c.in-Some-offer_at.offer in
     let index : c.in-Some.index ≡ c.args.from + c.args.a = search rules in
@@ -20,8 +20,7 @@ returns-then-is_taken_up-clause-vain c told =
     (rw c.in-Some-offer_at.is at c.offer_at.ensures)) in
     taken_up_is_vain p c.args.growing.now c.requires.branch c.args.node c.args.k c.args.from
     c.args.a offer is c.requires.allows
-    (subst (λ ds. IsTakenUp p ds offer) c.decisions-2.ensures
-    (c.is_taken_up.ensures c.if-is_taken_up.true))
+    (c.in_ok-is_taken_up.ensures.up c.if-branch.true)
 
 pub returns-clause-vain : goal.returns-clause-vain
 returns-clause-vain c =

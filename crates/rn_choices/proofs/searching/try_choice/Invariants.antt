@@ -1,4 +1,4 @@
-use Rattle.std.proofs.Common.{◌≡◌, ◌≤◌, length, take}
+use Rattle.std.proofs.Common.{◌≡◌, ◌≤◌, ◌-◌, length, take}
 use Rattle.rn_choices.specs.Waiting.{WaitsAt}
 use Rattle.rn_choices.proofs.searching.try_choice.Given as goal
 
@@ -8,6 +8,7 @@ invariant-loop-turn g l =
     let grows = g.G.Grows in
     let before = take l.fn.choice.mark (grows.decisions l.problem l.initial.state) in
     record {
+      begun : l.fn.choice.tried ≤ l.turn;
       stands : grows.stands l.problem l.state;
       within : l.fn.choice.mark ≤ length (grows.decisions l.problem l.state);
       kept : take l.fn.choice.mark (grows.decisions l.problem l.state) ≡ before;
@@ -15,3 +16,7 @@ invariant-loop-turn g l =
           → WaitsAt (grows.leads l.problem) (grows.offers l.problem) before
           (record l.fn.choice { tried = l.turn }) s;
     }
+
+-- each step goes on with a later turn
+abbrev pub decreases-loop-turn : goal.decreases-loop-turn
+decreases-loop-turn g l = l.fn.choice.of - l.turn

@@ -1,7 +1,7 @@
 -- By the decisions that have the thing's key.
 use Rattle.std.proofs.Common.{◌≡◌, ◌-◌, arith, subst, sym, ◌∙◌, length}
 use Rattle.std.specs.Prelude.{Some, slice_get}
-use Rattle.rn_growing.specs.Chains.{IsUpToLast}
+use Rattle.rn_chains.specs.Chains.{IsUpToLast}
 use Rattle.rn_growing.specs.Indexed.{IsSought}
 use Rattle.rn_growing.specs.Decided.{decision_key, thing_key, is_on}
 use Rattle.rn_growing.proofs.Growth.{stands_at}

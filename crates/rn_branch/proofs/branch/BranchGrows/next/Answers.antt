@@ -2,6 +2,7 @@
 use Rattle.std.proofs.Common.{◌≡◌, ◌∙◌, ◌<◌, ap, length, sym, subst, rules}
 use Rattle.rn_choices.specs.Leading.{Says}
 use Rattle.rn_choices.specs.declared.next.Next.{Next}
+use Rattle.rn_choices.specs.declared.next.Next.TheVariants as N
 use Rattle.rn_search.specs.declared.point.Point.{Point}
 use Rattle.rn_search.specs.Sought.{Sought, Leads}
 use Rattle.rn_search.specs.Points.{offers}
@@ -10,7 +11,7 @@ use Rattle.rn_growing.specs.Grown.{Grown}
 use Rattle.rn_branch.specs.GoingOn.{IsAtEnd}
 use Rattle.rn_looking.specs.Branches.{IsBranchOf}
 use Rattle.rn_looking.specs.Looks.{Looked}
-use Rattle.rn_branch.specs.GoingOn.{IsNextOf}
+use Rattle.rn_branch.specs.GoingOn.{IsNextOf, IsSameButFirst}
 use Rattle.rn_looking.specs.Things.{IsOfEntries}
 use Rattle.rn_looking.specs.declared.look.Look.{Look}
 use Rattle.rn_looking.specs.declared.look.Look.TheVariants.{Done, Waits, Goes}
@@ -30,8 +31,14 @@ module _ (sought : Sought) (inside self : Grown) (view : inside ≡ self)
       subst SaysOf (sym is) (next_done sought inside self view stands some looked)
   next_by Waits next looked is =
       subst SaysOf (sym is) (next_stuck sought inside self view stands some looked)
-  next_by (Goes goes) next looked is =
-      subst SaysOf (sym is) (next_goes sought inside self view stands goes looked)
+  next_by (Goes goes count) next looked is =
+      subst SaysOf (sym is) (next_goes sought inside self view stands goes count looked)
+
+  same_says : (next told : Next Point) → IsSameButFirst next told → SaysOf next → SaysOf told
+  same_says N.Done told is says = subst SaysOf (sym is) says
+  same_says N.Stuck told is says = subst SaysOf (sym is) says
+  same_says (N.Forced site) told is says = subst SaysOf (sym is) says
+  same_says (N.Choose site of first) told (begin, is) says = subst SaysOf (sym is) says
 
 pub look-requires : goal.look-requires
 look-requires c =
@@ -56,7 +63,9 @@ returns-clause-says c =
     let p = c.args.problem.now in
     let self = c.args.self.now in
     let some : 0 < length c.self.inside.growing.decisions = search rules in
-    subst (λ g. Says (Leads p) (offers p) (Allows p) (IsAtEnd p g) self.decisions c.next_of.result)
+    subst (λ g. Says (Leads p) (offers p) (Allows p) (IsAtEnd p g) self.decisions c.begun.result)
     (sym (c.look.ensures.same ∙ c.self.view_is))
+    (same_says p c.self.inside.growing self c.self.view_is c.requires some c.next_of.result
+    c.begun.result c.begun.ensures
     (next_by p c.self.inside.growing self c.self.view_is c.requires some
-    c.in_ok-look.look c.next_of.result c.in_ok-look.ensures.looked c.next_of.ensures)
+    c.in_ok-look.look c.next_of.result c.in_ok-look.ensures.looked c.next_of.ensures))

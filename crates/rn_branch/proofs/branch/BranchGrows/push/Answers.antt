@@ -3,10 +3,12 @@ use Rattle.std.proofs.Common.{◌∙◌, sym, subst}
 use Rattle.std.specs.Prelude.{Ok}
 use Rattle.rn_growing.specs.Grown.{Grown}
 use Rattle.rn_search.specs.Allowing.{Allows}
+use Rattle.rn_branch.specs.Takings.{AreTakings}
 use Rattle.rn_branch.specs.Testing.{AreKept}
 use Rattle.rn_branch.proofs.Applied.{applied_outside}
 use Rattle.rn_branch.proofs.BranchSteps.{push_comes, push_fresh, push_heads, push_is, push_kept}
 use Rattle.rn_branch.proofs.BranchSteps.{push_never, push_none, push_room, push_stands}
+use Rattle.rn_branch.proofs.KeptTakings.{no_takings, takings_by_tries}
 use Rattle.rn_branch.proofs.KeptTests.{kept_by_tries}
 use Rattle.rn_branch.proofs.branch.BranchGrows.push.Goals as goal
 
@@ -97,7 +99,13 @@ pub invariant_of-self-in-Some : goal.invariant_of-self-in-Some
 invariant_of-self-in-Some c =
     let g = c.self.inside.growing in
     let tests = c.take-tests.result in
-    kept_by_tries g c.decide.new.self c.in-Some.decision tests c.in_ok-made-in-Some.made
-    (subst (AreKept g) (sym c.take-tests.ensures.value)
-    (subst (λ h. AreKept h c.is_vain.new.kept) c.growing.ensures c.is_vain.ensures.kept))
-    c.in_ok-made-in-Some.ensures.tries
+    let takings = c.replace-takings.result in (
+      kept_by_tries g c.decide.new.self c.in-Some.decision tests c.in_ok-made-in-Some.made
+          (subst (AreKept g) (sym c.take-tests.ensures.value)
+          (subst (λ h. AreKept h c.is_vain.new.kept) c.growing.ensures c.is_vain.ensures.kept))
+          c.in_ok-made-in-Some.ensures.tries,
+      takings_by_tries g c.decide.new.self c.in-Some.decision takings c.in_ok-made-in-Some.made
+          (subst (AreTakings g.system g.decisions) (sym c.replace-takings.ensures.value)
+          (subst (λ (h : Grown). AreTakings h.system h.decisions c.is_vain.new.takings)
+          c.growing.ensures c.is_vain.ensures.takings)) c.in_ok-made-in-Some.ensures.tries,
+    )

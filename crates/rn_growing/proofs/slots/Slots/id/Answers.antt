@@ -1,7 +1,7 @@
 -- By the slots that have the unknown's key.
 use Rattle.std.proofs.Common.{◌≡◌, ◌-◌, arith, subst, sym, ap, ◌∙◌, length}
 use Rattle.std.specs.Prelude.{Some, slice_get}
-use Rattle.rn_growing.specs.Chains.{IsUpToLast}
+use Rattle.rn_chains.specs.Chains.{IsUpToLast}
 use Rattle.rn_growing.specs.Indexed.{is_slot}
 use Rattle.rn_growing.specs.Keys.{slot_key, unknown_key}
 use Rattle.rn_growing.specs.Layouts.{id_of}

@@ -1,0 +1,11 @@
+-- It goes on, whatever the first arcs came to.
+use Rattle.std.proofs.Common.{length}
+use Rattle.rn_looking.specs.Looks.{Looked, Urges}
+use Rattle.rn_looking.specs.Things.{IsOnArcs}
+use Rattle.rn_looking.proofs.arcs.look_by_guards.Given as goal
+
+abbrev pub invariant-loop-k : goal.invariant-loop-k
+invariant-loop-k l = record {
+  urges : Urges l.best;
+  looked : Looked l.problem l.growing.decisions (IsOnArcs l.head (length l.transition.arcs)) l.best;
+}

@@ -1,0 +1,182 @@
+//! How many tokens of a choice pass a guard of which all other variables are forced. It only decides
+//! what is tried first: a token that doesn't pass is given up when it is tried.
+ghost use Rattle.std.specs.Prelude.{IfOk};
+ghost use Rattle.rn_looking.specs.Looks.{IsNarrowed};
+
+use crate::guard_vars::put_guard;
+use crate::known::{Known, values_but};
+use crate::look::Look;
+use rn_bag::Bag;
+use rn_calc::is_true;
+use rn_choices::Next;
+use rn_growing::{Growing, Head};
+use rn_model::{Cond, Expr, NetArc, Transition};
+use rn_search::{Point, Problem};
+use rn_value::{InstRef, NoMemory, Value, copy};
+use std::alloc::Global;
+
+/// Which tokens of a choice pass a guard: how many, or about how many, and the first of them.
+#[derive(Clone, Copy, Debug)]
+struct Passing {
+    count: usize,
+    first: usize,
+}
+
+// Where so many tokens passed, and more than one of this many did, the others aren't counted.
+const ENOUGH: usize = 4;
+
+const SHARE: usize = 4;
+
+// The values of the other variables of a guard, where it has this one, and they are forced.
+fn others_of(
+    alloc: Global,
+    growing: &Growing<'_>,
+    head: &Head,
+    guard: &Cond,
+    var: u32,
+) -> Result<Option<Vec<(u32, Value)>>, NoMemory> {
+    let mut vars = Vec::new(alloc);
+    put_guard(guard, &mut vars)?;
+    if !vars.contains(&var) {
+        return Ok(None);
+    }
+    values_but(alloc, growing, head.path.as_slice(), var, vars.as_slice())
+}
+
+// Whether a guard is true where its variable is a token.
+fn is_passed(
+    alloc: Global,
+    inst: &InstRef,
+    guard: &Cond,
+    var: u32,
+    token: &Value,
+    others: &mut Vec<(u32, Value)>,
+) -> Result<bool, NoMemory> {
+    let mut pairs = Vec::new(alloc);
+    std::mem::swap(&mut pairs, others);
+    pairs.push((var, copy(alloc, token)?))?;
+    let known = Known::of(inst, pairs);
+    let yes = is_true(alloc, guard, &known)?;
+    *others = known.into_pairs();
+    others.pop();
+    Ok(yes)
+}
+
+// About how many of all tokens pass, where so many of the first ones do.
+fn about(count: usize, tried: usize, all: usize) -> usize {
+    if tried == 0 {
+        return all;
+    }
+    (count.saturating_mul(all) / tried).max(2)
+}
+
+// Counts the tokens of a bag that pass a guard, as far as they are fewer than a number, and not where
+// many pass.
+fn count_passing(
+    alloc: Global,
+    inst: &InstRef,
+    guard: &Cond,
+    var: u32,
+    bag: &Bag,
+    most: usize,
+    others: &mut Vec<(u32, Value)>,
+) -> Result<Option<Passing>, NoMemory> {
+    let mut count = 0usize;
+    let mut first = 0;
+    for a in 0..bag.len() {
+        let Some(token) = bag.get(a) else {
+            return Ok(None);
+        };
+        if !is_passed(alloc, inst, guard, var, token, others)? {
+            continue;
+        }
+        if count == 0 {
+            first = a;
+        }
+        count = count.saturating_add(1);
+        if count >= most {
+            return Ok(None);
+        }
+        if count >= ENOUGH && count.saturating_mul(SHARE) > a {
+            let count = about(count, a, bag.len());
+            return Ok(Some(Passing { count, first }));
+        }
+    }
+    Ok(Some(Passing { count, first }))
+}
+
+// The tokens of the place of a node's arc.
+fn tokens_at<'a>(problem: &'a Problem<'_>, head: &Head, arc: &NetArc) -> Option<&'a Bag> {
+    match &head.inst {
+        InstRef::Old(number) => problem.table().bag(*number, arc.place),
+        InstRef::New(_, _) => None,
+    }
+}
+
+// Which tokens pass the guard that the fewest pass, where those are fewer than a number.
+fn fewest_passing(
+    alloc: Global,
+    growing: &Growing<'_>,
+    head: &Head,
+    transition: &Transition,
+    var: u32,
+    bag: &Bag,
+    most: usize,
+) -> Result<Option<Passing>, NoMemory> {
+    let mut fewest = None;
+    let mut most = most;
+    for guard in transition.guards.as_slice() {
+        let Some(mut others) = others_of(alloc, growing, head, guard, var)? else {
+            continue;
+        };
+        let passing = count_passing(alloc, &head.inst, guard, var, bag, most, &mut others)?;
+        if let Some(passing) = passing {
+            if passing.count < most {
+                most = passing.count;
+                fewest = Some(passing);
+            }
+        }
+    }
+    Ok(fewest)
+}
+
+// A choice that counts as so many alternatives, and begins with the first that passes.
+fn counted(look: Look, passing: Passing) -> Look
+    ensures { IsNarrowed look result }
+{
+    match look {
+        Look::Goes(Next::Choose(point, of, _), _) => {
+            Look::Goes(Next::Choose(point, of, passing.first), passing.count)
+        }
+        _ => look,
+    }
+}
+
+/// A look at an arc of a node, which counts as many alternatives as tokens pass one of the guards, where
+/// those are fewer than a number.
+pub(crate) fn narrowed(
+    alloc: Global,
+    problem: &Problem<'_>,
+    growing: &Growing<'_>,
+    head: &Head,
+    transition: &Transition,
+    arc: &NetArc,
+    look: Look,
+    most: usize,
+) -> Result<Look, NoMemory>
+    ensures { IfOk result (IsNarrowed look) }
+{
+    let Expr::Var(var) = &arc.inscription else {
+        return Ok(look);
+    };
+    let Look::Goes(Next::Choose(Point::Token(_, _, 0), _, _), _) = look else {
+        return Ok(look);
+    };
+    let Some(bag) = tokens_at(problem, head, arc) else {
+        return Ok(look);
+    };
+    match fewest_passing(alloc, growing, head, transition, *var, bag, most)? {
+        Some(passing) => Ok(counted(look, passing)),
+        None => Ok(look),
+    }
+}
