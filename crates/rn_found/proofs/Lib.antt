@@ -1,6 +1,7 @@
 pub mod Branches
 pub mod FitTokens
 pub mod JustThese
+pub mod KeptStarts
 pub mod Numbers
 pub mod Ordered
 pub mod StartingBindings

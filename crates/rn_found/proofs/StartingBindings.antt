@@ -185,13 +185,6 @@ none_where_absent system m depth number absent net t b enabled starts =
     let no : ⊥ = cc in
     no
 
--- nor does a transition with an uplink
-pub none_by_uplink : (system : System) (m : Marking) (depth number net t : ℕ) →
-    ¬ (transition_at system net t).uplink ≡ None →
-    IsNoStart system m depth (start_of number net t)
-none_by_uplink system m depth number net t uplink b enabled starts =
-    uplink (may_start_there system m depth b (start_of number net t) enabled starts).uplink
-
 -- by no transition, so with no binding
 pub none_in : (system : System) (m : Marking) (depth number net : ℕ) →
     net_of m number ≡ Some net →

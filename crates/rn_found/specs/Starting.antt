@@ -1,12 +1,17 @@
 -- Bindings by where they start.
 use Rattle.std.specs.Prelude.{ℕ, ◌≡◌, ◌<◌, ◌≢◌, List, [], ◌++◌, Contains, AllPairs, All, map}
+use Rattle.std.specs.Prelude.{Bool, ◌&&◌, Some, length, nat_eq, slice_get, unwrap_or}
+use Rattle.std.specs.List.{list_any}
 use Rattle.std.specs.List.Sorted.{IsStrictlyIncreasing}
 use Rattle.rn_value.specs.declared.value.InstRef.TheVariants.{Old}
 use Rattle.rn_model.specs.declared.system.System.{System}
+use Rattle.rn_model.specs.declared.system.NetArc.{NetArc}
+use Rattle.rn_model.specs.declared.system.Transition.{Transition}
 use Rattle.rn_model.specs.declared.binding.Binding.{Binding}
+use Rattle.rn_model.specs.Derivation.{finds_token}
 use Rattle.rn_model.specs.Enabling.{Enabled}
 use Rattle.rn_model.specs.Good.{Good}
-use Rattle.rn_model.specs.Markings.{Marking}
+use Rattle.rn_model.specs.Markings.{Marking, Instance, instance_at}
 use Rattle.rn_search.specs.Problems.{HasFitTokens}
 use Rattle.rn_channel.specs.declared.uplinks.Uplinks.{Uplinks}
 use Rattle.rn_channel.specs.Uplinks.{AreUplinksOf}
@@ -27,6 +32,19 @@ pub record IsSearchable (system : System) (uplinks : Uplinks) (table : Kept) : T
 -- the start by a transition of an instance
 abbrev pub start_of : ℕ → ℕ → ℕ → Head
 start_of number net t = record { path = []; inst = Old number; net = net; transition = t }
+
+-- an instance is there
+abbrev pub IsKept : Marking → Instance → Type 0
+IsKept m i = instance_at m i.number ≡ Some i
+
+-- an arc finds a token, and at an instance its place is empty
+abbrev pub is_starved : Instance → NetArc → Bool
+is_starved i x =
+    finds_token x.kind && nat_eq (length (unwrap_or (slice_get i.places x.place) [])) 0
+
+-- some arc of a transition
+abbrev pub lacks_token : Instance → Transition → Bool
+lacks_token i t = list_any (is_starved i) t.arcs
 
 -- no enabled binding starts at a node
 abbrev pub IsNoStart : System → Marking → ℕ → Head → Type 0

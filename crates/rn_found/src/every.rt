@@ -7,13 +7,12 @@ ghost use Rattle.rn_model.specs.Order.{binding_cmp};
 ghost use Rattle.rn_model.specs.declared.binding.Binding.{Binding};
 ghost use Rattle.rn_model.specs.Good.{Good};
 ghost use Rattle.rn_model.specs.Enabling.{Enabled, DeadAt};
-ghost use Rattle.rn_model.specs.Markings.{net_of};
 ghost use Rattle.rn_search.specs.Problems.{HasFitTokens};
 ghost use Rattle.rn_model.specs.Systems.{net_at};
 ghost use Rattle.rn_channel.specs.Uplinks.{AreUplinksOf};
 ghost use Rattle.rn_search.specs.Sought.{StartsAt};
 ghost use Rattle.rn_table.specs.Tables.{IsTableOf};
-ghost use Rattle.rn_found.specs.Starting.{AreJust, IsMore, IsSearchable, start_of};
+ghost use Rattle.rn_found.specs.Starting.{AreJust, IsKept, IsMore, IsSearchable, start_of};
 
 use crate::marked::{Marked, problem_at};
 use crate::room::Room;
@@ -21,7 +20,7 @@ use crate::starts::{may_start, transition_count};
 use rn_binding::Candidate;
 use rn_channel::Uplinks;
 use rn_model::{System, compare_bindings};
-use rn_table::Table;
+use rn_table::{Inst, Table};
 use rn_value::NoMemory;
 use std::alloc::Global;
 
@@ -30,21 +29,21 @@ fn all_from(
     alloc: Global,
     marked: Marked<'_>,
     room: &mut Room,
-    number: u32,
-    net: u32,
+    inst: &Inst,
     transition: u32,
 ) -> Result<Vec<Candidate>, NoMemory>
     requires searched { IsSearchable marked.system.now marked.uplinks.now
         marked.table.now }
-    requires net { net_of marked.table.now.marking number ≡ Some net }
-    requires there { transition < length (net_at marked.system.now net).transitions }
+    requires kept { IsKept marked.table.now.marking inst.now }
+    requires there { transition < length (net_at marked.system.now inst.now.net).transitions }
     ensures { IfOk result (λ found. AreJust marked.entry.system.now marked.entry.table.now.marking
-        marked.entry.depth (λ b. StartsAt b (start_of number net transition)) found.items) }
+        marked.entry.depth (λ b. StartsAt b (start_of inst.now.number inst.now.net transition))
+        found.items) }
 {
-    if !may_start(marked.system, net, transition) {
+    if !may_start(marked.system, inst, transition) {
         return Ok(Vec::new(alloc));
     }
-    let problem = problem_at(alloc, marked, number, net, transition)?;
+    let problem = problem_at(alloc, marked, inst.number(), inst.net(), transition)?;
     let mut branch = room.open(alloc, marked.system, 0);
     let found = rn_choices::all(alloc, &problem, &mut branch, &mut room.choices)?;
     room.branch = branch.into_room();
@@ -64,12 +63,12 @@ fn put_at(
     ensures { OnOk result (IsMore marked.entry.system.now marked.entry.table.now.marking
         marked.entry.depth number found.old.items found.new.items) }
 {
-    let Some(net) = marked.table.net_of(number) else {
+    let Some(inst) = marked.table.find(number) else {
         return Ok(());
     };
-    let count = transition_count(marked.system, net);
+    let count = transition_count(marked.system, inst.net());
     for t in 0..count {
-        let mut more = all_from(alloc, marked, room, number, net, t)?;
+        let mut more = all_from(alloc, marked, room, inst, t)?;
         found.append(&mut more)?;
     }
     Ok(())

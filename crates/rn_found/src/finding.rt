@@ -1,13 +1,12 @@
 //! Finding one binding that is enabled.
 ghost use Rattle.std.specs.Prelude.{◌≡◌, ◌↔◌, ◌<◌, ◌≤◌, ℕ, IfOk, IfSome, IfNone, IsNone, Some, Contains, length};
-ghost use Rattle.rn_model.specs.Markings.{net_of};
 ghost use Rattle.rn_model.specs.Systems.{net_at};
 ghost use Rattle.rn_model.specs.Good.{Good};
 ghost use Rattle.rn_model.specs.Enabling.{Enabled, DeadAt};
 ghost use Rattle.rn_search.specs.Problems.{HasFitTokens};
 ghost use Rattle.rn_channel.specs.Uplinks.{AreUplinksOf};
 ghost use Rattle.rn_table.specs.Tables.{IsTableOf};
-ghost use Rattle.rn_found.specs.Starting.{IsNoStart, IsNoStartIn, IsSearchable, start_of};
+ghost use Rattle.rn_found.specs.Starting.{IsKept, IsNoStart, IsNoStartIn, IsSearchable, start_of};
 
 use crate::hint::Hint;
 use crate::marked::{Marked, problem_at};
@@ -17,7 +16,7 @@ use rn_binding::Candidate;
 use rn_channel::Uplinks;
 use rn_choices::{Asked, Flag, Halt, ToTheEnd};
 use rn_model::System;
-use rn_table::Table;
+use rn_table::{Inst, Table};
 use rn_value::NoMemory;
 use std::alloc::Global;
 
@@ -35,24 +34,24 @@ fn find_from<A: Asked>(
     asked: &A,
     marked: Marked<'_>,
     room: &mut Room,
-    number: u32,
-    net: u32,
+    inst: &Inst,
     transition: u32,
     token: usize,
 ) -> Result<Option<Candidate>, A::Halt>
     requires searched { IsSearchable marked.system.now marked.uplinks.now
         marked.table.now }
-    requires net { net_of marked.table.now.marking number ≡ Some net }
-    requires there { transition < length (net_at marked.system.now net).transitions }
+    requires kept { IsKept marked.table.now.marking inst.now }
+    requires there { transition < length (net_at marked.system.now inst.now.net).transitions }
     ensures found { IfOk result (λ found. IfSome found (λ b. Enabled marked.entry.system.now
         marked.entry.table.now.marking b marked.entry.depth)) }
     ensures none { IfOk result (λ found. IfNone found (IsNoStart marked.entry.system.now
-        marked.entry.table.now.marking marked.entry.depth (start_of number net transition))) }
+        marked.entry.table.now.marking marked.entry.depth
+        (start_of inst.now.number inst.now.net transition))) }
 {
-    if !may_start(marked.system, net, transition) {
+    if !may_start(marked.system, inst, transition) {
         return Ok(None);
     }
-    let problem = problem_at(alloc, marked, number, net, transition)?;
+    let problem = problem_at(alloc, marked, inst.number(), inst.net(), transition)?;
     let mut branch = room.open(alloc, marked.system, token);
     let found = rn_choices::find_while(alloc, &problem, &mut branch, &mut room.choices, asked)?;
     room.branch = branch.into_room();
@@ -65,31 +64,31 @@ fn find_among<A: Asked>(
     asked: &A,
     marked: Marked<'_>,
     room: &mut Room,
-    number: u32,
-    net: u32,
+    inst: &Inst,
     from: u32,
     to: u32,
     token: usize,
 ) -> Result<Option<(u32, Candidate)>, A::Halt>
     requires searched { IsSearchable marked.system.now marked.uplinks.now
         marked.table.now }
-    requires net { net_of marked.table.now.marking number ≡ Some net }
-    requires within { to ≤ length (net_at marked.system.now net).transitions }
+    requires kept { IsKept marked.table.now.marking inst.now }
+    requires within { to ≤ length (net_at marked.system.now inst.now.net).transitions }
     ensures found { IfOk result (λ found. IfSome found (λ f. Enabled marked.entry.system.now
         marked.entry.table.now.marking f.1 marked.entry.depth)) }
     ensures none { IfOk result (λ found. IfNone found ((t : ℕ) → from ≤ t → t < to →
         IsNoStart marked.entry.system.now marked.entry.table.now.marking marked.entry.depth
-        (start_of number net t))) }
+        (start_of inst.now.number inst.now.net t))) }
 {
     for t in from..to {
-        if let Some(found) = find_from(alloc, asked, marked, room, number, net, t, token)? {
+        if let Some(found) = find_from(alloc, asked, marked, room, inst, t, token)? {
             return Ok(Some((t, found)));
         }
     }
     Ok(None)
 }
 
-// A binding that starts with an instance, by the transitions from one on, round.
+// A binding that starts with an instance, by the transitions from one on, round. It asks first
+// whether the search goes on, since starts may be passed by.
 fn find_at<A: Asked>(
     alloc: Global,
     asked: &A,
@@ -106,15 +105,16 @@ fn find_at<A: Asked>(
     ensures none { IfOk result (λ found. IfNone found (IsNoStartIn marked.entry.system.now
         marked.entry.table.now.marking marked.entry.depth number)) }
 {
-    let Some(net) = marked.table.net_of(number) else {
+    asked.go_on()?;
+    let Some(inst) = marked.table.find(number) else {
         return Ok(None);
     };
-    let count = transition_count(marked.system, net);
+    let count = transition_count(marked.system, inst.net());
     let first = first.min(count);
-    if let Some(found) = find_among(alloc, asked, marked, room, number, net, first, count, token)? {
+    if let Some(found) = find_among(alloc, asked, marked, room, inst, first, count, token)? {
         return Ok(Some(found));
     }
-    let found = find_among(alloc, asked, marked, room, number, net, 0, first, token)?;
+    let found = find_among(alloc, asked, marked, room, inst, 0, first, token)?;
     Ok(found)
 }
 

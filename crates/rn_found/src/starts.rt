@@ -1,13 +1,16 @@
 //! Where a firing may start.
-ghost use Rattle.std.specs.Prelude.{◌≡◌, ◌<◌, ◌↔◌, IfOk, IsTrue, None, length};
+ghost use Rattle.std.specs.Prelude.{◌≡◌, ◌<◌, ◌↔◌, IfOk, IsTrue, None, false, length};
+ghost use Rattle.std.specs.List.{list_any};
+ghost use Rattle.rn_model.specs.Derivation.{finds_token};
 ghost use Rattle.rn_model.specs.Good.{Good};
 ghost use Rattle.rn_model.specs.Systems.{net_at, transition_at};
-ghost use Rattle.rn_found.specs.Starting.{start_of};
+ghost use Rattle.rn_found.specs.Starting.{is_starved, lacks_token, start_of};
 
 use rn_growing::Head;
 use rn_items::Items;
-use rn_model::{System, Transition};
+use rn_model::{ArcKind, NetArc, System, Transition};
 use rn_shared::Shared;
+use rn_table::Inst;
 use rn_value::{InstRef, NoMemory};
 use std::alloc::Global;
 
@@ -29,14 +32,48 @@ pub(crate) fn transition_count(system: &System, net: u32) -> u32
     transitions_of(system, net).len() as u32
 }
 
-/// Whether a transition of a net has no uplink, so that a firing may start by it.
-pub(crate) fn may_start(system: &System, net: u32, transition: u32) -> bool
-    requires { transition < length (net_at system.now net).transitions }
-    ensures { IsTrue result ↔ (transition_at system.now net transition).uplink ≡ None }
+// Whether an arc finds a token, so that no binding has it while its place is empty.
+fn finds_token(kind: ArcKind) -> bool
+    ensures { result ≡ finds_token kind }
 {
-    transitions_of(system, net)[transition as usize]
-        .uplink
-        .is_none()
+    matches!(kind, ArcKind::Input | ArcKind::Test | ArcKind::Reserve)
+}
+
+// Whether an arc finds a token and its place at an instance is empty.
+fn is_starved(inst: &Inst, arc: &NetArc) -> bool
+    ensures { result ≡ is_starved inst.now arc.now }
+{
+    if !finds_token(arc.kind) {
+        return false;
+    }
+    match inst.bag(arc.place) {
+        Some(bag) => bag.is_empty(),
+        None => true,
+    }
+}
+
+// Whether that is so of one of some arcs.
+fn lacks_token(inst: &Inst, arcs: &[NetArc]) -> bool
+    ensures { result ≡ list_any (is_starved inst.now) arcs.now }
+{
+    for arc in arcs {
+        if is_starved(inst, arc) {
+            return true;
+        }
+    }
+    false
+}
+
+/// Whether a firing may start by a transition of an instance: the transition has no uplink, and each
+/// of its arcs that finds a token has one in its place. It takes no memory.
+pub(crate) fn may_start(system: &System, inst: &Inst, transition: u32) -> bool
+    requires { transition < length (net_at system.now inst.now.net).transitions }
+    ensures { IsTrue result
+        ↔ (((transition_at system.now inst.now.net transition).uplink ≡ None)
+        × (lacks_token inst.now (transition_at system.now inst.now.net transition) ≡ false)) }
+{
+    let transition = &transitions_of(system, inst.net())[transition as usize];
+    transition.uplink.is_none() && !lacks_token(inst, transition.arcs.as_slice())
 }
 
 /// The start by a transition of an instance.

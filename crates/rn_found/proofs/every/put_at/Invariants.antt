@@ -8,4 +8,4 @@ use Rattle.rn_found.proofs.every.put_at.Given as goal
 abbrev pub invariant-loop-t : goal.invariant-loop-t
 invariant-loop-t l = (more : List Binding) × (l.found.items ≡ l.initial.found.items ++ more)
     × AreJust l.marked.system.now l.marked.table.now.marking l.marked.depth
-    (HasStartBelow l.number l.net l.t) more
+    (HasStartBelow l.inst.number l.inst.net l.t) more

@@ -7,7 +7,7 @@ pub loop-t-preserved : goal.loop-t-preserved
 loop-t-preserved g c =
     one_more
     (λ k. IsNoStart c.args.marked.system.now c.args.marked.table.now.marking c.args.marked.depth
-    (start_of c.args.number c.args.net k))
+    (start_of c.args.inst.now.number c.args.inst.now.net k))
     c.args.from c.loop-t.t c.loop-t.invariant
     (rw c.in_default.is at c.in_ok-found.ensures.none)
 

@@ -6,4 +6,4 @@ use Rattle.rn_found.proofs.finding.find_among.Given as goal
 abbrev pub invariant-loop-t : goal.invariant-loop-t
 invariant-loop-t g l = (k : ℕ) → l.from ≤ k → k < l.t →
     IsNoStart l.marked.system.now l.marked.table.now.marking l.marked.depth
-    (start_of l.number l.net k)
+    (start_of l.inst.number l.inst.net k)

@@ -1,10 +1,30 @@
 use Rattle.std.proofs.Common.{subst, sym, ap}
-use Rattle.std.specs.Prelude.{IfSome, IfNone}
+use Rattle.std.specs.Prelude.{IfSome, IfNone, IsTrue}
 use Rattle.rn_model.specs.Enabling.{Enabled}
+use Rattle.rn_search.specs.Missing.{MayStart}
 use Rattle.rn_search.specs.Sought.{Sought}
-use Rattle.rn_found.specs.Starting.{IsNoStart}
+use Rattle.rn_found.specs.Starting.{IsNoStart, start_of}
 use Rattle.rn_found.proofs.Branches.{found_enabled, none_found, opened_at}
+use Rattle.rn_found.proofs.KeptStarts.{kept_may_start, none_unless_may}
 use Rattle.rn_found.proofs.finding.find_from.Goals as goal
+
+pub returns-then-not-may_start-clause-none : goal.returns-then-not-may_start-clause-none
+returns-then-not-may_start-clause-none g c =
+    none_unless_may c.args.marked.system.now c.args.marked.table.now.marking c.args.marked.depth
+    c.args.inst.now c.args.transition c.requires.kept
+    (λ may. let starts : IsTrue c.may_start.result = c.may_start.ensures.1 may in
+    let no : ⊥ = cc in no)
+
+pub problem_at-requires-clause-starts : goal.problem_at-requires-clause-starts
+problem_at-requires-clause-starts g c =
+    let system = c.args.marked.system.now in
+    let m = c.args.marked.table.now.marking in
+    let i = c.args.inst.now in
+    subst (λ n. MayStart system m (start_of n c.net.result c.args.transition))
+    (sym c.number.ensures)
+    (subst (λ n. MayStart system m (start_of i.number n c.args.transition)) (sym c.net.ensures)
+    (kept_may_start system m i c.args.transition c.requires.kept c.requires.there
+    (c.may_start.ensures.0 c.if-not-may_start.false).0))
 
 pub find_while-requires : goal.find_while-requires
 find_while-requires g c =
@@ -20,7 +40,16 @@ returns-clause-found g c =
 
 pub returns-clause-none : goal.returns-clause-none
 returns-clause-none g c =
+    let system = c.args.marked.system.now in
+    let m = c.args.marked.table.now.marking in
+    let depth = c.args.marked.depth in
     let found = c.in_ok-found.found in
-    subst (λ (p : Sought). IfNone found (IsNoStart p.system p.marking p.depth p.start))
+    subst
+    (λ n. IfNone found (IsNoStart system m depth (start_of n c.args.inst.now.net c.args.transition)))
+    c.number.ensures
+    (subst
+    (λ n. IfNone found (IsNoStart system m depth (start_of c.number.result n c.args.transition)))
+    c.net.ensures
+    (subst (λ (p : Sought). IfNone found (IsNoStart p.system p.marking p.depth p.start))
     c.in_ok-problem.ensures
-    (none_found c.in_ok-problem.problem found c.in_ok-found.ensures.none)
+    (none_found c.in_ok-problem.problem found c.in_ok-found.ensures.none)))
