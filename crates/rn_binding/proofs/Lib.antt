@@ -6,6 +6,7 @@ pub mod Ending
 pub mod EnteringNodes
 pub mod ForcedVariables
 pub mod HoleForms
+pub mod Later
 pub mod PassSteps
 pub mod Passes
 pub mod PickedParts

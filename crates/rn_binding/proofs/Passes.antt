@@ -3,7 +3,7 @@ use Rattle.std.proofs.Common.{◌≡◌, ℕ, Bool, true, false, List, [], ◌�
 use Rattle.std.proofs.Common.{length, length-append, get_or, inl, inr, refl, sym, ◌∙◌, subst}
 use Rattle.std.proofs.Common.{arith}
 use Rattle.std.specs.Prelude.{Contains, Some, ◌↔◌, All}
-use Rattle.std.proofs.lemmas.List.Elements.{Contains-append_left, Contains-append_cases}
+use Rattle.std.proofs.lemmas.List.Elements.{Contains-append_left, Contains-append_right, Contains-append_cases}
 use Rattle.std.proofs.lemmas.List.Elements.{All-contains, Contains-get_or}
 use Rattle.rn_model.specs.declared.system.System.{System}
 use Rattle.rn_model.specs.declared.binding.Node.{Node}
@@ -18,6 +18,7 @@ use Rattle.rn_growing.specs.Equations.{IsForced}
 use Rattle.rn_growing.specs.Grown.{Grown}
 use Rattle.rn_growing.proofs.Growth.{contains_last, only_one}
 use Rattle.rn_growing.proofs.Followers.{followers_are_decided, forced_over}
+use Rattle.rn_binding.specs.Parts.{HaveTheSame}
 use Rattle.rn_binding.specs.Passing.{IsGiven, IsFollowed, IsDecided, Stay, IsOut, BringsItem}
 use Rattle.rn_binding.specs.Passing.{IsPassed, AreLeft, AreStuck, Ends, AreVarsForced}
 use Rattle.rn_binding.specs.Passing.{IsVarForcedOn}
@@ -27,7 +28,7 @@ none_in : {A : Type 0} (x : A) → Contains [] x → ⊥
 none_in x (k, h, e) = let no : ⊥ = omega (arith, h) in no
 
 module _ (system : System) (b : Binding) where
-  stays_decided : (ds more : List Decision) (item : Item) → Stay ds more →
+  pub stays_decided : (ds more : List Decision) (item : Item) → Stay ds more →
       IsDecided system ds item → IsDecided system more item
   stays_decided ds more item stay (d, there, is) = (d, stay d there, is)
 
@@ -45,54 +46,52 @@ module _ (system : System) (b : Binding) where
       (passed : IsPassed system b old tried now left) (followed : IsFollowed system b next) where
     -- one more that is in
     pub one_in : BringsItem system b now item next true →
-        IsPassed system b old (tried ++ item ∷ []) next left
+        IsPassed system b old (item ∷ tried) next left
     one_in brings = record {
       followed = followed;
       stay = λ d there. brings.0 d (passed.stay d there);
-      items = λ it there. Contains-append_left tried (item ∷ []) it (passed.items it there);
-      covered = λ it there. elim (Contains-append_cases tried (item ∷ []) it there) [
-        | inl before ↦ elim (passed.covered it before) [
+      items = λ it there. Contains-append_right (item ∷ []) tried it (passed.items it there);
+      covered = λ it there. elim (Contains-append_cases (item ∷ []) tried it there) [
+        | inl this ↦ inl (subst (IsDecided system next.decisions) (only_one item it this) brings.1)
+        | inr before ↦ elim (passed.covered it before) [
           | inl decided ↦ inl (stays_decided now.decisions next.decisions it brings.0 decided)
           | inr still ↦ inr still
         ]
-        | inr last ↦ inl (subst (IsDecided system next.decisions) (only_one item it last) brings.1)
       ];
-      few = let h = passed.few in omega (arith, h, length-append tried (item ∷ []));
+      few = let h = passed.few in omega (arith, h);
       stuck = λ e.
           let h = passed.few in
-          let no : ⊥ = omega (arith, h, e, length-append tried (item ∷ [])) in absurd no;
+          let no : ⊥ = omega (arith, h, e) in absurd no;
     }
 
     -- one more that is left
     pub one_left : BringsItem system b now item next false →
-        IsPassed system b old (tried ++ item ∷ []) next (left ++ item ∷ [])
+        IsPassed system b old (item ∷ tried) next (left ++ item ∷ [])
     one_left brings = record {
       followed = followed;
       stay = λ d there. subst (λ n. Contains n.decisions d) (sym brings.0) (passed.stay d there);
       items = λ it there. elim (Contains-append_cases left (item ∷ []) it there) [
-        | inl before ↦ Contains-append_left tried (item ∷ []) it (passed.items it before)
-        | inr last ↦ subst (Contains (tried ++ item ∷ [])) (only_one item it last)
-            (contains_last tried item)
+        | inl before ↦ Contains-append_right (item ∷ []) tried it (passed.items it before)
+        | inr last ↦ subst (Contains (item ∷ tried)) (only_one item it last) (0, omega arith, refl)
       ];
-      covered = λ it there. elim (Contains-append_cases tried (item ∷ []) it there) [
-        | inl before ↦ elim (passed.covered it before) [
+      covered = λ it there. elim (Contains-append_cases (item ∷ []) tried it there) [
+        | inl this ↦ inr (subst (Contains (left ++ item ∷ [])) (only_one item it this)
+            (contains_last left item))
+        | inr before ↦ elim (passed.covered it before) [
           | inl decided ↦ inl (subst (λ n. IsDecided system n.decisions it) (sym brings.0) decided)
           | inr still ↦ inr (Contains-append_left left (item ∷ []) it still)
         ]
-        | inr last ↦ inr (subst (Contains (left ++ item ∷ [])) (only_one item it last)
-            (contains_last left item))
       ];
-      few = let h = passed.few in
-          omega (arith, h, length-append tried (item ∷ []), length-append left (item ∷ []));
+      few = let h = passed.few in omega (arith, h, length-append left (item ∷ []));
       stuck = λ e.
           let as_many : length left ≡ length tried =
-          omega (arith, e, length-append tried (item ∷ []), length-append left (item ∷ [])) in
+          omega (arith, e, length-append left (item ∷ [])) in
           let before = passed.stuck as_many in (
             brings.0 ∙ before.0,
-            λ it there. elim (Contains-append_cases tried (item ∷ []) it there) [
-              | inl early ↦ before.1 it early
-              | inr last ↦ subst (IsOut system b old.decisions) (only_one item it last)
+            λ it there. elim (Contains-append_cases (item ∷ []) tried it there) [
+              | inl this ↦ subst (IsOut system b old.decisions) (only_one item it this)
                   (subst (λ n. IsOut system b n.decisions item) before.0 brings.1)
+              | inr early ↦ before.1 it early
             ],
           );
     }
@@ -100,7 +99,7 @@ module _ (system : System) (b : Binding) where
   pub one_tried : (old : Grown) (tried left : List Item) (now : Grown) (item : Item)
       (next : Grown) (answer : Bool) → IsPassed system b old tried now left →
       IsFollowed system b next → BringsItem system b now item next answer → answer ≡ true →
-      IsPassed system b old (tried ++ item ∷ []) next left
+      IsPassed system b old (item ∷ tried) next left
   one_tried old tried left now item next true passed followed brings e =
       one_in old tried left now item next passed followed brings
   one_tried old tried left now item next false passed followed brings e =
@@ -109,7 +108,7 @@ module _ (system : System) (b : Binding) where
   pub one_stays : (old : Grown) (tried left : List Item) (now : Grown) (item : Item)
       (next : Grown) (answer : Bool) → IsPassed system b old tried now left →
       IsFollowed system b next → BringsItem system b now item next answer → answer ≡ false →
-      IsPassed system b old (tried ++ item ∷ []) next (left ++ item ∷ [])
+      IsPassed system b old (item ∷ tried) next (left ++ item ∷ [])
   one_stays old tried left now item next false passed followed brings e =
       one_left old tried left now item next passed followed brings
   one_stays old tried left now item next true passed followed brings e =
@@ -117,11 +116,11 @@ module _ (system : System) (b : Binding) where
 
   -- at first all are left
   pub all_left : (g : Grown) (items : List Item) → IsFollowed system b g →
-      items ≡ items_of system b → AreLeft system b g items
-  all_left g items followed are = record {
+      HaveTheSame items (items_of system b) → AreLeft system b g items
+  all_left g items followed same = record {
     followed = followed;
-    items = λ item there. subst (λ xs. Contains xs item) are there;
-    covered = λ item there. inr (subst (λ xs. Contains xs item) (sym are) there);
+    items = λ item there. (same item).0 there;
+    covered = λ item there. inr ((same item).1 there);
   }
 
   -- and fewer after they were tried

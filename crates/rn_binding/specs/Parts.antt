@@ -1,7 +1,7 @@
 -- The items of a binding as the code goes through them. It only connects the code to the
 -- definitions.
 use Rattle.std.specs.Prelude.{ℕ, ◌<◌, List, [], ◌∷◌, if◌then◌else◌, Option, Some, None}
-use Rattle.std.specs.Prelude.{All, flat_map, length, slice_get}
+use Rattle.std.specs.Prelude.{All, Contains, ◌↔◌, flat_map, length, slice_get}
 use Rattle.rn_model.specs.declared.system.NetArc.{NetArc}
 use Rattle.rn_model.specs.declared.binding.Node.{Node}
 use Rattle.rn_model.specs.Derivation.{Item, entry, found, computed}
@@ -29,6 +29,10 @@ picked parts ks = flat_map (λ k. item_at (slice_get parts k)) ks
 -- each index is one of these parts
 abbrev pub AllWithin : List Part → List ℕ → Type 0
 AllWithin parts ks = All (λ k. k < length parts) ks
+
+-- two lists contain the same items
+abbrev pub HaveTheSame : List Item → List Item → Type 0
+HaveTheSame xs ys = (item : Item) → Contains xs item ↔ Contains ys item
 
 -- what an arc finds, if it finds values
 abbrev pub found_at : Node → ℕ × NetArc → List Item

@@ -57,6 +57,11 @@ BringsItem system b old item new true =
     Stay old.decisions new.decisions × IsDecided system new.decisions item
 BringsItem system b old item new false = (new ≡ old) × IsOut system b old.decisions item
 
+-- what was decided is still, and the binding follows what is decided now
+pub record IsLater (system : System) (b : Binding) (old new : Grown) : Type 0 where
+  pub followed : IsFollowed system b new
+  pub stay : Stay old.decisions new.decisions
+
 -- After items were tried, one after another: which of them are left.
 pub record IsPassed (system : System) (b : Binding) (old : Grown) (tried : List Item)
     (new : Grown) (left : List Item) : Type 0 where

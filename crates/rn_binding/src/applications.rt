@@ -191,7 +191,8 @@ fn put_inscriptions<'a>(
     Ok(())
 }
 
-fn uplink_args(transition: &Transition) -> &[Expr]
+/// The arguments of the uplink of a transition, where it has one.
+pub(crate) fn uplink_args(transition: &Transition) -> &[Expr]
     ensures { result.now ≡ uplink_args transition.now }
 {
     match &transition.uplink {

@@ -1,20 +1,22 @@
 //! Whether a binding that is given is derived.
 ghost use Rattle.std.specs.Prelude.{◌≡◌, ◌↔◌, Contains, IfOk, IsTrue, map};
 ghost use Rattle.rn_model.specs.Derivation.{Derived, Item, items_of};
-ghost use Rattle.rn_binding.specs.Parts.{item_of, picked, AllWithin};
-ghost use Rattle.rn_binding.specs.Passing.{IsGiven, IsFollowed, IsPassed, Ends};
+ghost use Rattle.rn_binding.specs.Parts.{item_of, picked, AllWithin, HaveTheSame};
+ghost use Rattle.rn_binding.specs.Passing.{IsGiven, IsFollowed, IsPassed, AreLeft, Ends};
 
 use crate::bringing::{bring, enter_start};
 use crate::forcing::are_all_forced;
 use crate::headed::{Headed, headed_of};
 use crate::part::Part;
 use crate::parts::parts_of;
+use crate::propagating::propagate;
 use rn_growing::{Growing, Room};
 use rn_model::{Binding, System};
 use rn_value::NoMemory;
 use std::alloc::Global;
 
-// Tries items one after another, each told by its index, and gives those that are left.
+// Tries items one after another, each told by its index and the last of them first, and gives those
+// that are left in the order in which they were tried. So a pass over these goes the other way.
 fn pass(
     alloc: Global,
     system: &System,
@@ -35,7 +37,9 @@ fn pass(
     ensures within { IfOk result (λ left. AllWithin parts.now left.items) }
 {
     let mut left = Vec::new(alloc);
-    for k in 0..pending.len() {
+    let mut k = pending.len();
+    while 0 < k {
+        k -= 1;
         let i = pending[k];
         if !bring(alloc, system, binding, headed, growing, &parts[i])? {
             left.push(i)?;
@@ -44,16 +48,43 @@ fn pass(
     Ok(left)
 }
 
-// The indices of all items.
+// The indices of all items, the last of them first.
 fn all_of(alloc: Global, parts: &[Part<'_>]) -> Result<Vec<usize>, NoMemory>
-    ensures picks { IfOk result (λ all. picked parts.now all.items ≡ map item_of parts.now) }
+    ensures picks { IfOk result (λ all. HaveTheSame (picked parts.now all.items)
+        (map item_of parts.now)) }
     ensures within { IfOk result (λ all. AllWithin parts.now all.items) }
 {
     let mut all = Vec::with_capacity(alloc, parts.len())?;
-    for i in 0..parts.len() {
+    let mut i = parts.len();
+    while 0 < i {
+        i -= 1;
         all.push(i)?;
     }
     Ok(all)
+}
+
+// Tries all items in order, and those that are left against it. Gives those that are left then.
+fn sweep(
+    alloc: Global,
+    system: &System,
+    binding: &Binding,
+    headed: &[Headed<'_>],
+    growing: &mut Growing<'_>,
+    parts: &[Part<'_>],
+) -> Result<Vec<usize>, NoMemory>
+    requires given { IsGiven system.now binding.now }
+    requires headed { headed.now ≡ binding.now.nodes }
+    requires followed { IsFollowed system.now binding.now growing.old }
+    requires items { map item_of parts.now ≡ items_of system.now binding.now }
+    ensures left { IfOk result (λ left. AreLeft system.now binding.now growing.new
+        (picked parts.now left.items)) }
+    ensures within { IfOk result (λ left. AllWithin parts.now left.items) }
+{
+    let all = all_of(alloc, parts)?;
+    let all = all.as_slice();
+    let left = pass(alloc, system, binding, headed, growing, parts, all)?;
+    let left = left.as_slice();
+    pass(alloc, system, binding, headed, growing, parts, left)
 }
 
 // Brings items in until none of those that are left may come in. True if none is left.
@@ -71,7 +102,16 @@ fn bring_all(
     requires items { map item_of parts.now ≡ items_of system.now binding.now }
     ensures { IfOk result (λ all. Ends system.now binding.now growing.new all) }
 {
-    let mut pending = all_of(alloc, parts)?;
+    let mut pending = sweep(alloc, system, binding, headed, growing, parts)?;
+    propagate(
+        alloc,
+        system,
+        binding,
+        headed,
+        growing,
+        parts,
+        pending.as_slice(),
+    )?;
     loop {
         let left = pass(
             alloc,

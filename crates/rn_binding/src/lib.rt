@@ -3,13 +3,18 @@
 
 mod applications;
 mod bringing;
+mod call;
 mod candidate;
 mod certifying;
 mod derived;
+mod edges;
+mod equations;
+mod event;
 mod forcing;
 mod headed;
 mod part;
 mod parts;
+mod propagating;
 
 pub use applications::{Application, applications_of};
 pub use candidate::{Candidate, NotSound};

@@ -1,7 +1,7 @@
 //! The items of a binding, as what the code goes through.
 use crate::headed::Headed;
 use rn_growing::{Site, Way};
-use rn_model::{Expr, NetArc};
+use rn_model::{Expr, NetArc, Node};
 
 /// An item of a binding: the entry of a node, what an arc of it finds, or an outermost operator
 /// application of it.
@@ -10,4 +10,15 @@ pub(crate) enum Part<'a> {
     Entry(&'a Headed<'a>),
     Found(&'a Headed<'a>, usize, &'a NetArc),
     Computed(&'a Headed<'a>, Site, Way, &'a Expr),
+}
+
+impl<'a> Part<'a> {
+    /// The node of the item.
+    pub(crate) fn node(&self) -> &Node {
+        match self {
+            Part::Entry(node) => node.node(),
+            Part::Found(node, _, _) => node.node(),
+            Part::Computed(node, _, _, _) => node.node(),
+        }
+    }
 }

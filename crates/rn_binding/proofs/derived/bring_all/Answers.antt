@@ -4,7 +4,16 @@ use Rattle.std.specs.Prelude.{◌↔◌, IsTrue}
 use Rattle.rn_binding.specs.Parts.{picked}
 use Rattle.rn_binding.specs.Passing.{IsPassed}
 use Rattle.rn_binding.proofs.Ending.{ends, fewer, goes_on}
+use Rattle.rn_binding.proofs.Later.{left_later}
 use Rattle.rn_binding.proofs.derived.bring_all.Goals as goal
+
+pub loop-pending-init : goal.loop-pending-init
+loop-pending-init c = (
+  left_later c.args.system.now c.args.binding.now c.sweep.new.growing c.propagate.new.growing
+      (picked c.args.parts.now c.in_ok-pending.pending.items) c.in_ok-pending.ensures.left
+      c.in_ok-propagate.ensures,
+  c.in_ok-pending.ensures.within,
+)
 
 pub returns-then-len : goal.returns-then-len
 returns-then-len c =
@@ -15,7 +24,7 @@ returns-then-len c =
     c.loop-pending.invariant.0
     (subst (λ ks. IsPassed c.args.system.now c.args.binding.now c.loop-pending.growing
     (picked c.args.parts.now ks) c.pass.new.growing (picked c.args.parts.now c.in_ok-left.left.items))
-    c.as_slice.ensures.value c.in_ok-left.ensures.passed)
+    c.as_slice-in-loop-pending.ensures.value c.in_ok-left.ensures.passed)
     c.loop-pending.invariant.1 c.in_ok-left.ensures.within c.is_empty.result many none
 
 pub loop-pending-smaller : goal.loop-pending-smaller
@@ -27,7 +36,7 @@ loop-pending-smaller c =
     c.loop-pending.invariant.0
     (subst (λ ks. IsPassed c.args.system.now c.args.binding.now c.loop-pending.growing
     (picked c.args.parts.now ks) c.pass.new.growing (picked c.args.parts.now c.in_ok-left.left.items))
-    c.as_slice.ensures.value c.in_ok-left.ensures.passed)
+    c.as_slice-in-loop-pending.ensures.value c.in_ok-left.ensures.passed)
     c.loop-pending.invariant.1 c.in_ok-left.ensures.within differ
 
 pub loop-pending-preserved : goal.loop-pending-preserved
@@ -37,7 +46,7 @@ loop-pending-preserved c = (
       c.loop-pending.invariant.0
       (subst (λ ks. IsPassed c.args.system.now c.args.binding.now c.loop-pending.growing
       (picked c.args.parts.now ks) c.pass.new.growing (picked c.args.parts.now c.in_ok-left.left.items))
-      c.as_slice.ensures.value c.in_ok-left.ensures.passed)
+      c.as_slice-in-loop-pending.ensures.value c.in_ok-left.ensures.passed)
       c.loop-pending.invariant.1 c.in_ok-left.ensures.within,
   c.in_ok-left.ensures.within,
 )

@@ -1,0 +1,6 @@
+-- The binding so far.
+use Rattle.rn_binding.specs.Passing.{IsLater}
+use Rattle.rn_binding.proofs.propagating.follow.Given as goal
+
+abbrev pub invariant-loop-k : goal.invariant-loop-k
+invariant-loop-k l = IsLater l.system l.binding l.initial.growing l.growing

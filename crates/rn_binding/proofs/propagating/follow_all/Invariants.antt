@@ -1,0 +1,6 @@
+-- The binding so far.
+use Rattle.rn_binding.specs.Passing.{IsLater}
+use Rattle.rn_binding.proofs.propagating.follow_all.Given as goal
+
+abbrev pub invariant-loop-event : goal.invariant-loop-event
+invariant-loop-event l = IsLater l.system l.binding l.initial.growing l.growing
