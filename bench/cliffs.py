@@ -79,6 +79,14 @@ def creations(callers, each):
             f'trans t {{ in go; {"this:c(); " * callers}}} trans make {{ :c(); {made}}} }} net n {{ }}\n')
 
 
+def nested_creations(callers, calls, each):
+    """A firing of so many calls of so many calls each, of which each makes so many instances."""
+    made = ''.join(f'w{k}: new n; ' for k in range(each))
+    return (f'channel c(); channel d(); net main {{ var {names(each, "w")}: net; place go = []; '
+            f'trans t {{ in go; {"this:c(); " * callers}}} trans m {{ :c(); {"this:d(); " * calls}}} '
+            f'trans make {{ :d(); {made}}} }} net n {{ }}\n')
+
+
 def called_tokens(tokens):
     """A recursive call whose answers a token decides, which is taken after the call."""
     return (f'channel c(int); net main {{ var x, n: int; place p: int = {numbers(tokens)}; '
