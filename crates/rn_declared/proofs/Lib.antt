@@ -11,3 +11,5 @@ pub mod PlaceLemmas
 pub mod PatternKinds
 pub mod SharedKinds
 pub mod BothKinds
+pub mod SamePatterns
+pub mod CommonPatterns

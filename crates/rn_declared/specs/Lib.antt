@@ -6,3 +6,5 @@ pub mod Channels
 pub mod Tables
 pub mod SeenBefore
 pub mod PatternLaws
+pub mod Forms
+pub mod Sizes
