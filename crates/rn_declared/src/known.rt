@@ -1,8 +1,8 @@
 //! Patterns that are known by number.
-ghost use Rattle.std.specs.Prelude.{◌≡◌, IfOk};
+ghost use Rattle.std.specs.Prelude.{◌≡◌, IfOk, IfSome};
 
 use crate::kinds::same;
-use crate::numbered::{Numbered, Numbers, with_number};
+use crate::numbered::{Numbered, Numbers, copy as copy_numbered, is_pattern, with_number};
 use crate::pattern::{Pattern, Patterns, copy, pattern_of};
 use rn_items::Items;
 use rn_net::{PChannel, PKind, PNet, PPlace, PVar, Plain};
@@ -103,6 +103,25 @@ fn numbers_of<N: Numbers>(
     Ok(Some(Items::from_vec(numbers)))
 }
 
+/// The last of these again, if it is this pattern.
+fn last_again<N: Numbers>(
+    before: &[Numbered<N>],
+    pattern: &Pattern,
+) -> Result<Option<Numbered<N>>, NoMemory>
+    ensures { IfOk result (λ again. IfSome again (λ p. p ≡ pattern.now)) }
+{
+    match before.last() {
+        Some(last) => {
+            if is_pattern(last, pattern) {
+                Ok(Some(copy_numbered(last)?))
+            } else {
+                Ok(None)
+            }
+        }
+        None => Ok(None),
+    }
+}
+
 /// A pattern with its number and those of its parts, where they are known.
 #[cycle(number)]
 pub fn number_pattern<N: Numbers>(
@@ -151,7 +170,11 @@ pub fn number_all<N: Numbers>(
 {
     let mut all = Vec::with_capacity(alloc, patterns.len())?;
     for pattern in patterns {
-        all.push(number_pattern(alloc, pattern, kinds)?)?;
+        let numbered = match last_again(all.as_slice(), pattern)? {
+            Some(last) => last,
+            None => number_pattern(alloc, pattern, kinds)?,
+        };
+        all.push(numbered)?;
     }
     Ok(Items::from_vec(all))
 }

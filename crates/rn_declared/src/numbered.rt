@@ -264,7 +264,7 @@ fn tuple_both<N: Numbers>(
 
 /// Whether a pattern is the same as another, found part by part.
 #[cycle(is)]
-fn is_pattern<N: Numbers>(a: &Numbered<N>, b: &Pattern) -> bool
+pub(crate) fn is_pattern<N: Numbers>(a: &Numbered<N>, b: &Pattern) -> bool
     ensures { IsTrue result → a.now ≡ b.now }
 {
     match &a.form {
