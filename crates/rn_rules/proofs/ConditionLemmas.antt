@@ -12,12 +12,12 @@ use Rattle.rn_rules.specs.Conditions.{sides_faults, bare_faults, simple_faults, 
 use Rattle.rn_declared.proofs.ToldLemmas.{first_from-append}
 
 -- two sides
-pub sides_told : (known : Option Fault) (a b : Seen) →
+pub sides_told : (N : Type 0) (known : Option Fault) (a b : Seen) →
     first_from (first_from (first_from known a.faults) b.faults)
-    (broken_if (are_apart (sight_of a) (sight_of b)) Rule.Kinds a.spot)
+    (broken_if (are_apart (sight_of {N = N} a) (sight_of {N = N} b)) Rule.Kinds a.spot)
     ≡ first_from known (sides_faults a b)
 unfolding sides_faults
-sides_told known a b =
+sides_told N known a b =
     sym
     (first_from-append (a.faults ++ b.faults) (apart a b a.spot) known
     ∙ ap (λ k. first_from k (apart a b a.spot)) (first_from-append a.faults b.faults known))

@@ -40,11 +40,11 @@ both_and_shared true false s = refl
 both_and_shared false b s = refl
 
 -- one more element
-pub joined_is : (before e : Seen) →
-    joined (sight_of before) (sight_of e) ≡ sight_of (with_element before e)
+pub joined_is : {N : Type 0} → (before e : Seen) →
+    joined (sight_of {N = N} before) (sight_of {N = N} e) ≡ sight_of {N = N} (with_element before e)
 unfolding with_element
-joined_is before e =
-    ap (λ w. record (joined (sight_of before) (sight_of e)) { whole = w })
+joined_is {N = N} before e =
+    ap (λ w. record (joined (sight_of {N = N} before) (sight_of {N = N} e)) { whole = w })
     (sym
     (is_whole-append before.faults (e.faults ++ apart before e e.spot)
     ∙ ap (λ w. is_whole before.faults && w)
@@ -52,12 +52,12 @@ joined_is before e =
     ∙ ap (λ w. is_whole e.faults && w) (is_whole-broken_if _ Rule.Kinds e.spot))
     ∙ both_and_shared (is_whole before.faults) (is_whole e.faults) (share before.pattern e.pattern)))
 
-pub joined_told : (known : Option Fault) (before e : Seen) →
+pub joined_told : (N : Type 0) (known : Option Fault) (before e : Seen) →
     first_from (first_from (first_from known before.faults) e.faults)
-    (broken_if (are_apart (sight_of before) (sight_of e)) Rule.Kinds e.spot)
+    (broken_if (are_apart (sight_of {N = N} before) (sight_of {N = N} e)) Rule.Kinds e.spot)
     ≡ first_from known (with_element before e).faults
 unfolding with_element
-joined_told known before e =
+joined_told N known before e =
     sym
     (first_from-append before.faults (e.faults ++ apart before e e.spot) known
     ∙ first_from-append e.faults (apart before e e.spot) (first_from known before.faults))
@@ -80,12 +80,12 @@ seen_more es place i e h is =
     ∙ map-append (λ s. s place) (map seen_of (take i es)) (seen_of e ∷ [])
 
 -- a tuple
-all_whole : (seen : List Seen) →
-    is_whole (flat_map (λ e. e.faults) seen) ≡ list_all (λ s. s.whole) (map sight_of seen)
-all_whole [] = refl
-all_whole (e ∷ es) =
+all_whole : (N : Type 0) (seen : List Seen) →
+    is_whole (flat_map (λ e. e.faults) seen) ≡ list_all (λ s. s.whole) (map (sight_of {N = N}) seen)
+all_whole N [] = refl
+all_whole N (e ∷ es) =
     is_whole-append e.faults (flat_map (λ e. e.faults) es)
-    ∙ ap (λ w. is_whole e.faults && w) (all_whole es)
+    ∙ ap (λ w. is_whole e.faults && w) (all_whole N es)
 
 within_limit : (most : ℕ) (spots : List Spot) → is_whole (past_limit most spots) ≡ nat_le (length spots) most
 within_limit most spots =
@@ -100,30 +100,30 @@ and_comm true false = refl
 and_comm false true = refl
 and_comm false false = refl
 
-pub tuple_is : (spot : Spot) (seen : List Seen) →
-    tuple_sight spot (map sight_of seen) ≡ sight_of (tuple_of spot seen)
+pub tuple_is : {N : Type 0} → (spot : Spot) (seen : List Seen) →
+    tuple_sight spot (map (sight_of {N = N}) seen) ≡ sight_of {N = N} (tuple_of spot seen)
 unfolding tuple_of
-tuple_is spot seen =
+tuple_is {N = N} spot seen =
     let spots : List Spot = map (λ e. e.spot) seen in
-    let lengths : length (map sight_of seen) ≡ length spots = simp length-map in
-    let w : is_whole (tuple_of spot seen).faults ≡ (tuple_sight spot (map sight_of seen)).whole =
+    let lengths : length (map (sight_of {N = N}) seen) ≡ length spots = simp length-map in
+    let w : is_whole (tuple_of spot seen).faults ≡ (tuple_sight spot (map (sight_of {N = N}) seen)).whole =
     is_whole-append (flat_map (λ e. e.faults) seen) (past_limit most_parts spots)
     ∙ and_comm (is_whole (flat_map (λ e. e.faults) seen)) (is_whole (past_limit most_parts spots))
     ∙ ap (λ b. b && is_whole (flat_map (λ e. e.faults) seen)) (within_limit most_parts spots)
     ∙ ap (λ n. nat_le n most_parts && is_whole (flat_map (λ e. e.faults) seen)) (sym lengths)
-    ∙ ap (λ b. nat_le (length (map sight_of seen)) most_parts && b) (all_whole seen) in
-    ap (λ b. record (tuple_sight spot (map sight_of seen)) { whole = b }) (sym w)
-    ∙ ap (λ ps. record (sight_of (tuple_of spot seen)) { pattern = Pattern.Tuple ps })
-    (map-map (λ s. s.pattern) sight_of seen)
+    ∙ ap (λ b. nat_le (length (map (sight_of {N = N}) seen)) most_parts && b) (all_whole N seen) in
+    ap (λ b. record (tuple_sight spot (map (sight_of {N = N}) seen)) { whole = b }) (sym w)
+    ∙ ap (λ ps. record (sight_of {N = N} (tuple_of spot seen)) { pattern = Pattern.Tuple ps })
+    (map-map (λ s. s.pattern) (sight_of {N = N}) seen)
 
-pub tuple_told : (known : Option Fault) (spot : Spot) (seen : List Seen) →
+pub tuple_told : (N : Type 0) (known : Option Fault) (spot : Spot) (seen : List Seen) →
     first_from (first_from known (flat_map (λ e. e.faults) seen))
-    (past_limit most_parts (map (λ s. s.spot) (map sight_of seen)))
+    (past_limit most_parts (map (λ s. s.spot) (map (sight_of {N = N}) seen)))
     ≡ first_from known (tuple_of spot seen).faults
 unfolding tuple_of
-tuple_told known spot seen =
+tuple_told N known spot seen =
     ap (λ spots. first_from (first_from known (flat_map (λ e. e.faults) seen)) (past_limit most_parts spots))
-    (map-map (λ s. s.spot) sight_of seen)
+    (map-map (λ s. s.spot) (sight_of {N = N}) seen)
     ∙ sym (first_from-append (flat_map (λ e. e.faults) seen) (past_limit most_parts (map (λ e. e.spot) seen)) known)
 
 -- what is told of the expressions so far, and of one more
@@ -155,18 +155,18 @@ pub ruleset seeing = (first_from-append, is_whole-append)
 
 pub ruleset seeing_all = (first_from-append, all_told)
 
-pub listed_is : (elements : Seen) → listed_sight (sight_of elements) ≡ sight_of (listed elements)
+pub listed_is : {N : Type 0} → (elements : Seen) → listed_sight (sight_of {N = N} elements) ≡ sight_of {N = N} (listed elements)
 unfolding listed
-listed_is elements = refl
+listed_is {N = N} elements = refl
 
 pub listed_faults : (elements : Seen) → (listed elements).faults ≡ elements.faults
 unfolding listed
 listed_faults elements = refl
 
 -- an operand
-pub operand_whole : (a : Seen) → fits_pattern (sight_of a) Pattern.Int ≡ is_whole (operand_faults a)
+pub operand_whole : (N : Type 0) (a : Seen) → fits_pattern (sight_of {N = N} a) Pattern.Int ≡ is_whole (operand_faults a)
 unfolding operand_faults
-operand_whole a =
+operand_whole N a =
     sym
     (is_whole-append a.faults (misfit a Pattern.Int)
     ∙ ap (λ w. is_whole a.faults && w) (is_whole-broken_if _ Rule.Kinds a.spot)

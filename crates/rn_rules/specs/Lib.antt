@@ -8,3 +8,4 @@ pub mod Systems
 pub mod Broken
 pub mod Sights
 pub mod Scopes
+pub mod Numbers

@@ -12,15 +12,16 @@ use Rattle.rn_declared.specs.declared.pattern.Pattern.{Pattern}
 use Rattle.rn_rules.specs.declared.scope.Known.{Known}
 use Rattle.rn_rules.specs.declared.scope.Stand.{Stand}
 use Rattle.rn_declared.specs.Tables.{found_in, pattern_in, channel_in}
+use Rattle.rn_rules.specs.Numbers.{declared_of, channels_of}
 use Rattle.rn_rules.specs.Transitions.{Scope, Progress, transition_faults}
 
 -- what is known by name
-abbrev pub scope_in : Known → Scope
+abbrev pub scope_in : {N : Type 0} → Known N → Scope
 scope_in known = record {
-  pattern_of_var = pattern_in known.vars.now;
-  pattern_of_place = pattern_in known.places.now;
+  pattern_of_var = pattern_in (declared_of known.vars.now);
+  pattern_of_place = pattern_in (declared_of known.places.now);
   is_net = λ name. is_some (found_in known.nets.now name);
-  channel = channel_in known.channels.now;
+  channel = channel_in (channels_of known.channels.now);
 }
 
 -- where an inscription stands

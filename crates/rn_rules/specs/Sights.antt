@@ -14,51 +14,52 @@ use Rattle.rn_declared.specs.declared.fault.Fault.{Fault}
 use Rattle.rn_declared.specs.Faults.{broken, broken_if}
 use Rattle.rn_rules.specs.Actions.{is_set_by}
 use Rattle.rn_declared.specs.Patterns.{share, both_of}
+use Rattle.rn_rules.specs.Numbers.{declared_of}
 use Rattle.rn_rules.specs.Expressions.{Where, Seen, is_whole}
 use Rattle.rn_declared.specs.Tables.{found_in, pattern_in}
 
 -- where an expression stands
-abbrev pub where_of : Here → Where
+abbrev pub where_of : {N : Type 0} → Here N → Where
 where_of here = record {
-  pattern_of_var = pattern_in here.vars.now;
+  pattern_of_var = pattern_in (declared_of here.vars.now);
   may_stand = λ name. is_set_by (found_in here.setters.now name) here.past;
   step_may = here.step_may;
 }
 
 -- what the code keeps of an expression
-abbrev pub sight_of : Seen → Sight
+abbrev pub sight_of : {N : Type 0} → Seen → Sight N
 sight_of seen =
     record { spot = seen.spot; whole = is_whole seen.faults; pattern = seen.pattern }
 
 -- whether two expressions are whole and share no kind
-abbrev pub are_apart : Sight → Sight → Bool
+abbrev pub are_apart : {N : Type 0} → Sight N → Sight N → Bool
 are_apart a b = a.whole && b.whole && not (share a.pattern b.pattern)
 
 -- an expression that must have the kind of a pattern
-abbrev pub misfit_of : Sight → Pattern → List Fault
+abbrev pub misfit_of : {N : Type 0} → Sight N → Pattern → List Fault
 misfit_of a asked = broken_if (a.whole && not (share asked a.pattern)) Rule.Kinds a.spot
 
 -- the same of a pattern that may be there
-abbrev pub misfit_if : Sight → Option Pattern → List Fault
+abbrev pub misfit_if : {N : Type 0} → Sight N → Option Pattern → List Fault
 misfit_if a None = []
 misfit_if a (Some asked) = misfit_of a asked
 
 -- each of these expressions must have the kind of the pattern at its index
-abbrev pub misfits_of : List Sight → List Pattern → List Fault
+abbrev pub misfits_of : {N : Type 0} → List (Sight N) → List Pattern → List Fault
 misfits_of (a ∷ sights) (asked ∷ patterns) = misfit_of a asked ++ misfits_of sights patterns
 misfits_of _ _ = []
 
 -- what is told of a call with these arguments beside their own faults
-abbrev pub call_of : Option (List Pattern) → Spot → List Sight → List Fault
+abbrev pub call_of : {N : Type 0} → Option (List Pattern) → Spot → List (Sight N) → List Fault
 call_of None spot sights = broken Rule.Channel spot ∷ []
 call_of (Some patterns) spot sights = misfits_of sights patterns
 
 -- whether an expression is whole and has the kind of a pattern
-abbrev pub fits_pattern : Sight → Pattern → Bool
+abbrev pub fits_pattern : {N : Type 0} → Sight N → Pattern → Bool
 fits_pattern a asked = a.whole && share asked a.pattern
 
 -- a variable
-abbrev pub variable_sight : Where → List ℕ → Spot → Sight
+abbrev pub variable_sight : {N : Type 0} → Where → List ℕ → Spot → Sight N
 variable_sight place name spot = record {
   spot = spot;
   whole = is_some (place.pattern_of_var name) && place.may_stand name;
@@ -66,7 +67,7 @@ variable_sight place name spot = record {
 }
 
 -- the elements of a list so far with one more
-abbrev pub joined : Sight → Sight → Sight
+abbrev pub joined : {N : Type 0} → Sight N → Sight N → Sight N
 joined before e = record {
   spot = before.spot;
   whole = before.whole && e.whole && share before.pattern e.pattern;
@@ -74,7 +75,7 @@ joined before e = record {
 }
 
 -- the list of these elements
-abbrev pub listed_sight : Sight → Sight
+abbrev pub listed_sight : {N : Type 0} → Sight N → Sight N
 listed_sight elements = record {
   spot = elements.spot;
   whole = elements.whole;
@@ -82,7 +83,7 @@ listed_sight elements = record {
 }
 
 -- the tuple of these parts
-abbrev pub tuple_sight : Spot → List Sight → Sight
+abbrev pub tuple_sight : {N : Type 0} → Spot → List (Sight N) → Sight N
 tuple_sight spot parts = record {
   spot = spot;
   whole = nat_le (length parts) most_parts && list_all (λ part. part.whole) parts;

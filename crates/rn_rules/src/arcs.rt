@@ -8,8 +8,8 @@ ghost use Rattle.rn_declared.specs.declared.pattern.Pattern.TheVariants as Form;
 
 use crate::seeing::{fits, see};
 use crate::sight::{Here, Sight};
-use rn_declared::pattern::copy;
-use rn_declared::{First, Pattern, Rule};
+use rn_declared::numbered::copy;
+use rn_declared::{First, Numbered, Numbers, Rule};
 use rn_inscript::{PExpr, PForm, PName};
 use rn_model::ArcKind;
 use rn_shared::Shared;
@@ -17,14 +17,18 @@ use rn_value::NoMemory;
 use std::alloc::Global;
 
 /// The pattern that the inscription of an arc must have at a place with this one.
-fn asked(alloc: Global, kind: ArcKind, place: &Pattern) -> Result<Pattern, NoMemory>
+fn asked<N: Numbers>(
+    alloc: Global,
+    kind: ArcKind,
+    place: &Numbered<N>,
+) -> Result<Numbered<N>, NoMemory>
     ensures { IfOk result (λ p. p ≡ asked_of kind place.now) }
 {
     let pattern = copy(place)?;
     match kind {
-        ArcKind::FlexInput => Ok(Pattern::List(Shared::new(alloc, pattern)?)),
-        ArcKind::FlexOutput => Ok(Pattern::List(Shared::new(alloc, pattern)?)),
-        ArcKind::Clear => Ok(Pattern::List(Shared::new(alloc, pattern)?)),
+        ArcKind::FlexInput => Ok(Numbered::list(Shared::new(alloc, pattern)?)),
+        ArcKind::FlexOutput => Ok(Numbered::list(Shared::new(alloc, pattern)?)),
+        ArcKind::Clear => Ok(Numbered::list(Shared::new(alloc, pattern)?)),
         _ => Ok(pattern),
     }
 }
@@ -42,11 +46,11 @@ fn is_clear(kind: ArcKind) -> bool
 }
 
 /// Tells an inscription that hasn't the kind that is asked for, where the place is known.
-fn tell_misfit(
+fn tell_misfit<N: Numbers>(
     alloc: Global,
     kind: ArcKind,
-    place: Option<&Pattern>,
-    sight: &Sight,
+    place: Option<&Numbered<N>>,
+    sight: &Sight<N>,
     first: &mut First,
 ) -> Result<(), NoMemory>
     ensures { OnOk result (first.new.fault ≡ first_from first.old.fault
@@ -63,12 +67,12 @@ fn tell_misfit(
 }
 
 /// Tells what is broken in the inscription of an arc.
-fn see_inscribed(
+fn see_inscribed<N: Numbers>(
     alloc: Global,
     kind: ArcKind,
-    place: Option<&Pattern>,
+    place: Option<&Numbered<N>>,
     e: &PExpr,
-    here: &Here,
+    here: &Here<N>,
     first: &mut First,
 ) -> Result<(), NoMemory>
     ensures { OnOk result (first.new.fault ≡ first_from first.old.fault
@@ -83,13 +87,13 @@ fn see_inscribed(
 }
 
 /// Tells what is broken in an arc.
-pub(crate) fn see_arc(
+pub(crate) fn see_arc<N: Numbers>(
     alloc: Global,
     kind: ArcKind,
-    place: Option<&Pattern>,
+    place: Option<&Numbered<N>>,
     name: &PName,
     inscription: &Option<PExpr>,
-    here: &Here,
+    here: &Here<N>,
     first: &mut First,
 ) -> Result<(), NoMemory>
     ensures { OnOk result (first.new.fault ≡ first_from first.old.fault

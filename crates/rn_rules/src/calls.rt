@@ -5,21 +5,22 @@ ghost use Rattle.rn_rules.specs.Expressions.{seen_of};
 ghost use Rattle.rn_rules.specs.Calls.{channel_call_faults, call_faults, target_faults, creation_faults, is_no_net};
 ghost use Rattle.rn_rules.specs.Actions.{set_faults, value_faults};
 ghost use Rattle.rn_declared.specs.Tables.{found_in};
-ghost use Rattle.rn_rules.specs.Sights.{where_of, misfits_of, misfit_if, call_of};
+ghost use Rattle.rn_rules.specs.Sights.{where_of, misfit_of, misfits_of, misfit_if, call_of};
 ghost use Rattle.rn_declared.specs.Tables.{pattern_in};
+ghost use Rattle.rn_rules.specs.Numbers.{declared_of};
 ghost use Rattle.rn_declared.specs.declared.pattern.Pattern.TheVariants as Form;
 
 use crate::seeing::{fits, see, see_all, see_variable};
 use crate::sight::{Here, Sight};
-use rn_declared::pattern::share;
-use rn_declared::{First, Pattern, Rule};
+use rn_declared::numbered::share;
+use rn_declared::{First, Numbered, Numbers, Rule};
 use rn_inscript::{PExpr, PName};
 use rn_notation::Spot;
 use rn_value::NoMemory;
 use std::alloc::Global;
 
 /// Tells each argument that hasn't the kind of the pattern at its index.
-fn tell_misfits(sights: &[Sight], patterns: &[Pattern], first: &mut First)
+fn tell_misfits<N: Numbers>(sights: &[Sight<N>], patterns: &[Numbered<N>], first: &mut First)
     ensures { first.new.fault ≡ first_from first.old.fault (misfits_of sights.now patterns.now) }
 {
     for i in 0..sights.len().min(patterns.len()) {
@@ -28,7 +29,12 @@ fn tell_misfits(sights: &[Sight], patterns: &[Pattern], first: &mut First)
 }
 
 /// Tells a channel that isn't there, or arguments that it doesn't take.
-fn tell_call(patterns: Option<&[Pattern]>, spot: Spot, sights: &[Sight], first: &mut First)
+fn tell_call<N: Numbers>(
+    patterns: Option<&[Numbered<N>]>,
+    spot: Spot,
+    sights: &[Sight<N>],
+    first: &mut First,
+)
     ensures { first.new.fault ≡ first_from first.old.fault
         (call_of (option_copied patterns.entry) spot sights.now) }
 {
@@ -39,12 +45,12 @@ fn tell_call(patterns: Option<&[Pattern]>, spot: Spot, sights: &[Sight], first: 
 }
 
 /// Tells what is broken in a call of a channel, whose arguments have these patterns if it is there.
-pub(crate) fn see_call(
+pub(crate) fn see_call<N: Numbers>(
     alloc: Global,
-    patterns: Option<&[Pattern]>,
+    patterns: Option<&[Numbered<N>]>,
     name: &PName,
     args: &[PExpr],
-    here: &Here,
+    here: &Here<N>,
     first: &mut First,
 ) -> Result<(), NoMemory>
     ensures { OnOk result (first.new.fault ≡ first_from first.old.fault
@@ -56,37 +62,45 @@ pub(crate) fn see_call(
     Ok(())
 }
 
+/// Tells an expression that is no net.
+fn tell_no_net<N: Numbers>(sight: &Sight<N>, first: &mut First)
+    ensures { first.new.fault ≡ first_from first.old.fault (misfit_of sight.now Form.Net) }
+{
+    let asked = Numbered::net();
+    fits(sight, &asked, first);
+}
+
 /// Tells what is broken in the target of a downlink.
-pub(crate) fn see_target(
+pub(crate) fn see_target<N: Numbers>(
     alloc: Global,
     target: &PExpr,
-    here: &Here,
+    here: &Here<N>,
     first: &mut First,
 ) -> Result<(), NoMemory>
     ensures { OnOk result (first.new.fault ≡ first_from first.old.fault
         (target_faults (seen_of target.now (where_of here.now)))) }
 {
     let sight = see(alloc, target, here, first)?;
-    fits(&sight, &Pattern::Net, first);
+    tell_no_net(&sight, first);
     Ok(())
 }
 
 /// Whether a pattern is there and isn't that of nets.
-fn is_no_net(pattern: Option<&Pattern>) -> bool
+fn is_no_net<N: Numbers>(pattern: Option<&Numbered<N>>) -> bool
     ensures { result ≡ is_no_net (option_copied pattern.entry) }
 {
     match pattern {
-        Some(pattern) => !share(pattern, &Pattern::Net),
+        Some(pattern) => !share(pattern, &Numbered::net()),
         None => false,
     }
 }
 
 /// Tells what is broken in a creation, where its net is declared or not.
-pub(crate) fn see_creation(
+pub(crate) fn see_creation<N: Numbers>(
     var: &PName,
     net: &PName,
     declared: bool,
-    here: &Here,
+    here: &Here<N>,
     first: &mut First,
 ) -> Result<(), NoMemory>
     ensures { OnOk result (first.new.fault ≡ first_from first.old.fault
@@ -103,9 +117,9 @@ pub(crate) fn see_creation(
 }
 
 /// Tells what is broken on the left of an action, which is that of this number.
-pub(crate) fn see_left(var: &PName, past: usize, here: &Here, first: &mut First)
+pub(crate) fn see_left<N: Numbers>(var: &PName, past: usize, here: &Here<N>, first: &mut First)
     ensures { first.new.fault ≡ first_from first.old.fault
-        (set_faults (pattern_in here.now.vars.now var.now.text)
+        (set_faults (pattern_in (declared_of here.now.vars.now) var.now.text)
         (found_in here.now.setters.now var.now.text) past var.now) }
 {
     first.tell_if(
@@ -121,7 +135,7 @@ pub(crate) fn see_left(var: &PName, past: usize, here: &Here, first: &mut First)
 }
 
 /// Tells an expression that hasn't the kind of a pattern, where there is one.
-fn tell_misfit_if(pattern: Option<&Pattern>, sight: &Sight, first: &mut First)
+fn tell_misfit_if<N: Numbers>(pattern: Option<&Numbered<N>>, sight: &Sight<N>, first: &mut First)
     ensures { first.new.fault ≡ first_from first.old.fault
         (misfit_if sight.now (option_copied pattern.entry)) }
 {
@@ -134,11 +148,11 @@ fn tell_misfit_if(pattern: Option<&Pattern>, sight: &Sight, first: &mut First)
 }
 
 /// Tells what is broken in the value of an action.
-pub(crate) fn see_value(
+pub(crate) fn see_value<N: Numbers>(
     alloc: Global,
-    pattern: Option<&Pattern>,
+    pattern: Option<&Numbered<N>>,
     value: &PExpr,
-    here: &Here,
+    here: &Here<N>,
     first: &mut First,
 ) -> Result<(), NoMemory>
     ensures { OnOk result (first.new.fault ≡ first_from first.old.fault

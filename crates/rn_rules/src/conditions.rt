@@ -8,19 +8,19 @@ ghost use Rattle.rn_rules.specs.Sights.{where_of, are_apart};
 
 use crate::seeing::{see, see_operand};
 use crate::sight::{Here, Sight};
-use rn_declared::pattern::share;
-use rn_declared::{First, Rule};
+use rn_declared::numbered::share;
+use rn_declared::{First, Numbers, Rule};
 use rn_inscript::{PCond, PExpr, PSimple};
 use rn_model::CompareKind;
 use rn_value::NoMemory;
 use std::alloc::Global;
 
 /// Two sides that must share a kind.
-pub(crate) fn see_sides(
+pub(crate) fn see_sides<N: Numbers>(
     alloc: Global,
     a: &PExpr,
     b: &PExpr,
-    here: &Here,
+    here: &Here<N>,
     first: &mut First,
 ) -> Result<(), NoMemory>
     ensures { OnOk result (first.new.fault ≡ first_from first.old.fault
@@ -33,7 +33,7 @@ pub(crate) fn see_sides(
 }
 
 /// Tells two sides that are whole and share no kind.
-fn tell_apart(a: &Sight, b: &Sight, first: &mut First)
+fn tell_apart<N: Numbers>(a: &Sight<N>, b: &Sight<N>, first: &mut First)
     ensures { first.new.fault ≡ first_from first.old.fault
         (broken_if (are_apart a.now b.now) Rules.Kinds a.now.spot) }
 {
@@ -43,11 +43,11 @@ fn tell_apart(a: &Sight, b: &Sight, first: &mut First)
 }
 
 /// Two sides that are whole numbers.
-fn see_operands(
+fn see_operands<N: Numbers>(
     alloc: Global,
     a: &PExpr,
     b: &PExpr,
-    here: &Here,
+    here: &Here<N>,
     first: &mut First,
 ) -> Result<(), NoMemory>
     ensures { OnOk result (first.new.fault ≡ first_from first.old.fault
@@ -59,7 +59,12 @@ fn see_operands(
 }
 
 /// An expression that stands for no comparison.
-fn see_bare(alloc: Global, e: &PExpr, here: &Here, first: &mut First) -> Result<(), NoMemory>
+fn see_bare<N: Numbers>(
+    alloc: Global,
+    e: &PExpr,
+    here: &Here<N>,
+    first: &mut First,
+) -> Result<(), NoMemory>
     ensures { OnOk result (first.new.fault ≡ first_from first.old.fault
         (bare_faults (seen_of e.now (where_of here.now)))) }
 {
@@ -69,12 +74,12 @@ fn see_bare(alloc: Global, e: &PExpr, here: &Here, first: &mut First) -> Result<
 }
 
 /// The sides of a comparison.
-fn see_compared(
+fn see_compared<N: Numbers>(
     alloc: Global,
     kind: CompareKind,
     a: &PExpr,
     b: &PExpr,
-    here: &Here,
+    here: &Here<N>,
     first: &mut First,
 ) -> Result<(), NoMemory>
     ensures { OnOk result (first.new.fault ≡ first_from first.old.fault (compared_faults kind
@@ -91,10 +96,10 @@ fn see_compared(
 }
 
 #[cycle(condition)]
-fn see_simple(
+fn see_simple<N: Numbers>(
     alloc: Global,
     simple: &PSimple,
-    here: &Here,
+    here: &Here<N>,
     first: &mut First,
 ) -> Result<(), NoMemory>
     ensures { OnOk result (first.new.fault ≡ first_from first.old.fault
@@ -109,10 +114,10 @@ fn see_simple(
 
 /// Tells what is broken in a condition.
 #[cycle(condition)]
-pub(crate) fn see_condition(
+pub(crate) fn see_condition<N: Numbers>(
     alloc: Global,
     cond: &PCond,
-    here: &Here,
+    here: &Here<N>,
     first: &mut First,
 ) -> Result<(), NoMemory>
     ensures { OnOk result (first.new.fault ≡ first_from first.old.fault

@@ -13,14 +13,14 @@ use crate::conditions::{see_condition, see_sides};
 use crate::scope::{Known, Stand};
 use crate::seeing::see;
 use crate::sight::Here;
-use rn_declared::{First, Rule};
+use rn_declared::{First, Numbers, Rule};
 use rn_inscript::{PExpr, PExprs, PInscribed, PInscription, PName};
 use rn_model::ArcKind;
 use rn_notation::Spot;
 use rn_value::NoMemory;
 use std::alloc::Global;
 
-fn in_action<'a>(known: &Known<'a>, stand: &Stand<'a>) -> Here<'a>
+fn in_action<'a, N: Numbers>(known: &Known<'a, N>, stand: &Stand<'a>) -> Here<'a, N>
     ensures { where_of result ≡ in_action (scope_in known.now) (progress_of stand.now) }
 {
     Here {
@@ -31,7 +31,7 @@ fn in_action<'a>(known: &Known<'a>, stand: &Stand<'a>) -> Here<'a>
     }
 }
 
-fn in_output<'a>(known: &Known<'a>, stand: &Stand<'a>) -> Here<'a>
+fn in_output<'a, N: Numbers>(known: &Known<'a, N>, stand: &Stand<'a>) -> Here<'a, N>
     ensures { where_of result ≡ in_output (scope_in known.now) (progress_of stand.now) }
 {
     Here {
@@ -42,7 +42,7 @@ fn in_output<'a>(known: &Known<'a>, stand: &Stand<'a>) -> Here<'a>
     }
 }
 
-fn elsewhere<'a>(known: &Known<'a>, stand: &Stand<'a>) -> Here<'a>
+fn elsewhere<'a, N: Numbers>(known: &Known<'a, N>, stand: &Stand<'a>) -> Here<'a, N>
     ensures { where_of result ≡ elsewhere (scope_in known.now) (progress_of stand.now) }
 {
     Here {
@@ -53,7 +53,7 @@ fn elsewhere<'a>(known: &Known<'a>, stand: &Stand<'a>) -> Here<'a>
     }
 }
 
-fn of_arc<'a>(kind: ArcKind, known: &Known<'a>, stand: &Stand<'a>) -> Here<'a>
+fn of_arc<'a, N: Numbers>(kind: ArcKind, known: &Known<'a, N>, stand: &Stand<'a>) -> Here<'a, N>
     ensures { where_of result ≡ (if is_output kind
         then in_output (scope_in known.now) (progress_of stand.now)
         else elsewhere (scope_in known.now) (progress_of stand.now)) }
@@ -66,11 +66,11 @@ fn of_arc<'a>(kind: ArcKind, known: &Known<'a>, stand: &Stand<'a>) -> Here<'a>
 }
 
 /// Tells what is broken in an action that sets a variable.
-fn see_set(
+fn see_set<N: Numbers>(
     alloc: Global,
     var: &PName,
     value: &PExpr,
-    known: &Known,
+    known: &Known<N>,
     stand: &Stand,
     first: &mut First,
 ) -> Result<(), NoMemory>
@@ -89,11 +89,11 @@ fn see_set(
 }
 
 /// Tells what is broken in a call of a channel.
-fn see_channel(
+fn see_channel<N: Numbers>(
     alloc: Global,
     channel: &PName,
     args: &PExprs,
-    known: &Known,
+    known: &Known<N>,
     stand: &Stand,
     first: &mut First,
 ) -> Result<(), NoMemory>
@@ -107,12 +107,12 @@ fn see_channel(
 }
 
 /// Tells what is broken in an uplink.
-fn see_uplink(
+fn see_uplink<N: Numbers>(
     alloc: Global,
     spot: Spot,
     channel: &PName,
     args: &PExprs,
-    known: &Known,
+    known: &Known<N>,
     stand: &Stand,
     first: &mut First,
 ) -> Result<(), NoMemory>
@@ -125,12 +125,12 @@ fn see_uplink(
 }
 
 /// Tells what is broken in a downlink.
-fn see_downlink(
+fn see_downlink<N: Numbers>(
     alloc: Global,
     target: &PExpr,
     channel: &PName,
     args: &PExprs,
-    known: &Known,
+    known: &Known<N>,
     stand: &Stand,
     first: &mut First,
 ) -> Result<(), NoMemory>
@@ -144,10 +144,10 @@ fn see_downlink(
 }
 
 /// Tells what is broken in an inscription.
-pub(crate) fn see_inscription(
+pub(crate) fn see_inscription<N: Numbers>(
     alloc: Global,
     i: &PInscription,
-    known: &Known,
+    known: &Known<N>,
     stand: &Stand,
     first: &mut First,
 ) -> Result<(), NoMemory>

@@ -8,23 +8,26 @@ ghost use Rattle.rn_rules.specs.Transitions.{transition_faults};
 ghost use Rattle.rn_rules.specs.Systems.{system_faults};
 ghost use Rattle.rn_rules.specs.Scopes.{scope_in, faults_in_net};
 ghost use Rattle.rn_declared.specs.Tables.{channel_in};
+ghost use Rattle.rn_rules.specs.Numbers.{channels_of};
 
-use crate::scope::Known;
+use crate::scope::{ChannelNames, Known, channel_names_of, names_of};
 use crate::transitions::see_transition;
 use rn_declared::{
-    Channels, First, Rule, Table, declare_all, declare_channels, declare_places, declare_vars,
+    Channels, First, Kinds, Numbers, Rule, Table, declare_all, declare_channels, declare_places,
+    declare_vars, kinds_of,
 };
 use rn_model::limits::{MOST_NETS, MOST_TRANSITIONS};
 use rn_net::{PNet, PTransition, Plain};
 use rn_notation::Spot;
 use rn_value::NoMemory;
 use std::alloc::Global;
+use std::marker::Brand;
 
 /// Tells what is broken in transitions.
-fn see_transitions(
+fn see_transitions<N: Numbers>(
     alloc: Global,
     transitions: &[PTransition],
-    known: &Known,
+    known: &Known<N>,
     first: &mut First,
 ) -> Result<(), NoMemory>
     ensures { OnOk result (first.new.fault ≡ first_from first.old.fault
@@ -37,18 +40,22 @@ fn see_transitions(
 }
 
 /// Tells what is broken in a net of a system with these nets and channels.
-fn see_net(
+fn see_net<N: Numbers>(
     alloc: Global,
     net: &PNet,
     nets: &Table,
-    channels: &Channels,
+    channels: &ChannelNames<N>,
+    kinds: &Kinds,
     first: &mut First,
 ) -> Result<(), NoMemory>
+    requires { kinds.now.patterns ≡ N.patterns }
     ensures { OnOk result (first.new.fault ≡ first_from first.old.fault
-        (faults_in_net (λ name. is_some (found_in nets.now name)) (channel_in channels.now) net.now)) }
+        (faults_in_net (λ name. is_some (found_in nets.now name)) (channel_in (channels_of channels.now)) net.now)) }
 {
-    let vars = declare_vars(alloc, net.vars.as_slice(), first)?;
-    let places = declare_places(alloc, net.places.as_slice(), first)?;
+    let declared = declare_vars(alloc, net.vars.as_slice(), first)?;
+    let vars = names_of(alloc, declared, kinds)?;
+    let declared = declare_places(alloc, net.places.as_slice(), first)?;
+    let places = names_of(alloc, declared, kinds)?;
     let transitions = net.transitions.as_slice();
     let _names = declare_all(alloc, transitions, MOST_TRANSITIONS, first)?;
     let known = Known {
@@ -62,19 +69,21 @@ fn see_net(
 }
 
 /// Tells what is broken in nets of a system with these nets and channels.
-fn see_nets(
+fn see_nets<N: Numbers>(
     alloc: Global,
     nets: &[PNet],
     table: &Table,
-    channels: &Channels,
+    channels: &ChannelNames<N>,
+    kinds: &Kinds,
     first: &mut First,
 ) -> Result<(), NoMemory>
+    requires { kinds.now.patterns ≡ N.patterns }
     ensures { OnOk result (first.new.fault ≡ first_from first.old.fault
-        (flat_map (faults_in_net (λ name. is_some (found_in table.now name)) (channel_in channels.now))
+        (flat_map (faults_in_net (λ name. is_some (found_in table.now name)) (channel_in (channels_of channels.now)))
         nets.now)) }
 {
     for net in nets {
-        see_net(alloc, net, table, channels, first)?;
+        see_net(alloc, net, table, channels, kinds, first)?;
     }
     Ok(())
 }
@@ -91,6 +100,25 @@ fn has_main(nets: &[PNet]) -> bool
     false
 }
 
+/// Tells what is broken in nets of a system with these nets and channels, whose kinds have numbers.
+fn see_numbered<N: Numbers>(
+    alloc: Global,
+    nets: &[PNet],
+    table: &Table,
+    channels: Channels,
+    kinds: &Kinds,
+    first: &mut First,
+) -> Result<(), NoMemory>
+    requires { kinds.now.patterns ≡ N.patterns }
+    ensures { OnOk result (first.new.fault ≡ first_from first.old.fault
+        (flat_map (faults_in_net (λ name. is_some (found_in table.now name)) (channel_in channels))
+        nets.now)) }
+{
+    let channels = channel_names_of::<N>(alloc, channels, kinds)?;
+    see_nets(alloc, nets, table, &channels, kinds, first)?;
+    Ok(())
+}
+
 /// Tells what is broken in a system.
 pub(crate) fn see_system(alloc: Global, plain: &Plain, first: &mut First) -> Result<(), NoMemory>
     ensures { OnOk result (first.new.fault ≡ first_from first.old.fault (system_faults plain.now)) }
@@ -99,6 +127,7 @@ pub(crate) fn see_system(alloc: Global, plain: &Plain, first: &mut First) -> Res
     first.tell_if(!has_main(nets), Rule::Main, Spot { line: 1, column: 1 });
     let channels = declare_channels(alloc, plain.channels.as_slice(), first)?;
     let table = declare_all(alloc, nets, MOST_NETS, first)?;
-    see_nets(alloc, nets, &table, &channels, first)?;
+    let kinds = kinds_of(alloc, plain)?;
+    see_numbered::<Brand>(alloc, nets, &table, channels, &kinds, first)?;
     Ok(())
 }

@@ -1,13 +1,108 @@
 //! What is known by name in a net, and where an inscription stands in its transition.
-use rn_declared::{Channels, Declared, Table};
+ghost use Rattle.std.specs.Prelude.{◌≡◌, IfOk, option_copied};
+ghost use Rattle.rn_declared.specs.Tables.{pattern_in, channel_in};
+ghost use Rattle.rn_rules.specs.Numbers.{declared_of, channels_of};
+
+use rn_declared::{Channels, Declared, Kinds, Numbered, Numbers, Patterns, Table, number_all};
+use rn_items::Items;
+use rn_value::{NoMemory, Str};
+use std::alloc::Global;
+use std::collections::BTreeMap;
+
+/// What was declared with a kind by name, with numbers at the patterns.
+#[derive(Drop)]
+pub(crate) struct Names<N: Numbers> {
+    pub(crate) table: Table,
+    pub(crate) patterns: Items<Numbered<N>>,
+}
+
+impl<N: Numbers> Names<N> {
+    /// The pattern of the kind with which a name was declared first.
+    pub(crate) fn pattern(&self, name: &Str) -> Option<&Numbered<N>>
+        ensures { option_copied result ≡ pattern_in (declared_of self.now) name.now }
+    {
+        match self.table.number(name) {
+            Some(number) => self.patterns.get(number),
+            None => None,
+        }
+    }
+}
+
+/// The same names, with numbers at their patterns.
+pub(crate) fn names_of<N: Numbers>(
+    alloc: Global,
+    declared: Declared,
+    kinds: &Kinds,
+) -> Result<Names<N>, NoMemory>
+    requires { kinds.now.patterns ≡ N.patterns }
+    ensures { IfOk result (λ names. declared_of names ≡ declared) }
+{
+    let Declared { table, patterns } = declared;
+    let patterns = number_all(alloc, patterns.as_slice(), kinds)?;
+    Ok(Names { table, patterns })
+}
+
+/// The channels, by their number of arguments and their name, with numbers at the patterns.
+#[derive(Drop)]
+pub(crate) struct ChannelNames<N: Numbers> {
+    pub(crate) tables: BTreeMap<usize, Table>,
+    pub(crate) patterns: Items<Items<Numbered<N>>>,
+}
+
+impl<N: Numbers> ChannelNames<N> {
+    /// The patterns of the arguments of a channel.
+    pub(crate) fn patterns(&self, name: &Str, count: usize) -> Option<&[Numbered<N>]>
+        ensures { option_copied result ≡ channel_in (channels_of self.now) name.now count }
+    {
+        match self.tables.get(&count) {
+            Some(table) => match table.number(name) {
+                Some(number) => match self.patterns.get(number) {
+                    Some(patterns) => Some(patterns.as_slice()),
+                    None => None,
+                },
+                None => None,
+            },
+            None => None,
+        }
+    }
+}
+
+fn number_lists<N: Numbers>(
+    alloc: Global,
+    lists: &[Patterns],
+    kinds: &Kinds,
+) -> Result<Items<Items<Numbered<N>>>, NoMemory>
+    requires { kinds.now.patterns ≡ N.patterns }
+    ensures { IfOk result (λ all. all ≡ lists.now) }
+{
+    let mut all = Vec::with_capacity(alloc, lists.len())?;
+    for list in lists {
+        all.push(number_all(alloc, list.as_slice(), kinds)?)?;
+    }
+    Ok(Items::from_vec(all))
+}
+
+/// The same channels, with numbers at their patterns.
+pub(crate) fn channel_names_of<N: Numbers>(
+    alloc: Global,
+    channels: Channels,
+    kinds: &Kinds,
+) -> Result<ChannelNames<N>, NoMemory>
+    requires { kinds.now.patterns ≡ N.patterns }
+    ensures { IfOk result (λ names. channels_of names ≡ channels) }
+{
+    let Channels { tables, patterns } = channels;
+    let patterns = number_lists(alloc, patterns.as_slice(), kinds)?;
+    Ok(ChannelNames { tables, patterns })
+}
 
 /// What is known by name in a net.
 #[derive(Drop)]
-pub(crate) struct Known<'a> {
-    pub(crate) vars: &'a Declared,
-    pub(crate) places: &'a Declared,
+pub(crate) struct Known<'a, N: Numbers> {
+    pub(crate) vars: &'a Names<N>,
+    pub(crate) places: &'a Names<N>,
     pub(crate) nets: &'a Table,
-    pub(crate) channels: &'a Channels,
+    pub(crate) channels: &'a ChannelNames<N>,
 }
 
 /// Where an inscription stands: the numbers of the actions that set variables, how many set one

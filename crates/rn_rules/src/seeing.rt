@@ -11,8 +11,8 @@ ghost use Rattle.rn_model.specs.Limits.{most_parts};
 ghost use Rattle.rn_declared.specs.declared.fault.Rule.TheVariants as Rules;
 
 use crate::sight::{Here, Sight};
-use rn_declared::pattern::{both_of, copy, share};
-use rn_declared::{First, Pattern, Patterns, Rule};
+use rn_declared::numbered::{both_of, copy, share};
+use rn_declared::{First, Numbered, Numbers, Rule};
 use rn_inscript::{PExpr, PForm};
 use rn_items::Items;
 use rn_model::limits::MOST_PARTS;
@@ -22,7 +22,7 @@ use rn_value::{NoMemory, Str};
 use std::alloc::Global;
 
 /// Tells an expression that hasn't the kind that is asked for, and says whether it is whole and has.
-pub(crate) fn fits(sight: &Sight, asked: &Pattern, first: &mut First) -> bool
+pub(crate) fn fits<N: Numbers>(sight: &Sight<N>, asked: &Numbered<N>, first: &mut First) -> bool
     ensures fits { result ≡ fits_pattern sight.now asked.now }
     ensures told { first.new.fault ≡ first_from first.old.fault
         (broken_if (sight.now.whole && not (share asked.now sight.now.pattern)) Rules.Kinds sight.now.spot) }
@@ -32,13 +32,23 @@ pub(crate) fn fits(sight: &Sight, asked: &Pattern, first: &mut First) -> bool
     sight.whole && same
 }
 
+/// Tells an expression that is no whole number, and says whether it is whole and is one.
+fn fits_int<N: Numbers>(sight: &Sight<N>, first: &mut First) -> bool
+    ensures fits { result ≡ fits_pattern sight.now Form.Int }
+    ensures told { first.new.fault ≡ first_from first.old.fault
+        (broken_if (sight.now.whole && not (share Form.Int sight.now.pattern)) Rules.Kinds sight.now.spot) }
+{
+    let asked = Numbered::int();
+    fits(sight, &asked, first)
+}
+
 /// Tells what is wrong with a variable, and gives its kind.
-pub(crate) fn see_variable(
+pub(crate) fn see_variable<N: Numbers>(
     name: &Str,
     spot: Spot,
-    here: &Here,
+    here: &Here<N>,
     first: &mut First,
-) -> Result<Sight, NoMemory>
+) -> Result<Sight<N>, NoMemory>
     ensures sight { IfOk result (λ s. s ≡ variable_sight (where_of here.now) name.now spot) }
     ensures told { OnOk result (first.new.fault ≡ first_from first.old.fault
         (variable_faults (where_of here.now) name.now spot)) }
@@ -57,17 +67,17 @@ pub(crate) fn see_variable(
     Ok(Sight {
         spot,
         whole: known && may_stand,
-        pattern: pattern.unwrap_or(Pattern::Any),
+        pattern: pattern.unwrap_or(Numbered::any()),
     })
 }
 
 /// The elements of a list so far with one more, which is told where it shares no kind with them.
-fn with_element(
+fn with_element<N: Numbers>(
     alloc: Global,
-    before: Sight,
-    e: Sight,
+    before: Sight<N>,
+    e: Sight<N>,
     first: &mut First,
-) -> Result<Sight, NoMemory>
+) -> Result<Sight<N>, NoMemory>
     ensures sight { IfOk result (λ s. s ≡ joined before e) }
     ensures told { OnOk result (first.new.fault ≡ first_from first.old.fault
         (broken_if (are_apart before e) Rules.Kinds e.spot)) }
@@ -83,17 +93,17 @@ fn with_element(
 }
 
 /// The list of these elements.
-fn as_list(alloc: Global, elements: Sight) -> Result<Sight, NoMemory>
+fn as_list<N: Numbers>(alloc: Global, elements: Sight<N>) -> Result<Sight<N>, NoMemory>
     ensures { IfOk result (λ s. s ≡ listed_sight elements) }
 {
     Ok(Sight {
         spot: elements.spot,
         whole: elements.whole,
-        pattern: Pattern::List(Shared::new(alloc, elements.pattern)?),
+        pattern: Numbered::list(Shared::new(alloc, elements.pattern)?),
     })
 }
 
-fn are_whole(sights: &[Sight]) -> bool
+fn are_whole<N: Numbers>(sights: &[Sight<N>]) -> bool
     ensures { result ≡ list_all (λ s. s.whole) sights.now }
 {
     for sight in sights {
@@ -104,7 +114,10 @@ fn are_whole(sights: &[Sight]) -> bool
     true
 }
 
-fn patterns_seen(alloc: Global, sights: Vec<Sight>) -> Result<Shared<Patterns>, NoMemory>
+fn patterns_seen<N: Numbers>(
+    alloc: Global,
+    sights: Vec<Sight<N>>,
+) -> Result<Shared<Items<Numbered<N>>>, NoMemory>
     ensures { IfOk result (λ ps. ps ≡ map (λ s. s.pattern) sights.items) }
 {
     let mut patterns = Vec::new(alloc);
@@ -116,12 +129,12 @@ fn patterns_seen(alloc: Global, sights: Vec<Sight>) -> Result<Shared<Patterns>, 
 }
 
 /// The tuple of these parts, of which too many are told at the first that is.
-fn as_tuple(
+fn as_tuple<N: Numbers>(
     alloc: Global,
     spot: Spot,
-    parts: Vec<Sight>,
+    parts: Vec<Sight<N>>,
     first: &mut First,
-) -> Result<Sight, NoMemory>
+) -> Result<Sight<N>, NoMemory>
     ensures sight { IfOk result (λ s. s ≡ tuple_sight spot parts.items) }
     ensures told { OnOk result (first.new.fault ≡ first_from first.old.fault
         (past_limit most_parts (map (λ part. part.spot) parts.items))) }
@@ -132,34 +145,34 @@ fn as_tuple(
     Ok(Sight {
         spot,
         whole: parts.len() <= MOST_PARTS && are_whole(parts.as_slice()),
-        pattern: Pattern::Tuple(patterns_seen(alloc, parts)?),
+        pattern: Numbered::tuple(patterns_seen(alloc, parts)?),
     })
 }
 
 /// Tells what is broken in an expression, and gives the kinds that it has.
 #[cycle(see)]
-pub(crate) fn see(
+pub(crate) fn see<N: Numbers>(
     alloc: Global,
     expr: &PExpr,
-    here: &Here,
+    here: &Here<N>,
     first: &mut First,
-) -> Result<Sight, NoMemory>
+) -> Result<Sight<N>, NoMemory>
     ensures sight { IfOk result (λ s. s ≡ sight_of (seen_of expr.now (where_of here.now))) }
     ensures told { OnOk result (first.new.fault ≡ first_from first.old.fault
         (seen_of expr.now (where_of here.now)).faults) }
 {
     let spot = expr.spot;
     match &expr.form {
-        PForm::Int(_) => Ok(Sight::whole(spot, Pattern::Int)),
-        PForm::Text(_) => Ok(Sight::whole(spot, Pattern::Text)),
+        PForm::Int(_) => Ok(Sight::whole(spot, Numbered::int())),
+        PForm::Text(_) => Ok(Sight::whole(spot, Numbered::text())),
         PForm::Name(name) => Ok(see_variable(name, spot, here, first)?),
-        PForm::This => Ok(Sight::whole(spot, Pattern::Net)),
+        PForm::This => Ok(Sight::whole(spot, Numbered::net())),
         PForm::Step => {
             first.tell_if(!here.step_may, Rule::Actions, spot);
             Ok(Sight {
                 spot,
                 whole: here.step_may,
-                pattern: Pattern::Int,
+                pattern: Numbered::int(),
             })
         }
         PForm::Tuple(parts) => { Ok(see_tuple(alloc, parts.as_slice(), spot, here, first)?) }
@@ -178,7 +191,7 @@ pub(crate) fn see(
             Ok(Sight {
                 spot,
                 whole,
-                pattern: Pattern::Int,
+                pattern: Numbered::int(),
             })
         }
         PForm::Op(_, a, b) => {
@@ -187,7 +200,7 @@ pub(crate) fn see(
             Ok(Sight {
                 spot,
                 whole: left & right,
-                pattern: Pattern::Int,
+                pattern: Numbered::int(),
             })
         }
     }
@@ -195,10 +208,10 @@ pub(crate) fn see(
 
 /// An operand, which is a whole number.
 #[cycle(see)]
-pub(crate) fn see_operand(
+pub(crate) fn see_operand<N: Numbers>(
     alloc: Global,
     operand: &PExpr,
-    here: &Here,
+    here: &Here<N>,
     first: &mut First,
 ) -> Result<bool, NoMemory>
     ensures whole { IfOk result (λ w. w
@@ -207,16 +220,16 @@ pub(crate) fn see_operand(
         (operand_faults (seen_of operand.now (where_of here.now)))) }
 {
     let sight = see(alloc, operand, here, first)?;
-    Ok(fits(&sight, &Pattern::Int, first))
+    Ok(fits_int(&sight, first))
 }
 
 #[cycle(see)]
-pub(crate) fn see_all(
+pub(crate) fn see_all<N: Numbers>(
     alloc: Global,
     exprs: &[PExpr],
-    here: &Here,
+    here: &Here<N>,
     first: &mut First,
-) -> Result<Vec<Sight>, NoMemory>
+) -> Result<Vec<Sight<N>>, NoMemory>
     ensures sights { IfOk result (λ sights. sights.items
         ≡ map sight_of (map (λ seen. seen (where_of here.now)) (map seen_of exprs.now))) }
     ensures told { OnOk result (first.new.fault ≡ first_from first.old.fault
@@ -230,20 +243,20 @@ pub(crate) fn see_all(
 }
 
 #[cycle(see)]
-fn see_elements(
+fn see_elements<N: Numbers>(
     alloc: Global,
     elements: &[PExpr],
     spot: Spot,
-    here: &Here,
+    here: &Here<N>,
     first: &mut First,
-) -> Result<Sight, NoMemory>
+) -> Result<Sight<N>, NoMemory>
     ensures sight { IfOk result (λ s. s ≡ sight_of (with_elements (whole spot Form.Any)
         (map (λ seen. seen (where_of here.now)) (map seen_of elements.now)))) }
     ensures told { OnOk result (first.new.fault ≡ first_from first.old.fault
         (with_elements (whole spot Form.Any)
         (map (λ seen. seen (where_of here.now)) (map seen_of elements.now))).faults) }
 {
-    let mut before = Sight::whole(spot, Pattern::Any);
+    let mut before = Sight::whole(spot, Numbered::any());
     for element in elements {
         let sight = see(alloc, element, here, first)?;
         before = with_element(alloc, before, sight, first)?;
@@ -252,13 +265,13 @@ fn see_elements(
 }
 
 #[cycle(see)]
-fn see_tuple(
+fn see_tuple<N: Numbers>(
     alloc: Global,
     parts: &[PExpr],
     spot: Spot,
-    here: &Here,
+    here: &Here<N>,
     first: &mut First,
-) -> Result<Sight, NoMemory>
+) -> Result<Sight<N>, NoMemory>
     ensures sight { IfOk result (λ s. s ≡ sight_of (tuple_of spot
         (map (λ seen. seen (where_of here.now)) (map seen_of parts.now)))) }
     ensures told { OnOk result (first.new.fault ≡ first_from first.old.fault (tuple_of spot

@@ -9,7 +9,7 @@ ghost use Rattle.rn_rules.specs.Transitions.{is_uplink, inscriptions_faults, tra
 
 use crate::inscriptions::see_inscription;
 use crate::scope::{Known, Stand};
-use rn_declared::{First, Table, tell_past};
+use rn_declared::{First, Numbers, Table, tell_past};
 use rn_inscript::{PInscribed, PInscription};
 use rn_model::limits::MOST_INSCRIPTIONS;
 use rn_net::PTransition;
@@ -59,10 +59,10 @@ fn setters_of(alloc: Global, inscriptions: &[PInscription]) -> Result<Setters, N
 }
 
 /// Tells what is broken in inscriptions, of which these actions set variables.
-fn see_inscriptions(
+fn see_inscriptions<N: Numbers>(
     alloc: Global,
     inscriptions: &[PInscription],
-    known: &Known,
+    known: &Known<N>,
     setters: &Setters,
     first: &mut First,
 ) -> Result<(), NoMemory>
@@ -91,10 +91,10 @@ fn see_inscriptions(
 }
 
 /// Tells what is broken in the inscriptions of a transition.
-pub(crate) fn see_transition(
+pub(crate) fn see_transition<N: Numbers>(
     alloc: Global,
     transition: &PTransition,
-    known: &Known,
+    known: &Known<N>,
     first: &mut First,
 ) -> Result<(), NoMemory>
     ensures { OnOk result (first.new.fault ≡ first_from first.old.fault

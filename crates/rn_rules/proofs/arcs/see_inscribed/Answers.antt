@@ -11,7 +11,7 @@ use Rattle.rn_rules.proofs.CallLemmas.{inscribed_told}
 use Rattle.rn_rules.proofs.arcs.see_inscribed.Goals as goal
 
 pub returns : goal.returns
-returns c =
+returns g c =
     let at = where_of c.args.here.now in
     let s : Seen = seen_of c.args.e.now at in
     let known = c.args.first.now.fault in
@@ -20,6 +20,6 @@ returns c =
     ∙ ap (λ k. first_from k (broken_if (c.is_clear-clear.result && not c.is_variable-variable.result) Rule.Inscription c.in_ok-sight.sight.spot))
     (c.in_ok-tell_misfit.ensures ∙ ap (λ k. first_from k (misfit_if c.in_ok-sight.sight asked)) c.in_ok-sight.ensures.told)
     ∙ ap (λ x. first_from (first_from (first_from known s.faults) (misfit_if x asked)) (broken_if (c.is_clear-clear.result && not c.is_variable-variable.result) Rule.Inscription x.spot)) c.in_ok-sight.ensures.sight
-    ∙ ap (λ b. first_from (first_from (first_from known s.faults) (misfit_if (sight_of s) asked)) (broken_if (b && not c.is_variable-variable.result) Rule.Inscription s.spot)) c.is_clear-clear.ensures
-    ∙ ap (λ b. first_from (first_from (first_from known s.faults) (misfit_if (sight_of s) asked)) (broken_if (is_clear c.args.kind && not b) Rule.Inscription s.spot)) c.is_variable-variable.ensures
-    ∙ inscribed_told known c.args.kind (option_copied c.args.place) c.args.e.now at
+    ∙ ap (λ b. first_from (first_from (first_from known s.faults) (misfit_if (sight_of {N = g.row.N.Denot} s) asked)) (broken_if (b && not c.is_variable-variable.result) Rule.Inscription s.spot)) c.is_clear-clear.ensures
+    ∙ ap (λ b. first_from (first_from (first_from known s.faults) (misfit_if (sight_of {N = g.row.N.Denot} s) asked)) (broken_if (is_clear c.args.kind && not b) Rule.Inscription s.spot)) c.is_variable-variable.ensures
+    ∙ inscribed_told g.row.N.Denot known c.args.kind (option_copied c.args.place) c.args.e.now at

@@ -8,7 +8,7 @@ use Rattle.rn_rules.proofs.CallLemmas.{call_told}
 use Rattle.rn_rules.proofs.calls.see_call.Goals as goal
 
 pub returns : goal.returns
-returns c =
+returns g c =
     let at = where_of c.args.here.now in
     let seen : List Seen = map (λ s. s at) (map seen_of c.args.args.now) in
     let known = c.args.first.now.fault in
@@ -17,4 +17,4 @@ returns c =
     ∙ ap (λ k. first_from k (call_of patterns c.args.name.now.spot c.as_slice.result.now)) c.in_ok-sights.ensures.told
     ∙ ap (λ ss. first_from (first_from known (flat_map (λ e. e.faults) seen)) (call_of patterns c.args.name.now.spot ss))
     (c.as_slice.ensures.value ∙ c.in_ok-sights.ensures.sights)
-    ∙ call_told known patterns c.args.name.now seen
+    ∙ call_told _ known patterns c.args.name.now seen

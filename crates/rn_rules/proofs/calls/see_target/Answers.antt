@@ -8,10 +8,10 @@ use Rattle.rn_rules.proofs.CallLemmas.{target_told}
 use Rattle.rn_rules.proofs.calls.see_target.Goals as goal
 
 pub returns : goal.returns
-returns c =
+returns g c =
     let s : Seen = seen_of c.args.target.now (where_of c.args.here.now) in
     let known = c.args.first.now.fault in
-    c.fits.ensures.told
+    c.tell_no_net.ensures
     ∙ ap (λ k. first_from k (misfit_of c.in_ok-sight.sight Pattern.Net)) c.in_ok-sight.ensures.told
     ∙ ap (λ x. first_from (first_from known s.faults) (misfit_of x Pattern.Net)) c.in_ok-sight.ensures.sight
-    ∙ target_told known s
+    ∙ target_told g.row.N.Denot known s

@@ -5,7 +5,7 @@ use Rattle.rn_rules.proofs.CallLemmas.{misfits_past}
 use Rattle.rn_rules.proofs.calls.tell_misfits.Goals as goal
 
 pub returns : goal.returns
-returns c =
+returns g c =
     ap (first_from c.loop-i.first.fault)
     (sym (misfits_past c.args.sights.now c.args.patterns.now c.loop-i.i (omega arith)))
     ∙ c.loop-i.invariant

@@ -5,6 +5,6 @@ use Rattle.rn_rules.specs.Sights.{misfits_of}
 use Rattle.rn_rules.proofs.calls.tell_misfits.Given as goal
 
 abbrev pub invariant-loop-i : goal.invariant-loop-i
-invariant-loop-i l =
+invariant-loop-i g l =
     first_from l.first.fault (misfits_of (drop l.i l.sights) (drop l.i l.patterns))
     ≡ first_from l.initial.first.fault (misfits_of l.sights l.patterns)

@@ -10,7 +10,7 @@ use Rattle.rn_rules.proofs.ConditionLemmas.{condition_seen}
 use Rattle.rn_rules.proofs.conditions.+condition.Goals as goal
 
 pub see_condition-loop-simple-preserved : goal.see_condition-loop-simple-preserved
-see_condition-loop-simple-preserved t c =
+see_condition-loop-simple-preserved g t c =
     let place = where_of c.args.here.now in
     c.in_ok-see_simple.ensures
     ∙ ap (λ k. first_from k (simple_seen c.simple-item.result place)) c.loop-simple.invariant
@@ -19,7 +19,7 @@ see_condition-loop-simple-preserved t c =
     c.simple-item.is
 
 pub see_condition-loop-simples-preserved : goal.see_condition-loop-simples-preserved
-see_condition-loop-simples-preserved t c =
+see_condition-loop-simples-preserved g t c =
     let place = where_of c.args.here.now in
     c.loop-simple.invariant
     ∙ ap (λ xs. first_from c.loop-simples.first.fault (flat_map (λ simple. simple_seen simple place) xs))
@@ -31,7 +31,7 @@ see_condition-loop-simples-preserved t c =
     c.args.first.now.fault c.loop-simples-test.true c.simples-item.is
 
 pub see_condition-returns : goal.see_condition-returns
-see_condition-returns t c =
+see_condition-returns g t c =
     let place = where_of c.args.here.now in
     c.loop-simples.invariant
     ∙ ap (λ xs. first_from c.args.first.now.fault (flat_map (λ simples. flat_map (λ simple. simple_seen simple place) simples) xs))

@@ -8,7 +8,7 @@ use Rattle.rn_rules.proofs.ConditionLemmas.{bare_told}
 use Rattle.rn_rules.proofs.conditions.see_bare.Goals as goal
 
 pub returns : goal.returns
-returns c =
+returns g c =
     let e : Seen = seen_of c.args.e.now (where_of c.args.here.now) in
     let known = c.args.first.now.fault in
     c.tell.ensures

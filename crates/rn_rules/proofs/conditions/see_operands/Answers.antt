@@ -7,7 +7,7 @@ use Rattle.rn_rules.proofs.SightLemmas.{operands_told}
 use Rattle.rn_rules.proofs.conditions.see_operands.Goals as goal
 
 pub returns : goal.returns
-returns c =
+returns g c =
     let place = where_of c.args.here.now in
     let a : Seen = seen_of c.args.a.now place in
     let b : Seen = seen_of c.args.b.now place in

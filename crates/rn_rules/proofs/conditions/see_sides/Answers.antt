@@ -8,7 +8,7 @@ use Rattle.rn_rules.proofs.ConditionLemmas.{sides_told}
 use Rattle.rn_rules.proofs.conditions.see_sides.Goals as goal
 
 pub returns : goal.returns
-returns c =
+returns g c =
     let place = where_of c.args.here.now in
     let a : Seen = seen_of c.args.a.now place in
     let b : Seen = seen_of c.args.b.now place in
@@ -18,4 +18,4 @@ returns c =
     (c.in_ok-right.ensures.told ∙ ap (λ k. first_from k b.faults) c.in_ok-left.ensures.told)
     ∙ ap (λ s. first_from (first_from (first_from known a.faults) b.faults) (broken_if (are_apart s c.in_ok-right.right) Rule.Kinds s.spot)) c.in_ok-left.ensures.sight
     ∙ ap (λ s. first_from (first_from (first_from known a.faults) b.faults) (broken_if (are_apart (sight_of a) s) Rule.Kinds a.spot)) c.in_ok-right.ensures.sight
-    ∙ sides_told known a b
+    ∙ sides_told g.row.N.Denot known a b

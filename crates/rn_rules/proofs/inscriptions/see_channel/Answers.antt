@@ -6,13 +6,14 @@ use Rattle.rn_rules.specs.Calls.{call_faults}
 use Rattle.rn_rules.specs.Transitions.{elsewhere}
 use Rattle.rn_rules.specs.Transitions.{channel_faults}
 use Rattle.rn_declared.specs.Tables.{channel_in}
+use Rattle.rn_rules.specs.Numbers.{channels_of}
 use Rattle.rn_rules.specs.Scopes.{scope_in, progress_of}
 use Rattle.rn_rules.specs.Sights.{where_of}
 use Rattle.rn_rules.proofs.inscriptions.see_channel.Goals as goal
 
 pub returns : goal.returns
 unfolding channel_faults
-returns c =
+returns g c =
     let s = scope_in c.args.known.now in
     let p = progress_of c.args.stand.now in
     let known = c.args.first.now.fault in
@@ -21,6 +22,6 @@ returns c =
     let patterns = s.channel name.text (length c.args.args.now) in
     c.in_ok-see_call.ensures
     ∙ ap (λ o. first_from known (call_faults o name (map (λ e. e (where_of c.elsewhere-here.result)) (map seen_of xs))))
-    (c.patterns-patterns.ensures ∙ ap (λ n. channel_in c.args.known.now.channels.now name.text n) c.len.ensures)
+    (c.patterns-patterns.ensures ∙ ap (λ n. channel_in (channels_of c.args.known.now.channels.now) name.text n) c.len.ensures)
     ∙ ap (λ w. first_from known (call_faults patterns name (map (λ e. e w) (map seen_of xs)))) c.elsewhere-here.ensures
     ∙ ap (λ ys. first_from known (call_faults patterns name (map (λ e. e (elsewhere s p)) (map seen_of ys)))) c.as_slice.ensures

@@ -10,7 +10,7 @@ use Rattle.rn_rules.specs.Sights.{where_of}
 use Rattle.rn_rules.proofs.inscriptions.see_inscription.Goals as goal
 
 pub returns-in_ok-see_arc-in-Arc : goal.returns-in_ok-see_arc-in-Arc
-returns-in_ok-see_arc-in-Arc c =
+returns-in_ok-see_arc-in-Arc g c =
     let s = scope_in c.args.known.now in
     let p = progress_of c.args.stand.now in
     let known = c.args.first.now.fault in
@@ -23,7 +23,7 @@ returns-in_ok-see_arc-in-Arc c =
     ∙ ap (λ f. first_from known (inscription_faults s p c.args.i.now f)) (sym c.in-Arc.is)
 
 pub returns-in_ok-see_creation-in-New : goal.returns-in_ok-see_creation-in-New
-returns-in_ok-see_creation-in-New c =
+returns-in_ok-see_creation-in-New g c =
     let s = scope_in c.args.known.now in
     let p = progress_of c.args.stand.now in
     let known = c.args.first.now.fault in

@@ -12,7 +12,7 @@ use Rattle.rn_rules.proofs.inscriptions.see_set.Goals as goal
 
 pub returns : goal.returns
 unfolding set_action_faults
-returns c =
+returns g c =
     let s = scope_in c.args.known.now in
     let p = progress_of c.args.stand.now in
     let known = c.args.first.now.fault in

@@ -10,7 +10,7 @@ use Rattle.rn_rules.proofs.inscriptions.see_uplink.Goals as goal
 
 pub returns : goal.returns
 unfolding uplink_faults
-returns c =
+returns g c =
     let s = scope_in c.args.known.now in
     let p = progress_of c.args.stand.now in
     let known = c.args.first.now.fault in

@@ -7,7 +7,7 @@ use Rattle.rn_declared.proofs.ToldLemmas.{told_more}
 use Rattle.rn_rules.proofs.nets.see_transitions.Goals as goal
 
 pub loop-transition-preserved : goal.loop-transition-preserved
-loop-transition-preserved c =
+loop-transition-preserved g c =
     let faults = transition_faults (scope_in c.args.known.now) in
     c.in_ok-see_transition.ensures
     ∙ ap (λ k. first_from k (faults c.transition-item.result)) c.loop-transition.invariant

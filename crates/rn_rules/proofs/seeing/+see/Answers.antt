@@ -18,7 +18,7 @@ use Rattle.rn_rules.proofs.seeing.+see.Goals as goal
 
 pub see-returns-in_ok-as_list-in-List-clause-sight :
     goal.see-returns-in_ok-as_list-in-List-clause-sight
-see-returns-in_ok-as_list-in-List-clause-sight t c =
+see-returns-in_ok-as_list-in-List-clause-sight g t c =
     let place = where_of c.args.here.now in
     let e = c.args.expr.now in
     let es = c.as_slice-in-List.result.now in
@@ -30,7 +30,7 @@ see-returns-in_ok-as_list-in-List-clause-sight t c =
 
 pub see-returns-in_ok-as_list-in-List-clause-told :
     goal.see-returns-in_ok-as_list-in-List-clause-told
-see-returns-in_ok-as_list-in-List-clause-told t c =
+see-returns-in_ok-as_list-in-List-clause-told g t c =
     let place = where_of c.args.here.now in
     let e = c.args.expr.now in
     let es = c.as_slice-in-List.result.now in
@@ -42,7 +42,7 @@ see-returns-in_ok-as_list-in-List-clause-told t c =
 
 pub see-returns-in_ok-with_element-in-Cons-clause-sight :
     goal.see-returns-in_ok-with_element-in-Cons-clause-sight
-see-returns-in_ok-with_element-in-Cons-clause-sight t c =
+see-returns-in_ok-with_element-in-Cons-clause-sight g t c =
     let place = where_of c.args.here.now in
     let e = c.args.expr.now in
     let es = c.as_slice-in-Cons.result.now in
@@ -63,7 +63,7 @@ see-returns-in_ok-with_element-in-Cons-clause-sight t c =
 
 pub see-returns-in_ok-with_element-in-Cons-clause-told :
     goal.see-returns-in_ok-with_element-in-Cons-clause-told
-see-returns-in_ok-with_element-in-Cons-clause-told t c =
+see-returns-in_ok-with_element-in-Cons-clause-told g t c =
     let place = where_of c.args.here.now in
     let e = c.args.expr.now in
     let known = c.args.first.now.fault in
@@ -86,11 +86,11 @@ see-returns-in_ok-with_element-in-Cons-clause-told t c =
     (c.in_ok-seen-in-Cons.ensures.told ∙ ap (first_from known) (sym (listed_faults elements))))
     ∙ ap (λ b. first_from (first_from (first_from known before.faults) last.faults) (broken_if (are_apart b c.in_ok-end-in-Cons.end) Rule.Kinds c.in_ok-end-in-Cons.end.spot)) list
     ∙ ap (λ s. first_from (first_from (first_from known before.faults) last.faults) (broken_if (are_apart (sight_of before) s) Rule.Kinds s.spot)) c.in_ok-end-in-Cons.ensures.sight
-    ∙ joined_told known before last
+    ∙ joined_told g.row.N.Denot known before last
     ∙ ap (λ s. first_from known s.faults) (sym (seen_cons e es c.get.result.now place form))
 
 pub see-returns-in_ok-right-in-Op-clause-sight : goal.see-returns-in_ok-right-in-Op-clause-sight
-see-returns-in_ok-right-in-Op-clause-sight t c =
+see-returns-in_ok-right-in-Op-clause-sight g t c =
     let place = where_of c.args.here.now in
     let e = c.args.expr.now in
     let a : Seen = seen_of c.get-in-Op.result.now place in
@@ -103,11 +103,12 @@ see-returns-in_ok-right-in-Op-clause-sight t c =
     ap (λ w. w && c.in_ok-right-in-Op.right) c.in_ok-left-in-Op.ensures.whole
     ∙ ap (λ w. is_whole (operand_faults a) && w) c.in_ok-right-in-Op.ensures.whole
     ∙ operands_whole a b in
-    ap (λ w. record { spot = e.spot; whole = w; pattern = Form.Int }) both
+    ap (λ p. record { spot = e.spot; whole = c.in_ok-left-in-Op.left && c.in_ok-right-in-Op.right; pattern = p }) c.int-in-Op.ensures
+    ∙ ap (λ w. record { spot = e.spot; whole = w; pattern = Form.Int }) both
     ∙ ap sight_of (sym (seen_op e c.in-Op.field-0 c.get-in-Op.result.now c.get-in-Op-2.result.now place form))
 
 pub see-returns-in_ok-right-in-Op-clause-told : goal.see-returns-in_ok-right-in-Op-clause-told
-see-returns-in_ok-right-in-Op-clause-told t c =
+see-returns-in_ok-right-in-Op-clause-told g t c =
     let place = where_of c.args.here.now in
     let e = c.args.expr.now in
     let known = c.args.first.now.fault in
@@ -123,7 +124,7 @@ see-returns-in_ok-right-in-Op-clause-told t c =
     ∙ ap (λ s. first_from known s.faults) (sym (seen_op e c.in-Op.field-0 c.get-in-Op.result.now c.get-in-Op-2.result.now place form))
 
 pub see_all-loop-expr-preserved : goal.see_all-loop-expr-preserved
-see_all-loop-expr-preserved t c =
+see_all-loop-expr-preserved g t c =
     let place = where_of c.args.here.now in
     let es = c.args.exprs.now in
     let i = c.loop-expr.expr-index in
@@ -144,10 +145,10 @@ see_all-loop-expr-preserved t c =
 
 pub see_elements-loop-element-init : goal.see_elements-loop-element-init
 unfolding with_elements
-see_elements-loop-element-init t c = search rules
+see_elements-loop-element-init g t c = search rules
 
 pub see_elements-loop-element-preserved : goal.see_elements-loop-element-preserved
-see_elements-loop-element-preserved t c =
+see_elements-loop-element-preserved g t c =
     let place = where_of c.args.here.now in
     let es = c.args.elements.now in
     let i = c.loop-element.element-index in
@@ -169,29 +170,29 @@ see_elements-loop-element-preserved t c =
           (c.in_ok-sight.ensures.told ∙ ap (λ k. first_from k (seen_of e place).faults) c.loop-element.invariant.told)
           ∙ ap (λ b. first_from (first_from (first_from known before.faults) (seen_of e place).faults) (broken_if (are_apart b c.in_ok-sight.sight) Rule.Kinds c.in_ok-sight.sight.spot)) c.loop-element.invariant.kept
           ∙ ap (λ s. first_from (first_from (first_from known before.faults) (seen_of e place).faults) (broken_if (are_apart (sight_of before) s) Rule.Kinds s.spot)) c.in_ok-sight.ensures.sight
-          ∙ joined_told known before (seen_of e place)
+          ∙ joined_told g.row.N.Denot known before (seen_of e place)
           ∙ ap (λ s. first_from known s.faults) (sym more);
     }
 
 pub see_operand-returns-clause-whole : goal.see_operand-returns-clause-whole
-see_operand-returns-clause-whole t c =
+see_operand-returns-clause-whole g t c =
     let place = where_of c.args.here.now in
-    c.fits.ensures.fits
+    c.fits_int.ensures.fits
     ∙ ap (λ s. fits_pattern s Form.Int) c.in_ok-sight.ensures.sight
-    ∙ operand_whole (seen_of c.args.operand.now place)
+    ∙ operand_whole g.row.N.Denot (seen_of c.args.operand.now place)
 
 pub see_operand-returns-clause-told : goal.see_operand-returns-clause-told
-see_operand-returns-clause-told t c =
+see_operand-returns-clause-told g t c =
     let place = where_of c.args.here.now in
     let a : Seen = seen_of c.args.operand.now place in
     let known = c.args.first.now.fault in
-    c.fits.ensures.told
+    c.fits_int.ensures.told
     ∙ ap (λ k. first_from k (broken_if (c.in_ok-sight.sight.whole && not (share Form.Int c.in_ok-sight.sight.pattern)) Rule.Kinds c.in_ok-sight.sight.spot)) c.in_ok-sight.ensures.told
     ∙ ap (λ s. first_from (first_from known a.faults) (broken_if (s.whole && not (share Form.Int s.pattern)) Rule.Kinds s.spot)) c.in_ok-sight.ensures.sight
     ∙ operand_told known a
 
 pub see_tuple-returns-clause-sight : goal.see_tuple-returns-clause-sight
-see_tuple-returns-clause-sight t c =
+see_tuple-returns-clause-sight g t c =
     let place = where_of c.args.here.now in
     let seen : List Seen = map (λ s. s place) (map seen_of c.args.parts.now) in
     c.in_ok-as_tuple.ensures.sight
@@ -199,11 +200,11 @@ see_tuple-returns-clause-sight t c =
     ∙ tuple_is c.args.spot seen
 
 pub see_tuple-returns-clause-told : goal.see_tuple-returns-clause-told
-see_tuple-returns-clause-told t c =
+see_tuple-returns-clause-told g t c =
     let place = where_of c.args.here.now in
     let seen : List Seen = map (λ s. s place) (map seen_of c.args.parts.now) in
     let known = c.args.first.now.fault in
     c.in_ok-as_tuple.ensures.told
     ∙ ap (λ k. first_from k (past_limit most_parts (map (λ s. s.spot) c.in_ok-seen.seen.items))) c.in_ok-seen.ensures.told
     ∙ ap (λ ss. first_from (first_from known (flat_map (λ e. e.faults) seen)) (past_limit most_parts (map (λ s. s.spot) ss))) c.in_ok-seen.ensures.sights
-    ∙ tuple_told known c.args.spot seen
+    ∙ tuple_told _ known c.args.spot seen

@@ -8,7 +8,7 @@ use Rattle.rn_rules.specs.Sights.{where_of, sight_of}
 use Rattle.rn_rules.proofs.seeing.+see.Given as goal
 
 abbrev pub invariant-see_all-loop-expr : goal.invariant-see_all-loop-expr
-invariant-see_all-loop-expr l = record {
+invariant-see_all-loop-expr g l = record {
   kept : l.sights.items
       ≡ map sight_of (map (λ seen. seen (where_of l.fn.here)) (map seen_of (take l.expr-index l.exprs)));
   told : l.first.fault ≡ first_from l.initial.first.fault
@@ -17,7 +17,7 @@ invariant-see_all-loop-expr l = record {
 }
 
 abbrev pub invariant-see_elements-loop-element : goal.invariant-see_elements-loop-element
-invariant-see_elements-loop-element l = record {
+invariant-see_elements-loop-element g l = record {
   kept : l.before
       ≡ sight_of (with_elements (whole l.fn.spot Form.Any)
       (map (λ seen. seen (where_of l.fn.here)) (map seen_of (take l.element-index l.elements))));

@@ -6,7 +6,7 @@ use Rattle.rn_rules.proofs.TransitionLemmas.{inscriptions_told_more}
 use Rattle.rn_rules.proofs.transitions.see_inscriptions.Goals as goal
 
 pub loop-inscription-preserved : goal.loop-inscription-preserved
-loop-inscription-preserved c = record {
+loop-inscription-preserved g c = record {
   told =
       inscriptions_told_more (scope_in c.args.known.now)
       (record {

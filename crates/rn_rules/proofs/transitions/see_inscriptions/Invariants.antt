@@ -7,7 +7,7 @@ use Rattle.rn_rules.specs.Transitions.{Progress, inscriptions_faults}
 use Rattle.rn_rules.proofs.transitions.see_inscriptions.Given as goal
 
 abbrev pub invariant-loop-inscription : goal.invariant-loop-inscription
-invariant-loop-inscription l =
+invariant-loop-inscription g l =
     let at : ℕ → Bool → Progress =
     λ past called. record { setter = found_in l.setters.table; past = past; sets = l.setters.count; called = called } in
     record {

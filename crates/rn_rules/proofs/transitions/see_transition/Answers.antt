@@ -9,7 +9,7 @@ use Rattle.rn_rules.proofs.TransitionLemmas.{transition_told}
 use Rattle.rn_rules.proofs.transitions.see_transition.Goals as goal
 
 pub returns : goal.returns
-returns c =
+returns g c =
     c.tell_past.ensures
     ∙ transition_told (scope_in c.args.known.now) c.as_slice-inscriptions.result.now
     (found_in c.in_ok-setters.setters.table) c.in_ok-setters.setters.count c.args.first.now.fault
