@@ -27,6 +27,9 @@ const ENOUGH: usize = 4;
 
 const SHARE: usize = 4;
 
+// No more tokens than so many are counted.
+const COUNTED: usize = 1024;
+
 // The values of the other variables of a guard, where it has this one, and they are forced.
 fn others_of(
     alloc: Global,
@@ -83,7 +86,9 @@ fn count_passing(
 ) -> Result<Option<Passing>, NoMemory> {
     let mut count = 0usize;
     let mut first = 0;
-    for a in 0..bag.len() {
+    let all = bag.len();
+    let few = all.min(COUNTED);
+    for a in 0..few {
         let Some(token) = bag.get(a) else {
             return Ok(None);
         };
@@ -98,9 +103,12 @@ fn count_passing(
             return Ok(None);
         }
         if count >= ENOUGH && count.saturating_mul(SHARE) > a {
-            let count = about(count, a, bag.len());
+            let count = about(count, a, all);
             return Ok(Some(Passing { count, first }));
         }
+    }
+    if few < all {
+        count = about(count.max(1), few, all);
     }
     Ok(Some(Passing { count, first }))
 }
