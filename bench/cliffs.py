@@ -111,7 +111,8 @@ def joined(tokens):
 
 def kinds(size):
     """A text of about so many bytes: a place and a variable of one large kind, and arcs between them."""
-    kind = '[' + ','.join(['int'] * (size // 16)) + ']'
+    part = '[' + ','.join(['int'] * 100) + ']'
+    kind = '[' + ','.join([part] * (size // 1600)) + ']'
     head = f'net main {{ var v: {kind}; place p: {kind}; '
     whole, number = [head], 0
     left = size - len(head) - 2
