@@ -111,13 +111,15 @@ def joined(tokens):
 
 def kinds(size):
     """A text of about so many bytes: a place and a variable of one large kind, and arcs between them."""
-    part = '[' + ','.join(['int'] * 100) + ']'
-    kind = '[' + ','.join([part] * (size // 1600)) + ']'
+    parts = ['int'] * (size // 20)
+    while len(parts) > 1:
+        parts = ['[' + ','.join(parts[k:k + 16]) + ']' for k in range(0, len(parts), 16)]
+    kind = parts[0]
     head = f'net main {{ var v: {kind}; place p: {kind}; '
     whole, number = [head], 0
     left = size - len(head) - 2
     arcs = 'in p: v; ' * 190
-    while left > len(arcs) + 20:
+    while left > len(arcs) + 20 and number < 1000:
         one = f'trans t{number} {{ {arcs}}} '
         whole.append(one)
         left -= len(one)
