@@ -34,8 +34,8 @@ use std::alloc::Global;
 use std::marker::Model;
 use std::mem;
 
-/// At which alternatives it is asked how many are repeats of a token.
-const EIGHTH: usize = 8;
+/// At each alternative of so many it is asked how many are repeats of a token, where none was met.
+const SELDOM: usize = 64;
 
 /// What is decided of a binding in a search, and with which alternative choices of tokens begin.
 #[derive(Drop)]
@@ -49,6 +49,9 @@ pub struct Branch<'a> {
 
     /// Guards to be tested before a decision is made.
     tests: Option<Tests>,
+
+    /// Whether the alternative that was tried last is no decision, as the repeat of a token.
+    repeated: bool,
 
     /// What the decisions take.
     takings: Takings,
@@ -101,6 +104,7 @@ impl<'a> Branch<'a> {
             first,
             last: None,
             tests: None,
+            repeated: false,
             takings: Takings::new(alloc),
         }
     }
@@ -204,10 +208,10 @@ fn is_again(last: Option<Point>, site: Point) -> bool {
     }
 }
 
-// Whether it is looked at an alternative, how many tokens from it on are repeats: at each eighth, so
-// that it costs little where none is.
+// Whether it is looked at an alternative, how many tokens from it on are repeats, though none was met:
+// seldom, so that it costs little where none is.
 fn is_asked(alternative: usize) -> bool {
-    alternative % EIGHTH == EIGHTH - 1
+    alternative % SELDOM == SELDOM - 1
 }
 
 // Whether a binding that is made of decisions is enabled.
@@ -305,6 +309,7 @@ impl<'a> Grows for Branch<'a> {
         let _start = problem.start();
         let again = is_again(self.last, site);
         self.last = Some(site);
+        self.repeated = false;
         if is_vain(
             self.alloc,
             problem,
@@ -335,12 +340,15 @@ impl<'a> Grows for Branch<'a> {
                 self.takings = takings;
                 Ok(made)
             }
-            None => Ok(false),
+            None => {
+                self.repeated = true;
+                Ok(false)
+            }
         }
     }
 
     fn vain_from(&self, problem: &Problem<'a>, site: Point, alternative: usize) -> usize {
-        if !is_asked(alternative) {
+        if !self.repeated && !is_asked(alternative) {
             return 0;
         }
         match site {

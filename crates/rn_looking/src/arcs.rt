@@ -192,7 +192,7 @@ fn look_at_arc(
 }
 
 // Among fewer tokens than so many a choice isn't narrowed by guards.
-const SMALL: usize = 4;
+const SMALL: usize = 16;
 
 // Looks at the arcs of a node once more, and counts what passes its guards.
 fn look_by_guards(

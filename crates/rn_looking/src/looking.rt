@@ -223,14 +223,23 @@ fn look_at_best(
     Ok(Some(look))
 }
 
-// Where a look begins: with the newest decision, that by which one found last how to go on, and the
-// two beside that.
+// How far from the decision by which one found last how to go on a look goes before it goes through
+// all: at most so far, and a part of all.
+const WIDE: usize = 4;
+
+const PART: usize = 16;
+
+// Where a look begins: with the newest decision, that by which one found last how to go on, and those
+// around it, the nearest first.
 fn place(k: usize, near: usize, end: usize) -> usize {
-    match k {
-        0 => end.saturating_sub(1),
-        1 => near,
-        2 => near.saturating_sub(1),
-        _ => near.saturating_add(1),
+    if k == 0 {
+        return end.saturating_sub(1);
+    }
+    let away = k / 2;
+    if k % 2 == 0 {
+        near.saturating_sub(away)
+    } else {
+        near.saturating_add(away)
     }
 }
 
@@ -254,7 +263,8 @@ fn look_near(
         return Ok(None);
     }
     let near = tested.near;
-    for k in 0..4 {
+    let wide = ((end.saturating_sub(from)) / PART).min(WIDE);
+    for k in 0..2 * wide + 2 {
         let node = place(k, near, end);
         if from <= node && node < end {
             let best = look_at_best(alloc, problem, growing, applications, node, first, tested)?;
