@@ -63,17 +63,17 @@ forced_on leads offers allows ends ds site cs s shorter stand forced =
 -- a new choice drops no solution and adds none
 pub choice_on : {D T S : Type 0} (leads : List D → S → Type 0) (offers : List D → T → ℕ →
     D) (allows : List D → T → ℕ →
-    Type 0) (ends : Type 0) (ds : List D) (site : T) (of start first : ℕ) (cs : List (Choice T))
-    (s : S) →
+    Type 0) (ends : Type 0) (ds : List D) (site : T) (of start first lag : ℕ)
+    (cs : List (Choice T)) (s : S) →
     ((es fs : List D) (t : S) → leads (es ++ fs) t → leads es t) →
     first ≤ of → Says leads offers allows ends ds (Choose site of start) →
     IsLeft leads offers true ds cs s
     ↔ Waits leads offers ds
-    (record { mark = length ds; site = site; of = of; first = first; tried = 0 } ∷ cs) s
-choice_on leads offers allows ends ds site of start first cs s shorter within choose =
+    (record { mark = length ds; site = site; of = of; first = first; tried = 0; lag = lag } ∷ cs) s
+choice_on leads offers allows ends ds site of start first lag cs s shorter within choose =
     let whole = take-length ds in
     let here : List _ → Type 0 = λ l. WaitsAt leads offers l
-    (record { mark = length ds; site = site; of = of; first = first; tried = 0 }) s in
+    (record { mark = length ds; site = site; of = of; first = first; tried = 0; lag = lag }) s in
     let below : List _ → Type 0 = λ l. Waits leads offers l cs s in (
       λ left. ⊎_elim
           (λ led.

@@ -12,8 +12,8 @@ pub trait Asked {
     /// It may end a search for this reason.
     ghost halts: { Self.Halt → Type 0 };
 
-    /// An error where the search has to end.
-    fn go_on(&self) -> Result<(), Self::Halt>
+    /// An error where the search has to end, when so much was spent.
+    fn go_on(&self, spent: u64) -> Result<(), Self::Halt>
         ensures { IfErr result (λ halt. halts halt) };
 }
 
@@ -26,7 +26,7 @@ impl Asked for ToTheEnd {
 
     ghost halts = { λ _. ⊥ };
 
-    fn go_on(&self) -> Result<(), NoMemory> {
+    fn go_on(&self, _spent: u64) -> Result<(), NoMemory> {
         Ok(())
     }
 }

@@ -16,6 +16,8 @@ pub struct Choice<S> {
     pub first: usize,
     /// How many alternatives were tried.
     pub tried: usize,
+    /// How far the next choice begins behind where it would.
+    pub lag: u64,
 }
 
 impl<S> Choice<S> {
@@ -27,6 +29,11 @@ impl<S> Choice<S> {
             Some(alternative) => alternative,
             None => 0,
         }
+    }
+
+    /// Whether the alternatives were tried to the last number, or round from there.
+    pub fn is_round(&self) -> bool {
+        self.first.wrapping_add(self.tried) >= self.of
     }
 }
 
@@ -62,4 +69,21 @@ pub fn start_at(start: usize, of: usize) -> usize
     ensures { result ≤ of }
 {
     if start < of { start } else { 0 }
+}
+
+/// The alternative so many behind one, round, and what of the number is left for the next choice:
+/// alternatives of choices are its digits, the first choice's last.
+pub(crate) fn behind(start: usize, of: usize, lag: u64) -> (usize, u64)
+    requires { start ≤ of }
+    ensures { result.0 ≤ of }
+{
+    if lag == 0 || of == 0 {
+        return (start, lag);
+    }
+    let digit = (lag % of as u64) as usize;
+    if digit < of - start {
+        (start + digit, lag / of as u64)
+    } else {
+        (digit - (of - start), lag / of as u64)
+    }
 }

@@ -55,7 +55,7 @@ impl Asked for Flag {
 
     ghost halts = { λ halt. halt ≡ Stopped };
 
-    fn go_on(&self) -> Result<(), Halt> {
+    fn go_on(&self, _spent: u64) -> Result<(), Halt> {
         if self.is_raised() {
             return Err(Halt::Stopped);
         }

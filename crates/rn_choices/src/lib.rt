@@ -13,6 +13,7 @@ mod searching;
 mod sharing;
 mod stack;
 mod step;
+mod within;
 
 pub use asked::{Asked, ToTheEnd};
 pub use choice::Choice;
@@ -21,3 +22,4 @@ pub use grows::Grows;
 pub use next::Next;
 pub use searching::{all, find, find_while};
 pub use stack::{Choices, Stack};
+pub use within::{Cut, Within};

@@ -10,7 +10,7 @@ ghost use Rattle.rn_choices.specs.Leading.{IsOnly, NoneLeads, Says};
 ghost use Rattle.rn_choices.specs.declared.next.Next.TheVariants.{Forced, Choose};
 
 use crate::asked::{Asked, ToTheEnd};
-use crate::choice::{Choice, start_at, turn_after, turn_round};
+use crate::choice::{Choice, behind, start_at, turn_after, turn_round};
 use crate::grows::Grows;
 use crate::next::Next;
 use crate::stack::Choices;
@@ -20,10 +20,12 @@ use std::alloc::Global;
 
 // Makes the first decision that may be made, of the alternatives of the choice that are left, and
 // returns which turn that was. `None`: none may be made, and the decisions before the choice stand.
+// It counts those that it tries.
 fn try_choice<G: Grows>(
     problem: &G::Problem,
     state: &mut G,
     choice: Choice<G::Site>,
+    tried: &mut u64,
 ) -> Result<Option<usize>, NoMemory>
     requires stands { G.stands problem.now state.old }
     requires met { WasMet (G.allows problem.now) (G.decisions problem.now state.old) choice }
@@ -42,6 +44,7 @@ fn try_choice<G: Grows>(
 {
     let mut turn = choice.tried;
     while turn < choice.of {
+        *tried = tried.wrapping_add(1);
         state.undo(problem, choice.mark);
         let alternative = turn_round(choice.first, choice.of, turn);
         let vain = state.vain_from(problem, choice.site, alternative);
@@ -82,7 +85,10 @@ fn go_back<G: Grows>(
         ≤ weight (G.room problem.now) (G.decisions problem.now state.old) choices.old) }
 {
     while let Some(choice) = choices.pop() {
-        if let Some(turn) = try_choice(problem, state, choice)? {
+        let mut tried = 0;
+        let made = try_choice(problem, state, choice, &mut tried)?;
+        choices.spend(tried);
+        if let Some(turn) = made {
             choices.push(Choice {
                 tried: turn + 1,
                 ..choice
@@ -148,6 +154,17 @@ fn forced<G: Grows>(
     back(problem, state, choices)
 }
 
+// Where a choice begins that would begin there, and how far the next one begins behind.
+fn lagging<S: Copy>(choices: &Choices<S>, start: usize, of: usize) -> (usize, u64)
+    requires { start ≤ of }
+    ensures { result.0 ≤ of }
+{
+    match choices.newest() {
+        None => (start, choices.lag()),
+        Some(before) => behind(start, of, before.lag),
+    }
+}
+
 // Notes a choice, and makes the first decision that may be made there, or goes back.
 fn choose<G: Grows>(
     problem: &G::Problem,
@@ -172,12 +189,14 @@ fn choose<G: Grows>(
         (G.decisions problem.now state.new) choices.new) }
 {
     let mark = state.count(problem);
+    let (first, lag) = lagging(choices, start_at(start, of), of);
     choices.push(Choice {
         mark,
         site,
         of,
-        first: start_at(start, of),
+        first,
         tried: 0,
+        lag,
     })?;
     if go_back(problem, state, choices)? {
         Ok(Step::Moved)
@@ -247,7 +266,8 @@ fn next_found<G: Grows, A: Asked>(
         (G.decisions problem.now state.old) choices.old s → ⊥)) }
 {
     'steps: loop {
-        asked.go_on()?;
+        asked.go_on(choices.spent())?;
+        choices.spend(1);
         match step(alloc, problem, state, choices)? {
             Step::Found(solution) => return Ok(Some(solution)),
             Step::Over => return Ok(None),

@@ -14,6 +14,12 @@ pub type Choices<S> = Stack<Choice<S>>;
 #[derive(Debug, Drop)]
 pub struct Stack<T> {
     items: Vec<T>,
+
+    /// What searches with it have cost.
+    spent: u64,
+
+    /// How far the choice after the first begins behind where it would.
+    lag: u64,
 }
 
 impl<T> Model for Stack<T> {
@@ -34,7 +40,40 @@ impl<T: Drop> Stack<T> {
     {
         Stack {
             items: Vec::new(alloc),
+            spent: 0,
+            lag: 0,
         }
+    }
+
+    /// What searches with it have cost: their steps, and the alternatives that they tried.
+    pub fn spent(&self) -> u64 {
+        self.spent
+    }
+
+    /// So much more was spent.
+    pub fn spend(&mut self, more: u64)
+        ensures { self.new ≡ self.old }
+    {
+        self.spent = self.spent.wrapping_add(more);
+    }
+
+    /// How far the choice after the first begins behind where it would.
+    pub fn lag(&self) -> u64 {
+        self.lag
+    }
+
+    /// Searches begin so far behind from now on.
+    pub fn set_lag(&mut self, lag: u64)
+        ensures { self.new ≡ self.old }
+    {
+        self.lag = lag;
+    }
+
+    /// What was pushed last.
+    pub fn newest(&self) -> Option<&T>
+        ensures { IfNone result (self.now ≡ []) }
+    {
+        self.items.last()
     }
 
     /// Takes all away, and keeps the room.

@@ -13,8 +13,9 @@ noted : (g : given.Over) (c : In_ok-push g) → c.push.new.self ≡ record {
   mark = length (g.G.Grows.decisions c.args.problem.now c.args.state.now);
   site = c.args.site;
   of = c.args.of;
-  first = c.start_at.result;
+  first = c.lagging-first.result.0;
   tried = 0;
+  lag = c.lagging-first.result.1;
 } ∷ c.args.choices.now
 noted g c = c.in_ok-push.ensures
     ∙ ap
@@ -22,9 +23,9 @@ noted g c = c.in_ok-push.ensures
       mark = m;
       site = c.args.site;
       of = c.args.of;
-      first = c.start_at.result;
-      tried
-          = 0;
+      first = c.lagging-first.result.0;
+      tried = 0;
+      lag = c.lagging-first.result.1;
     } ∷ c.args.choices.now)
     c.count-mark.ensures
 
@@ -44,8 +45,8 @@ left_noted g c s =
     ↔ Waits leads offers ds l s) (sym (noted g c))
     (choice_on leads offers (grows.allows problem)
     (grows.ends problem c.args.state.now) ds c.args.site c.args.of c.args.start
-    c.start_at.result c.args.choices.now s
-    (g.met.G.Grows.shorter problem) c.start_at.ensures c.requires.choose)
+    c.lagging-first.result.0 c.lagging-first.result.1 c.args.choices.now s
+    (g.met.G.Grows.shorter problem) c.lagging-first.ensures c.requires.choose)
 
 pub returns-then-branch-clause-goes : goal.returns-then-branch-clause-goes
 returns-then-branch-clause-goes g c =
