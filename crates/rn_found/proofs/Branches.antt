@@ -1,6 +1,7 @@
 -- What a search from one start finds.
 use Rattle.std.proofs.Common.{◌≡◌, List, [], ◌≢◌, refl, subst, sym, ap, ◌∙◌}
 use Rattle.std.specs.Prelude.{Option, Some, None, Contains, AllPairs, IfSome, IfNone, IsNone, ◌↔◌}
+use Rattle.std.specs.Prelude.{Result, Ok, Err, IfOk}
 use Rattle.rn_value.specs.declared.value.Value.TheVariants as Value
 use Rattle.rn_model.specs.declared.system.System.{System}
 use Rattle.rn_model.specs.declared.binding.Binding.{Binding}
@@ -50,6 +51,20 @@ pub none_found : (sought : Sought) (found : Option Binding) →
     IfNone found (IsNoStart sought.system sought.marking sought.depth sought.start)
 none_found sought None none = λ b enabled starts. none.0 refl b (led sought b enabled starts)
 none_found sought (Some b) none = tt
+
+-- the same of a search that may end without an answer
+pub ended_enabled : {H : Type 0} (sought : Sought) (ended : Result (Option Binding) H) →
+    IfOk ended (λ found. IfSome found (λ b. Leads sought [] b)) →
+    IfOk ended (λ found. IfSome found (λ b. Enabled sought.system sought.marking b sought.depth))
+ended_enabled sought (Ok found) led = found_enabled sought found led
+ended_enabled sought (Err halt) led = tt
+
+pub ended_none : {H : Type 0} (sought : Sought) (ended : Result (Option Binding) H) →
+    IfOk ended (λ found. IsNone found ↔ NoneLeads (Leads sought) []) →
+    IfOk ended (λ found. IfNone found
+    (IsNoStart sought.system sought.marking sought.depth sought.start))
+ended_none sought (Ok found) none = none_found sought found none
+ended_none sought (Err halt) none = tt
 
 pub just_found : (sought : Sought) (found : List Binding) →
     ((b : Binding) → Contains found b ↔ Leads sought [] b) → AllPairs (λ b c. b ≢ c) found →

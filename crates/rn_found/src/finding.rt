@@ -8,10 +8,12 @@ ghost use Rattle.rn_channel.specs.Uplinks.{AreUplinksOf};
 ghost use Rattle.rn_table.specs.Tables.{IsTableOf};
 ghost use Rattle.rn_found.specs.Starting.{IsKept, IsNoStart, IsNoStartIn, IsSearchable, start_of};
 
+use crate::exploring::{explore, visit};
 use crate::hint::Hint;
 use crate::marked::{Marked, problem_at};
 use crate::room::Room;
-use crate::starts::{may_start, transition_count};
+use crate::starts::{cost_of, may_start, transition_count};
+use crate::turns::Turns;
 use rn_binding::Candidate;
 use rn_channel::Uplinks;
 use rn_choices::{Asked, Flag, Halt, ToTheEnd};
@@ -20,23 +22,23 @@ use rn_table::{Inst, Table};
 use rn_value::NoMemory;
 use std::alloc::Global;
 
-/// A searcher that searches again and again: it keeps its room, and where it found the last
-/// binding.
+/// A searcher that searches again and again: it keeps its room, and where it goes on.
 #[derive(Drop)]
 pub struct Finding {
     room: Room,
-    hint: Hint,
+    turns: Turns,
 }
 
-// A binding that starts with a transition of an instance, where a firing may start by it.
-fn find_from<A: Asked>(
+/// A binding that starts with a transition of an instance, where a firing may start by it. The hint
+/// says with which tokens choices begin.
+pub(crate) fn find_from<A: Asked>(
     alloc: Global,
     asked: &A,
     marked: Marked<'_>,
     room: &mut Room,
     inst: &Inst,
     transition: u32,
-    token: usize,
+    hint: Hint,
 ) -> Result<Option<Candidate>, A::Halt>
     requires searched { IsSearchable marked.system.now marked.uplinks.now
         marked.table.now }
@@ -49,13 +51,16 @@ fn find_from<A: Asked>(
         (start_of inst.now.number inst.now.net transition))) }
 {
     if !may_start(marked.system, inst, transition) {
+        room.choices.spend(1);
         return Ok(None);
     }
+    room.choices.spend(cost_of(marked.system, inst, transition));
+    room.choices.set_lag(hint.lap);
     let problem = problem_at(alloc, marked, inst.number(), inst.net(), transition)?;
-    let mut branch = room.open(alloc, marked.system, token);
-    let found = rn_choices::find_while(alloc, &problem, &mut branch, &mut room.choices, asked)?;
+    let mut branch = room.open(alloc, marked.system, hint.token);
+    let found = rn_choices::find_while(alloc, &problem, &mut branch, &mut room.choices, asked);
     room.branch = branch.into_room();
-    Ok(found)
+    found
 }
 
 // A binding that starts with one of some transitions of an instance.
@@ -67,7 +72,7 @@ fn find_among<A: Asked>(
     inst: &Inst,
     from: u32,
     to: u32,
-    token: usize,
+    hint: Hint,
 ) -> Result<Option<(u32, Candidate)>, A::Halt>
     requires searched { IsSearchable marked.system.now marked.uplinks.now
         marked.table.now }
@@ -80,23 +85,22 @@ fn find_among<A: Asked>(
         (start_of inst.now.number inst.now.net t))) }
 {
     for t in from..to {
-        if let Some(found) = find_from(alloc, asked, marked, room, inst, t, token)? {
+        if let Some(found) = find_from(alloc, asked, marked, room, inst, t, hint)? {
             return Ok(Some((t, found)));
         }
     }
     Ok(None)
 }
 
-// A binding that starts with an instance, by the transitions from one on, round. It asks first
-// whether the search goes on, since starts may be passed by.
+// A binding that starts with an instance, by the transitions from the one on that the hint says,
+// round. It asks first whether the search goes on, since starts may be passed by.
 fn find_at<A: Asked>(
     alloc: Global,
     asked: &A,
     marked: Marked<'_>,
     room: &mut Room,
     number: u32,
-    first: u32,
-    token: usize,
+    hint: Hint,
 ) -> Result<Option<(u32, Candidate)>, A::Halt>
     requires { IsSearchable marked.system.now marked.uplinks.now
         marked.table.now }
@@ -105,16 +109,16 @@ fn find_at<A: Asked>(
     ensures none { IfOk result (λ found. IfNone found (IsNoStartIn marked.entry.system.now
         marked.entry.table.now.marking marked.entry.depth number)) }
 {
-    asked.go_on()?;
+    asked.go_on(room.choices.spent())?;
     let Some(inst) = marked.table.find(number) else {
         return Ok(None);
     };
     let count = transition_count(marked.system, inst.net());
-    let first = first.min(count);
-    if let Some(found) = find_among(alloc, asked, marked, room, inst, first, count, token)? {
+    let first = hint.first_of(number).min(count);
+    if let Some(found) = find_among(alloc, asked, marked, room, inst, first, count, hint)? {
         return Ok(Some(found));
     }
-    let found = find_among(alloc, asked, marked, room, inst, 0, first, token)?;
+    let found = find_among(alloc, asked, marked, room, inst, 0, first, hint)?;
     Ok(found)
 }
 
@@ -123,7 +127,7 @@ impl Finding {
     pub fn new(alloc: Global, start: u64) -> Finding {
         Finding {
             room: Room::new(alloc),
-            hint: Hint::of(start),
+            turns: Turns::new(Hint::of(start), start % 1048576),
         }
     }
 
@@ -131,7 +135,10 @@ impl Finding {
     pub fn of_share(alloc: Global, number: u32, count: u32) -> Finding {
         Finding {
             room: Room::new(alloc),
-            hint: Hint::of_share(number, count),
+            turns: Turns::new(
+                Hint::of_share(number, count),
+                (number as u64).wrapping_mul(1048576),
+            ),
         }
     }
 
@@ -158,18 +165,40 @@ impl Finding {
             if number >= end {
                 return Ok(None);
             }
-            let first = self.hint.first_of(number);
-            let token = self.hint.token;
-            let found = find_at(alloc, asked, marked, &mut self.room, number, first, token)?;
+            let hint = self.turns.home;
+            let found = find_at(alloc, asked, marked, &mut self.room, number, hint)?;
             if let Some((transition, found)) = found {
-                self.hint = self
-                    .hint
-                    .after(number, transition, self.room.choices.oldest());
+                self.turns
+                    .settle(number, transition, self.room.choices.oldest());
                 return Ok(Some(found));
             }
             next = number + 1;
         }
         Ok(None)
+    }
+
+    // A binding that is enabled, or `None` exactly where none is within the depth: it goes round all
+    // starts, from home.
+    fn find_round<A: Asked>(
+        &mut self,
+        alloc: Global,
+        asked: &A,
+        marked: Marked<'_>,
+    ) -> Result<Option<Candidate>, A::Halt>
+        requires { IsSearchable marked.system.now marked.uplinks.now
+            marked.table.now }
+        ensures found { IfOk result (λ found. IfSome found (λ b. Enabled marked.entry.system.now
+            marked.entry.table.now.marking b marked.entry.depth)) }
+        ensures none { IfOk result (λ found. IsNone found
+            ↔ DeadAt marked.entry.system.now marked.entry.table.now.marking marked.entry.depth) }
+    {
+        let from = self.turns.home.number;
+        let end = marked.table.next();
+        if let Some(found) = self.find_between(alloc, asked, marked, from, end)? {
+            return Ok(Some(found));
+        }
+        let found = self.find_between(alloc, asked, marked, 0, from)?;
+        Ok(found)
     }
 
     // A binding that is enabled, or `None` exactly where none is within the depth. Each search from
@@ -198,12 +227,17 @@ impl Finding {
             table,
             depth,
         };
-        let from = self.hint.number;
-        let end = table.next();
-        if let Some(found) = self.find_between(alloc, asked, marked, from, end)? {
+        let _end = table.next();
+        if let Some(found) = explore(alloc, asked, marked, &mut self.room, &mut self.turns)? {
             return Ok(Some(found));
         }
-        let found = self.find_between(alloc, asked, marked, 0, from)?;
+        if let Some(found) = visit(alloc, asked, marked, &mut self.room, &mut self.turns)? {
+            return Ok(Some(found));
+        }
+        let before = self.room.choices.spent();
+        let found = self.find_round(alloc, asked, marked)?;
+        let cost = self.room.choices.spent().wrapping_sub(before);
+        self.turns.explorer.earn(cost);
         Ok(found)
     }
 

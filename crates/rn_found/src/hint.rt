@@ -10,6 +10,9 @@ pub(crate) struct Hint {
     pub number: u32,
     pub transition: u32,
     pub token: usize,
+
+    /// How often the first choice has gone round. The choices behind it begin so far behind.
+    pub lap: u64,
 }
 
 impl Hint {
@@ -20,6 +23,7 @@ impl Hint {
             number: (start % 1048576) as u32,
             transition: (start / 1048576 % 1048576) as u32,
             token: (start / 1048576 / 1048576) as usize,
+            lap: 0,
         }
     }
 
@@ -32,7 +36,24 @@ impl Hint {
             number: 0,
             transition: 0,
             token: SHARES.wrapping_add(share),
+            lap: 0,
         }
+    }
+
+    /// Where the explorer begins at a start: with other tokens at each number.
+    pub(crate) fn explored(number: u32, transition: u32, count: u64) -> Hint {
+        let share = count.wrapping_mul(11400714819323198485) / 1099511627776;
+        Hint {
+            number,
+            transition,
+            token: SHARES.wrapping_add(share as usize),
+            lap: count.wrapping_mul(15111042398283466643) / 1099511627776,
+        }
+    }
+
+    /// Whether it begins with this transition of this instance.
+    pub(crate) fn is_at(self, number: u32, transition: u32) -> bool {
+        self.number == number && self.transition == transition
     }
 
     /// The transition with which an instance begins.
@@ -52,14 +73,18 @@ impl Hint {
         transition: u32,
         choice: Option<&Choice<Point>>,
     ) -> Hint {
-        let token = match choice {
-            Some(choice) => choice.following(),
-            None => self.token,
+        let (token, lap) = match choice {
+            Some(choice) => {
+                let lap = self.lap.wrapping_add(choice.is_round() as u64);
+                (choice.following(), lap)
+            }
+            None => (self.token, self.lap),
         };
         Hint {
             number,
             transition,
             token,
+            lap,
         }
     }
 }

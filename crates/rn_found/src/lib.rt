@@ -2,12 +2,15 @@
 #![tactic(auto)]
 
 mod every;
+mod explorer;
+mod exploring;
 mod finding;
 mod hint;
 mod laws;
 mod marked;
 mod room;
 mod starts;
+mod turns;
 
 pub use every::{all_bindings, least};
 pub use finding::{Finding, find};

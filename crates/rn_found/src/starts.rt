@@ -76,6 +76,20 @@ pub(crate) fn may_start(system: &System, inst: &Inst, transition: u32) -> bool
     transition.uplink.is_none() && !lacks_token(inst, transition.arcs.as_slice())
 }
 
+/// What a search from a start by a transition of an instance costs before its first step: the more,
+/// the more its transition has.
+pub(crate) fn cost_of(system: &System, inst: &Inst, transition: u32) -> u64
+    requires { transition < length (net_at system.now inst.now.net).transitions }
+{
+    let transition = &transitions_of(system, inst.net())[transition as usize];
+    let parts = transition
+        .arcs
+        .len()
+        .saturating_add(transition.creations.len())
+        .saturating_add(transition.downlinks.len());
+    (parts as u64 / 8).saturating_add(4)
+}
+
 /// The start by a transition of an instance.
 pub(crate) fn start_at(
     alloc: Global,

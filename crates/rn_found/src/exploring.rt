@@ -1,0 +1,179 @@
+//! Looking beside home: the explorer looks at starts in turn, and what it found last is looked at as
+//! long as something is found there. What is found is enabled; nothing is said where nothing is.
+ghost use Rattle.std.specs.Prelude.{◌<◌, IfOk, IfSome, length};
+ghost use Rattle.rn_model.specs.Enabling.{Enabled};
+ghost use Rattle.rn_model.specs.Systems.{net_at};
+ghost use Rattle.rn_found.specs.Starting.{IsKept, IsSearchable};
+
+use crate::finding::find_from;
+use crate::hint::Hint;
+use crate::marked::Marked;
+use crate::room::Room;
+use crate::starts::transition_count;
+use crate::turns::Turns;
+use rn_binding::Candidate;
+use rn_choices::{Asked, Cut, Within};
+use rn_table::Inst;
+use std::alloc::Global;
+
+// A binding that starts with a transition of an instance, where that costs no more than so much; and
+// whether the search wasn't cut off.
+fn find_within<A: Asked>(
+    alloc: Global,
+    asked: &A,
+    marked: Marked<'_>,
+    room: &mut Room,
+    inst: &Inst,
+    transition: u32,
+    hint: Hint,
+    most: u64,
+) -> Result<(Option<Candidate>, bool), A::Halt>
+    requires searched { IsSearchable marked.system.now marked.uplinks.now
+        marked.table.now }
+    requires kept { IsKept marked.table.now.marking inst.now }
+    requires there { transition < length (net_at marked.system.now inst.now.net).transitions }
+    ensures { IfOk result (λ found. IfSome found.0 (λ b. Enabled marked.entry.system.now
+        marked.entry.table.now.marking b marked.entry.depth)) }
+{
+    let within = Within {
+        asked,
+        most: room.choices.spent().saturating_add(most),
+    };
+    match find_from(alloc, &within, marked, room, inst, transition, hint) {
+        Ok(found) => Ok((found, true)),
+        Err(Cut::Spent) => Ok((None, false)),
+        Err(Cut::Halt(halt)) => Err(halt),
+    }
+}
+
+// Explores a start.
+fn explore_start<A: Asked>(
+    alloc: Global,
+    asked: &A,
+    marked: Marked<'_>,
+    room: &mut Room,
+    turns: &mut Turns,
+    inst: &Inst,
+    transition: u32,
+) -> Result<Option<Candidate>, A::Halt>
+    requires searched { IsSearchable marked.system.now marked.uplinks.now
+        marked.table.now }
+    requires kept { IsKept marked.table.now.marking inst.now }
+    requires there { transition < length (net_at marked.system.now inst.now.net).transitions }
+    ensures { IfOk result (λ found. IfSome found (λ b. Enabled marked.entry.system.now
+        marked.entry.table.now.marking b marked.entry.depth)) }
+{
+    let hint = turns.explored(inst.number(), transition);
+    let most = turns.explorer.most();
+    let before = room.choices.spent();
+    let (found, is_whole) = find_within(alloc, asked, marked, room, inst, transition, hint, most)?;
+    let cost = room.choices.spent().wrapping_sub(before);
+    turns.explorer.note(cost, is_whole);
+    if found.is_some() {
+        turns.stay(hint, cost, room.choices.oldest());
+    }
+    Ok(found)
+}
+
+// Goes on by one start, which it explores or passes by.
+fn explore_next<A: Asked>(
+    alloc: Global,
+    asked: &A,
+    marked: Marked<'_>,
+    room: &mut Room,
+    turns: &mut Turns,
+) -> Result<Option<Candidate>, A::Halt>
+    requires { IsSearchable marked.system.now marked.uplinks.now
+        marked.table.now }
+    ensures { IfOk result (λ found. IfSome found (λ b. Enabled marked.entry.system.now
+        marked.entry.table.now.marking b marked.entry.depth)) }
+{
+    let Some(number) = marked.table.first_starting(turns.explorer.number) else {
+        turns.explorer.end_round();
+        return Ok(None);
+    };
+    let Some(inst) = marked.table.find(number) else {
+        turns.explorer.pass_instance(number);
+        return Ok(None);
+    };
+    let transition = turns.explorer.transition_at(number);
+    if transition >= transition_count(marked.system, inst.net()) {
+        turns.explorer.pass_instance(number);
+        return Ok(None);
+    }
+    if turns.is_last(number, transition) {
+        turns.explorer.pass(number, transition);
+        return Ok(None);
+    }
+    explore_start(alloc, asked, marked, room, turns, inst, transition)
+}
+
+/// A binding that the explorer finds, as long as there is something to be spent.
+pub(crate) fn explore<A: Asked>(
+    alloc: Global,
+    asked: &A,
+    marked: Marked<'_>,
+    room: &mut Room,
+    turns: &mut Turns,
+) -> Result<Option<Candidate>, A::Halt>
+    requires { IsSearchable marked.system.now marked.uplinks.now
+        marked.table.now }
+    ensures { IfOk result (λ found. IfSome found (λ b. Enabled marked.entry.system.now
+        marked.entry.table.now.marking b marked.entry.depth)) }
+{
+    for _ in 0..u64::MAX {
+        if !turns.explorer.has_credit() {
+            return Ok(None);
+        }
+        asked.go_on(room.choices.spent())?;
+        if let Some(found) = explore_next(alloc, asked, marked, room, turns)? {
+            return Ok(Some(found));
+        }
+    }
+    Ok(None)
+}
+
+/// A binding where the explorer found the last one. Where there is none, that place is forgotten.
+pub(crate) fn visit<A: Asked>(
+    alloc: Global,
+    asked: &A,
+    marked: Marked<'_>,
+    room: &mut Room,
+    turns: &mut Turns,
+) -> Result<Option<Candidate>, A::Halt>
+    requires { IsSearchable marked.system.now marked.uplinks.now
+        marked.table.now }
+    ensures { IfOk result (λ found. IfSome found (λ b. Enabled marked.entry.system.now
+        marked.entry.table.now.marking b marked.entry.depth)) }
+{
+    let Some(guest) = turns.guest else {
+        return Ok(None);
+    };
+    turns.guest = None;
+    let hint = guest.hint;
+    let Some(inst) = marked.table.find(hint.number) else {
+        return Ok(None);
+    };
+    if hint.transition >= transition_count(marked.system, inst.net()) {
+        return Ok(None);
+    }
+    let before = room.choices.spent();
+    let (found, _) = find_within(
+        alloc,
+        asked,
+        marked,
+        room,
+        inst,
+        hint.transition,
+        hint,
+        guest.most,
+    )?;
+    let cost = room.choices.spent().wrapping_sub(before);
+    if found.is_some() {
+        turns.explorer.earn(cost);
+        turns.stay(hint, cost, room.choices.oldest());
+    } else {
+        turns.explorer.pay(cost);
+    }
+    Ok(found)
+}

@@ -1,0 +1,80 @@
+//! Whose turn it is: where a searcher goes on.
+
+use crate::explorer::Explorer;
+use crate::hint::Hint;
+use rn_choices::Choice;
+use rn_search::Point;
+
+/// What the explorer found, which fires as long as it can.
+#[derive(Clone, Copy, Debug)]
+pub(crate) struct Guest {
+    pub hint: Hint,
+
+    /// What a search there may cost.
+    pub most: u64,
+}
+
+/// Where a searcher goes on.
+#[derive(Clone, Copy, Debug)]
+pub(crate) struct Turns {
+    /// Where the full search goes round.
+    pub home: Hint,
+
+    /// Where the explorer found something last, as long as something is found there.
+    pub guest: Option<Guest>,
+    pub explorer: Explorer,
+
+    /// The start of the binding that was found last.
+    last: Option<(u32, u32)>,
+}
+
+impl Turns {
+    /// Home is there. The number tells several searchers apart.
+    pub(crate) fn new(home: Hint, count: u64) -> Turns {
+        Turns {
+            home,
+            guest: None,
+            explorer: Explorer::new(count),
+            last: None,
+        }
+    }
+
+    /// Whether the binding that was found last starts with this transition of this instance.
+    pub(crate) fn is_last(&self, number: u32, transition: u32) -> bool {
+        match self.last {
+            Some((n, t)) => n == number && t == transition,
+            None => false,
+        }
+    }
+
+    /// Where the explorer looks at a start: at other tokens each time, and at home as home does.
+    pub(crate) fn explored(&mut self, number: u32, transition: u32) -> Hint {
+        self.explorer.stand_at(number, transition.saturating_add(1));
+        let count = self.explorer.next_count();
+        if self.home.is_at(number, transition) {
+            return self.home;
+        }
+        Hint::explored(number, transition, count)
+    }
+
+    /// The full search found something there.
+    pub(crate) fn settle(&mut self, number: u32, transition: u32, choice: Option<&Choice<Point>>) {
+        self.home = self.home.after(number, transition, choice);
+        self.last = Some((number, transition));
+    }
+
+    /// Something was found where a hint says, and cost so much: that is the guest, unless it is home.
+    pub(crate) fn stay(&mut self, hint: Hint, cost: u64, choice: Option<&Choice<Point>>) {
+        let next = hint.after(hint.number, hint.transition, choice);
+        self.last = Some((hint.number, hint.transition));
+        if self.home.is_at(hint.number, hint.transition) {
+            self.home = next;
+            self.guest = None;
+        } else {
+            self.guest = Some(Guest {
+                hint: next,
+                most: cost.saturating_mul(2).saturating_add(64),
+            });
+        }
+    }
+}
