@@ -142,6 +142,12 @@ impl Finding {
         }
     }
 
+    /// What it found last came too late to fire. So it doesn't go on there: where it had found that
+    /// beside home, it goes on at home, and else where the number says.
+    pub fn go_beside(&mut self, start: u64) {
+        self.turns.go_beside(start);
+    }
+
     // A binding that starts with an instance of a number below an end and not below another.
     fn find_between<A: Asked>(
         &mut self,

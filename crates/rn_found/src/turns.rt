@@ -77,4 +77,19 @@ impl Turns {
             });
         }
     }
+
+    /// What was found last came too late. Where the guest found it, there is no guest any more; else
+    /// home is where a number says.
+    pub(crate) fn go_beside(&mut self, start: u64) {
+        match self.guest {
+            Some(_) => self.guest = None,
+            None => {
+                let lap = self.home.lap;
+                self.home = Hint {
+                    lap,
+                    ..Hint::of(start)
+                };
+            }
+        }
+    }
 }

@@ -179,17 +179,14 @@ pub(crate) fn start_beside(
     Some(start_at(mixed(worker, seen), transition, number as u64))
 }
 
-/// The finding with which a worker goes on: its own after it fired or found nothing, and else a new
-/// one, which begins where it is told.
-pub(crate) fn finding_after(
-    alloc: Global,
-    finding: Finding,
-    fired: bool,
-    beside: Option<u64>,
-) -> Finding {
-    match beside {
-        Some(start) if !fired => Finding::new(alloc, start),
-        _ => finding,
+/// Where a worker found something and came too late, its searcher goes on where it is told, and else
+/// where it would.
+pub(crate) fn go_beside(finding: &mut Finding, fired: bool, beside: Option<u64>) {
+    if fired {
+        return;
+    }
+    if let Some(start) = beside {
+        finding.go_beside(start);
     }
 }
 

@@ -6,9 +6,7 @@ ghost use Rattle.rn_desk.specs.Passes.{fixed_of, number, seen, mine, IsOf, HasNo
 ghost use Rattle.rn_worker.specs.Seen.{HasEnded};
 
 use crate::acting::{Acted, act};
-use crate::considering::{
-    finding_after, late_after, live_then, plan_at, start_beside, was_stopped,
-};
+use crate::considering::{go_beside, late_after, live_then, plan_at, start_beside, was_stopped};
 use crate::gate::Gate;
 use crate::looking::{look, look_on};
 use crate::pacing::Pace;
@@ -25,7 +23,7 @@ use std::sync::Wait;
 /// one turn: the worker searches its snapshot with no turn held, and in the turn it commits what it found
 /// and takes the next snapshot. Only where it gets none there, it looks by a turn of its own.
 ///
-/// Where it comes too late to fire what it found, it begins its next search with other tokens.
+/// Where it comes too late to fire what it found, its searcher goes on beside that.
 /// Without memory it ends the log.
 pub fn work<R: Wait, G: Gate + Sync>(
     rt: &R,
@@ -135,7 +133,7 @@ pub(crate) fn work_while<R: Wait, G: Gate + Sync>(
         );
         tally.count(done);
         pace = pace.after(live_then(&plan), done.fired);
-        finding = finding_after(alloc, finding, done.fired, beside);
+        go_beside(&mut finding, done.fired, beside);
         late = late_after(late, done.fired);
         stopped = was_stopped(&plan);
         sight = look_on(rt, desk, pass, left);
