@@ -9,9 +9,8 @@ use crate::kept::Kept;
 use std::hint::spin_loop;
 use std::sync::Wait;
 
-/// How often a worker whose ticket is served soon looks before it sleeps: for about as long as
-/// sleeping and waking would take.
-const LOOKS: u32 = 2_000;
+/// How often a worker whose ticket is served soon looks before it sleeps.
+const LOOKS: u32 = 100;
 
 impl<S: Kept> Desk<S> {
     /// Draws a ticket, waits until it is served, and takes the state out. Where it is
