@@ -51,7 +51,7 @@ pub(crate) fn find_from<A: Asked>(
         (start_of inst.now.number inst.now.net transition))) }
 {
     if !may_start(marked.system, inst, transition) {
-        room.choices.spend(1);
+        room.pass();
         return Ok(None);
     }
     room.choices.spend(cost_of(marked.system, inst, transition));
@@ -142,6 +142,25 @@ impl Finding {
         }
     }
 
+    /// As the searcher of a number from 1 on it goes on with its own share of so many instances and of
+    /// the tokens, beside those of the numbers before it.
+    pub fn go_among(&mut self, number: u32, instances: u32) {
+        self.turns.go_to(Hint::among(number, instances));
+    }
+
+    /// What its searches have cost: their steps, the alternatives that they tried, and the starts that
+    /// they looked at.
+    pub fn spent(&self) -> u64 {
+        self.room.choices.spent()
+    }
+
+    /// The same in steps, of which one takes about as long as eight starts that are passed by.
+    pub fn effort(&self) -> u64 {
+        self.spent()
+            .wrapping_sub(self.room.passed)
+            .wrapping_add(self.room.passed / 8)
+    }
+
     /// What it found last came too late to fire. So it doesn't go on there: where it had found that
     /// beside home, it goes on at home, and else where the number says.
     pub fn go_beside(&mut self, start: u64) {
@@ -207,9 +226,10 @@ impl Finding {
         Ok(found)
     }
 
-    // A binding that is enabled, or `None` exactly where none is within the depth. Each search from
-    // a start asks whether it goes on.
-    fn find_while<A: Asked>(
+    /// A binding that is enabled, or `None` exactly where none is within the depth. Before each step,
+    /// and before each start, it asks whether it goes on; where it doesn't, that says nothing of bindings.
+    /// The searcher may be used again.
+    pub fn find_while<A: Asked>(
         &mut self,
         alloc: Global,
         asked: &A,

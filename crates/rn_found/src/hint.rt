@@ -40,6 +40,22 @@ impl Hint {
         }
     }
 
+    /// Where a searcher of a number from 1 on goes on beside those of the numbers before it: at its own
+    /// share of so many instances and of the tokens.
+    ///
+    /// The share begins at a part of the whole, which has the bits of the number in reverse order: at
+    /// none of it, a half, a quarter, three quarters and so on. So the first 2, 4 or 8 searchers stand
+    /// equally far from each other.
+    pub(crate) fn among(number: u32, instances: u32) -> Hint {
+        let part = number.wrapping_sub(1).reverse_bits() as u64;
+        Hint {
+            number: (part.wrapping_mul(instances as u64) / 4294967296) as u32,
+            transition: 0,
+            token: SHARES.wrapping_add(part as usize / 256),
+            lap: 0,
+        }
+    }
+
     /// Where the explorer begins at a start: with other tokens at each number.
     pub(crate) fn explored(number: u32, transition: u32, count: u64) -> Hint {
         let share = count.wrapping_mul(11400714819323198485) / 1099511627776;

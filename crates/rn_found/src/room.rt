@@ -14,6 +14,9 @@ use std::mem;
 pub(crate) struct Room {
     pub choices: Choices<Point>,
     pub branch: rn_branch::Room,
+
+    /// How many starts were passed by.
+    pub passed: u64,
 }
 
 impl Room {
@@ -22,7 +25,14 @@ impl Room {
         Room {
             choices: Choices::new(alloc),
             branch: rn_branch::Room::new(alloc),
+            passed: 0,
         }
+    }
+
+    /// A start is passed by.
+    pub(crate) fn pass(&mut self) {
+        self.choices.spend(1);
+        self.passed = self.passed.wrapping_add(1);
     }
 
     /// A branch without decisions, which has the room until it is put back.

@@ -78,6 +78,13 @@ impl Turns {
         }
     }
 
+    /// Home and the explorer are there, and there is no guest.
+    pub(crate) fn go_to(&mut self, home: Hint) {
+        self.guest = None;
+        self.explorer.stand_at(home.number, home.transition);
+        self.home = home;
+    }
+
     /// What was found last came too late. Where the guest found it, there is no guest any more; else
     /// home is where a number says.
     pub(crate) fn go_beside(&mut self, start: u64) {
