@@ -8,7 +8,7 @@ use Rattle.std.proofs.MapsCrossing as maps
 use Rattle.atomic_table.proofs.shared.Seat.TheSendSync as seat
 use Rattle.rn_items.proofs.items.Items.TheSendSync as items
 use Rattle.rn_channel.specs.contracts.uplinks.Uplinks as uplinks
-use Rattle.rn_choices.specs.contracts.flag.Flag as flag
+use Rattle.rn_worker.specs.contracts.standby.Standby as standby
 use Rattle.rn_desk.specs.contracts.desk.Desk as desk
 use Rattle.rn_desk.proofs.desk.Desk.TheSendSync as desk_safe
 use Rattle.rn_model.specs.contracts.log.Entry as entry
@@ -34,8 +34,8 @@ options_sync = search (sendable, crosses) depth 40 fits 20000
 pub desk_sync : IsSync (desk.the_row state.the_row entry.the_row setup.the_row kept.ghosts)
 desk_sync = search (desk_safe.the_sync, state_send, sendable, crosses) depth 40 fits 20000
 
-pub flag_sync : IsSync flag.the_row
-flag_sync = search (sendable, crosses) depth 40 fits 20000
+pub standby_sync : IsSync standby.the_row
+standby_sync = search (sendable, crosses) depth 40 fits 20000
 
 -- a closure over eight captures may be shared where each of these may
 pub closure_sync : (name : List ℕ) (A B C D E F G H : RattleType) →

@@ -5,9 +5,10 @@ ghost use Rattle.rn_model.specs.Markings.{Instance, instance_at};
 ghost use Rattle.rn_worker.specs.Plans.{AreDeadAt, DropsNone, IsPlanAt, IsToSearch, WasStopped};
 
 use crate::looking::Sight;
+use crate::standby::Watch;
 use rn_binding::Candidate;
 use rn_channel::Uplinks;
-use rn_found::{Finding, Flag, Halt};
+use rn_found::{Finding, Halt};
 use rn_items::NoMemory;
 use rn_live::garbage;
 use rn_model::System;
@@ -71,7 +72,7 @@ fn listed_at(
     Ok((dead, Some(live)))
 }
 
-// Searches a table. Unless it is to be searched whole, the search ends where the flag is raised.
+// Searches a table. Unless it is to be searched whole, the search ends where the watch says.
 fn find_at(
     alloc: Global,
     system: &System,
@@ -79,7 +80,7 @@ fn find_at(
     depth: u32,
     finding: &mut Finding,
     table: &Table,
-    stop: &Flag,
+    watch: &Watch<'_>,
     whole: bool,
 ) -> Result<Option<Candidate>, Halt>
     requires { IsToSearch system.now uplinks.now table.now }
@@ -90,7 +91,7 @@ fn find_at(
     ensures whole { whole ≡ true → ¬ WasStopped result }
 {
     if !whole {
-        return finding.find_unless(alloc, stop, system, uplinks, table, depth);
+        return finding.find_while(alloc, watch, system, uplinks, table, depth);
     }
     match finding.find(alloc, system, uplinks, table, depth) {
         Ok(found) => Ok(found),
@@ -99,7 +100,7 @@ fn find_at(
 }
 
 /// Searches a snapshot, and lists what isn't live there where that is due. Unless the snapshot is to be
-/// searched whole, the search ends where the flag is raised.
+/// searched whole, the search ends where the watch says.
 pub(crate) fn plan_at(
     alloc: Global,
     system: &System,
@@ -108,7 +109,7 @@ pub(crate) fn plan_at(
     finding: &mut Finding,
     sight: Sight,
     due: bool,
-    stop: &Flag,
+    watch: &Watch<'_>,
     whole: bool,
 ) -> Result<Plan, Halt>
     requires { IsToSearch system.now uplinks.now sight.table }
@@ -120,7 +121,7 @@ pub(crate) fn plan_at(
         return Err(Halt::NoMemory);
     };
     let table = &sight.table;
-    let found = find_at(alloc, system, uplinks, depth, finding, table, stop, whole)?;
+    let found = find_at(alloc, system, uplinks, depth, finding, table, watch, whole)?;
     Ok(Plan { found, dead, live })
 }
 
@@ -156,13 +157,22 @@ fn start_at(token: u64, transition: u64, number: u64) -> u64 {
         .wrapping_add(number % 1048576)
 }
 
-/// Where a worker goes on that found something and came too late: with the same transition of the
-/// same instance, at other tokens. After each second time in a row with the next transition, since
-/// perhaps there is one token that all want.
+// Another instance, drawn by a number, where several were made: the next one gets a number.
+fn beside(number: u32, next: u32, drawn: u64) -> u64 {
+    if next <= 2 {
+        return number as u64;
+    }
+    (number as u64 + 1 + drawn % (next as u64 - 1)) % next as u64
+}
+
+/// Where a worker goes on that found something and came too late: with the same transition at other
+/// tokens, and at another instance where several were made. After each second time in a row with the
+/// next transition, since perhaps there is one token that all want.
 pub(crate) fn start_beside(
     worker: u32,
     seen: u64,
     late: u64,
+    next: u32,
     plan: &Result<Plan, Halt>,
 ) -> Option<u64> {
     let Ok(plan) = plan else {
@@ -176,7 +186,8 @@ pub(crate) fn start_beside(
         return None;
     };
     let transition = (node.transition as u64).wrapping_add(late / 2);
-    Some(start_at(mixed(worker, seen), transition, number as u64))
+    let token = mixed(worker, seen);
+    Some(start_at(token, transition, beside(number, next, token)))
 }
 
 /// Where a worker found something and came too late, its searcher goes on where it is told, and else
@@ -187,6 +198,14 @@ pub(crate) fn go_beside(finding: &mut Finding, fired: bool, beside: Option<u64>)
     }
     if let Some(start) = beside {
         finding.go_beside(start);
+    }
+}
+
+/// After a worker stood by, its searcher goes on with its own share of all instances that were made by
+/// then.
+pub(crate) fn go_on_after(finding: &mut Finding, rests: bool, worker: u32, next: u32) {
+    if rests {
+        finding.go_among(worker, next);
     }
 }
 

@@ -9,6 +9,7 @@ mod looking;
 mod meeting;
 mod pacing;
 mod posts;
+mod standby;
 mod tally;
 mod worker;
 mod workers;

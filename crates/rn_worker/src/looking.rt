@@ -4,6 +4,7 @@ ghost use Rattle.rn_desk.specs.Entries.{StartsWith};
 ghost use Rattle.rn_desk.specs.Passes.{fixed_of, number, seen, mine, IsOf, HasNoTurn};
 ghost use Rattle.rn_worker.specs.Seen.{HasEnded, IsSightOf, Shows, StaysOrEnds};
 
+use crate::standby::{Role, Standby};
 use rn_desk::{Desk, Kept, Pass};
 use rn_fire::SimState;
 use rn_table::Table;
@@ -77,13 +78,17 @@ pub(crate) fn look<R: Wait>(
     sight
 }
 
-/// What a worker sees next: what its last turn left, or else what it sees by a turn of its own. `None`
-/// exactly where the log has then ended.
+/// What a worker sees next: what its last turn left, or else what it sees by a turn of its own. Where it
+/// stands by, it lets that snapshot go, sleeps, and then looks by a turn of its own. `None` exactly where
+/// the log has then ended.
 pub(crate) fn look_on<R: Wait>(
     rt: &R,
     desk: &Desk<SimState>,
     pass: &mut Pass<SimState>,
     left: Option<Sight>,
+    standby: &Standby,
+    role: Role,
+    rests: bool,
 ) -> Option<Sight>
     requires here { IsOf ⟦<SimState as Kept>⟧.fixed desk.now pass.old }
     requires free { HasNoTurn pass.old }
@@ -99,6 +104,11 @@ pub(crate) fn look_on<R: Wait>(
         (seen pass.new)) }
     ensures none { IfNone result (HasEnded (seen pass.new)) }
 {
+    if rests {
+        drop(left);
+        standby.sleep(rt, role);
+        return look(rt, desk, pass);
+    }
     match left {
         Some(sight) => Some(sight),
         None => look(rt, desk, pass),

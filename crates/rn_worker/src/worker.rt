@@ -6,15 +6,18 @@ ghost use Rattle.rn_desk.specs.Passes.{fixed_of, number, seen, mine, IsOf, HasNo
 ghost use Rattle.rn_worker.specs.Seen.{HasEnded};
 
 use crate::acting::{Acted, act};
-use crate::considering::{go_beside, late_after, live_then, plan_at, start_beside, was_stopped};
+use crate::considering::{
+    go_beside, go_on_after, late_after, live_then, plan_at, start_beside, was_stopped,
+};
 use crate::gate::Gate;
 use crate::looking::{look, look_on};
 use crate::pacing::Pace;
+use crate::standby::{Standby, Watch};
 use crate::tally::Tally;
 use rn_channel::Uplinks;
 use rn_desk::{Desk, Kept, Pass};
 use rn_fire::SimState;
-use rn_found::{Finding, Flag};
+use rn_found::Finding;
 use rn_model::{Options, System};
 use std::alloc::Global;
 use std::sync::Wait;
@@ -56,16 +59,16 @@ pub fn work<R: Wait, G: Gate + Sync>(
     ensures fired { tally.new.fired ≡ length (mine pass.new) }
     ensures swept { options.now.sweep_every ≡ 0 → tally.new.swept ≡ 0 }
 {
-    let stop = Flag::new();
+    let standby = Standby::new(options.workers);
     work_while(
-        rt, alloc, desk, pass, system, uplinks, gate, options, &stop, tally,
+        rt, alloc, desk, pass, system, uplinks, gate, options, &standby, tally,
     )
 }
 
-/// The same, with a flag that all workers share. Who has seen the log's end raises it, and the others'
-/// searches end then.
+/// The same, beside others: a worker that isn't needed stands by, and who has seen the log's end ends the
+/// others' searches and wakes all.
 ///
-/// Nothing rests on that. A worker whose search was stopped though the log goes on searches its next
+/// No promise rests on that. A worker whose search was stopped though the log goes on searches its next
 /// snapshot whole.
 pub(crate) fn work_while<R: Wait, G: Gate + Sync>(
     rt: &R,
@@ -76,7 +79,7 @@ pub(crate) fn work_while<R: Wait, G: Gate + Sync>(
     uplinks: &Uplinks,
     gate: &G,
     options: &Options,
-    stop: &Flag,
+    standby: &Standby,
     tally: &mut Tally,
 )
     requires here { IsOf ⟦<SimState as Kept>⟧.fixed desk.now pass.old }
@@ -100,14 +103,21 @@ pub(crate) fn work_while<R: Wait, G: Gate + Sync>(
     ensures swept { options.now.sweep_every ≡ 0 → tally.new.swept ≡ 0 }
 {
     let worker = tally.worker;
+    let role = standby.role_of(worker);
     let mut finding = Finding::of_share(alloc, worker, options.workers);
     let mut pace = Pace::new();
     let mut late = 0;
+    let mut rests = false;
     let mut stopped = false;
+    let mut watch = Watch::new(standby, role);
+    standby.begin(role);
     let mut sight = look(rt, desk, pass);
     while let Some(now) = sight {
         let seen = now.seen;
-        let due = pace.is_due(options.sweep_every, now.table.next());
+        let next = now.table.next();
+        let due = pace.is_due(options.sweep_every, next);
+        go_on_after(&mut finding, rests, worker, next);
+        watch.begin(&finding);
         let plan = plan_at(
             alloc,
             system,
@@ -116,10 +126,10 @@ pub(crate) fn work_while<R: Wait, G: Gate + Sync>(
             &mut finding,
             now,
             due,
-            stop,
+            &watch,
             stopped,
         );
-        let beside = start_beside(worker, seen, late, &plan);
+        let beside = start_beside(worker, seen, late, next, &plan);
         gate.between(worker, seen);
         let Acted { done, sight: left } = act(
             rt,
@@ -136,7 +146,9 @@ pub(crate) fn work_while<R: Wait, G: Gate + Sync>(
         go_beside(&mut finding, done.fired, beside);
         late = late_after(late, done.fired);
         stopped = was_stopped(&plan);
-        sight = look_on(rt, desk, pass, left);
+        watch.note_round(&finding, stopped, done.fired);
+        rests = left.is_some() && watch.stands_by();
+        sight = look_on(rt, desk, pass, left, standby, role, rests);
     }
-    stop.raise();
+    standby.end();
 }

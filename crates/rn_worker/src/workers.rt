@@ -10,12 +10,12 @@ ghost use Rattle.rn_worker.specs.Posts.{IsAtWork, IsDone, IsOfSetup};
 use crate::dropping::drop_dead;
 use crate::gate::Gate;
 use crate::posts::{Post, parted, posts_of};
+use crate::standby::Standby;
 use crate::tally::Tallies;
 use crate::worker::work_while;
 use rn_channel::Uplinks;
 use rn_desk::{Closed, Desk, close, open_desk};
 use rn_fire::{SimState, open_state};
-use rn_found::Flag;
 use rn_items::{Items, NoMemory};
 use rn_model::{Options, System};
 use std::alloc::Global;
@@ -39,7 +39,7 @@ fn all_work<R: Threads + Wait + Sync, G: Gate + Sync>(
     uplinks: &Uplinks,
     gate: &G,
     options: &Options,
-    stop: &Flag,
+    standby: &Standby,
     posts: &mut [Post],
 )
     requires count { (0 < length posts.old) × (length posts.old ≤ most_workers) }
@@ -69,11 +69,23 @@ fn all_work<R: Threads + Wait + Sync, G: Gate + Sync>(
                 uplinks,
                 gate,
                 options,
-                stop,
+                standby,
                 &mut post.tally,
             )
         },
     );
+}
+
+// How many of so many workers may be of use at once: no more than there are processors, where the system
+// says how many.
+fn processors(rt: &impl Threads, workers: u32) -> u32 {
+    if workers == 1 {
+        return 1;
+    }
+    match thread::available_parallelism(rt) {
+        Ok(count) => count.get().min(workers as usize) as u32,
+        Err(_) => workers,
+    }
 }
 
 /// Runs a system by its number of workers until the log of its run has ended, and drops what isn't
@@ -100,7 +112,7 @@ pub fn run_workers<R: Threads + Wait + Sync, G: Gate + Sync>(
     let state = open_state(alloc, Arc::try_clone(&system)?, options)?;
     let (desk, passes) = open_desk(alloc, state, options.workers)?;
     let mut posts = posts_of(alloc, &desk, passes)?;
-    let stop = Flag::new();
+    let standby = Standby::new(processors(rt, options.workers));
     all_work(
         rt,
         alloc,
@@ -109,7 +121,7 @@ pub fn run_workers<R: Threads + Wait + Sync, G: Gate + Sync>(
         &uplinks,
         gate,
         &options,
-        &stop,
+        &standby,
         posts.as_mut_slice(),
     );
     let (passes, tallies) = parted(alloc, posts)?;

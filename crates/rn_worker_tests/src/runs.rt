@@ -19,6 +19,15 @@ const KEEPS: &[u8] = b"net main { var x: net; var k: int; place c: int = 0; plac
   trans lose { in c: k; guard 100 <= k && k < 200; out c: k + 1; x: new w; } }
 net w { place p; }";
 
+// It fires 31 times after short searches, and then 20 times after long ones, of which each looks through
+// pairs of 40 tokens.
+const SEARCHES: &[u8] = b"net main { var n, x, y: int; place quick: int = 0; place slow: int;
+  place p: int = 0, 1, 2, 3, 4, 5, 6, 7, 8, 9, 10, 11, 12, 13, 14, 15, 16, 17, 18, 19,
+    20, 21, 22, 23, 24, 25, 26, 27, 28, 29, 30, 31, 32, 33, 34, 35, 36, 37, 38, 39;
+  trans go { in quick: n; guard n < 30; out quick: n + 1; }
+  trans turn { in quick: 30; out slow: 0; }
+  trans look { in slow: n; guard n < 20; out slow: n + 1; test p: x; test p: y; guard x + y == 77; } }";
+
 fn first_worker(finished: &Finished) -> u32 {
     match finished.state.entries().first() {
         Some(Entry::Fire { worker, .. }) => *worker,
@@ -88,6 +97,18 @@ fn many_live_instances_are_listed_rarely(rt: HostRuntime) -> Result<(), Fail> {
         assert_eq!(rt; fired(&finished), 200);
         assert!(rt; kept.len() == 101, "after {sweep_every}");
         assert_eq!(rt; swept(&finished), during);
+    }
+    Ok(())
+}
+
+#[test]
+fn workers_that_stood_by_see_the_end(rt: HostRuntime) -> Result<(), Fail> {
+    for workers in [1, 2, 3, 5, 16, 64] {
+        let finished = run_text(&rt, rt.alloc(), SEARCHES, workers, 0, &NoGate)?;
+        assert!(rt;
+            fired(&finished) == 51 && is_dead(&finished),
+            "{workers} workers"
+        );
     }
     Ok(())
 }

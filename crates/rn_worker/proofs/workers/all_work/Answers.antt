@@ -3,7 +3,7 @@ use denote.Exit.{no}
 use denote.Param.Send.{param_sync, arg_sync, shr_sync, sendable}
 use Rattle.std.proofs.Crossing.{crosses, sync}
 use Rattle.rn_fire.proofs.ThreadSafety.{system_sync}
-use Rattle.rn_worker.proofs.ThreadSafety.{closure_sync, desk_sync, flag_sync, options_sync, post_send, uplinks_sync}
+use Rattle.rn_worker.proofs.ThreadSafety.{closure_sync, desk_sync, standby_sync, options_sync, post_send, uplinks_sync}
 use Rattle.rn_worker.proofs.workers.all_work.Goals as goal
 
 pub for_each_mut-requires-send-T : goal.for_each_mut-requires-send-T
@@ -19,4 +19,4 @@ for_each_mut-requires-sync-F g c κs within =
     (shr_sync _ _ _ uplinks_sync)
     (shr_sync _ _ _ c.type_bounds.sync-G)
     (shr_sync _ _ _ options_sync)
-    (shr_sync _ _ _ flag_sync)))
+    (shr_sync _ _ _ standby_sync)))
