@@ -1,0 +1,3 @@
+pub mod ChangedInstances
+pub mod ReachDecided
+pub mod ReachLemmas
