@@ -1,0 +1,2 @@
+pub mod LeastRuns
+pub mod OneRun
