@@ -1,0 +1,2 @@
+pub mod LeastLogs
+pub mod ThreadSafety

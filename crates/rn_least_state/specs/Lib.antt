@@ -1,0 +1,2 @@
+pub mod CommitsAt
+pub mod LeastStates
