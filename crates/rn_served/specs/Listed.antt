@@ -1,5 +1,5 @@
 -- The bindings that are enabled, in order.
-use Rattle.std.specs.Prelude.{ℕ, suc, ◌≡◌, ◌<◌, ◌↔◌, ◌⊎◌, List, [], ◌∷◌, ◌++◌, Contains, codes, length}
+use Rattle.std.specs.Prelude.{ℕ, suc, ◌≡◌, ◌<◌, ◌↔◌, ◌⊎◌, List, [], ◌∷◌, ◌++◌, Contains, Some, codes, length, slice_get}
 use Rattle.std.specs.List.{AllAdjacentBelow}
 use Rattle.std.specs.declared.cmp.Ordering.TheVariants.{Less}
 use Rattle.rn_value.specs.Text.{numeral}
@@ -36,6 +36,13 @@ NoneIsNumbered system m depth k = (k ≡ 0)
 -- the number of a binding, before each of its lines
 abbrev pub numbered : ℕ → List ℕ
 numbered n = numeral n ++ codes " "
+
+-- The binding at an index of the list has the number after it. So these are the numbers of the list,
+-- from 1.
+abbrev pub NumbersAreOfList : Type 0
+NumbersAreOfList = (system : System) (m : Marking) (depth k : ℕ) (found : List Binding) (b : Binding) →
+    AreEnabled system m depth found → k < length found → slice_get found k ≡ Some b →
+    IsNumbered system m depth (suc k) b
 
 -- The lines of bindings, numbered from k, where the instances made so far have these names. What a
 -- firing of one would make has the numbers after theirs.

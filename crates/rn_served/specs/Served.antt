@@ -47,7 +47,7 @@ abbrev pub FiresTo : System → Options → Entries → ℕ → FireAnswer → E
 FiresTo system options old k (Gives.Fired step) new =
     (b : Binding) × (fired : Fired) × MayFire system options old k b
     × (step ≡ suc (length old.fired))
-    × (fire system (marking_of system old) b step ≡ Ok fired)
+    × (fire system (marking_of system old) b (suc (length old.fired)) ≡ Ok fired)
     × (new ≡ with_firing b fired.outs old)
 FiresTo system options old k Gives.Faulted new =
     (b : Binding) × (cause : FaultKind) × MayFire system options old k b

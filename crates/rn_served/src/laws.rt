@@ -1,4 +1,5 @@
 //! Laws over sessions, each the contract of a function that does nothing.
+ghost use Rattle.rn_served.specs.Listed.{NumbersAreOfList};
 ghost use Rattle.rn_served.specs.Undoing.{OneOutcome, UndoGivesAllBack, UndoGivesBack};
 
 /// The law of undo. After a firing that was done or that ended the run, `undo 1` is done and gives the
@@ -8,4 +9,9 @@ pub fn undo_laws()
     ensures one { UndoGivesBack }
     ensures all { UndoGivesAllBack }
     ensures outcome { OneOutcome }
+{}
+
+/// The K-th binding of the list of all that are enabled is the one with the number K.
+pub fn number_laws()
+    ensures { NumbersAreOfList }
 {}

@@ -5,6 +5,6 @@ mod laws;
 mod reading;
 mod requests;
 
-pub use laws::undo_laws;
+pub use laws::{number_laws, undo_laws};
 pub use reading::{next_line, request_of};
 pub use requests::{FireAnswer, Request};
