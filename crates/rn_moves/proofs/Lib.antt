@@ -1,0 +1,9 @@
+pub mod Brought
+pub mod Continuing
+pub mod Counted
+pub mod FiringMoves
+pub mod LogMoves
+pub mod MovedTokens
+pub mod OneList
+pub mod PlacesMoved
+pub mod Told

@@ -1,0 +1,13 @@
+use Rattle.std.proofs.Common.{drop, length}
+use Rattle.rn_moves.specs.Movable.{HaveMoves}
+use Rattle.rn_moves.proofs.Continuing.{Continues}
+use Rattle.rn_moves.proofs.writing.put_entries.Given as goal
+
+-- the lines so far go on with those of the entries that are left, and these can be told
+abbrev pub invariant-loop-entry : goal.invariant-loop-entry
+invariant-loop-entry l = record {
+  goes : Continues l.system l.nets l.names l.entries l.initial.out.items
+      l.numbers.next l.numbers.step (drop l.entry-index l.entries) l.out.items;
+  may : HaveMoves l.system (length l.names) l.numbers.next l.numbers.step
+      (drop l.entry-index l.entries);
+}
