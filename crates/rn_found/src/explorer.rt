@@ -3,6 +3,12 @@
 /// How much searches that found something have to cost for exploring to cost one.
 const PRICE: u64 = 10;
 
+/// The same where starts are drawn.
+const DRAWN: u64 = 1;
+
+/// What is earned before the first search where starts are drawn.
+const ADVANCE: u64 = 32;
+
 /// What is saved for exploring at most, unless the last search cost more.
 const SAVED: u64 = 2560;
 
@@ -30,6 +36,9 @@ pub(crate) struct Explorer {
     finished: u64,
     earned: u64,
     spent: u64,
+
+    /// How much has to be earned for exploring to cost one.
+    price: u64,
 }
 
 // The largest power of two that divides a number, up to 2^30.
@@ -57,6 +66,16 @@ impl Explorer {
             finished: 0,
             earned: 0,
             spent: 0,
+            price: PRICE,
+        }
+    }
+
+    /// Starts are drawn, and exploring may cost as much as the searches that find something.
+    pub(crate) fn drawing() -> Explorer {
+        Explorer {
+            earned: ADVANCE,
+            price: DRAWN,
+            ..Explorer::new(0)
         }
     }
 
@@ -74,7 +93,7 @@ impl Explorer {
 
     /// So much was spent on exploring.
     pub(crate) fn pay(&mut self, cost: u64) {
-        self.spent = self.spent.saturating_add(cost.saturating_mul(PRICE));
+        self.spent = self.spent.saturating_add(cost.saturating_mul(self.price));
     }
 
     /// The transition with which it looks at an instance.
@@ -92,9 +111,22 @@ impl Explorer {
         self.count
     }
 
-    /// What a start may cost now: no more than half of all that was earned for exploring.
+    // What a start may cost now, where the limit is this: no more than half of all that was earned for
+    // exploring.
+    fn most_of(self, limit: u64) -> u64 {
+        let half = self.earned.checked_div(self.price.saturating_mul(2));
+        limit.min(half.unwrap_or(0)).max(LEAST)
+    }
+
+    /// What a start may cost now.
     pub(crate) fn most(self) -> u64 {
-        self.limit.min(self.earned / (2 * PRICE)).max(LEAST)
+        self.most_of(self.limit)
+    }
+
+    /// What a start that is drawn may cost, by a number that is drawn too: the more, the more rarely.
+    pub(crate) fn most_drawn(self, word: u32) -> u64 {
+        let power = power_in(word as u64 | 1073741824);
+        self.most_of(power.saturating_mul(4 * LEAST))
     }
 
     /// A start was explored, to its end or not.

@@ -1,5 +1,5 @@
-//! Looking beside home: the explorer looks at starts in turn, and what it found last is looked at as
-//! long as something is found there. What is found is enabled; nothing is said where nothing is.
+//! Looking beside home: the explorer looks at starts in turn, or at those that are drawn, and what it
+//! found last is looked at as long as something is found there. What is found is enabled; nothing is said where nothing is.
 ghost use Rattle.std.specs.Prelude.{◌<◌, IfOk, IfSome, length};
 ghost use Rattle.rn_model.specs.Enabling.{Enabled};
 ghost use Rattle.rn_model.specs.Systems.{net_at};
@@ -64,18 +64,46 @@ fn explore_start<A: Asked>(
         marked.entry.table.now.marking b marked.entry.depth)) }
 {
     let hint = turns.explored(inst.number(), transition);
-    let most = turns.explorer.most();
+    let most = turns.most();
     let before = room.choices.spent();
     let (found, is_whole) = find_within(alloc, asked, marked, room, inst, transition, hint, most)?;
     let cost = room.choices.spent().wrapping_sub(before);
-    turns.explorer.note(cost, is_whole);
+    turns.note(cost, is_whole, found.is_some());
     if found.is_some() {
         turns.stay(hint, cost, room.choices.oldest());
     }
     Ok(found)
 }
 
-// Goes on by one start, which it explores or passes by.
+// Draws a start, and explores it.
+fn explore_drawn<A: Asked>(
+    alloc: Global,
+    asked: &A,
+    marked: Marked<'_>,
+    room: &mut Room,
+    turns: &mut Turns,
+) -> Result<Option<Candidate>, A::Halt>
+    requires { IsSearchable marked.system.now marked.uplinks.now
+        marked.table.now }
+    ensures { IfOk result (λ found. IfSome found (λ b. Enabled marked.entry.system.now
+        marked.entry.table.now.marking b marked.entry.depth)) }
+{
+    turns.explorer.pay(1);
+    let Some(number) = turns.drawn_instance(marked.table) else {
+        return Ok(None);
+    };
+    let Some(inst) = marked.table.find(number) else {
+        return Ok(None);
+    };
+    let count = transition_count(marked.system, inst.net());
+    if count == 0 {
+        return Ok(None);
+    }
+    let transition = turns.drawn_transition(count);
+    explore_start(alloc, asked, marked, room, turns, inst, transition)
+}
+
+// Goes on by one start in turn, which it explores or passes by.
 fn explore_next<A: Asked>(
     alloc: Global,
     asked: &A,
@@ -108,6 +136,25 @@ fn explore_next<A: Asked>(
     explore_start(alloc, asked, marked, room, turns, inst, transition)
 }
 
+// Goes on by one start, in turn or by what is drawn.
+fn explore_once<A: Asked>(
+    alloc: Global,
+    asked: &A,
+    marked: Marked<'_>,
+    room: &mut Room,
+    turns: &mut Turns,
+) -> Result<Option<Candidate>, A::Halt>
+    requires { IsSearchable marked.system.now marked.uplinks.now
+        marked.table.now }
+    ensures { IfOk result (λ found. IfSome found (λ b. Enabled marked.entry.system.now
+        marked.entry.table.now.marking b marked.entry.depth)) }
+{
+    if turns.draws() {
+        return explore_drawn(alloc, asked, marked, room, turns);
+    }
+    explore_next(alloc, asked, marked, room, turns)
+}
+
 /// A binding that the explorer finds, as long as there is something to be spent.
 pub(crate) fn explore<A: Asked>(
     alloc: Global,
@@ -126,7 +173,7 @@ pub(crate) fn explore<A: Asked>(
             return Ok(None);
         }
         asked.go_on(room.choices.spent())?;
-        if let Some(found) = explore_next(alloc, asked, marked, room, turns)? {
+        if let Some(found) = explore_once(alloc, asked, marked, room, turns)? {
             return Ok(Some(found));
         }
     }

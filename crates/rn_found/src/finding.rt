@@ -8,6 +8,7 @@ ghost use Rattle.rn_channel.specs.Uplinks.{AreUplinksOf};
 ghost use Rattle.rn_table.specs.Tables.{IsTableOf};
 ghost use Rattle.rn_found.specs.Starting.{IsKept, IsNoStart, IsNoStartIn, IsSearchable, start_of};
 
+use crate::drawing::Draws;
 use crate::exploring::{explore, visit};
 use crate::hint::Hint;
 use crate::marked::{Marked, problem_at};
@@ -139,6 +140,14 @@ impl Finding {
                 Hint::of_share(number, count),
                 (number as u64).wrapping_mul(1048576),
             ),
+        }
+    }
+
+    /// The same with a seed: where it looks beside that is drawn, by the seed and its number.
+    pub fn of_seed(alloc: Global, number: u32, count: u32, seed: u32) -> Finding {
+        Finding {
+            room: Room::new(alloc),
+            turns: Turns::drawing(Hint::of_share(number, count), Draws::new(seed, number)),
         }
     }
 

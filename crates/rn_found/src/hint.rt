@@ -56,15 +56,21 @@ impl Hint {
         }
     }
 
-    /// Where the explorer begins at a start: with other tokens at each number.
-    pub(crate) fn explored(number: u32, transition: u32, count: u64) -> Hint {
-        let share = count.wrapping_mul(11400714819323198485) / 1099511627776;
+    /// At a start, with a share of the tokens, and the choices behind the first so far behind.
+    pub(crate) fn at_share(number: u32, transition: u32, share: u64, lap: u64) -> Hint {
         Hint {
             number,
             transition,
             token: SHARES.wrapping_add(share as usize),
-            lap: count.wrapping_mul(15111042398283466643) / 1099511627776,
+            lap,
         }
+    }
+
+    /// Where the explorer begins at a start: with other tokens at each number.
+    pub(crate) fn explored(number: u32, transition: u32, count: u64) -> Hint {
+        let share = count.wrapping_mul(11400714819323198485) / 1099511627776;
+        let lap = count.wrapping_mul(15111042398283466643) / 1099511627776;
+        Hint::at_share(number, transition, share, lap)
     }
 
     /// Whether it begins with this transition of this instance.

@@ -1,9 +1,12 @@
 //! Whose turn it is: where a searcher goes on.
+ghost use Rattle.std.specs.Prelude.{◌<◌};
 
+use crate::drawing::Draws;
 use crate::explorer::Explorer;
 use crate::hint::Hint;
 use rn_choices::Choice;
 use rn_search::Point;
+use rn_table::Table;
 
 /// What the explorer found, which fires as long as it can.
 #[derive(Clone, Copy, Debug)]
@@ -15,7 +18,7 @@ pub(crate) struct Guest {
 }
 
 /// Where a searcher goes on.
-#[derive(Clone, Copy, Debug)]
+#[derive(Drop)]
 pub(crate) struct Turns {
     /// Where the full search goes round.
     pub home: Hint,
@@ -26,6 +29,9 @@ pub(crate) struct Turns {
 
     /// The start of the binding that was found last.
     last: Option<(u32, u32)>,
+
+    /// With a seed, from what it is drawn where the explorer looks.
+    draws: Option<Draws>,
 }
 
 impl Turns {
@@ -36,6 +42,42 @@ impl Turns {
             guest: None,
             explorer: Explorer::new(count),
             last: None,
+            draws: None,
+        }
+    }
+
+    /// Home is there, and it is drawn where the explorer looks.
+    pub(crate) fn drawing(home: Hint, draws: Draws) -> Turns {
+        Turns {
+            home,
+            guest: None,
+            explorer: Explorer::drawing(),
+            last: None,
+            draws: Some(draws),
+        }
+    }
+
+    /// Whether it is drawn where the explorer looks.
+    pub(crate) fn draws(&self) -> bool {
+        self.draws.is_some()
+    }
+
+    /// The number of an instance from which a firing may start, where there is one and it is drawn.
+    pub(crate) fn drawn_instance(&mut self, table: &Table) -> Option<u32> {
+        match &mut self.draws {
+            Some(draws) => draws.instance(table),
+            None => None,
+        }
+    }
+
+    /// A transition of so many.
+    pub(crate) fn drawn_transition(&mut self, count: u32) -> u32
+        requires { 0 < count }
+        ensures { result < count }
+    {
+        match &mut self.draws {
+            Some(draws) => draws.below(count),
+            None => 0,
         }
     }
 
@@ -47,14 +89,36 @@ impl Turns {
         }
     }
 
-    /// Where the explorer looks at a start: at other tokens each time, and at home as home does.
+    /// Where the explorer looks at a start: at other tokens each time, and at home as home does. With
+    /// a seed that is drawn.
     pub(crate) fn explored(&mut self, number: u32, transition: u32) -> Hint {
+        if let Some(draws) = &mut self.draws {
+            return draws.hint(number, transition);
+        }
         self.explorer.stand_at(number, transition.saturating_add(1));
         let count = self.explorer.next_count();
         if self.home.is_at(number, transition) {
             return self.home;
         }
         Hint::explored(number, transition, count)
+    }
+
+    /// What exploring a start may cost.
+    pub(crate) fn most(&mut self) -> u64 {
+        match &mut self.draws {
+            Some(draws) => self.explorer.most_drawn(draws.word()),
+            None => self.explorer.most(),
+        }
+    }
+
+    /// A start was explored, to its end or not. With a seed a start where something was found costs
+    /// nothing.
+    pub(crate) fn note(&mut self, cost: u64, is_whole: bool, is_found: bool) {
+        if is_found && self.draws() {
+            self.explorer.earn(cost);
+        } else {
+            self.explorer.note(cost, is_whole);
+        }
     }
 
     /// The full search found something there.

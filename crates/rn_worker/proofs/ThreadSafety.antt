@@ -8,6 +8,7 @@ use Rattle.std.proofs.MapsCrossing as maps
 use Rattle.atomic_table.proofs.shared.Seat.TheSendSync as seat
 use Rattle.rn_items.proofs.items.Items.TheSendSync as items
 use Rattle.rn_channel.specs.contracts.uplinks.Uplinks as uplinks
+use Rattle.rn_worker.specs.contracts.considering.Seed as seed
 use Rattle.rn_worker.specs.contracts.standby.Standby as standby
 use Rattle.rn_desk.specs.contracts.desk.Desk as desk
 use Rattle.rn_desk.proofs.desk.Desk.TheSendSync as desk_safe
@@ -34,11 +35,14 @@ options_sync = search (sendable, crosses) depth 40 fits 20000
 pub desk_sync : IsSync (desk.the_row state.the_row entry.the_row setup.the_row kept.ghosts)
 desk_sync = search (desk_safe.the_sync, state_send, sendable, crosses) depth 40 fits 20000
 
+pub seed_sync : IsSync seed.the_row
+seed_sync = search (sendable, crosses) depth 40 fits 20000
+
 pub standby_sync : IsSync standby.the_row
 standby_sync = search (sendable, crosses) depth 40 fits 20000
 
--- a closure over eight captures may be shared where each of these may
-pub closure_sync : (name : List ℕ) (A B C D E F G H : RattleType) →
+-- a closure over nine captures may be shared where each of these may
+pub closure_sync : (name : List ℕ) (A B C D E F G H I : RattleType) →
     IsSync A → IsSync B → IsSync C → IsSync D → IsSync E → IsSync F → IsSync G → IsSync H →
-    IsSync (TupleAt name (A ∷ B ∷ C ∷ D ∷ E ∷ F ∷ G ∷ H ∷ []))
-closure_sync name A B C D E F G H a b c d e f g h = search sendable depth 40 fits 20000
+    IsSync I → IsSync (TupleAt name (A ∷ B ∷ C ∷ D ∷ E ∷ F ∷ G ∷ H ∷ I ∷ []))
+closure_sync name A B C D E F G H I a b c d e f g h i = search sendable depth 40 fits 20000

@@ -24,8 +24,8 @@ pub(crate) struct Acted {
     pub sight: Option<Sight>,
 }
 
-// How many of these instances are kept.
-fn count_kept(table: &Table, numbers: &[u32]) -> u64
+/// How many of these instances are kept.
+pub fn count_kept(table: &Table, numbers: &[u32]) -> u64
     ensures { result ≤ length numbers.now }
 {
     let mut count = 0;

@@ -52,8 +52,22 @@ fn size_without(table: &Table, dead: &[u32]) -> Result<u64, NoMemory> {
     Ok(size)
 }
 
-// The instances of a table that aren't live, and how much is, where that is due.
-fn listed_at(
+/// The seed of a run, if it has one.
+#[derive(Clone, Copy)]
+pub(crate) struct Seed {
+    pub number: Option<u32>,
+}
+
+/// The searcher of a worker, one of so many. With a seed it draws where it looks.
+pub(crate) fn searcher(alloc: Global, worker: u32, workers: u32, seed: Seed) -> Finding {
+    match seed.number {
+        Some(seed) => Finding::of_seed(alloc, worker, workers, seed),
+        None => Finding::of_share(alloc, worker, workers),
+    }
+}
+
+/// The instances of a table that aren't live, and how much is, where that is due.
+pub fn listed_at(
     alloc: Global,
     system: &System,
     table: &Table,

@@ -9,7 +9,7 @@ use rn_live::garbage;
 use std::alloc::Global;
 
 /// Drops the instances that aren't live.
-pub(crate) fn drop_dead(alloc: Global, state: &mut SimState) -> Result<(), NoMemory>
+pub fn drop_dead(alloc: Global, state: &mut SimState) -> Result<(), NoMemory>
     ensures kept { KeepsLog state.old state.new }
     ensures dropped { OnOk result (KeepsJustLive state.new) }
 {

@@ -14,8 +14,13 @@ mod tally;
 mod worker;
 mod workers;
 
+pub use acting::count_kept;
+pub use considering::listed_at;
+pub use dropping::drop_dead;
 pub use gate::{Gate, NoGate};
+pub use looking::{Sight, sight_below};
 pub use meeting::MeetGate;
-pub use tally::{Tallies, Tally};
+pub use pacing::Pace;
+pub use tally::{Done, Tallies, Tally};
 pub use worker::work;
-pub use workers::{Finished, run_workers};
+pub use workers::{Finished, run_seeded, run_workers};

@@ -12,7 +12,7 @@ use std::sync::Wait;
 
 /// A snapshot of the table, and how many entries the log had.
 #[derive(Drop)]
-pub(crate) struct Sight {
+pub struct Sight {
     pub table: Table,
     pub seen: u64,
 }
@@ -40,7 +40,7 @@ fn sight_of(state: &mut SimState) -> Option<Sight>
 
 /// A snapshot of a state whose log goes on below so many steps, where there is memory for it. The state
 /// stays as it is, since a turn adds one entry at most and may have added it.
-pub(crate) fn sight_below(state: &SimState, steps: u32) -> Option<Sight>
+pub fn sight_below(state: &SimState, steps: u32) -> Option<Sight>
     ensures some { IfSome result (IsSightOf state.now) }
     ensures below { IfSome result (λ v. v.seen < steps) }
 {

@@ -8,14 +8,14 @@ const MET_A_FIRING: u64 = 4;
 /// How often a worker fired since it last listed what may be dropped, and how many instances were live
 /// then, with their tokens.
 #[derive(Clone, Copy)]
-pub(crate) struct Pace {
+pub struct Pace {
     since: u64,
     live: u64,
 }
 
 impl Pace {
     /// It has neither fired nor listed anything.
-    pub(crate) fn new() -> Pace {
+    pub fn new() -> Pace {
         Pace { since: 0, live: 0 }
     }
 
@@ -25,7 +25,7 @@ impl Pace {
     ///
     /// To list it is a walk over all that is live. So where much is, walks are rarer, and cost a
     /// constant share of the time that firings take.
-    pub(crate) fn is_due(self, every: u32, next: u32) -> bool
+    pub fn is_due(self, every: u32, next: u32) -> bool
         ensures { every ≡ 0 → result ≡ false }
     {
         every != 0 && next > 2 && self.since >= (every as u64).max(self.live / MET_A_FIRING)
@@ -33,7 +33,7 @@ impl Pace {
 
     /// After a round: how many instances and tokens were live, where it listed what wasn't, and whether
     /// it fired.
-    pub(crate) fn after(self, live: Option<u64>, fired: bool) -> Pace {
+    pub fn after(self, live: Option<u64>, fired: bool) -> Pace {
         let pace = match live {
             Some(live) => Pace { since: 0, live },
             None => self,

@@ -16,14 +16,14 @@ pub type Tallies = Items<Tally>;
 
 /// What a worker did in a turn: whether it fired, and how many instances it dropped.
 #[derive(Clone, Copy)]
-pub(crate) struct Done {
+pub struct Done {
     pub fired: bool,
     pub swept: u64,
 }
 
 impl Tally {
     /// Counts what was done in a turn.
-    pub(crate) fn count(&mut self, done: Done)
+    pub fn count(&mut self, done: Done)
         requires { self.old.fired + 1 < 2 ^ 64 }
         ensures worker { self.new.worker ≡ self.old.worker }
         ensures fired { MatchBool done.fired (self.new.fired ≡ self.old.fired + 1)

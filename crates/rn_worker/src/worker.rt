@@ -7,7 +7,8 @@ ghost use Rattle.rn_worker.specs.Seen.{HasEnded};
 
 use crate::acting::{Acted, act};
 use crate::considering::{
-    go_beside, go_on_after, late_after, live_then, plan_at, start_beside, was_stopped,
+    Seed, go_beside, go_on_after, late_after, live_then, plan_at, searcher, start_beside,
+    was_stopped,
 };
 use crate::gate::Gate;
 use crate::looking::{look, look_on};
@@ -17,7 +18,6 @@ use crate::tally::Tally;
 use rn_channel::Uplinks;
 use rn_desk::{Desk, Kept, Pass};
 use rn_fire::SimState;
-use rn_found::Finding;
 use rn_model::{Options, System};
 use std::alloc::Global;
 use std::sync::Wait;
@@ -60,13 +60,14 @@ pub fn work<R: Wait, G: Gate + Sync>(
     ensures swept { options.now.sweep_every ≡ 0 → tally.new.swept ≡ 0 }
 {
     let standby = Standby::new(options.workers);
+    let seed = Seed { number: None };
     work_while(
-        rt, alloc, desk, pass, system, uplinks, gate, options, &standby, tally,
+        rt, alloc, desk, pass, system, uplinks, gate, options, seed, &standby, tally,
     )
 }
 
-/// The same, beside others: a worker that isn't needed stands by, and who has seen the log's end ends the
-/// others' searches and wakes all.
+/// The same, with a seed or none, and beside others: a worker that isn't needed stands by, and who has
+/// seen the log's end ends the others' searches and wakes all.
 ///
 /// No promise rests on that. A worker whose search was stopped though the log goes on searches its next
 /// snapshot whole.
@@ -79,6 +80,7 @@ pub(crate) fn work_while<R: Wait, G: Gate + Sync>(
     uplinks: &Uplinks,
     gate: &G,
     options: &Options,
+    seed: Seed,
     standby: &Standby,
     tally: &mut Tally,
 )
@@ -104,7 +106,7 @@ pub(crate) fn work_while<R: Wait, G: Gate + Sync>(
 {
     let worker = tally.worker;
     let role = standby.role_of(worker);
-    let mut finding = Finding::of_share(alloc, worker, options.workers);
+    let mut finding = searcher(alloc, worker, options.workers, seed);
     let mut pace = Pace::new();
     let mut late = 0;
     let mut rests = false;

@@ -7,6 +7,7 @@ ghost use Rattle.rn_desk.specs.Numbered.{EachAt};
 ghost use Rattle.rn_worker.specs.Ends.{AreOfWorkers, IsTallyOf, KeepsJustLive};
 ghost use Rattle.rn_worker.specs.Posts.{IsAtWork, IsDone, IsOfSetup};
 
+use crate::considering::Seed;
 use crate::dropping::drop_dead;
 use crate::gate::Gate;
 use crate::posts::{Post, parted, posts_of};
@@ -39,6 +40,7 @@ fn all_work<R: Threads + Wait + Sync, G: Gate + Sync>(
     uplinks: &Uplinks,
     gate: &G,
     options: &Options,
+    seed: Seed,
     standby: &Standby,
     posts: &mut [Post],
 )
@@ -69,6 +71,7 @@ fn all_work<R: Threads + Wait + Sync, G: Gate + Sync>(
                 uplinks,
                 gate,
                 options,
+                seed,
                 standby,
                 &mut post.tally,
             )
@@ -88,13 +91,14 @@ fn processors(rt: &impl Threads, workers: u32) -> u32 {
     }
 }
 
-/// Runs a system by its number of workers until the log of its run has ended, and drops what isn't
-/// live then.
-pub fn run_workers<R: Threads + Wait + Sync, G: Gate + Sync>(
+// Runs a system by its number of workers, with a seed or none, until the log of its run has ended, and
+// drops what isn't live then.
+fn run_by<R: Threads + Wait + Sync, G: Gate + Sync>(
     rt: &R,
     alloc: Global,
     system: Arc<System>,
     options: Options,
+    seed: Option<u32>,
     gate: &G,
 ) -> Result<Finished, NoMemory>
     requires good { Good system.value }
@@ -121,6 +125,7 @@ pub fn run_workers<R: Threads + Wait + Sync, G: Gate + Sync>(
         &uplinks,
         gate,
         &options,
+        Seed { number: seed },
         &standby,
         posts.as_mut_slice(),
     );
@@ -132,4 +137,52 @@ pub fn run_workers<R: Threads + Wait + Sync, G: Gate + Sync>(
         state,
         tallies: Items::from_vec(tallies),
     })
+}
+
+/// Runs a system by its number of workers until the log of its run has ended, and drops what isn't
+/// live then.
+pub fn run_workers<R: Threads + Wait + Sync, G: Gate + Sync>(
+    rt: &R,
+    alloc: Global,
+    system: Arc<System>,
+    options: Options,
+    gate: &G,
+) -> Result<Finished, NoMemory>
+    requires good { Good system.value }
+    requires limits { IsInLimits options }
+    ensures setup { IfOk result (λ f.
+        f.state.setup ≡ record { system = system.value; options = options }) }
+    ensures ended { IfOk result (λ f. f.state.ended ≢ None) }
+    ensures count { IfOk result (λ f. length f.tallies ≡ options.workers) }
+    ensures tallies { IfOk result (λ f.
+        EachAt (IsTallyOf f.state.fired options.sweep_every) f.tallies) }
+    ensures workers { IfOk result (λ f. AreOfWorkers options.workers f.state.fired) }
+    ensures live { IfOk result (λ f. KeepsJustLive f.state) }
+{
+    run_by(rt, alloc, system, options, None, gate)
+}
+
+/// The same with a seed: where a worker looks beside where it found something last is drawn from
+/// random numbers, which begin with the seed and the worker's number. So one worker writes the same
+/// run for the same seed, and mostly another for another.
+pub fn run_seeded<R: Threads + Wait + Sync, G: Gate + Sync>(
+    rt: &R,
+    alloc: Global,
+    system: Arc<System>,
+    options: Options,
+    seed: u32,
+    gate: &G,
+) -> Result<Finished, NoMemory>
+    requires good { Good system.value }
+    requires limits { IsInLimits options }
+    ensures setup { IfOk result (λ f.
+        f.state.setup ≡ record { system = system.value; options = options }) }
+    ensures ended { IfOk result (λ f. f.state.ended ≢ None) }
+    ensures count { IfOk result (λ f. length f.tallies ≡ options.workers) }
+    ensures tallies { IfOk result (λ f.
+        EachAt (IsTallyOf f.state.fired options.sweep_every) f.tallies) }
+    ensures workers { IfOk result (λ f. AreOfWorkers options.workers f.state.fired) }
+    ensures live { IfOk result (λ f. KeepsJustLive f.state) }
+{
+    run_by(rt, alloc, system, options, Some(seed), gate)
 }

@@ -5,3 +5,5 @@
 mod nets;
 #[cfg(test)]
 mod runs;
+#[cfg(test)]
+mod turns;

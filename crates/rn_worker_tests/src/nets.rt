@@ -6,7 +6,7 @@ ghost use Rattle.rn_model.specs.Limits.{greatest_sweep, most_workers};
 use rn_check::check_system;
 use rn_model::{Options, System};
 use rn_net::read_system;
-use rn_worker::{Finished, Gate, run_workers};
+use rn_worker::{Finished, Gate, NoGate, run_seeded, run_workers};
 use std::alloc::Global;
 use std::sync::{Arc, Wait};
 use std::test::Fail;
@@ -47,4 +47,18 @@ pub(crate) fn run_text<R: Threads + Wait + Sync, G: Gate + Sync>(
 {
     let system = system_of(alloc, text)?;
     Ok(run_workers(rt, alloc, system, options_of(workers, sweep_every), gate)?)
+}
+
+/// A net text, run by so many workers with a seed.
+pub(crate) fn run_text_seeded<R: Threads + Wait + Sync>(
+    rt: &R,
+    alloc: Global,
+    text: &[u8],
+    workers: u32,
+    seed: u32,
+) -> Result<Finished, Fail>
+    requires { (1 ≤ workers) × (workers ≤ most_workers) }
+{
+    let system = system_of(alloc, text)?;
+    Ok(run_seeded(rt, alloc, system, options_of(workers, 0), seed, &NoGate)?)
 }

@@ -10,7 +10,7 @@ use Rattle.rn_worker.specs.Ends.{AreOfWorkers, IsTallyOf, fired_by}
 use Rattle.rn_worker.proofs.Elements.{EachAt-map, get_or-map_at, length-of_map, one_of, written_back}
 use Rattle.rn_worker.proofs.SeenEntries.{then_ended}
 use Rattle.rn_worker.proofs.Tallying.{few_workers, own_count}
-use Rattle.rn_worker.proofs.workers.run_workers.Goals as goal
+use Rattle.rn_worker.proofs.workers.run_by.Goals as goal
 
 pub close-state-requires-clause-passes : goal.close-state-requires-clause-passes
 close-state-requires-clause-passes g c =
