@@ -48,8 +48,8 @@ fn longest_input(command: &Command) -> Option<usize>
     ensures { result ≡ longest_input command.now }
 {
     match command {
-        Command::Gen(_, _) => None,
-        Command::Replay(_) => Some(LONGEST_TEXT),
+        Command::Gen(_, _) | Command::GenSeeded(_, _, _) => None,
+        Command::Replay(_) | Command::Moves(_) => Some(LONGEST_TEXT),
         _ => Some(LONGEST_NET_TEXT),
     }
 }

@@ -13,7 +13,8 @@ use Rattle.rn_answer.specs.declared.status.TheConstants.{DONE, FAULTED, NET_REFU
 use Rattle.rn_answer.specs.declared.stopped.Stopped.{Stopped}
 use Rattle.rn_answer.specs.declared.stopped.Stopped.TheVariants.{ReadFault, Refused}
 use Rattle.rn_app.specs.TopCall.{Comes, ComesOrStops, IsFaultStatus, IsFine, IsNoInput, IsNoRecord, MayFault}
-use Rattle.rn_app.proofs.Causes.{IsDoneBut, Laws, fine_status, input_status, record_status, words_status}
+use Rattle.rn_app.proofs.Causes.{IsDoneBut, Laws, RefusesRecords, fine_status, input_status, moves_refuse, record_status}
+use Rattle.rn_app.proofs.Causes.{replay_refuses, words_status}
 use Rattle.rn_app.proofs.Written.{Call, IsWritten, same_or_other, status_or_fault, write_fault_clause}
 
 -- where there is an answer the words and the input come to it
@@ -54,10 +55,16 @@ module _ {E : Type 0} (k : Call E) (a : Answer) (w : IsWritten k a) (laws : Laws
       let comes = subst (λ left. Comes k.words left k.left_after a) is w.comes in
       or_fault NET_REFUSED k.result (status_or_fault k a w NET_REFUSED (input_status laws k.words k.left_after bytes c a accepted wrong comes)))
 
-  pub record_clause : (options : Options) → WordsOk k.words (command.Replay options) → IfSome k.left (λ bytes. IsNoRecord options bytes → (k.result ≡ RECORD_REFUSED) ⊎ IsFaultStatus k.result)
-  record_clause options accepted = if_some k.left (λ bytes. IsNoRecord options bytes → (k.result ≡ RECORD_REFUSED) ⊎ IsFaultStatus k.result) (λ bytes is wrong.
+  refused_record : (options : Options) (c : Command) → RefusesRecords options c → WordsOk k.words c → IfSome k.left (λ bytes. IsNoRecord options bytes → (k.result ≡ RECORD_REFUSED) ⊎ IsFaultStatus k.result)
+  refused_record options c reads accepted = if_some k.left (λ bytes. IsNoRecord options bytes → (k.result ≡ RECORD_REFUSED) ⊎ IsFaultStatus k.result) (λ bytes is wrong.
       let comes = subst (λ left. Comes k.words left k.left_after a) is w.comes in
-      or_fault RECORD_REFUSED k.result (status_or_fault k a w RECORD_REFUSED (record_status laws k.words k.left_after bytes options a accepted wrong comes)))
+      or_fault RECORD_REFUSED k.result (status_or_fault k a w RECORD_REFUSED (record_status laws k.words k.left_after bytes options c a reads accepted wrong comes)))
+
+  pub record_clause : (options : Options) → WordsOk k.words (command.Replay options) → IfSome k.left (λ bytes. IsNoRecord options bytes → (k.result ≡ RECORD_REFUSED) ⊎ IsFaultStatus k.result)
+  record_clause options accepted = refused_record options (command.Replay options) (replay_refuses options) accepted
+
+  pub moves_clause : (options : Options) → WordsOk k.words (command.Moves options) → IfSome k.left (λ bytes. IsNoRecord options bytes → (k.result ≡ RECORD_REFUSED) ⊎ IsFaultStatus k.result)
+  moves_clause options accepted = refused_record options (command.Moves options) (moves_refuse options) accepted
 
   pub complete_clause : (c : Command) → WordsOk k.words c → IsFine c k.left → ¬ Rose k.out_faults k.out_faults_after → ¬ Rose k.err_faults k.err_faults_after →
       (k.result ≡ DONE) ⊎ ((k.result ≡ NO_MEMORY) ⊎ ((k.result ≡ FAULTED) × MayFault c))

@@ -16,12 +16,16 @@ use Rattle.rn_words.specs.Reading.{reading}
 use Rattle.rn_answer.specs.declared.answer.Answer.{Answer}
 use Rattle.rn_answer.specs.declared.status.TheConstants.{DONE, NET_REFUSED, WORDS_REFUSED, FAULTED, NO_MEMORY, RECORD_REFUSED}
 use Rattle.rn_answer.specs.Input.{longest_input, IsTooLong}
-use Rattle.rn_answer.specs.NetTexts.{Accepted, IsRefusedBy}
+use Rattle.rn_answer.specs.NetTexts.{Accepted, IsRefusedBy, RefusesNet}
+use Rattle.rn_answer.specs.TextCommands.{ChecksTo, PrintsTo}
 use Rattle.rn_answer.specs.Refusing.{done, refusal}
 use Rattle.rn_commands.specs.Ends.{end_status}
 use Rattle.rn_commands.specs.Laws.{OneAnswerToRecord, OneParting}
-use Rattle.rn_commands.specs.NetCommands.{ReplayComesTo}
+use Rattle.rn_commands.specs.NetCommands.{EnabledTo, ReplaysTo, ReplayComesTo}
+use Rattle.rn_commands.specs.Parts.{HasParts}
 use Rattle.rn_commands.specs.Replaying.{IsNoRunBy, RecordTo, replayed_text}
+use Rattle.rn_commands.specs.Runs.{RunsTo}
+use Rattle.rn_commands.specs.Moves.{RecordMovesTo, MovesTo, MovesComeTo}
 use Rattle.rn_app.specs.Commands.{ComesTo, HasNetText}
 use Rattle.rn_app.specs.Laws.{AcceptedIsNotRefused, OneSystemAccepted, RunIsRead}
 use Rattle.rn_app.specs.TopCall.{Comes, IsFine, IsNoInput, IsNoRecord, IsRecorded, MayFault}
@@ -44,22 +48,31 @@ words_status laws words left left_after a fault faulty (Comes.longer c limit acc
 words_status laws words left left_after a fault faulty (Comes.inputless _ c accepted none comes same) = absurd (not_faulty laws.words words c fault accepted faulty)
 words_status laws words left left_after a fault faulty (Comes.whole _ c limit bytes accepted is all few comes) = absurd (not_faulty laws.words words c fault accepted faulty)
 
+-- A net text that is refused is reported so, where what else a command comes to on it would say that it
+-- is accepted.
+refused_or : Laws → (R : Type 0) (bytes net line : List ℕ) (a : Answer) → net ≡ bytes → IsRefusedBy net line → (R → (system : System) × Accepted bytes system) → RefusesNet bytes a ⊎ R → a.status ≡ NET_REFUSED
+refused_or laws R bytes net line a is refused accepted (inl (told, why, same)) = ap (λ x. x.status) same
+refused_or laws R bytes net line a is refused accepted (inr r) =
+    let (system, its) = accepted r in
+    absurd (laws.texts bytes line system its (subst (λ b. IsRefusedBy b line) is refused))
+
+-- the same of a net text before a line `---`
+refused_before : Laws → (R : List ℕ → List ℕ → Type 0) (bytes net line : List ℕ) (a : Answer) → ((rest : List ℕ) × HasParts bytes net rest) → IsRefusedBy net line → ((other more : List ℕ) → R other more → (system : System) × Accepted other system) →
+    ((other : List ℕ) × (more : List ℕ) × HasParts bytes other more × (RefusesNet other a ⊎ R other more)) → a.status ≡ NET_REFUSED
+refused_before laws R bytes net line a (rest, parts) refused accepted (other, more, its, comes) =
+    refused_or laws (R other more) other net line a (laws.parts bytes net rest other more parts its).0 refused (accepted other more) comes
+
 -- a command whose net text is refused says so
 net_status : Laws → (c : Command) (bytes net line : List ℕ) (a : Answer) → HasNetText c bytes net → IsRefusedBy net line → ComesTo c bytes a → a.status ≡ NET_REFUSED
-net_status laws (command.Run options) bytes net line a is refused (inl (told, why, same)) = ap (λ x. x.status) same
-net_status laws (command.Run options) bytes net line a is refused (inr runs) = absurd (laws.texts bytes line runs.run.system runs.run.accepted (subst (λ b. IsRefusedBy b line) is refused))
-net_status laws command.Check bytes net line a is refused (inl (told, why, same)) = ap (λ x. x.status) same
-net_status laws command.Check bytes net line a is refused (inr (system, accepted, same)) = absurd (laws.texts bytes line system accepted (subst (λ b. IsRefusedBy b line) is refused))
-net_status laws command.Print bytes net line a is refused (inl (told, why, same)) = ap (λ x. x.status) same
-net_status laws command.Print bytes net line a is refused (inr (plain, system, spells, checked, same)) =
-    let accepted : Accepted bytes system = record { plain = plain; spelled = spells; checked = checked } in
-    absurd (laws.texts bytes line system accepted (subst (λ b. IsRefusedBy b line) is refused))
-net_status laws (command.Enabled depth) bytes net line a is refused (inl (told, why, same)) = ap (λ x. x.status) same
-net_status laws (command.Enabled depth) bytes net line a is refused (inr (system, found, accepted, just, same)) = absurd (laws.texts bytes line system accepted (subst (λ b. IsRefusedBy b line) is refused))
-net_status laws (command.Replay options) bytes net line a (rest, parts) refused (other, more, its, inl (told, why, same)) = ap (λ x. x.status) same
-net_status laws (command.Replay options) bytes net line a (rest, parts) refused (other, more, its, inr (system, accepted, record_told)) =
-    absurd (laws.texts other line system accepted (subst (λ b. IsRefusedBy b line) (laws.parts bytes net rest other more parts its).0 refused))
+net_status laws (command.Run options) bytes net line a is refused comes = refused_or laws (RunsTo options bytes a) bytes net line a is refused (λ runs. (runs.run.system, runs.run.accepted)) comes
+net_status laws (command.RunSeeded options seed) bytes net line a is refused comes = refused_or laws (RunsTo options bytes a) bytes net line a is refused (λ runs. (runs.run.system, runs.run.accepted)) comes
+net_status laws command.Check bytes net line a is refused comes = refused_or laws (ChecksTo bytes a) bytes net line a is refused (λ checks. (checks.0, checks.1)) comes
+net_status laws command.Print bytes net line a is refused comes = refused_or laws (PrintsTo bytes a) bytes net line a is refused (λ prints. (prints.1, record { plain = prints.0; spelled = prints.2; checked = prints.3 })) comes
+net_status laws (command.Enabled depth) bytes net line a is refused comes = refused_or laws (EnabledTo depth bytes a) bytes net line a is refused (λ lists. (lists.0, lists.2)) comes
+net_status laws (command.Replay options) bytes net line a has refused comes = refused_before laws (λ other more. ReplaysTo options other more a) bytes net line a has refused (λ other more replays. (replays.0, replays.1)) comes
+net_status laws (command.Moves options) bytes net line a has refused comes = refused_before laws (λ other more. MovesTo options other more a) bytes net line a has refused (λ other more moves. (moves.0, moves.1)) comes
 net_status laws (command.Gen copies options) bytes net line a is refused gens = absurd is
+net_status laws (command.GenSeeded copies options seed) bytes net line a is refused gens = absurd is
 
 -- a command whose input isn't what it asks for says so, where it was within the limit
 within_status : Laws → (c : Command) (limit : ℕ) (bytes : List ℕ) (a : Answer) → longest_input c ≡ Some limit → length bytes ≤ limit → IsNoInput c bytes → ComesTo c bytes a → a.status ≡ NET_REFUSED
@@ -72,7 +85,10 @@ within_status laws c limit bytes a is few (IsNoInput.refused {net} {line} has re
 none_refused : (c : Command) (bytes : List ℕ) → longest_input c ≡ None → IsNoInput c bytes → ⊥
 none_refused c bytes none (IsNoInput.longer limit is long) = absurd cc
 none_refused (command.Gen copies options) bytes none (IsNoInput.refused has refused) = has
+none_refused (command.GenSeeded copies options seed) bytes none (IsNoInput.refused has refused) = has
 none_refused (command.Run options) bytes none (IsNoInput.refused has refused) = absurd cc
+none_refused (command.RunSeeded options seed) bytes none (IsNoInput.refused has refused) = absurd cc
+none_refused (command.Moves options) bytes none (IsNoInput.refused has refused) = absurd cc
 none_refused command.Check bytes none (IsNoInput.refused has refused) = absurd cc
 none_refused command.Print bytes none (IsNoInput.refused has refused) = absurd cc
 none_refused (command.Enabled depth) bytes none (IsNoInput.refused has refused) = absurd cc
@@ -92,28 +108,56 @@ refusing_status : Laws → (system : System) (options : Options) (rest line : Li
 refusing_status laws system options rest line a wrong told =
     ap (λ x. x.status) (laws.one system options rest a (refusal RECORD_REFUSED line) told (RecordTo.refused line wrong))
 
-no_record_status : Laws → (options : Options) (bytes : List ℕ) (a : Answer) → IsNoRecord options bytes → ReplayComesTo options bytes a → a.status ≡ RECORD_REFUSED
-no_record_status laws options bytes a wrong (net, rest, parts, inl (line, why, same)) =
+-- and its moves aren't told
+moving_status : Laws → (system : System) (options : Options) (rest line : List ℕ) (a : Answer) → IsNoRunBy system options rest line → RecordMovesTo system options rest a → a.status ≡ RECORD_REFUSED
+moving_status laws system options rest line a wrong (RecordMovesTo.refused other why) = refl
+moving_status laws system options rest line a wrong (RecordMovesTo.moved count reason run read text moves) =
+    let no = refusing_status laws system options rest line (done (replayed_text count reason)) wrong (RecordTo.replayed count reason run read) in
+    absurd cc
+
+-- what a command comes to on an accepted net text and a record that isn't the text of a run of it
+no_record_by : Laws → (R : System → List ℕ → Type 0) (options : Options) (bytes : List ℕ) (a : Answer) → ((system : System) (rest line : List ℕ) → IsNoRunBy system options rest line → R system rest → a.status ≡ RECORD_REFUSED) → IsNoRecord options bytes →
+    ((net : List ℕ) × (rest : List ℕ) × HasParts bytes net rest × (RefusesNet net a ⊎ ((system : System) × Accepted net system × R system rest))) → a.status ≡ RECORD_REFUSED
+no_record_by laws R options bytes a refuses wrong (net, rest, parts, inl (line, why, same)) =
     absurd (laws.texts net line wrong.system (subst (λ n. Accepted n wrong.system) (laws.parts bytes wrong.net wrong.record_bytes net rest wrong.parts parts).0 wrong.accepted) why)
-no_record_status laws options bytes a wrong (net, rest, parts, inr (system, accepted, told)) =
+no_record_by laws R options bytes a refuses wrong (net, rest, parts, inr (system, accepted, told)) =
     let same = laws.parts bytes wrong.net wrong.record_bytes net rest wrong.parts parts in
     let one : wrong.system ≡ system = laws.systems net wrong.system system (subst (λ n. Accepted n wrong.system) same.0 wrong.accepted) accepted in
     let its : IsNoRunBy system options rest wrong.line = subst (λ s. IsNoRunBy s options rest wrong.line) one (subst (λ b. IsNoRunBy wrong.system options b wrong.line) same.1 wrong.no_run) in
-    refusing_status laws system options rest wrong.line a its told
+    refuses system rest wrong.line its told
 
--- what the words of `replay` come to on such input
-pub record_status : Laws → (words : List (List ℕ)) (left_after : Option (List ℕ)) (bytes : List ℕ) (options : Options) (a : Answer) → WordsOk words (command.Replay options) → IsNoRecord options bytes → Comes words (Some bytes) left_after a → a.status ≡ RECORD_REFUSED
-record_status laws words left_after bytes options a accepted wrong (Comes.wordless fault faulty same) = absurd (not_faulty laws.words words (command.Replay options) fault accepted faulty)
-record_status laws words left_after bytes options a accepted wrong (Comes.longer other limit given is long gives) =
-    let most : longest_input (command.Replay options) ≡ Some limit = subst (λ k. longest_input k ≡ Some limit) (one_command laws.words words other (command.Replay options) given accepted) is in
+-- a command that reads a record, and refuses one that isn't the text of a run
+pub record RefusesRecords (options : Options) (c : Command) : Type 0 where
+  pub reads : longest_input c ≡ Some longest_text
+  pub refuses : Laws → (bytes : List ℕ) (a : Answer) → IsNoRecord options bytes → ComesTo c bytes a → a.status ≡ RECORD_REFUSED
+
+pub replay_refuses : (options : Options) → RefusesRecords options (command.Replay options)
+replay_refuses options = record {
+  reads = refl;
+  refuses = λ laws bytes a wrong comes. no_record_by laws (λ system rest. RecordTo system options rest a) options bytes a (λ system rest line no told. refusing_status laws system options rest line a no told) wrong comes;
+}
+
+pub moves_refuse : (options : Options) → RefusesRecords options (command.Moves options)
+moves_refuse options = record {
+  reads = refl;
+  refuses = λ laws bytes a wrong comes. no_record_by laws (λ system rest. RecordMovesTo system options rest a) options bytes a (λ system rest line no told. moving_status laws system options rest line a no told) wrong comes;
+}
+
+-- what the words of such a command come to on such input
+pub record_status : Laws → (words : List (List ℕ)) (left_after : Option (List ℕ)) (bytes : List ℕ) (options : Options) (command : Command) (a : Answer) → RefusesRecords options command → WordsOk words command → IsNoRecord options bytes → Comes words (Some bytes) left_after a → a.status ≡ RECORD_REFUSED
+record_status laws words left_after bytes options command a reads accepted wrong (Comes.wordless fault faulty same) = absurd (not_faulty laws.words words command fault accepted faulty)
+record_status laws words left_after bytes options command a reads accepted wrong (Comes.longer other limit given is long gives) =
+    let most : longest_input command ≡ Some limit = subst (λ k. longest_input k ≡ Some limit) (one_command laws.words words other command given accepted) is in
+    let its = reads.reads in
     let same : longest_text ≡ limit = cc in
     let few = wrong.few in
     absurd (omega (arith, few, long, same))
-record_status laws words left_after bytes options a accepted wrong (Comes.inputless _ other given none comes same) =
-    let nothing : longest_input (command.Replay options) ≡ None = subst (λ k. longest_input k ≡ None) (one_command laws.words words other (command.Replay options) given accepted) none in
+record_status laws words left_after bytes options command a reads accepted wrong (Comes.inputless _ other given none comes same) =
+    let nothing : longest_input command ≡ None = subst (λ k. longest_input k ≡ None) (one_command laws.words words other command given accepted) none in
+    let its = reads.reads in
     absurd cc
-record_status laws words left_after bytes options a accepted wrong (Comes.whole _ other limit read given is all few comes) =
-    no_record_status laws options read a (subst (λ b. IsNoRecord options b) (sym all.all) wrong) (subst (λ k. ComesTo k read a) (one_command laws.words words other (command.Replay options) given accepted) comes)
+record_status laws words left_after bytes options command a reads accepted wrong (Comes.whole _ other limit read given is all few comes) =
+    reads.refuses laws read a (subst (λ b. IsNoRecord options b) (sym all.all) wrong) (subst (λ k. ComesTo k read a) (one_command laws.words words other command given accepted) comes)
 
 -- a command that is done, or faulted where it may, or wants memory
 abbrev pub IsDoneBut : Command → ℕ → Type 0
@@ -136,57 +180,89 @@ done_record laws options bytes rest system a within r more same told =
     let its : RecordTo r.system options r.record_bytes a = subst (λ s. RecordTo s options r.record_bytes a) (sym same) (subst (λ b. RecordTo system options b a) (sym more) told) in
     ap (λ x. x.status) (laws.one r.system options r.record_bytes a (done (replayed_text r.count r.reason)) its (RecordTo.replayed r.count r.reason r.run read))
 
-replay_status : Laws → (options : Options) (bytes : List ℕ) (a : Answer) → IsInLimits options → IsRecorded options bytes → ReplayComesTo options bytes a → a.status ≡ DONE
-replay_status laws options bytes a within r (net, rest, parts, inl (line, why, same)) =
+-- and its moves are told
+moved_record : Laws → (options : Options) (bytes rest : List ℕ) (system : System) (a : Answer) → IsInLimits options → (r : IsRecorded options bytes) → r.record_bytes ≡ rest → r.system ≡ system → RecordMovesTo system options rest a → a.status ≡ DONE
+moved_record laws options bytes rest system a within r more same (RecordMovesTo.refused line why) =
+    let no = done_record laws options bytes rest system (refusal RECORD_REFUSED line) within r more same (RecordTo.refused line why) in
+    absurd cc
+moved_record laws options bytes rest system a within r more same (RecordMovesTo.moved count reason run read text moves) = refl
+
+-- what a command comes to on an accepted net text and the text of a run of it
+recorded_by : Laws → (R : System → List ℕ → Type 0) (options : Options) (bytes : List ℕ) (a : Answer) (r : IsRecorded options bytes) → ((system : System) (rest : List ℕ) → r.record_bytes ≡ rest → r.system ≡ system → R system rest → a.status ≡ DONE) →
+    ((net : List ℕ) × (rest : List ℕ) × HasParts bytes net rest × (RefusesNet net a ⊎ ((system : System) × Accepted net system × R system rest))) → a.status ≡ DONE
+recorded_by laws R options bytes a r does (net, rest, parts, inl (line, why, same)) =
     absurd (laws.texts net line r.system (subst (λ n. Accepted n r.system) (laws.parts bytes r.net r.record_bytes net rest r.parts parts).0 r.accepted) why)
-replay_status laws options bytes a within r (net, rest, parts, inr (system, accepted, told)) =
+recorded_by laws R options bytes a r does (net, rest, parts, inr (system, accepted, told)) =
     let same = laws.parts bytes r.net r.record_bytes net rest r.parts parts in
-    done_record laws options bytes rest system a within r same.1 (laws.systems net r.system system (subst (λ n. Accepted n r.system) same.0 r.accepted) accepted) told
+    does system rest same.1 (laws.systems net r.system system (subst (λ n. Accepted n r.system) same.0 r.accepted) accepted) told
+
+replay_status : Laws → (options : Options) (bytes : List ℕ) (a : Answer) → IsInLimits options → IsRecorded options bytes → ReplayComesTo options bytes a → a.status ≡ DONE
+replay_status laws options bytes a within r comes = recorded_by laws (λ system rest. RecordTo system options rest a) options bytes a r (λ system rest more same told. done_record laws options bytes rest system a within r more same told) comes
+
+moves_status : Laws → (options : Options) (bytes : List ℕ) (a : Answer) → IsInLimits options → IsRecorded options bytes → MovesComeTo options bytes a → a.status ≡ DONE
+moves_status laws options bytes a within r comes = recorded_by laws (λ system rest. RecordMovesTo system options rest a) options bytes a r (λ system rest more same told. moved_record laws options bytes rest system a within r more same told) comes
 
 -- what is read is what was left
 all_left : (left : Option (List ℕ)) (bytes known : List ℕ) → IfSome left (λ l. bytes ≡ l) → left ≡ Some known → known ≡ bytes
 all_left left bytes known all is = sym (subst (λ o. IfSome o (λ l. bytes ≡ l)) is all)
 
+-- a net text that is accepted isn't refused
+never_refused : Laws → (left : Option (List ℕ)) (bytes : List ℕ) (a : Answer) → ((known : List ℕ) × (left ≡ Some known) × ((system : System) × Accepted known system)) → IfSome left (λ l. bytes ≡ l) → RefusesNet bytes a → ⊥
+never_refused laws left bytes a (known, is, (system, accepted)) all (line, why, same) = laws.texts bytes line system (subst (λ b. Accepted b system) (all_left left bytes known all is) accepted) why
+
 -- a command does what an input that is fine asks for
 whole_status : Laws → (c : Command) (left : Option (List ℕ)) (bytes : List ℕ) (a : Answer) → IsWithinLimits c → IsFine c left → IfSome left (λ l. bytes ≡ l) → ComesTo c bytes a → IsDoneBut c a.status
-whole_status laws (command.Run options) left bytes a within (known, is, (system, accepted)) all (inl (line, why, same)) = absurd (laws.texts bytes line system (subst (λ b. Accepted b system) (all_left left bytes known all is) accepted) why)
+whole_status laws (command.Run options) left bytes a within fine all (inl refuses) = absurd (never_refused laws left bytes a fine all refuses)
 whole_status laws (command.Run options) left bytes a within fine all (inr runs) = run_status ⊤ runs.reason a.status runs.status tt
-whole_status laws command.Check left bytes a within (known, is, (system, accepted)) all (inl (line, why, same)) = absurd (laws.texts bytes line system (subst (λ b. Accepted b system) (all_left left bytes known all is) accepted) why)
+whole_status laws (command.RunSeeded options seed) left bytes a within fine all (inl refuses) = absurd (never_refused laws left bytes a fine all refuses)
+whole_status laws (command.RunSeeded options seed) left bytes a within fine all (inr runs) = run_status ⊤ runs.reason a.status runs.status tt
+whole_status laws command.Check left bytes a within fine all (inl refuses) = absurd (never_refused laws left bytes a fine all refuses)
 whole_status laws command.Check left bytes a within fine all (inr (system, accepted, same)) = inl (ap (λ x. x.status) same)
-whole_status laws command.Print left bytes a within (known, is, (system, accepted)) all (inl (line, why, same)) = absurd (laws.texts bytes line system (subst (λ b. Accepted b system) (all_left left bytes known all is) accepted) why)
+whole_status laws command.Print left bytes a within fine all (inl refuses) = absurd (never_refused laws left bytes a fine all refuses)
 whole_status laws command.Print left bytes a within fine all (inr (plain, system, spells, checked, same)) = inl (ap (λ x. x.status) same)
-whole_status laws (command.Enabled depth) left bytes a within (known, is, (system, accepted)) all (inl (line, why, same)) = absurd (laws.texts bytes line system (subst (λ b. Accepted b system) (all_left left bytes known all is) accepted) why)
+whole_status laws (command.Enabled depth) left bytes a within fine all (inl refuses) = absurd (never_refused laws left bytes a fine all refuses)
 whole_status laws (command.Enabled depth) left bytes a within fine all (inr (system, found, accepted, just, same)) = inl (ap (λ x. x.status) same)
 whole_status laws (command.Replay options) left bytes a within (known, is, few, recorded) all comes = inl (replay_status laws options bytes a within (subst (λ b. IsRecorded options b) (all_left left bytes known all is) recorded) comes)
+whole_status laws (command.Moves options) left bytes a within (known, is, few, recorded) all comes = inl (moves_status laws options bytes a within (subst (λ b. IsRecorded options b) (all_left left bytes known all is) recorded) comes)
 whole_status laws (command.Gen copies options) left bytes a within fine all gens = run_status ⊤ gens.reason a.status gens.status tt
+whole_status laws (command.GenSeeded copies options seed) left bytes a within fine all gens = run_status ⊤ gens.reason a.status gens.status tt
 
 -- `gen` alone asks for no input
 inputless_status : (c : Command) (a : Answer) → longest_input c ≡ None → ComesTo c [] a → IsDoneBut c a.status
 inputless_status (command.Gen copies options) a none gens = run_status ⊤ gens.reason a.status gens.status tt
+inputless_status (command.GenSeeded copies options seed) a none gens = run_status ⊤ gens.reason a.status gens.status tt
 inputless_status (command.Run options) a none comes = absurd cc
+inputless_status (command.RunSeeded options seed) a none comes = absurd cc
+inputless_status (command.Moves options) a none comes = absurd cc
 inputless_status command.Check a none comes = absurd cc
 inputless_status command.Print a none comes = absurd cc
 inputless_status (command.Enabled depth) a none comes = absurd cc
 inputless_status (command.Replay options) a none comes = absurd cc
 
 -- an accepted net text isn't too long
-fits : (limit : ℕ) (left : Option (List ℕ)) (known : List ℕ) (system : System) → left ≡ Some known → Accepted known system → limit ≡ longest_net_text → IsTooLong limit left → ⊥
-fits limit left known system is accepted most long =
+fits : (limit : ℕ) (left : Option (List ℕ)) → ((known : List ℕ) × (left ≡ Some known) × ((system : System) × Accepted known system)) → limit ≡ longest_net_text → IsTooLong limit left → ⊥
+fits limit left (known, is, (system, accepted)) most long =
     let longer = subst (λ o. IsTooLong limit o) is long in
     let few = accepted.spelled.fits in
     omega (arith, longer, few, most)
 
--- nor is another input that is fine
-fine_fits : (c : Command) (limit : ℕ) (left : Option (List ℕ)) → IsFine c left → longest_input c ≡ Some limit → IsTooLong limit left → ⊥
-fine_fits (command.Run options) limit left (known, is, (system, accepted)) most long = let same : limit ≡ longest_net_text = cc in fits limit left known system is accepted same long
-fine_fits command.Check limit left (known, is, (system, accepted)) most long = let same : limit ≡ longest_net_text = cc in fits limit left known system is accepted same long
-fine_fits command.Print limit left (known, is, (system, accepted)) most long = let same : limit ≡ longest_net_text = cc in fits limit left known system is accepted same long
-fine_fits (command.Enabled depth) limit left (known, is, (system, accepted)) most long = let same : limit ≡ longest_net_text = cc in fits limit left known system is accepted same long
-fine_fits (command.Replay options) limit left (known, is, few, recorded) most long =
-    let same : limit ≡ longest_text = cc in
+-- nor is what isn't longer than the longest text
+fits_text : (limit : ℕ) (left : Option (List ℕ)) (known : List ℕ) → left ≡ Some known → length known ≤ longest_text → limit ≡ longest_text → IsTooLong limit left → ⊥
+fits_text limit left known is few most long =
     let longer = subst (λ o. IsTooLong limit o) is long in
-    omega (arith, longer, few, same)
+    omega (arith, longer, few, most)
+
+-- so no input that is fine is too long
+fine_fits : (c : Command) (limit : ℕ) (left : Option (List ℕ)) → IsFine c left → longest_input c ≡ Some limit → IsTooLong limit left → ⊥
+fine_fits (command.Run options) limit left fine most long = let same : limit ≡ longest_net_text = cc in fits limit left fine same long
+fine_fits (command.RunSeeded options seed) limit left fine most long = let same : limit ≡ longest_net_text = cc in fits limit left fine same long
+fine_fits command.Check limit left fine most long = let same : limit ≡ longest_net_text = cc in fits limit left fine same long
+fine_fits command.Print limit left fine most long = let same : limit ≡ longest_net_text = cc in fits limit left fine same long
+fine_fits (command.Enabled depth) limit left fine most long = let same : limit ≡ longest_net_text = cc in fits limit left fine same long
+fine_fits (command.Replay options) limit left (known, is, few, recorded) most long = let same : limit ≡ longest_text = cc in fits_text limit left known is few same long
+fine_fits (command.Moves options) limit left (known, is, few, recorded) most long = let same : limit ≡ longest_text = cc in fits_text limit left known is few same long
 fine_fits (command.Gen copies options) limit left fine most long = absurd cc
+fine_fits (command.GenSeeded copies options seed) limit left fine most long = absurd cc
 
 -- what accepted words come to on an input that is fine
 pub fine_status : Laws → (words : List (List ℕ)) (left left_after : Option (List ℕ)) (c : Command) (a : Answer) → WordsOk words c → IsFine c left → Comes words left left_after a → IsDoneBut c a.status

@@ -18,6 +18,7 @@ use Rattle.rn_answer.specs.Input.{longest_input}
 use Rattle.rn_answer.specs.NetTexts.{RefusesNet}
 use Rattle.rn_commands.specs.Ends.{end_status, end_message}
 use Rattle.rn_commands.specs.Replaying.{RecordTo}
+use Rattle.rn_commands.specs.Moves.{RecordMovesTo}
 use Rattle.rn_commands.specs.Runs.{RunsTo, IsRunOf}
 use Rattle.rn_app.specs.Commands.{ComesTo}
 use Rattle.rn_app.specs.TopCall.{Comes, IsOwnStatus, WritesRun}
@@ -65,10 +66,16 @@ replay_told : (system : System) (options : Options) (bytes : List ℕ) (a : Answ
 replay_told system options bytes a (RecordTo.refused line no_run) = IsToldBy.refused (inr (inr refl))
 replay_told system options bytes a (RecordTo.replayed count reason run read) = IsToldBy.quiet refl refl
 
+moves_told : (system : System) (options : Options) (bytes : List ℕ) (a : Answer) → RecordMovesTo system options bytes a → IsToldBy a
+moves_told system options bytes a (RecordMovesTo.refused line no_run) = IsToldBy.refused (inr (inr refl))
+moves_told system options bytes a (RecordMovesTo.moved count reason run read text moves) = IsToldBy.quiet refl refl
+
 -- each thing that a command comes to is told so
 pub command_told : (c : Command) (bytes : List ℕ) (a : Answer) → ComesTo c bytes a → IsToldBy a
 command_told (command.Run options) bytes a (inl (line, why, is)) = IsToldBy.refused (inl (ap (λ x. x.status) is))
 command_told (command.Run options) bytes a (inr runs) = IsToldBy.ended runs.reason (suc (length runs.run.firings)) runs.status runs.line
+command_told (command.RunSeeded options seed) bytes a (inl (line, why, is)) = IsToldBy.refused (inl (ap (λ x. x.status) is))
+command_told (command.RunSeeded options seed) bytes a (inr runs) = IsToldBy.ended runs.reason (suc (length runs.run.firings)) runs.status runs.line
 command_told command.Check bytes a (inl (line, why, is)) = IsToldBy.refused (inl (ap (λ x. x.status) is))
 command_told command.Check bytes a (inr (system, accepted, is)) = IsToldBy.quiet (ap (λ x. x.status) is) (ap (λ x. x.line) is)
 command_told command.Print bytes a (inl (line, why, is)) = IsToldBy.refused (inl (ap (λ x. x.status) is))
@@ -77,7 +84,10 @@ command_told (command.Enabled depth) bytes a (inl (line, why, is)) = IsToldBy.re
 command_told (command.Enabled depth) bytes a (inr (system, found, accepted, just, is)) = IsToldBy.quiet (ap (λ x. x.status) is) (ap (λ x. x.line) is)
 command_told (command.Replay options) bytes a (net, rest, parts, inl (line, why, is)) = IsToldBy.refused (inl (ap (λ x. x.status) is))
 command_told (command.Replay options) bytes a (net, rest, parts, inr (system, accepted, told)) = replay_told system options rest a told
+command_told (command.Moves options) bytes a (net, rest, parts, inl (line, why, is)) = IsToldBy.refused (inl (ap (λ x. x.status) is))
+command_told (command.Moves options) bytes a (net, rest, parts, inr (system, accepted, told)) = moves_told system options rest a told
 command_told (command.Gen copies options) bytes a gens = IsToldBy.ended gens.reason (suc (length gens.firings)) gens.status gens.line
+command_told (command.GenSeeded copies options seed) bytes a gens = IsToldBy.ended gens.reason (suc (length gens.firings)) gens.status gens.line
 
 -- and so is each thing that words and input come to
 pub told : (words : List (List ℕ)) (left left_after : Option (List ℕ)) (a : Answer) → Comes words left left_after a → IsToldBy a
@@ -116,32 +126,45 @@ says_memory a (IsToldBy.refused (inr (inr is))) memory = absurd cc
 says_memory a (IsToldBy.quiet is line) memory = absurd cc
 says_memory a (IsToldBy.ended reason step is line) memory = line ∙ memory_line reason step (sym is ∙ memory)
 
+-- a command that runs a net text with these options: any run, or one by a seed
+pub record RunsNet (options : Options) (c : Command) : Type 0 where
+  pub reads : longest_input c ≡ Some longest_net_text
+  pub runs : (bytes : List ℕ) (a : Answer) → ComesTo c bytes a → RefusesNet bytes a ⊎ RunsTo options bytes a
+
+pub any_runs : (options : Options) → RunsNet options (command.Run options)
+any_runs options = record { reads = refl; runs = λ bytes a comes. comes }
+
+pub seeded_runs : (options : Options) (seed : ℕ) → RunsNet options (command.RunSeeded options seed)
+seeded_runs options seed = record { reads = refl; runs = λ bytes a comes. comes }
+
 -- where the words are those of a run, and it is done or faulted, a run of the input is told
-pub run_told : ReadsWhatIsAccepted → (words : List (List ℕ)) (left left_after : Option (List ℕ)) (options : Options) (a : Answer) → WordsOk words (command.Run options) → (a.status ≡ DONE) ⊎ (a.status ≡ FAULTED) →
+pub run_told : ReadsWhatIsAccepted → (words : List (List ℕ)) (left left_after : Option (List ℕ)) (options : Options) (run : Command) (a : Answer) → RunsNet options run → WordsOk words run → (a.status ≡ DONE) ⊎ (a.status ≡ FAULTED) →
     Comes words left left_after a → (bytes : List ℕ) × GivesAll left bytes left_after × ((reason : Reason) × IsRunOf options bytes a.text reason × (a.status ≡ end_status reason))
-run_told law words left left_after options a accepted which (Comes.wordless fault faulty same) = absurd (not_faulty law words (command.Run options) fault accepted faulty)
-run_told law words left left_after options a accepted (inl is) (Comes.longer c limit given most long gives) = absurd cc
-run_told law words left left_after options a accepted (inr is) (Comes.longer c limit given most long gives) = absurd cc
-run_told law words left left_after options a accepted which (Comes.inputless _ c given none comes same) = let one : c ≡ command.Run options = one_command law words c (command.Run options) given accepted in absurd (let no : Some longest_net_text ≡ None = subst (λ k. longest_input k ≡ None) one none in cc)
-run_told law words left left_after options a accepted which (Comes.whole _ c limit bytes given most all few comes) =
-    (bytes, all, ran which (subst (λ k. ComesTo k bytes a) (one_command law words c (command.Run options) given accepted) comes))
+run_told law words left left_after options run a net accepted which (Comes.wordless fault faulty same) = absurd (not_faulty law words run fault accepted faulty)
+run_told law words left left_after options run a net accepted (inl is) (Comes.longer c limit given most long gives) = absurd cc
+run_told law words left left_after options run a net accepted (inr is) (Comes.longer c limit given most long gives) = absurd cc
+run_told law words left left_after options run a net accepted which (Comes.inputless _ c given none comes same) =
+    let one : c ≡ run = one_command law words c run given accepted in
+    absurd (let no : Some longest_net_text ≡ None = sym net.reads ∙ subst (λ k. longest_input k ≡ None) one none in cc)
+run_told law words left left_after options run a net accepted which (Comes.whole _ c limit bytes given most all few comes) =
+    (bytes, all, ran which (net.runs bytes a (subst (λ k. ComesTo k bytes a) (one_command law words c run given accepted) comes)))
   where
     ran : (a.status ≡ DONE) ⊎ (a.status ≡ FAULTED) → RefusesNet bytes a ⊎ RunsTo options bytes a → (reason : Reason) × IsRunOf options bytes a.text reason × (a.status ≡ end_status reason)
     ran (inl done) (inl (line, why, is)) = absurd (let status = ap (λ x. x.status) is in cc)
     ran (inr faulted) (inl (line, why, is)) = absurd (let status = ap (λ x. x.status) is in cc)
     ran which (inr runs) = (runs.reason, runs.run, runs.status)
 
--- the clause of runs that are done
-pub run_done : ReadsWhatIsAccepted → (words : List (List ℕ)) (left left_after held held_after : Option (List ℕ)) (options : Options) (a : Answer) → WordsOk words (command.Run options) → a.status ≡ DONE → Comes words left left_after a → Appends held a.text held_after →
+-- the clauses of runs that are done
+pub run_done : ReadsWhatIsAccepted → (words : List (List ℕ)) (left left_after held held_after : Option (List ℕ)) (options : Options) (run : Command) (a : Answer) → RunsNet options run → WordsOk words run → a.status ≡ DONE → Comes words left left_after a → Appends held a.text held_after →
     (reason : Reason) × ((reason ≡ End.Dead) ⊎ (reason ≡ End.Steps)) × WritesRun options left left_after held held_after reason
-run_done law words left left_after held held_after options a accepted is comes written =
-    let (bytes, all, (reason, run, status)) = run_told law words left left_after options a accepted (inl is) comes in
-    (reason, done_end reason (sym status ∙ is), record { bytes = bytes; read = all; text = a.text; is_run = run; written = written })
+run_done law words left left_after held held_after options run a net accepted is comes written =
+    let (bytes, all, (reason, its, status)) = run_told law words left left_after options run a net accepted (inl is) comes in
+    (reason, done_end reason (sym status ∙ is), record { bytes = bytes; read = all; text = a.text; is_run = its; written = written })
 
--- the clause of runs that ended in a fault
-pub run_faulted : ReadsWhatIsAccepted → (words : List (List ℕ)) (left left_after held held_after : Option (List ℕ)) (options : Options) (a : Answer) → WordsOk words (command.Run options) → a.status ≡ FAULTED → Comes words left left_after a → Appends held a.text held_after →
+-- the clauses of runs that ended in a fault
+pub run_faulted : ReadsWhatIsAccepted → (words : List (List ℕ)) (left left_after held held_after : Option (List ℕ)) (options : Options) (run : Command) (a : Answer) → RunsNet options run → WordsOk words run → a.status ≡ FAULTED → Comes words left left_after a → Appends held a.text held_after →
     (cause : FaultKind) × (b : Binding) × WritesRun options left left_after held held_after (End.Fault cause b)
-run_faulted law words left left_after held held_after options a accepted is comes written =
-    let (bytes, all, (reason, run, status)) = run_told law words left left_after options a accepted (inr is) comes in
+run_faulted law words left left_after held held_after options run a net accepted is comes written =
+    let (bytes, all, (reason, its, status)) = run_told law words left left_after options run a net accepted (inr is) comes in
     let (cause, b, faulted) = fault_end reason (sym status ∙ is) in
-    (cause, b, record { bytes = bytes; read = all; text = a.text; is_run = subst (λ r. IsRunOf options bytes a.text r) faulted run; written = written })
+    (cause, b, record { bytes = bytes; read = all; text = a.text; is_run = subst (λ r. IsRunOf options bytes a.text r) faulted its; written = written })

@@ -8,6 +8,7 @@ use Rattle.rn_model.specs.declared.log.Reason.TheVariants as End
 use Rattle.rn_outside.specs.Bytes.{Appends, AppendsPrefix}
 use Rattle.rn_outside.specs.Faults.{Rose, risen}
 use Rattle.rn_outside.proofs.FaultLemmas.{Rose-risen}
+use Rattle.rn_words.specs.declared.command.Command.{Command}
 use Rattle.rn_words.specs.declared.command.Command.TheVariants as command
 use Rattle.rn_words.specs.Commands.{WordsOk}
 use Rattle.rn_answer.specs.declared.answer.Answer.{Answer}
@@ -15,7 +16,8 @@ use Rattle.rn_answer.specs.declared.status.TheConstants.{DONE, FAULTED, NO_MEMOR
 use Rattle.rn_answer.specs.Writing.{TakesLine}
 use Rattle.rn_app.specs.TopCall.{Comes, FailsToTell, FailsToWrite, IsOwnStatus, IsStatus, RoseOnceAtMost, Writes, WritesRun, WritesUnfinished}
 use Rattle.rn_app.proofs.Causes.{Laws}
-use Rattle.rn_app.proofs.Statuses.{IsAnswered, answered, no_line, run_done, run_faulted, says_memory, told}
+use Rattle.rn_app.proofs.Statuses.{IsAnswered, RunsNet, any_runs, seeded_runs, answered, no_line, run_done, run_faulted}
+use Rattle.rn_app.proofs.Statuses.{says_memory, told}
 
 -- what a call had and left
 pub record Call (E : Type 0) : Type 0 where
@@ -70,17 +72,33 @@ module _ {E : Type 0} (k : Call E) (a : Answer) (w : IsWritten k a) where
   own n other is = λ failed. other (sym is ∙ failed)
 
   -- the clauses of runs
+  run_is_done : Laws → k.result ≡ DONE → (options : Options) (run : Command) → RunsNet options run → WordsOk k.words run →
+      (reason : Reason) × ((reason ≡ End.Dead) ⊎ (reason ≡ End.Steps)) × WritesRun options k.left k.left_after k.out k.out_after reason
+  run_is_done laws is options run net accepted =
+      let wrote = w.written (own DONE (λ e. absurd cc) is) in
+      run_done laws.words k.words k.left k.left_after k.out k.out_after options run a net accepted (sym wrote.0 ∙ is) w.comes wrote.1
+
+  run_is_faulted : Laws → k.result ≡ FAULTED → (options : Options) (run : Command) → RunsNet options run → WordsOk k.words run →
+      (cause : FaultKind) × (b : Binding) × WritesRun options k.left k.left_after k.out k.out_after (End.Fault cause b)
+  run_is_faulted laws is options run net accepted =
+      let wrote = w.written (own FAULTED (λ e. absurd cc) is) in
+      run_faulted laws.words k.words k.left k.left_after k.out k.out_after options run a net accepted (sym wrote.0 ∙ is) w.comes wrote.1
+
   pub run_clause : Laws → k.result ≡ DONE → (options : Options) → WordsOk k.words (command.Run options) →
       (reason : Reason) × ((reason ≡ End.Dead) ⊎ (reason ≡ End.Steps)) × WritesRun options k.left k.left_after k.out k.out_after reason
-  run_clause laws is options accepted =
-      let wrote = w.written (own DONE (λ e. absurd cc) is) in
-      run_done laws.words k.words k.left k.left_after k.out k.out_after options a accepted (sym wrote.0 ∙ is) w.comes wrote.1
+  run_clause laws is options accepted = run_is_done laws is options (command.Run options) (any_runs options) accepted
 
   pub faulted_clause : Laws → k.result ≡ FAULTED → (options : Options) → WordsOk k.words (command.Run options) →
       (cause : FaultKind) × (b : Binding) × WritesRun options k.left k.left_after k.out k.out_after (End.Fault cause b)
-  faulted_clause laws is options accepted =
-      let wrote = w.written (own FAULTED (λ e. absurd cc) is) in
-      run_faulted laws.words k.words k.left k.left_after k.out k.out_after options a accepted (sym wrote.0 ∙ is) w.comes wrote.1
+  faulted_clause laws is options accepted = run_is_faulted laws is options (command.Run options) (any_runs options) accepted
+
+  pub seeded_clause : Laws → k.result ≡ DONE → (options : Options) (seed : ℕ) → WordsOk k.words (command.RunSeeded options seed) →
+      (reason : Reason) × ((reason ≡ End.Dead) ⊎ (reason ≡ End.Steps)) × WritesRun options k.left k.left_after k.out k.out_after reason
+  seeded_clause laws is options seed accepted = run_is_done laws is options (command.RunSeeded options seed) (seeded_runs options seed) accepted
+
+  pub seeded_faulted_clause : Laws → k.result ≡ FAULTED → (options : Options) (seed : ℕ) → WordsOk k.words (command.RunSeeded options seed) →
+      (cause : FaultKind) × (b : Binding) × WritesRun options k.left k.left_after k.out k.out_after (End.Fault cause b)
+  seeded_faulted_clause laws is options seed accepted = run_is_faulted laws is options (command.RunSeeded options seed) (seeded_runs options seed) accepted
 
   -- the clauses of statuses
   pub writes_clause : IsOwnStatus k.result → Writes k.words k.left k.left_after k.result k.out k.out_after k.err k.err_after

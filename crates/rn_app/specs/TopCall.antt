@@ -119,7 +119,8 @@ pub data IsNoInput : Command → List ℕ → Type 0 where
   refused : {c : Command} {bytes net line : List ℕ} → HasNetText c bytes net →
       IsRefusedBy net line → IsNoInput c bytes
 
--- the input of `replay` is a net text and a record that isn't the text of a run, and not too long
+-- the input of `replay` or `moves` is a net text and a record that isn't the text of a run, and not too
+-- long
 pub record IsNoRecord (options : Options) (bytes : List ℕ) : Type 0 where
   pub few : length bytes ≤ longest_text
   pub net : List ℕ
@@ -130,7 +131,7 @@ pub record IsNoRecord (options : Options) (bytes : List ℕ) : Type 0 where
   pub line : List ℕ
   pub no_run : IsNoRunBy system options record_bytes line
 
--- the input of `replay` is a net text and the text of a run of it
+-- the input of `replay` or `moves` is a net text and the text of a run of it
 pub record IsRecorded (options : Options) (bytes : List ℕ) : Type 0 where
   pub net : List ℕ
   pub record_bytes : List ℕ
@@ -144,13 +145,18 @@ pub record IsRecorded (options : Options) (bytes : List ℕ) : Type 0 where
 -- the commands that run a net, whose log may end in a fault
 abbrev pub MayFault : Command → Type 0
 MayFault (command.Run options) = ⊤
+MayFault (command.RunSeeded options seed) = ⊤
 MayFault (command.Gen copies options) = ⊤
+MayFault (command.GenSeeded copies options seed) = ⊤
 MayFault _ = ⊥
 
--- The input is what the command can do: an accepted net text, and for `replay` the text of a run of
--- it. `gen` asks for none.
+-- The input is what the command can do: an accepted net text, and for `replay` and `moves` the text of
+-- a run of it. `gen` asks for none.
 abbrev pub IsFine : Command → Option (List ℕ) → Type 0
 IsFine (command.Gen copies options) left = ⊤
+IsFine (command.GenSeeded copies options seed) left = ⊤
 IsFine (command.Replay options) left = (bytes : List ℕ) × (left ≡ Some bytes)
+    × (length bytes ≤ longest_text) × IsRecorded options bytes
+IsFine (command.Moves options) left = (bytes : List ℕ) × (left ≡ Some bytes)
     × (length bytes ≤ longest_text) × IsRecorded options bytes
 IsFine c left = (bytes : List ℕ) × (left ≡ Some bytes) × ((system : System) × Accepted bytes system)

@@ -28,7 +28,10 @@ use rn_answer::{
     Answer, NO_MEMORY, READ_FAULT, Stopped, check, command_of, input_of, print, write_answer,
     write_line,
 };
-use rn_commands::{answer_laws, enabled, parts_laws, replay, run, run_workload};
+use rn_commands::{
+    answer_laws, enabled, moves, parts_laws, replay, run, run_seeded, run_workload,
+    run_workload_seeded,
+};
 use rn_outside::{Sink, Source};
 use rn_words::{Command, words_laws};
 use rn_worker::Gate;
@@ -51,11 +54,16 @@ fn work<R: Threads + Wait + Sync, G: Gate + Sync>(
     words_laws();
     match command {
         Command::Run(options) => run(rt, alloc, options, bytes, gate),
+        Command::RunSeeded(options, seed) => run_seeded(rt, alloc, options, seed, bytes, gate),
         Command::Check => check(alloc, bytes),
         Command::Print => print(alloc, bytes),
         Command::Enabled(depth) => enabled(alloc, depth, bytes),
         Command::Replay(options) => replay(alloc, options, bytes),
         Command::Gen(copies, options) => run_workload(rt, alloc, copies, options, gate),
+        Command::GenSeeded(copies, options, seed) => {
+            run_workload_seeded(rt, alloc, copies, options, seed, gate)
+        }
+        Command::Moves(options) => moves(alloc, options, bytes),
     }
 }
 
@@ -119,6 +127,18 @@ pub fn renew_top<R: Threads + Wait + Sync, I: Source, O: Sink, E: Sink, G: Gate 
         × WritesRun options (I.left input.old) (I.left input.new)
         (O.held out.old) (O.held out.new) (End.Fault cause b) }
 
+    // The same of a run with a seed, which changes nothing of what may be written.
+    ensures seeded { result ≡ DONE → (options : Options) (seed : ℕ) →
+        WordsOk (map string_bytes words.now) (Command.RunSeeded options seed) →
+        (reason : Reason) × ((reason ≡ End.Dead) ⊎ (reason ≡ End.Steps))
+        × WritesRun options (I.left input.old) (I.left input.new)
+        (O.held out.old) (O.held out.new) reason }
+    ensures seeded_faulted { result ≡ FAULTED → (options : Options) (seed : ℕ) →
+        WordsOk (map string_bytes words.now) (Command.RunSeeded options seed) →
+        (cause : FaultKind) × (b : Binding)
+        × WritesRun options (I.left input.old) (I.left input.new)
+        (O.held out.old) (O.held out.new) (End.Fault cause b) }
+
     // With each status but those of faults and of memory, the sinks took what the words and the input
     // come to, and this has that status.
     ensures writes { IsOwnStatus result → Writes (map string_bytes words.now)
@@ -153,6 +173,10 @@ pub fn renew_top<R: Threads + Wait + Sync, I: Source, O: Sink, E: Sink, G: Gate 
         (result ≡ NET_REFUSED) ⊎ IsFaultStatus result) }
     ensures refuses_record { (options : Options) →
         WordsOk (map string_bytes words.now) (Command.Replay options) →
+        IfSome (I.left input.old) (λ bytes. IsNoRecord options bytes →
+        (result ≡ RECORD_REFUSED) ⊎ IsFaultStatus result) }
+    ensures refuses_moved { (options : Options) →
+        WordsOk (map string_bytes words.now) (Command.Moves options) →
         IfSome (I.left input.old) (λ bytes. IsNoRecord options bytes →
         (result ≡ RECORD_REFUSED) ⊎ IsFaultStatus result) }
 

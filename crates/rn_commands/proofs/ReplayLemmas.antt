@@ -92,7 +92,7 @@ module _ (options : Options) (bytes net rest : List ℕ) (parts : HasParts bytes
       pub replayed_ends : s.ended ≢ None
       replayed_ends going = let ended = replayed_ended in let never : ⊥ = cc in never
 
-      entries_are : told.entries ≡ entries_of s.fired (Some whole.reason)
+      pub entries_are : told.entries ≡ entries_of s.fired (Some whole.reason)
       entries_are = sym replayed.entries ∙ ap (entries_of s.fired) replayed_ended
 
       record_of_run : rest ≡ record_text system told → IsState s →

@@ -6,6 +6,8 @@ use Rattle.rn_model.specs.declared.log.Options.{Options}
 use Rattle.rn_gen.specs.Workload.{workload}
 use Rattle.rn_answer.specs.declared.answer.Answer.{Answer}
 use Rattle.rn_answer.specs.NetTexts.{Accepted}
+use Rattle.rn_commands.specs.Moves.{MovesComeTo}
+use Rattle.rn_commands.specs.NetCommands.{ReplayComesTo}
 use Rattle.rn_commands.specs.Parts.{HasParts}
 use Rattle.rn_commands.specs.Replaying.{RecordTo}
 
@@ -18,6 +20,13 @@ OneParting = (bytes net rest other_net other_rest : List ℕ) → HasParts bytes
 abbrev pub OneAnswerToRecord : Type 0
 OneAnswerToRecord = (system : System) (options : Options) (bytes : List ℕ) (a b : Answer) →
     RecordTo system options bytes a → RecordTo system options bytes b → a ≡ b
+
+-- Whatever `moves` comes to, `replay` comes to an answer with the same status and line. So the moves
+-- of a record are told exactly where `replay` accepts it, unless memory runs out.
+abbrev pub MovesGoWithReplay : Type 0
+MovesGoWithReplay = (options : Options) (bytes : List ℕ) (a : Answer) →
+    MovesComeTo options bytes a →
+    (b : Answer) × ReplayComesTo options bytes b × (a.status ≡ b.status) × (a.line ≡ b.line)
 
 -- The workload text of 10,000 workers at most is a net text.
 abbrev pub WorkloadsAreAccepted : Type 0

@@ -4,5 +4,6 @@ pub mod Bindings
 pub mod Parts
 pub mod Replaying
 pub mod Workloads
+pub mod Moves
 pub mod NetCommands
 pub mod Laws

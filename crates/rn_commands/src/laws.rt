@@ -1,5 +1,6 @@
 //! What `replay` comes to is one answer, and the text that `gen` runs is accepted.
-ghost use Rattle.rn_commands.specs.Laws.{OneAnswerToRecord, OneParting, WorkloadsAreAccepted};
+ghost use Rattle.rn_commands.specs.Laws.{MovesGoWithReplay, OneAnswerToRecord, OneParting};
+ghost use Rattle.rn_commands.specs.Laws.{WorkloadsAreAccepted};
 
 use rn_gen::workload_laws;
 use rn_replay::replay_laws;
@@ -17,6 +18,11 @@ pub fn answer_laws()
     record_laws();
     replay_laws();
 }
+
+/// What `moves` comes to has the status and the line of what `replay` comes to.
+pub fn moves_laws()
+    ensures { MovesGoWithReplay }
+{}
 
 /// The text that `gen` runs is a net text, for each number of workers.
 pub fn gen_laws()

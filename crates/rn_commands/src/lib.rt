@@ -4,13 +4,15 @@
 mod bindings;
 mod ends;
 mod laws;
+mod moving;
 mod replays;
 mod running;
 mod runs;
 mod workload;
 
 pub use bindings::enabled;
-pub use laws::{answer_laws, gen_laws, parts_laws};
+pub use laws::{answer_laws, gen_laws, moves_laws, parts_laws};
+pub use moving::moves;
 pub use replays::replay;
-pub use runs::run;
-pub use workload::run_workload;
+pub use runs::{run, run_seeded};
+pub use workload::{run_workload, run_workload_seeded};

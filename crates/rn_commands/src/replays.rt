@@ -44,7 +44,7 @@ fn is_parting(line: &[u8]) -> bool
 
 // The net text and the record of the input of `replay`: what stands before the first line `---`, and
 // what stands after it. Without such a line the record is empty.
-fn parted(bytes: &[u8]) -> (&[u8], &[u8])
+pub(crate) fn parted(bytes: &[u8]) -> (&[u8], &[u8])
     ensures { HasParts bytes.now result.0.now result.1.now }
 {
     let mut at = 0;
@@ -82,7 +82,7 @@ fn refused_record(alloc: Global, fault: RecordFault) -> Stopped
 }
 
 // The refusal of a record that tells what isn't true.
-fn refused_replay(alloc: Global, fault: ReplayFault) -> Stopped
+pub(crate) fn refused_replay(alloc: Global, fault: ReplayFault) -> Stopped
     ensures line { Stops (λ a. a ≡ refusal RECORD_REFUSED (entry_line fault)) result }
     ensures memory { fault ≡ ReplayFault.NoMemory → result ≡ Stopped.NoMemory }
 {
@@ -97,7 +97,7 @@ fn refused_replay(alloc: Global, fault: ReplayFault) -> Stopped
 }
 
 // What the bytes of a record tell: a run that ends once, of which they are the text.
-fn told_of(alloc: Global, system: &System, bytes: &[u8]) -> Result<Told, Stopped>
+pub(crate) fn told_of(alloc: Global, system: &System, bytes: &[u8]) -> Result<Told, Stopped>
     requires good { Good system.now }
     requires few { length bytes.now ≤ longest_record }
     ensures tells { IfOk result (λ told.
@@ -115,7 +115,7 @@ fn told_of(alloc: Global, system: &System, bytes: &[u8]) -> Result<Told, Stopped
 }
 
 // The state at the end of what is told.
-fn replayed(
+pub(crate) fn replayed(
     alloc: Global,
     system: System,
     options: Options,

@@ -6,17 +6,18 @@ ghost use Rattle.rn_commands.specs.Runs.{IsOfWorkers};
 use rn_fire::SimState;
 use rn_items::NoMemory;
 use rn_model::{Options, System};
-use rn_worker::{Finished, Gate, run_workers};
+use rn_worker::{Finished, Gate, run_seeded, run_workers};
 use std::alloc::Global;
 use std::sync::{Arc, Wait};
 use std::thread::Threads;
 
-/// The state in which the workers leave a run of a system, once its log has ended.
+/// The state in which the workers leave a run of a system, with a seed or none, once its log has ended.
 pub(crate) fn run_system<R: Threads + Wait + Sync, G: Gate + Sync>(
     rt: &R,
     alloc: Global,
     system: System,
     options: Options,
+    seed: Option<u32>,
     gate: &G,
 ) -> Result<SimState, NoMemory>
     requires good { Good system }
@@ -27,6 +28,10 @@ pub(crate) fn run_system<R: Threads + Wait + Sync, G: Gate + Sync>(
     ensures workers { IfOk result (λ s. All (IsOfWorkers options.workers) s.fired) }
 {
     let system = Arc::new(alloc, system)?;
+    if let Some(seed) = seed {
+        let Finished { state, tallies: _ } = run_seeded(rt, alloc, system, options, seed, gate)?;
+        return Ok(state);
+    }
     let Finished { state, tallies: _ } = run_workers(rt, alloc, system, options, gate)?;
     Ok(state)
 }

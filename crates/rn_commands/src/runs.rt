@@ -61,6 +61,23 @@ fn written(alloc: Global, state: &SimState) -> Result<Answer, NoMemory>
     })
 }
 
+// What a run of this net text comes to, with these options, and with a seed or none.
+fn run_by<R: Threads + Wait + Sync, G: Gate + Sync>(
+    rt: &R,
+    alloc: Global,
+    options: Options,
+    seed: Option<u32>,
+    bytes: &[u8],
+    gate: &G,
+) -> Result<Answer, Stopped>
+    requires { IsInLimits options }
+    ensures { Concludes (λ a. RefusesNet bytes.now a ⊎ RunsTo options bytes.now a) result }
+{
+    let system = system_of(alloc, bytes)?;
+    let state = run_system(rt, alloc, system, options, seed, gate)?;
+    Ok(written(alloc, &state)?)
+}
+
 /// What `run` comes to on this net text, with these options.
 pub fn run<R: Threads + Wait + Sync, G: Gate + Sync>(
     rt: &R,
@@ -72,7 +89,20 @@ pub fn run<R: Threads + Wait + Sync, G: Gate + Sync>(
     requires { IsInLimits options }
     ensures { Concludes (λ a. RefusesNet bytes.now a ⊎ RunsTo options bytes.now a) result }
 {
-    let system = system_of(alloc, bytes)?;
-    let state = run_system(rt, alloc, system, options, gate)?;
-    Ok(written(alloc, &state)?)
+    run_by(rt, alloc, options, None, bytes, gate)
+}
+
+/// The same with a seed, which changes nothing of what may come.
+pub fn run_seeded<R: Threads + Wait + Sync, G: Gate + Sync>(
+    rt: &R,
+    alloc: Global,
+    options: Options,
+    seed: u32,
+    bytes: &[u8],
+    gate: &G,
+) -> Result<Answer, Stopped>
+    requires { IsInLimits options }
+    ensures { Concludes (λ a. RefusesNet bytes.now a ⊎ RunsTo options bytes.now a) result }
+{
+    run_by(rt, alloc, options, Some(seed), bytes, gate)
 }

@@ -104,6 +104,24 @@ fn workload_system(alloc: Global, copies: u32) -> Result<System, NoMemory>
     }
 }
 
+// What a run of the workload comes to for so many workers, with these options, and with a seed or none.
+fn run_workload_by<R: Threads + Wait + Sync, G: Gate + Sync>(
+    rt: &R,
+    alloc: Global,
+    copies: u32,
+    options: Options,
+    seed: Option<u32>,
+    gate: &G,
+) -> Result<Answer, Stopped>
+    requires copies { (1 ≤ copies) × (copies ≤ 10000) }
+    requires limits { IsInLimits options }
+    ensures { Concludes (GensTo copies options) result }
+{
+    let system = workload_system(alloc, copies)?;
+    let state = run_system(rt, alloc, system, options, seed, gate)?;
+    Ok(tallied(alloc, &state)?)
+}
+
 /// What `gen` comes to for so many workers, with these options.
 pub fn run_workload<R: Threads + Wait + Sync, G: Gate + Sync>(
     rt: &R,
@@ -116,7 +134,21 @@ pub fn run_workload<R: Threads + Wait + Sync, G: Gate + Sync>(
     requires limits { IsInLimits options }
     ensures { Concludes (GensTo copies options) result }
 {
-    let system = workload_system(alloc, copies)?;
-    let state = run_system(rt, alloc, system, options, gate)?;
-    Ok(tallied(alloc, &state)?)
+    run_workload_by(rt, alloc, copies, options, None, gate)
+}
+
+/// The same with a seed, which changes nothing of what may come.
+pub fn run_workload_seeded<R: Threads + Wait + Sync, G: Gate + Sync>(
+    rt: &R,
+    alloc: Global,
+    copies: u32,
+    options: Options,
+    seed: u32,
+    gate: &G,
+) -> Result<Answer, Stopped>
+    requires copies { (1 ≤ copies) × (copies ≤ 10000) }
+    requires limits { IsInLimits options }
+    ensures { Concludes (GensTo copies options) result }
+{
+    run_workload_by(rt, alloc, copies, options, Some(seed), gate)
 }

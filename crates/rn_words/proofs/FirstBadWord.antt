@@ -3,9 +3,9 @@ use Rattle.std.proofs.Common.{ℕ, suc, ◌≡◌, ◌≢◌, ◌∙◌, ◌+◌
 use Rattle.std.proofs.Common.{Option, Some, None, Result, Ok, Err, refl, sym, ap, subst, arith}
 use Rattle.std.specs.Prelude.{codes}
 use Rattle.rn_words.specs.declared.table.Verb.{Verb}
-use Rattle.rn_words.specs.declared.table.Verb.TheVariants.{Run, Check, Print, Enabled, Replay, Gen}
+use Rattle.rn_words.specs.declared.table.Verb.TheVariants.{Run, Check, Print, Enabled, Replay, Gen, Moves}
 use Rattle.rn_words.specs.declared.table.Setting.{Setting}
-use Rattle.rn_words.specs.declared.table.Setting.TheVariants.{Workers, Steps, Depth, Sweep}
+use Rattle.rn_words.specs.declared.table.Setting.TheVariants.{Workers, Steps, Depth, Sweep, Seed}
 use Rattle.rn_words.specs.declared.chosen.Chosen.{Chosen}
 use Rattle.rn_words.specs.declared.options.State.{State}
 use Rattle.rn_words.specs.declared.command.Command.{Command}
@@ -25,6 +25,7 @@ one_is_value Workers = refl
 one_is_value Steps = refl
 one_is_value Depth = refl
 one_is_value Sweep = refl
+one_is_value Seed = refl
 
 -- some words end what is read so far without a fault
 some_end : (verb : Verb) (at : ℕ) (chosen : Chosen) (awaits : Option Setting) →
@@ -245,6 +246,8 @@ bad_after_verb word Enabled words fault named is =
     bad_option word Enabled words fault named (λ e. let no : ⊥ = cc in no) is
 bad_after_verb word Replay words fault named is =
     bad_option word Replay words fault named (λ e. let no : ⊥ = cc in no) is
+bad_after_verb word Moves words fault named is =
+    bad_option word Moves words fault named (λ e. let no : ⊥ = cc in no) is
 
 -- a fault names the first bad word
 pub faults_name_the_first : (words : List (List ℕ)) (fault : WordsFault) →

@@ -6,7 +6,7 @@ use Rattle.std.proofs.lemmas.Bool.{eqb-true}
 use Rattle.std.proofs.lemmas.Slice.Eq.{bytes_eq-Decides}
 use Rattle.rn_words.specs.declared.table.Verb.{Verb}
 use Rattle.rn_words.specs.declared.table.Setting.{Setting}
-use Rattle.rn_words.specs.declared.table.Setting.TheVariants.{Workers, Steps, Depth, Sweep}
+use Rattle.rn_words.specs.declared.table.Setting.TheVariants.{Workers, Steps, Depth, Sweep, Seed}
 use Rattle.rn_words.specs.declared.chosen.Chosen.{Chosen}
 use Rattle.rn_words.specs.Table.{setting_named, setting_name, takes}
 use Rattle.rn_words.specs.Choices.{given}
@@ -85,30 +85,27 @@ dashes_begin (a ∷ b ∷ more) rest is = by (nat_eq a 45) (nat_eq b 45) refl re
 named_is : (name : List ℕ) (s : Setting) → setting_named name ≡ Some s → name ≡ setting_name s
 named_is name s is =
     by (bytes_eq name (codes "workers")) (bytes_eq name (codes "steps"))
-    (bytes_eq name (codes "depth")) (bytes_eq name (codes "drop")) refl refl refl refl is
+    (bytes_eq name (codes "depth")) (bytes_eq name (codes "drop")) (bytes_eq name (codes "seed"))
+    refl refl refl refl refl is
   where
-    by : (a b c d : Bool) → bytes_eq name (codes "workers") ≡ a → bytes_eq name (codes "steps") ≡ b →
-        bytes_eq name (codes "depth") ≡ c → bytes_eq name (codes "drop") ≡ d →
+    of : (w : List ℕ) (t : Setting) → bytes_eq name w ≡ true → Some t ≡ Some s →
+        w ≡ setting_name t → name ≡ setting_name s
+    of w t e same is_name =
+        let which : t ≡ s = cc in
+        (bytes_eq-Decides name w).0 e ∙ is_name ∙ ap setting_name which
+
+    by : (a b c d e : Bool) → bytes_eq name (codes "workers") ≡ a →
+        bytes_eq name (codes "steps") ≡ b → bytes_eq name (codes "depth") ≡ c →
+        bytes_eq name (codes "drop") ≡ d → bytes_eq name (codes "seed") ≡ e →
         (if a then Some Workers else if b then Some Steps else if c then Some Depth
-        else if d then Some Sweep else None) ≡ Some s →
+        else if d then Some Sweep else if e then Some Seed else None) ≡ Some s →
         name ≡ setting_name s
-    by true b c d e f g h same =
-        let is_name = (bytes_eq-Decides name (codes "workers")).0 e in
-        let which : Workers ≡ s = cc in
-        is_name ∙ ap setting_name which
-    by false true c d e f g h same =
-        let is_name = (bytes_eq-Decides name (codes "steps")).0 f in
-        let which : Steps ≡ s = cc in
-        is_name ∙ ap setting_name which
-    by false false true d e f g h same =
-        let is_name = (bytes_eq-Decides name (codes "depth")).0 g in
-        let which : Depth ≡ s = cc in
-        is_name ∙ ap setting_name which
-    by false false false true e f g h same =
-        let is_name = (bytes_eq-Decides name (codes "drop")).0 h in
-        let which : Sweep ≡ s = cc in
-        is_name ∙ ap setting_name which
-    by false false false false e f g h same = let no : ⊥ = cc in absurd no
+    by true b c d e p q r t u same = of (codes "workers") Workers p same refl
+    by false true c d e p q r t u same = of (codes "steps") Steps q same refl
+    by false false true d e p q r t u same = of (codes "depth") Depth r same refl
+    by false false false true e p q r t u same = of (codes "drop") Sweep t same refl
+    by false false false false true p q r t u same = of (codes "seed") Seed u same refl
+    by false false false false false p q r t u same = let no : ⊥ = cc in absurd no
 
 -- the command takes the option, and it wasn't given
 pub record MayStand (verb : Verb) (chosen : Chosen) (s : Setting) : Type 0 where
@@ -170,6 +167,7 @@ dashed_named verb chosen Workers stands = rw (stands.taken, stands.first) refl
 dashed_named verb chosen Steps stands = rw (stands.taken, stands.first) refl
 dashed_named verb chosen Depth stands = rw (stands.taken, stands.first) refl
 dashed_named verb chosen Sweep stands = rw (stands.taken, stands.first) refl
+dashed_named verb chosen Seed stands = rw (stands.taken, stands.first) refl
 
 -- and so does the word with a value
 pub joined_named : (verb : Verb) (chosen : Chosen) (s : Setting) (value : List ℕ) →
@@ -178,6 +176,7 @@ joined_named verb chosen Workers value stands = rw (stands.taken, stands.first) 
 joined_named verb chosen Steps value stands = rw (stands.taken, stands.first) refl
 joined_named verb chosen Depth value stands = rw (stands.taken, stands.first) refl
 joined_named verb chosen Sweep value stands = rw (stands.taken, stands.first) refl
+joined_named verb chosen Seed value stands = rw (stands.taken, stands.first) refl
 
 -- the first has no value
 pub dashed_value : (s : Setting) → value_part (dashed s) ≡ None
@@ -185,6 +184,7 @@ dashed_value Workers = refl
 dashed_value Steps = refl
 dashed_value Depth = refl
 dashed_value Sweep = refl
+dashed_value Seed = refl
 
 -- and the second has it
 pub joined_value : (s : Setting) (value : List ℕ) →
@@ -193,3 +193,4 @@ joined_value Workers value = refl
 joined_value Steps value = refl
 joined_value Depth value = refl
 joined_value Sweep value = refl
+joined_value Seed value = refl

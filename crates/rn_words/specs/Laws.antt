@@ -3,12 +3,13 @@ use Rattle.std.specs.Prelude.{ℕ, ◌≡◌, ◌≤◌, ◌+◌, ◌-◌, ◌�
 use Rattle.rn_model.specs.Good.{IsInLimits}
 use Rattle.rn_model.specs.Limits.{greatest_depth}
 use Rattle.rn_words.specs.declared.command.Command.{Command}
-use Rattle.rn_words.specs.declared.command.Command.TheVariants.{Run, Check, Print, Enabled, Replay, Gen}
+use Rattle.rn_words.specs.declared.command.Command.TheVariants.{Run, RunSeeded, Check, Print, Enabled, Replay}
+use Rattle.rn_words.specs.declared.command.Command.TheVariants.{Gen, GenSeeded, Moves}
 use Rattle.rn_words.specs.declared.command.WordsFault.{WordsFault}
 use Rattle.rn_words.specs.declared.command.WordsFault.TheVariants.{U1, U2, U3}
 use Rattle.rn_words.specs.Commands.{WordsOk}
 use Rattle.rn_words.specs.Reading.{reading}
-use Rattle.rn_words.specs.Table.{most_copies}
+use Rattle.rn_words.specs.Table.{most_copies, greatest_seed}
 
 -- reading gives a command exactly where the words are accepted and give it
 abbrev pub ReadsWhatIsAccepted : Type 0
@@ -17,11 +18,15 @@ ReadsWhatIsAccepted = (words : List (List ℕ)) (c : Command) → reading words 
 -- the numbers of a command are within their limits
 abbrev pub IsWithinLimits : Command → Type 0
 IsWithinLimits (Run options) = IsInLimits options
+IsWithinLimits (RunSeeded options seed) = IsInLimits options × (seed ≤ greatest_seed)
 IsWithinLimits Check = ⊤
 IsWithinLimits Print = ⊤
 IsWithinLimits (Enabled depth) = depth ≤ greatest_depth
 IsWithinLimits (Replay options) = IsInLimits options
 IsWithinLimits (Gen copies options) = ((1 ≤ copies) × (copies ≤ most_copies)) × IsInLimits options
+IsWithinLimits (GenSeeded copies options seed) =
+    ((1 ≤ copies) × (copies ≤ most_copies)) × IsInLimits options × (seed ≤ greatest_seed)
+IsWithinLimits (Moves options) = IsInLimits options
 
 -- accepted words give a command within the limits
 abbrev pub AcceptedAreWithinLimits : Type 0

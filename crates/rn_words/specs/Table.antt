@@ -3,9 +3,9 @@ use Rattle.std.specs.Prelude.{ℕ, List, Bool, true, false, Option, Some, None, 
 use Rattle.std.specs.Prelude.{if◌then◌else◌}
 use Rattle.rn_model.specs.Limits.{most_workers, most_steps, greatest_depth, greatest_sweep}
 use Rattle.rn_words.specs.declared.table.Verb.{Verb}
-use Rattle.rn_words.specs.declared.table.Verb.TheVariants.{Run, Check, Print, Enabled, Replay, Gen}
+use Rattle.rn_words.specs.declared.table.Verb.TheVariants.{Run, Check, Print, Enabled, Replay, Gen, Moves}
 use Rattle.rn_words.specs.declared.table.Setting.{Setting}
-use Rattle.rn_words.specs.declared.table.Setting.TheVariants.{Workers, Steps, Depth, Sweep}
+use Rattle.rn_words.specs.declared.table.Setting.TheVariants.{Workers, Steps, Depth, Sweep, Seed}
 
 -- the command of a word
 abbrev pub verb_named : List ℕ → Option Verb
@@ -16,6 +16,7 @@ verb_named word =
     else if bytes_eq word (codes "enabled") then Some Enabled
     else if bytes_eq word (codes "replay") then Some Replay
     else if bytes_eq word (codes "gen") then Some Gen
+    else if bytes_eq word (codes "moves") then Some Moves
     else None
 
 -- the option of a name, which stands after `--`
@@ -25,6 +26,7 @@ setting_named name =
     else if bytes_eq name (codes "steps") then Some Steps
     else if bytes_eq name (codes "depth") then Some Depth
     else if bytes_eq name (codes "drop") then Some Sweep
+    else if bytes_eq name (codes "seed") then Some Seed
     else None
 
 -- the word of a command
@@ -35,6 +37,7 @@ verb_word Print = codes "print"
 verb_word Enabled = codes "enabled"
 verb_word Replay = codes "replay"
 verb_word Gen = codes "gen"
+verb_word Moves = codes "moves"
 
 -- the name of an option, which stands after `--`
 abbrev pub setting_name : Setting → List ℕ
@@ -42,6 +45,7 @@ setting_name Workers = codes "workers"
 setting_name Steps = codes "steps"
 setting_name Depth = codes "depth"
 setting_name Sweep = codes "drop"
+setting_name Seed = codes "seed"
 
 -- whether a command takes an option
 abbrev pub takes : Verb → Setting → Bool
@@ -51,6 +55,9 @@ takes Replay Steps = true
 takes Replay Depth = true
 takes Gen Workers = true
 takes Gen Sweep = true
+takes Gen Seed = true
+takes Moves Steps = true
+takes Moves Depth = true
 takes verb setting = false
 
 -- the least value of an option
@@ -58,12 +65,17 @@ abbrev pub least : Setting → ℕ
 least Workers = 1
 least setting = 0
 
+-- the greatest seed
+abbrev pub greatest_seed : ℕ
+greatest_seed = 999999
+
 -- the greatest value of an option
 abbrev pub most : Setting → ℕ
 most Workers = most_workers
 most Steps = most_steps
 most Sweep = greatest_sweep
 most Depth = greatest_depth
+most Seed = greatest_seed
 
 -- the most workers that the workload text is made for
 abbrev pub most_copies : ℕ

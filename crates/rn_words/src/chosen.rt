@@ -1,6 +1,6 @@
 //! The options that are given so far.
 ghost use Rattle.std.specs.Prelude.{◌≡◌, is_some};
-ghost use Rattle.rn_words.specs.Choices.{given, with_given, nothing, options_of, command_of};
+ghost use Rattle.rn_words.specs.Choices.{given, with_given, nothing, options_of, run_of, gen_of, command_of};
 
 use crate::command::Command;
 use crate::table::{Setting, Verb};
@@ -28,6 +28,7 @@ pub(crate) struct Chosen {
     pub(crate) steps: Option<u32>,
     pub(crate) depth: Option<u32>,
     pub(crate) sweep: Option<u32>,
+    pub(crate) seed: Option<u32>,
 }
 
 impl Chosen {
@@ -40,6 +41,7 @@ impl Chosen {
             steps: None,
             depth: None,
             sweep: None,
+            seed: None,
         }
     }
 
@@ -52,6 +54,7 @@ impl Chosen {
             Setting::Steps => self.steps.is_some(),
             Setting::Depth => self.depth.is_some(),
             Setting::Sweep => self.sweep.is_some(),
+            Setting::Seed => self.seed.is_some(),
         }
     }
 
@@ -76,6 +79,10 @@ impl Chosen {
                 sweep: Some(value),
                 ..self
             },
+            Setting::Seed => Chosen {
+                seed: Some(value),
+                ..self
+            },
         }
     }
 }
@@ -92,16 +99,37 @@ fn options_of(steps: u32, chosen: Chosen) -> Options
     }
 }
 
+// The command `run` of these options, without a seed or with one.
+fn run_of(options: Options, seed: Option<u32>) -> Command
+    ensures { result ≡ run_of options seed }
+{
+    match seed {
+        Some(seed) => Command::RunSeeded(options, seed),
+        None => Command::Run(options),
+    }
+}
+
+// The command `gen` of these options.
+fn gen_of(copies: u32, options: Options, seed: Option<u32>) -> Command
+    ensures { result ≡ gen_of copies options seed }
+{
+    match seed {
+        Some(seed) => Command::GenSeeded(copies, options, seed),
+        None => Command::Gen(copies, options),
+    }
+}
+
 /// The command of its word, the number after it (for `gen` alone), and the options.
 pub(crate) fn command_of(verb: Verb, copies: u32, chosen: Chosen) -> Command
     ensures { result ≡ command_of verb copies chosen }
 {
     match verb {
-        Verb::Run => Command::Run(options_of(STEPS, chosen)),
+        Verb::Run => run_of(options_of(STEPS, chosen), chosen.seed),
         Verb::Check => Command::Check,
         Verb::Print => Command::Print,
         Verb::Enabled => Command::Enabled(chosen.depth.unwrap_or(DEPTH)),
         Verb::Replay => Command::Replay(options_of(STEPS, chosen)),
-        Verb::Gen => Command::Gen(copies, options_of(GEN_STEPS, chosen)),
+        Verb::Gen => gen_of(copies, options_of(GEN_STEPS, chosen), chosen.seed),
+        Verb::Moves => Command::Moves(options_of(STEPS, chosen)),
     }
 }

@@ -6,6 +6,8 @@ use rn_model::Options;
 pub enum Command {
     /// Run a net text and write the run.
     Run(Options),
+    /// The same with this seed.
+    RunSeeded(Options, u32),
     /// Check a net text.
     Check,
     /// Write the canonical text of a net text.
@@ -16,6 +18,10 @@ pub enum Command {
     Replay(Options),
     /// Run the workload text of so many workers.
     Gen(u32, Options),
+    /// The same with this seed.
+    GenSeeded(u32, Options, u32),
+    /// Write what each firing of a record took and put.
+    Moves(Options),
 }
 
 /// The first bad word, by its number from 1.

@@ -13,19 +13,24 @@ pub(crate) enum Verb {
     Enabled,
     Replay,
     Gen,
+    Moves,
 }
 
-/// An option: `--workers`, `--steps`, `--depth`, `--drop`.
+/// An option: `--workers`, `--steps`, `--depth`, `--drop`, `--seed`.
 #[derive(Clone, Copy, Debug, PartialEq, Eq)]
 pub(crate) enum Setting {
     Workers,
     Steps,
     Depth,
     Sweep,
+    Seed,
 }
 
 /// The most workers that the workload text is made for.
 pub(crate) const MOST_COPIES: u32 = 10_000;
+
+/// The greatest seed.
+const GREATEST_SEED: u32 = 999_999;
 
 /// The command of a word.
 pub(crate) fn verb_named(word: &[u8]) -> Option<Verb>
@@ -43,6 +48,8 @@ pub(crate) fn verb_named(word: &[u8]) -> Option<Verb>
         Some(Verb::Replay)
     } else if word == b"gen".as_slice() {
         Some(Verb::Gen)
+    } else if word == b"moves".as_slice() {
+        Some(Verb::Moves)
     } else {
         None
     }
@@ -60,6 +67,8 @@ pub(crate) fn setting_named(name: &[u8]) -> Option<Setting>
         Some(Setting::Depth)
     } else if name == b"drop".as_slice() {
         Some(Setting::Sweep)
+    } else if name == b"seed".as_slice() {
+        Some(Setting::Seed)
     } else {
         None
     }
@@ -73,8 +82,8 @@ pub(crate) fn takes(verb: Verb, setting: Setting) -> bool
         Verb::Run => true,
         Verb::Check | Verb::Print => false,
         Verb::Enabled => matches!(setting, Setting::Depth),
-        Verb::Replay => matches!(setting, Setting::Steps | Setting::Depth),
-        Verb::Gen => matches!(setting, Setting::Workers | Setting::Sweep),
+        Verb::Replay | Verb::Moves => matches!(setting, Setting::Steps | Setting::Depth),
+        Verb::Gen => matches!(setting, Setting::Workers | Setting::Sweep | Setting::Seed),
     }
 }
 
@@ -97,5 +106,6 @@ pub(crate) fn most(setting: Setting) -> u32
         Setting::Steps => limits::MOST_STEPS,
         Setting::Depth => limits::GREATEST_DEPTH,
         Setting::Sweep => limits::GREATEST_SWEEP,
+        Setting::Seed => GREATEST_SEED,
     }
 }

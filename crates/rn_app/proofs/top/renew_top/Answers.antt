@@ -2,8 +2,8 @@ use Rattle.std.proofs.Common.{◌∙◌, Err, inl, inr, map, string_bytes, ap, r
 use Rattle.rn_answer.specs.declared.status.TheConstants.{NET_REFUSED, RECORD_REFUSED}
 use Rattle.rn_app.specs.TopCall.{IsNoInput, IsNoRecord}
 use Rattle.rn_app.proofs.Causes.{Laws}
-use Rattle.rn_app.proofs.Written.{Call, IsWritten, err_faults_clause, faulted_clause, few_faults_clause, line_faults, memory_clause, never_read, only_clause, quiet_clause, run_clause, write_fault_clause, writes_clause}
-use Rattle.rn_app.proofs.Answering.{came, came_refused, complete_clause, in_place, input_clause, read_failed, record_clause, words_clause}
+use Rattle.rn_app.proofs.Written.{Call, IsWritten, err_faults_clause, faulted_clause, few_faults_clause, line_faults, memory_clause, never_read, only_clause, quiet_clause, run_clause, seeded_clause, seeded_faulted_clause, write_fault_clause, writes_clause}
+use Rattle.rn_app.proofs.Answering.{came, came_refused, complete_clause, in_place, input_clause, moves_clause, read_failed, record_clause, words_clause}
 use Rattle.rn_app.proofs.top.renew_top.Goals as goal
 
 pub returns-in-Ok : goal.returns-in-Ok
@@ -46,6 +46,8 @@ returns-in-Ok g c =
     record {
       run = run_clause k c.in-Ok.answer w laws;
       faulted = faulted_clause k c.in-Ok.answer w laws;
+      seeded = seeded_clause k c.in-Ok.answer w laws;
+      seeded_faulted = seeded_faulted_clause k c.in-Ok.answer w laws;
       writes = writes_clause k c.in-Ok.answer w;
       quiet = quiet_clause k c.in-Ok.answer w;
       only = only_clause k c.in-Ok.answer w;
@@ -55,6 +57,7 @@ returns-in-Ok g c =
       refuses_words = λ fault faulty. (words_clause k c.in-Ok.answer w laws fault faulty, (c.answer.ensures.refuses_words fault faulty).0);
       refuses_input = input_clause k c.in-Ok.answer w laws;
       refuses_record = record_clause k c.in-Ok.answer w laws;
+      refuses_moved = moves_clause k c.in-Ok.answer w laws;
       complete = λ command accepted fine reads. complete_clause k c.in-Ok.answer w laws command accepted fine;
       taken = c.answer.ensures.taken;
       reads = c.answer.ensures.reads;
@@ -108,6 +111,8 @@ returns-in-Err-Refused g c =
     record {
       run = run_clause k c.in-Err-Refused.answer w laws;
       faulted = faulted_clause k c.in-Err-Refused.answer w laws;
+      seeded = seeded_clause k c.in-Err-Refused.answer w laws;
+      seeded_faulted = seeded_faulted_clause k c.in-Err-Refused.answer w laws;
       writes = writes_clause k c.in-Err-Refused.answer w;
       quiet = quiet_clause k c.in-Err-Refused.answer w;
       only = only_clause k c.in-Err-Refused.answer w;
@@ -117,6 +122,7 @@ returns-in-Err-Refused g c =
       refuses_words = λ fault faulty. (words_clause k c.in-Err-Refused.answer w laws fault faulty, (c.answer.ensures.refuses_words fault faulty).0);
       refuses_input = input_clause k c.in-Err-Refused.answer w laws;
       refuses_record = record_clause k c.in-Err-Refused.answer w laws;
+      refuses_moved = moves_clause k c.in-Err-Refused.answer w laws;
       complete = λ command accepted fine reads. complete_clause k c.in-Err-Refused.answer w laws command accepted fine;
       taken = c.answer.ensures.taken;
       reads = c.answer.ensures.reads;
@@ -133,6 +139,10 @@ returns-in-Err-Refused g c =
 pub returns-in-Err-ReadFault-clause-refuses_input : goal.returns-in-Err-ReadFault-clause-refuses_input
 returns-in-Err-ReadFault-clause-refuses_input g c = λ command accepted.
     in_place (g.I.Source.left c.args.input.now) (IsNoInput command) NET_REFUSED c.write_line.result (inl c.write_line.ensures.status)
+
+pub returns-in-Err-ReadFault-clause-refuses_moved : goal.returns-in-Err-ReadFault-clause-refuses_moved
+returns-in-Err-ReadFault-clause-refuses_moved g c = λ options accepted.
+    in_place (g.I.Source.left c.args.input.now) (IsNoRecord options) RECORD_REFUSED c.write_line.result (inl c.write_line.ensures.status)
 
 pub returns-in-Err-ReadFault-clause-refuses_record : goal.returns-in-Err-ReadFault-clause-refuses_record
 returns-in-Err-ReadFault-clause-refuses_record g c = λ options accepted.
@@ -156,6 +166,10 @@ returns-in-Err-ReadFault-clause-one_read_fault g c = λ is. c.answer.ensures.one
 pub returns-in-Err-NoMemory-clause-refuses_input : goal.returns-in-Err-NoMemory-clause-refuses_input
 returns-in-Err-NoMemory-clause-refuses_input g c = λ command accepted.
     in_place (g.I.Source.left c.args.input.now) (IsNoInput command) NET_REFUSED c.write_line-in-Err-NoMemory.result (inr (inr c.write_line-in-Err-NoMemory.ensures.status))
+
+pub returns-in-Err-NoMemory-clause-refuses_moved : goal.returns-in-Err-NoMemory-clause-refuses_moved
+returns-in-Err-NoMemory-clause-refuses_moved g c = λ options accepted.
+    in_place (g.I.Source.left c.args.input.now) (IsNoRecord options) RECORD_REFUSED c.write_line-in-Err-NoMemory.result (inr (inr c.write_line-in-Err-NoMemory.ensures.status))
 
 pub returns-in-Err-NoMemory-clause-refuses_record : goal.returns-in-Err-NoMemory-clause-refuses_record
 returns-in-Err-NoMemory-clause-refuses_record g c = λ options accepted.

@@ -17,3 +17,12 @@ run_workload-requires-clause-copies g c κs within = (subst IsWithinLimits c.in-
 
 pub run_workload-requires-clause-limits : goal.run_workload-requires-clause-limits
 run_workload-requires-clause-limits g c κs within = (subst IsWithinLimits c.in-Gen.is (c.words_laws.ensures.limits c.requires.given.0 c.args.command c.requires.given.1)).1
+
+pub run_seeded-requires-after_bounds : goal.run_seeded-requires-after_bounds
+run_seeded-requires-after_bounds g c κs within = (subst IsWithinLimits c.in-RunSeeded.is (c.words_laws.ensures.limits c.requires.given.0 c.args.command c.requires.given.1)).0
+
+pub run_workload_seeded-requires-clause-limits : goal.run_workload_seeded-requires-clause-limits
+run_workload_seeded-requires-clause-limits g c κs within = (subst IsWithinLimits c.in-GenSeeded.is (c.words_laws.ensures.limits c.requires.given.0 c.args.command c.requires.given.1)).1
+
+pub moves-requires-clause-limits : goal.moves-requires-clause-limits
+moves-requires-clause-limits g c = subst IsWithinLimits c.in-Moves.is (c.words_laws.ensures.limits c.requires.given.0 c.args.command c.requires.given.1)

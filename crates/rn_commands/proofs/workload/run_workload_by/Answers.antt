@@ -1,6 +1,6 @@
 -- The tally of a state whose log has ended is that of a run.
 use Rattle.rn_commands.proofs.EndedRuns.{gens_to}
-use Rattle.rn_commands.proofs.workload.run_workload.Goals as goal
+use Rattle.rn_commands.proofs.workload.run_workload_by.Goals as goal
 
 pub returns : goal.returns
 returns g c =

@@ -1,7 +1,7 @@
 -- The record of a state whose log has ended is that of a run.
 use Rattle.std.proofs.Common.{inr}
 use Rattle.rn_commands.proofs.EndedRuns.{runs_to}
-use Rattle.rn_commands.proofs.runs.run.Goals as goal
+use Rattle.rn_commands.proofs.runs.run_by.Goals as goal
 
 pub returns : goal.returns
 returns g c =
