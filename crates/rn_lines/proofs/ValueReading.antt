@@ -140,12 +140,12 @@ mutual
   pub value_reads : {depth : ℕ} {v : Value} {said : List Said} {a : List ℕ} → IsValue depth v said a → (rest : List ℕ) → IsDelimited rest → value_at depth (a ++ rest) ≡ Some (v, said, rest)
   value_reads {depth} (IsValue.number fits n) rest d = whole_form (rows_at depth) fits n rest (stops_digits rest d)
   value_reads {depth} (IsValue.text utf8 s) rest d = text_form (rows_at depth) utf8 s rest
-  value_reads (IsValue.tuple {depth = depth} {bytes = b} row) rest d =
+  value_reads (IsValue.tuple {depth = depth} {bytes = b} parts) rest d =
       ap (λ b. rows_at (suc depth) 93 b >>= λ x. Some (Value.Tuple x.0, x.1, x.2)) (append_assoc b (93 ∷ []) rest)
-      ∙ ap (λ o. o >>= λ x. Some (Value.Tuple x.0, x.1, x.2)) (row_reads row 93 rest bracket_closes (λ b f. f.no_bracket))
-  value_reads (IsValue.list {depth = depth} {bytes = b} row) rest d =
+      ∙ ap (λ o. o >>= λ x. Some (Value.Tuple x.0, x.1, x.2)) (row_reads parts 93 rest bracket_closes (λ b f. f.no_bracket))
+  value_reads (IsValue.list {depth = depth} {bytes = b} parts) rest d =
       ap (λ b. rows_at (suc depth) 125 b >>= λ x. Some (Value.List x.0, x.1, x.2)) (append_assoc b (125 ∷ []) rest)
-      ∙ ap (λ o. o >>= λ x. Some (Value.List x.0, x.1, x.2)) (row_reads row 125 rest brace_closes (λ b f. f.no_brace))
+      ∙ ap (λ o. o >>= λ x. Some (Value.List x.0, x.1, x.2)) (row_reads parts 125 rest brace_closes (λ b f. f.no_brace))
   value_reads {depth} (IsValue.instance is low high p) rest d = inst_form (rows_at depth) is low high p rest
 
   row_reads : {depth : ℕ} {vs : List Value} {said : List Said} {a : List ℕ} → IsRow depth vs said a → (c : ℕ) (rest : List ℕ) → Closes c → ((b : List ℕ) (f : First b) → nat_eq f.byte c ≡ false) →

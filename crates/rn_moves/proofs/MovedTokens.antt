@@ -280,6 +280,23 @@ module _ (system : System) (m : Marking) (b : Binding) (depth step : ℕ) (f : F
       let low = new.4 in
       let no : ⊥ = omega (arith, low, many, past) in no)
 
+  -- where the firing makes no instance of this number, nothing is there after it
+  none_after : instance_at m n ≡ None →
+      ((k : ℕ) (c : Made) → slice_get made k ≡ Some c → m.next + k ≡ n → ⊥) →
+      tokens_at f.marking n place ≡ []
+  none_after e not_new = by (net_of f.marking n) refl
+    where
+      by : (o : Option ℕ) → net_of f.marking n ≡ o → tokens_at f.marking n place ≡ []
+      by None none = none_there f.marking n place (no_net f.marking n none)
+      by (Some net) some =
+          elim ((instances_after_firing system m b step f is fires n net).0 some)
+          as (λ _. tokens_at f.marking n place ≡ []) [
+            | inl was ↦
+                let wrong : None ≡ Some net = sym (ap (option_map (λ i. i.net)) e) ∙ was in
+                absurd (let no : ⊥ = cc in no)
+            | inr new ↦ absurd (not_new new.0 new.1 new.2 new.3)
+          ]
+
   not_made : (k : ℕ) → instance_at m n ≡ None → m.next + k ≡ n → slice_get made k ≡ None → Moved
   not_made k e number at =
       let no_net_made : slice_get nets k ≡ None =
@@ -287,48 +304,25 @@ module _ (system : System) (m : Marking) (b : Binding) (depth step : ℕ) (f : F
       let none : brought ≡ [] =
       ap (λ j. brought_at system m.next nets j place) (sym number)
       ∙ brought_past system place m.next nets k no_net_made in
-      of_none e (gone_after (net_of f.marking n) refl) none (λ there.
+      of_none e (none_after e (λ j c here its_number.
+      let index : j ≡ k = omega (arith, number, its_number) in
+      let wrong : None ≡ Some c = sym at ∙ ap (slice_get made) (sym index) ∙ here in
+      let no : ⊥ = cc in no)) none (λ there.
       let new = new_place e there in
       let number_too = new.3 in
       let index : new.0 ≡ k = omega (arith, number, number_too) in
       let wrong : None ≡ Some new.1 = sym no_net_made ∙ ap (slice_get nets) (sym index) ∙ new.2 in
       let no : ⊥ = cc in no)
-    where
-      gone_after : (o : Option ℕ) → net_of f.marking n ≡ o → tokens_at f.marking n place ≡ []
-      gone_after None none = none_there f.marking n place (no_net f.marking n none)
-      gone_after (Some net) some =
-          elim ((instances_after_firing system m b step f is fires n net).0 some)
-          as (λ _. tokens_at f.marking n place ≡ []) [
-            | inl was ↦
-                let wrong : None ≡ Some net = sym (ap (option_map (λ i. i.net)) e) ∙ was in
-                absurd (let no : ⊥ = cc in no)
-            | inr new ↦
-                let number_too = new.3 in
-                let index : new.0 ≡ k = omega (arith, number, number_too) in
-                let wrong : None ≡ Some new.1 = sym at ∙ ap (slice_get made) (sym index) ∙ new.2 in
-                absurd (let no : ⊥ = cc in no)
-          ]
 
   -- one with a number below the next that isn't there
   lower : n < m.next → instance_at m n ≡ None → Moved
   lower low e =
-      of_none e (gone_after (net_of f.marking n) refl) (brought_below system place m.next nets n low) (λ there.
+      of_none e (none_after e (λ j c here its_number.
+      let no : ⊥ = omega (arith, low, its_number) in no))
+      (brought_below system place m.next nets n low) (λ there.
       let new = new_place e there in
       let number_too = new.3 in
       let no : ⊥ = omega (arith, low, number_too) in no)
-    where
-      gone_after : (o : Option ℕ) → net_of f.marking n ≡ o → tokens_at f.marking n place ≡ []
-      gone_after None none = none_there f.marking n place (no_net f.marking n none)
-      gone_after (Some net) some =
-          elim ((instances_after_firing system m b step f is fires n net).0 some)
-          as (λ _. tokens_at f.marking n place ≡ []) [
-            | inl was ↦
-                let wrong : None ≡ Some net = sym (ap (option_map (λ i. i.net)) e) ∙ was in
-                absurd (let no : ⊥ = cc in no)
-            | inr new ↦
-                let number_too = new.3 in
-                absurd (let no : ⊥ = omega (arith, low, number_too) in no)
-          ]
 
   of_new : instance_at m n ≡ None → (n < m.next) ⊎ (m.next ≤ n) → Moved
   of_new e (inl low) = lower low e
