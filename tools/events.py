@@ -1,7 +1,8 @@
 """Outside what is proved: the run that a record says, as an event log for process mining.
 
 Each firing is an event, and each instance an object, whose type is its net. A run has no times: the step
-of a firing stands as so many seconds after the beginning of 1970.
+of a firing stands as so many seconds after the beginning of 1970. Characters that XML can't have, as
+most control characters, stand as U+FFFD in XES.
 """
 import json
 import re
@@ -10,6 +11,7 @@ from xml.sax.saxutils import quoteattr
 
 NODE = re.compile(r'([A-Za-z][A-Za-z0-9_]*)\[(\d+)\]\.([A-Za-z][A-Za-z0-9_]*)(.*)$', re.S)
 TEXT = re.compile(r'"(?:\\.|[^"\\])*"')
+NO_XML = re.compile('[^\t\n\r\x20-\ud7ff\ue000-\ufffd\U00010000-\U0010ffff]')
 INSTANCE = re.compile(r'([A-Za-z][A-Za-z0-9_]*)\[(\d+)\]')
 
 
@@ -116,7 +118,7 @@ def xes(record):
             rows += ['    <event>', f'      <string key="concept:name" value={quoteattr(name)}/>',
                      f'      <date key="time:timestamp" value="{time_of(firing.step)}"/>',
                      f'      <int key="step" value="{firing.step}"/>', f'      <int key="worker" value="{firing.worker}"/>']
-            rows += [f'      <string key={quoteattr(key)} value={quoteattr(value)}/>' for key, value in values]
+            rows += [f'      <string key={quoteattr(key)} value={quoteattr(NO_XML.sub(chr(0xfffd), value))}/>' for key, value in values]
             rows.append('    </event>')
         rows.append('  </trace>')
     return '\n'.join([*rows, '</log>']) + '\n'
