@@ -71,12 +71,12 @@ def time_of(step):
 
 
 def attributes_of(firing):
-    """What else a firing says, as (name, text)."""
-    found = [('worker', str(firing.worker))]
+    """What else a firing says, as (name, text). No variable has a dot in its name."""
+    found = [('run.worker', str(firing.worker))]
     for k, (net, number, transition, values) in enumerate(firing.nodes):
         before = '' if k == 0 else f'{k}.{net}.{transition}.'
         found += [(before + name, value) for name, value in values]
-    return found + [(f'printed.{k}', value) for k, value in enumerate(firing.printed, 1)]
+    return found + [(f'run.printed.{k}', value) for k, value in enumerate(firing.printed, 1)]
 
 
 def ocel(record):
@@ -117,7 +117,7 @@ def xes(record):
         for firing, name, values in parts:
             rows += ['    <event>', f'      <string key="concept:name" value={quoteattr(name)}/>',
                      f'      <date key="time:timestamp" value="{time_of(firing.step)}"/>',
-                     f'      <int key="step" value="{firing.step}"/>', f'      <int key="worker" value="{firing.worker}"/>']
+                     f'      <int key="run.step" value="{firing.step}"/>', f'      <int key="run.worker" value="{firing.worker}"/>']
             rows += [f'      <string key={quoteattr(key)} value={quoteattr(NO_XML.sub(chr(0xfffd), value))}/>' for key, value in values]
             rows.append('    </event>')
         rows.append('  </trace>')
