@@ -1,13 +1,13 @@
 """Outside what is proved: where the nodes of a picture stand, and how its lines go between them.
 
 In layers from top to bottom, after Kozo Sugiyama: lines that close a circle are turned round, each node
-gets the layer below all that lead to it, long lines are led through points between, the order in each
-layer follows the neighbours, and then each node moves as near to its neighbours as the others let it.
+gets the layer below all that lead to it, long lines are led through points between (unless there are too
+many), the order in each layer follows the neighbours, and then each node moves as near to its neighbours as the others let it.
 """
 import bisect
 import itertools
 
-APART, BETWEEN, ROW = 26, 62, 760
+APART, BETWEEN, ROW, MANY = 26, 62, 760, 4000
 
 
 def picture(sizes, lines):
@@ -59,11 +59,12 @@ def layered(sizes, lines):
     sizes, layers, chains = dict(sizes), [[] for _ in range(max(ranks.values()) + 1)], []
     for node in list(sizes):
         layers[ranks[node]].append(node)
+    is_led = sum(abs(ranks[a] - ranks[b]) for a, b in lines) < MANY
     for number, (a, b) in enumerate(lines):
         if ranks[a] > ranks[b]:
             a, b = b, a
         chain = [a]
-        for rank in range(ranks[a] + 1, ranks[b]):
+        for rank in range(ranks[a] + 1, ranks[b] if is_led else 0):
             point = ('point', number, rank)
             sizes[point] = 14, 0
             layers[rank].append(point)
@@ -144,7 +145,7 @@ def ordered(layers, near):
             fixed = layers[k - 1 if side == 0 else k + 1]
             at = {node: number for number, node in enumerate(fixed)}
             own = {node: number for number, node in enumerate(layers[k])}
-            layers[k].sort(key=lambda node: middle([at[it] for it in near[node][side]], own[node]))
+            layers[k].sort(key=lambda node: middle([at[it] for it in near[node][side] if it in at], own[node]))
         count = crossings(layers, near)
         if count < least:
             best, least = layers, count
@@ -160,7 +161,7 @@ def crossings(layers, near):
     for upper, lower in zip(layers, layers[1:]):
         at, seen = {node: number for number, node in enumerate(lower)}, []
         for node in upper:
-            ends = sorted(at[it] for it in near[node][1])
+            ends = sorted(at[it] for it in near[node][1] if it in at)
             count += sum(len(seen) - bisect.bisect_right(seen, end) for end in ends)
             for end in ends:
                 bisect.insort(seen, end)
