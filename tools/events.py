@@ -1,7 +1,8 @@
 """Outside what is proved: the run that a record says, as an event log for process mining.
 
 Each firing is an event, and each instance an object, whose type is its net. A run has no times: the step
-of a firing stands as so many seconds after the beginning of 1970.
+of a firing stands as so many seconds after the beginning of 1970. Characters that XML can't have, as
+most control characters, stand as U+FFFD in XES.
 """
 import json
 import re
@@ -10,6 +11,7 @@ from xml.sax.saxutils import quoteattr
 
 NODE = re.compile(r'([A-Za-z][A-Za-z0-9_]*)\[(\d+)\]\.([A-Za-z][A-Za-z0-9_]*)(.*)$', re.S)
 TEXT = re.compile(r'"(?:\\.|[^"\\])*"')
+NO_XML = re.compile('[^\t\n\r\x20-\ud7ff\ue000-\ufffd\U00010000-\U0010ffff]')
 INSTANCE = re.compile(r'([A-Za-z][A-Za-z0-9_]*)\[(\d+)\]')
 
 
@@ -69,12 +71,12 @@ def time_of(step):
 
 
 def attributes_of(firing):
-    """What else a firing says, as (name, text)."""
-    found = [('worker', str(firing.worker))]
+    """What else a firing says, as (name, text). No variable has a dot in its name."""
+    found = [('run.worker', str(firing.worker))]
     for k, (net, number, transition, values) in enumerate(firing.nodes):
         before = '' if k == 0 else f'{k}.{net}.{transition}.'
         found += [(before + name, value) for name, value in values]
-    return found + [(f'printed.{k}', value) for k, value in enumerate(firing.printed, 1)]
+    return found + [(f'run.printed.{k}', value) for k, value in enumerate(firing.printed, 1)]
 
 
 def ocel(record):
@@ -115,8 +117,8 @@ def xes(record):
         for firing, name, values in parts:
             rows += ['    <event>', f'      <string key="concept:name" value={quoteattr(name)}/>',
                      f'      <date key="time:timestamp" value="{time_of(firing.step)}"/>',
-                     f'      <int key="step" value="{firing.step}"/>', f'      <int key="worker" value="{firing.worker}"/>']
-            rows += [f'      <string key={quoteattr(key)} value={quoteattr(value)}/>' for key, value in values]
+                     f'      <int key="run.step" value="{firing.step}"/>', f'      <int key="run.worker" value="{firing.worker}"/>']
+            rows += [f'      <string key={quoteattr(key)} value={quoteattr(NO_XML.sub(chr(0xfffd), value))}/>' for key, value in values]
             rows.append('    </event>')
         rows.append('  </trace>')
     return '\n'.join([*rows, '</log>']) + '\n'
