@@ -25,6 +25,7 @@ use Rattle.rn_commands.specs.NetCommands.{EnabledTo, ReplaysTo, ReplayComesTo}
 use Rattle.rn_commands.specs.Parts.{HasParts}
 use Rattle.rn_commands.specs.Replaying.{IsNoRunBy, RecordTo, replayed_text}
 use Rattle.rn_commands.specs.Runs.{RunsTo}
+use Rattle.rn_commands.specs.LeastRuns.{RunsLeastTo}
 use Rattle.rn_commands.specs.Moves.{RecordMovesTo, MovesTo, MovesComeTo}
 use Rattle.rn_app.specs.Commands.{ComesTo, HasNetText}
 use Rattle.rn_app.specs.Laws.{AcceptedIsNotRefused, OneSystemAccepted, RunIsRead}
@@ -65,6 +66,7 @@ refused_before laws R bytes net line a (rest, parts) refused accepted (other, mo
 -- a command whose net text is refused says so
 net_status : Laws → (c : Command) (bytes net line : List ℕ) (a : Answer) → HasNetText c bytes net → IsRefusedBy net line → ComesTo c bytes a → a.status ≡ NET_REFUSED
 net_status laws (command.Run options) bytes net line a is refused comes = refused_or laws (RunsTo options bytes a) bytes net line a is refused (λ runs. (runs.run.system, runs.run.accepted)) comes
+net_status laws (command.RunLeast options) bytes net line a is refused comes = refused_or laws (RunsLeastTo options bytes a) bytes net line a is refused (λ least. (least.runs.run.system, least.runs.run.accepted)) comes
 net_status laws (command.RunSeeded options seed) bytes net line a is refused comes = refused_or laws (RunsTo options bytes a) bytes net line a is refused (λ runs. (runs.run.system, runs.run.accepted)) comes
 net_status laws command.Check bytes net line a is refused comes = refused_or laws (ChecksTo bytes a) bytes net line a is refused (λ checks. (checks.0, checks.1)) comes
 net_status laws command.Print bytes net line a is refused comes = refused_or laws (PrintsTo bytes a) bytes net line a is refused (λ prints. (prints.1, record { plain = prints.0; spelled = prints.2; checked = prints.3 })) comes
@@ -87,6 +89,7 @@ none_refused c bytes none (IsNoInput.longer limit is long) = absurd cc
 none_refused (command.Gen copies options) bytes none (IsNoInput.refused has refused) = has
 none_refused (command.GenSeeded copies options seed) bytes none (IsNoInput.refused has refused) = has
 none_refused (command.Run options) bytes none (IsNoInput.refused has refused) = absurd cc
+none_refused (command.RunLeast options) bytes none (IsNoInput.refused has refused) = absurd cc
 none_refused (command.RunSeeded options seed) bytes none (IsNoInput.refused has refused) = absurd cc
 none_refused (command.Moves options) bytes none (IsNoInput.refused has refused) = absurd cc
 none_refused command.Check bytes none (IsNoInput.refused has refused) = absurd cc
@@ -214,6 +217,8 @@ never_refused laws left bytes a (known, is, (system, accepted)) all (line, why, 
 whole_status : Laws → (c : Command) (left : Option (List ℕ)) (bytes : List ℕ) (a : Answer) → IsWithinLimits c → IsFine c left → IfSome left (λ l. bytes ≡ l) → ComesTo c bytes a → IsDoneBut c a.status
 whole_status laws (command.Run options) left bytes a within fine all (inl refuses) = absurd (never_refused laws left bytes a fine all refuses)
 whole_status laws (command.Run options) left bytes a within fine all (inr runs) = run_status ⊤ runs.reason a.status runs.status tt
+whole_status laws (command.RunLeast options) left bytes a within fine all (inl refuses) = absurd (never_refused laws left bytes a fine all refuses)
+whole_status laws (command.RunLeast options) left bytes a within fine all (inr least) = run_status ⊤ least.runs.reason a.status least.runs.status tt
 whole_status laws (command.RunSeeded options seed) left bytes a within fine all (inl refuses) = absurd (never_refused laws left bytes a fine all refuses)
 whole_status laws (command.RunSeeded options seed) left bytes a within fine all (inr runs) = run_status ⊤ runs.reason a.status runs.status tt
 whole_status laws command.Check left bytes a within fine all (inl refuses) = absurd (never_refused laws left bytes a fine all refuses)
@@ -232,6 +237,7 @@ inputless_status : (c : Command) (a : Answer) → longest_input c ≡ None → C
 inputless_status (command.Gen copies options) a none gens = run_status ⊤ gens.reason a.status gens.status tt
 inputless_status (command.GenSeeded copies options seed) a none gens = run_status ⊤ gens.reason a.status gens.status tt
 inputless_status (command.Run options) a none comes = absurd cc
+inputless_status (command.RunLeast options) a none comes = absurd cc
 inputless_status (command.RunSeeded options seed) a none comes = absurd cc
 inputless_status (command.Moves options) a none comes = absurd cc
 inputless_status command.Check a none comes = absurd cc
@@ -255,6 +261,7 @@ fits_text limit left known is few most long =
 -- so no input that is fine is too long
 fine_fits : (c : Command) (limit : ℕ) (left : Option (List ℕ)) → IsFine c left → longest_input c ≡ Some limit → IsTooLong limit left → ⊥
 fine_fits (command.Run options) limit left fine most long = let same : limit ≡ longest_net_text = cc in fits limit left fine same long
+fine_fits (command.RunLeast options) limit left fine most long = let same : limit ≡ longest_net_text = cc in fits limit left fine same long
 fine_fits (command.RunSeeded options seed) limit left fine most long = let same : limit ≡ longest_net_text = cc in fits limit left fine same long
 fine_fits command.Check limit left fine most long = let same : limit ≡ longest_net_text = cc in fits limit left fine same long
 fine_fits command.Print limit left fine most long = let same : limit ≡ longest_net_text = cc in fits limit left fine same long

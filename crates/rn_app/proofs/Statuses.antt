@@ -19,9 +19,10 @@ use Rattle.rn_answer.specs.NetTexts.{RefusesNet}
 use Rattle.rn_commands.specs.Ends.{end_status, end_message}
 use Rattle.rn_commands.specs.Replaying.{RecordTo}
 use Rattle.rn_commands.specs.Moves.{RecordMovesTo}
-use Rattle.rn_commands.specs.Runs.{RunsTo, IsRunOf}
+use Rattle.rn_commands.specs.Runs.{RunsTo}
+use Rattle.rn_commands.specs.LeastRuns.{RunsLeastTo}
 use Rattle.rn_app.specs.Commands.{ComesTo}
-use Rattle.rn_app.specs.TopCall.{Comes, IsOwnStatus, WritesRun}
+use Rattle.rn_app.specs.TopCall.{Comes, IsOwnStatus, WritesRun, WritesLeastRun}
 use Rattle.rn_app.proofs.WordsAndInput.{one_command, not_faulty}
 
 -- the statuses of what words and input come to
@@ -74,6 +75,8 @@ moves_told system options bytes a (RecordMovesTo.moved count reason run read tex
 pub command_told : (c : Command) (bytes : List ℕ) (a : Answer) → ComesTo c bytes a → IsToldBy a
 command_told (command.Run options) bytes a (inl (line, why, is)) = IsToldBy.refused (inl (ap (λ x. x.status) is))
 command_told (command.Run options) bytes a (inr runs) = IsToldBy.ended runs.reason (suc (length runs.run.firings)) runs.status runs.line
+command_told (command.RunLeast options) bytes a (inl (line, why, is)) = IsToldBy.refused (inl (ap (λ x. x.status) is))
+command_told (command.RunLeast options) bytes a (inr least) = IsToldBy.ended least.runs.reason (suc (length least.runs.run.firings)) least.runs.status least.runs.line
 command_told (command.RunSeeded options seed) bytes a (inl (line, why, is)) = IsToldBy.refused (inl (ap (λ x. x.status) is))
 command_told (command.RunSeeded options seed) bytes a (inr runs) = IsToldBy.ended runs.reason (suc (length runs.run.firings)) runs.status runs.line
 command_told command.Check bytes a (inl (line, why, is)) = IsToldBy.refused (inl (ap (λ x. x.status) is))
@@ -126,45 +129,69 @@ says_memory a (IsToldBy.refused (inr (inr is))) memory = absurd cc
 says_memory a (IsToldBy.quiet is line) memory = absurd cc
 says_memory a (IsToldBy.ended reason step is line) memory = line ∙ memory_line reason step (sym is ∙ memory)
 
--- a command that runs a net text with these options: any run, or one by a seed
-pub record RunsNet (options : Options) (c : Command) : Type 0 where
+-- a command that runs a net text, and what its run comes to
+pub record RunsNet (T : List ℕ → Answer → Type 0) (c : Command) : Type 0 where
   pub reads : longest_input c ≡ Some longest_net_text
-  pub runs : (bytes : List ℕ) (a : Answer) → ComesTo c bytes a → RefusesNet bytes a ⊎ RunsTo options bytes a
+  pub runs : (bytes : List ℕ) (a : Answer) → ComesTo c bytes a → RefusesNet bytes a ⊎ T bytes a
 
-pub any_runs : (options : Options) → RunsNet options (command.Run options)
+pub any_runs : (options : Options) → RunsNet (RunsTo options) (command.Run options)
 any_runs options = record { reads = refl; runs = λ bytes a comes. comes }
 
-pub seeded_runs : (options : Options) (seed : ℕ) → RunsNet options (command.RunSeeded options seed)
+pub seeded_runs : (options : Options) (seed : ℕ) → RunsNet (RunsTo options) (command.RunSeeded options seed)
 seeded_runs options seed = record { reads = refl; runs = λ bytes a comes. comes }
 
+pub least_runs : (options : Options) → RunsNet (RunsLeastTo options) (command.RunLeast options)
+least_runs options = record { reads = refl; runs = λ bytes a comes. comes }
+
 -- where the words are those of a run, and it is done or faulted, a run of the input is told
-pub run_told : ReadsWhatIsAccepted → (words : List (List ℕ)) (left left_after : Option (List ℕ)) (options : Options) (run : Command) (a : Answer) → RunsNet options run → WordsOk words run → (a.status ≡ DONE) ⊎ (a.status ≡ FAULTED) →
-    Comes words left left_after a → (bytes : List ℕ) × GivesAll left bytes left_after × ((reason : Reason) × IsRunOf options bytes a.text reason × (a.status ≡ end_status reason))
-run_told law words left left_after options run a net accepted which (Comes.wordless fault faulty same) = absurd (not_faulty law words run fault accepted faulty)
-run_told law words left left_after options run a net accepted (inl is) (Comes.longer c limit given most long gives) = absurd cc
-run_told law words left left_after options run a net accepted (inr is) (Comes.longer c limit given most long gives) = absurd cc
-run_told law words left left_after options run a net accepted which (Comes.inputless _ c given none comes same) =
+run_told : ReadsWhatIsAccepted → (words : List (List ℕ)) (left left_after : Option (List ℕ)) (T : List ℕ → Answer → Type 0) (run : Command) (a : Answer) → RunsNet T run → WordsOk words run → (a.status ≡ DONE) ⊎ (a.status ≡ FAULTED) →
+    Comes words left left_after a → (bytes : List ℕ) × GivesAll left bytes left_after × T bytes a
+run_told law words left left_after T run a net accepted which (Comes.wordless fault faulty same) = absurd (not_faulty law words run fault accepted faulty)
+run_told law words left left_after T run a net accepted (inl is) (Comes.longer c limit given most long gives) = absurd cc
+run_told law words left left_after T run a net accepted (inr is) (Comes.longer c limit given most long gives) = absurd cc
+run_told law words left left_after T run a net accepted which (Comes.inputless _ c given none comes same) =
     let one : c ≡ run = one_command law words c run given accepted in
     absurd (let no : Some longest_net_text ≡ None = sym net.reads ∙ subst (λ k. longest_input k ≡ None) one none in cc)
-run_told law words left left_after options run a net accepted which (Comes.whole _ c limit bytes given most all few comes) =
+run_told law words left left_after T run a net accepted which (Comes.whole _ c limit bytes given most all few comes) =
     (bytes, all, ran which (net.runs bytes a (subst (λ k. ComesTo k bytes a) (one_command law words c run given accepted) comes)))
   where
-    ran : (a.status ≡ DONE) ⊎ (a.status ≡ FAULTED) → RefusesNet bytes a ⊎ RunsTo options bytes a → (reason : Reason) × IsRunOf options bytes a.text reason × (a.status ≡ end_status reason)
+    ran : (a.status ≡ DONE) ⊎ (a.status ≡ FAULTED) → RefusesNet bytes a ⊎ T bytes a → T bytes a
     ran (inl done) (inl (line, why, is)) = absurd (let status = ap (λ x. x.status) is in cc)
     ran (inr faulted) (inl (line, why, is)) = absurd (let status = ap (λ x. x.status) is in cc)
-    ran which (inr runs) = (runs.reason, runs.run, runs.status)
+    ran which (inr runs) = runs
 
--- the clauses of runs that are done
-pub run_done : ReadsWhatIsAccepted → (words : List (List ℕ)) (left left_after held held_after : Option (List ℕ)) (options : Options) (run : Command) (a : Answer) → RunsNet options run → WordsOk words run → a.status ≡ DONE → Comes words left left_after a → Appends held a.text held_after →
+-- What a sink took of a run of the input, and of a least one.
+module _ (options : Options) (left left_after held held_after : Option (List ℕ)) (a : Answer) (bytes : List ℕ) (all : GivesAll left bytes left_after) (written : Appends held a.text held_after) where
+  abbrev writes_run : (runs : RunsTo options bytes a) → WritesRun options left left_after held held_after runs.reason
+  writes_run runs = record { bytes = bytes; read = all; text = a.text; is_run = runs.run; written = written }
+
+  writes_least : (least : RunsLeastTo options bytes a) → WritesLeastRun options left left_after held held_after least.runs.reason
+  writes_least least = record { writes = writes_run least.runs; least = least.least }
+
+-- the clauses of runs that are done, and that ended in a fault
+pub run_done : ReadsWhatIsAccepted → (words : List (List ℕ)) (left left_after held held_after : Option (List ℕ)) (options : Options) (run : Command) (a : Answer) → RunsNet (RunsTo options) run → WordsOk words run → a.status ≡ DONE → Comes words left left_after a → Appends held a.text held_after →
     (reason : Reason) × ((reason ≡ End.Dead) ⊎ (reason ≡ End.Steps)) × WritesRun options left left_after held held_after reason
 run_done law words left left_after held held_after options run a net accepted is comes written =
-    let (bytes, all, (reason, its, status)) = run_told law words left left_after options run a net accepted (inl is) comes in
-    (reason, done_end reason (sym status ∙ is), record { bytes = bytes; read = all; text = a.text; is_run = its; written = written })
+    let (bytes, all, runs) = run_told law words left left_after (RunsTo options) run a net accepted (inl is) comes in
+    (runs.reason, done_end runs.reason (sym runs.status ∙ is), writes_run options left left_after held held_after a bytes all written runs)
 
--- the clauses of runs that ended in a fault
-pub run_faulted : ReadsWhatIsAccepted → (words : List (List ℕ)) (left left_after held held_after : Option (List ℕ)) (options : Options) (run : Command) (a : Answer) → RunsNet options run → WordsOk words run → a.status ≡ FAULTED → Comes words left left_after a → Appends held a.text held_after →
+pub run_faulted : ReadsWhatIsAccepted → (words : List (List ℕ)) (left left_after held held_after : Option (List ℕ)) (options : Options) (run : Command) (a : Answer) → RunsNet (RunsTo options) run → WordsOk words run → a.status ≡ FAULTED → Comes words left left_after a → Appends held a.text held_after →
     (cause : FaultKind) × (b : Binding) × WritesRun options left left_after held held_after (End.Fault cause b)
 run_faulted law words left left_after held held_after options run a net accepted is comes written =
-    let (bytes, all, (reason, its, status)) = run_told law words left left_after options run a net accepted (inr is) comes in
-    let (cause, b, faulted) = fault_end reason (sym status ∙ is) in
-    (cause, b, record { bytes = bytes; read = all; text = a.text; is_run = subst (λ r. IsRunOf options bytes a.text r) faulted its; written = written })
+    let (bytes, all, runs) = run_told law words left left_after (RunsTo options) run a net accepted (inr is) comes in
+    let (cause, b, faulted) = fault_end runs.reason (sym runs.status ∙ is) in
+    (cause, b, subst (WritesRun options left left_after held held_after) faulted (writes_run options left left_after held held_after a bytes all written runs))
+
+-- the same of least runs
+pub least_done : ReadsWhatIsAccepted → (words : List (List ℕ)) (left left_after held held_after : Option (List ℕ)) (options : Options) (run : Command) (a : Answer) → RunsNet (RunsLeastTo options) run → WordsOk words run → a.status ≡ DONE → Comes words left left_after a → Appends held a.text held_after →
+    (reason : Reason) × ((reason ≡ End.Dead) ⊎ (reason ≡ End.Steps)) × WritesLeastRun options left left_after held held_after reason
+least_done law words left left_after held held_after options run a net accepted is comes written =
+    let (bytes, all, least) = run_told law words left left_after (RunsLeastTo options) run a net accepted (inl is) comes in
+    (least.runs.reason, done_end least.runs.reason (sym least.runs.status ∙ is), writes_least options left left_after held held_after a bytes all written least)
+
+pub least_faulted : ReadsWhatIsAccepted → (words : List (List ℕ)) (left left_after held held_after : Option (List ℕ)) (options : Options) (run : Command) (a : Answer) → RunsNet (RunsLeastTo options) run → WordsOk words run → a.status ≡ FAULTED → Comes words left left_after a → Appends held a.text held_after →
+    (cause : FaultKind) × (b : Binding) × WritesLeastRun options left left_after held held_after (End.Fault cause b)
+least_faulted law words left left_after held held_after options run a net accepted is comes written =
+    let (bytes, all, least) = run_told law words left left_after (RunsLeastTo options) run a net accepted (inr is) comes in
+    let (cause, b, faulted) = fault_end least.runs.reason (sym least.runs.status ∙ is) in
+    (cause, b, subst (WritesLeastRun options left left_after held held_after) faulted (writes_least options left left_after held held_after a bytes all written least))

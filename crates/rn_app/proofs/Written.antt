@@ -14,9 +14,10 @@ use Rattle.rn_words.specs.Commands.{WordsOk}
 use Rattle.rn_answer.specs.declared.answer.Answer.{Answer}
 use Rattle.rn_answer.specs.declared.status.TheConstants.{DONE, FAULTED, NO_MEMORY, READ_FAULT, WRITE_FAULT}
 use Rattle.rn_answer.specs.Writing.{TakesLine}
-use Rattle.rn_app.specs.TopCall.{Comes, FailsToTell, FailsToWrite, IsOwnStatus, IsStatus, RoseOnceAtMost, Writes, WritesRun, WritesUnfinished}
+use Rattle.rn_app.specs.TopCall.{Comes, FailsToTell, FailsToWrite, IsOwnStatus, IsStatus, RoseOnceAtMost, Writes, WritesLeastRun, WritesRun, WritesUnfinished}
+use Rattle.rn_commands.specs.Runs.{RunsTo}
 use Rattle.rn_app.proofs.Causes.{Laws}
-use Rattle.rn_app.proofs.Statuses.{IsAnswered, RunsNet, any_runs, seeded_runs, answered, no_line, run_done, run_faulted}
+use Rattle.rn_app.proofs.Statuses.{IsAnswered, RunsNet, any_runs, least_runs, seeded_runs, answered, no_line, run_done, run_faulted, least_done, least_faulted}
 use Rattle.rn_app.proofs.Statuses.{says_memory, told}
 
 -- what a call had and left
@@ -72,13 +73,13 @@ module _ {E : Type 0} (k : Call E) (a : Answer) (w : IsWritten k a) where
   own n other is = λ failed. other (sym is ∙ failed)
 
   -- the clauses of runs
-  run_is_done : Laws → k.result ≡ DONE → (options : Options) (run : Command) → RunsNet options run → WordsOk k.words run →
+  run_is_done : Laws → k.result ≡ DONE → (options : Options) (run : Command) → RunsNet (RunsTo options) run → WordsOk k.words run →
       (reason : Reason) × ((reason ≡ End.Dead) ⊎ (reason ≡ End.Steps)) × WritesRun options k.left k.left_after k.out k.out_after reason
   run_is_done laws is options run net accepted =
       let wrote = w.written (own DONE (λ e. absurd cc) is) in
       run_done laws.words k.words k.left k.left_after k.out k.out_after options run a net accepted (sym wrote.0 ∙ is) w.comes wrote.1
 
-  run_is_faulted : Laws → k.result ≡ FAULTED → (options : Options) (run : Command) → RunsNet options run → WordsOk k.words run →
+  run_is_faulted : Laws → k.result ≡ FAULTED → (options : Options) (run : Command) → RunsNet (RunsTo options) run → WordsOk k.words run →
       (cause : FaultKind) × (b : Binding) × WritesRun options k.left k.left_after k.out k.out_after (End.Fault cause b)
   run_is_faulted laws is options run net accepted =
       let wrote = w.written (own FAULTED (λ e. absurd cc) is) in
@@ -99,6 +100,19 @@ module _ {E : Type 0} (k : Call E) (a : Answer) (w : IsWritten k a) where
   pub seeded_faulted_clause : Laws → k.result ≡ FAULTED → (options : Options) (seed : ℕ) → WordsOk k.words (command.RunSeeded options seed) →
       (cause : FaultKind) × (b : Binding) × WritesRun options k.left k.left_after k.out k.out_after (End.Fault cause b)
   seeded_faulted_clause laws is options seed accepted = run_is_faulted laws is options (command.RunSeeded options seed) (seeded_runs options seed) accepted
+
+  -- the clauses of least runs
+  pub least_clause : Laws → k.result ≡ DONE → (options : Options) → WordsOk k.words (command.RunLeast options) →
+      (reason : Reason) × ((reason ≡ End.Dead) ⊎ (reason ≡ End.Steps)) × WritesLeastRun options k.left k.left_after k.out k.out_after reason
+  least_clause laws is options accepted =
+      let wrote = w.written (own DONE (λ e. absurd cc) is) in
+      least_done laws.words k.words k.left k.left_after k.out k.out_after options (command.RunLeast options) a (least_runs options) accepted (sym wrote.0 ∙ is) w.comes wrote.1
+
+  pub least_faulted_clause : Laws → k.result ≡ FAULTED → (options : Options) → WordsOk k.words (command.RunLeast options) →
+      (cause : FaultKind) × (b : Binding) × WritesLeastRun options k.left k.left_after k.out k.out_after (End.Fault cause b)
+  least_faulted_clause laws is options accepted =
+      let wrote = w.written (own FAULTED (λ e. absurd cc) is) in
+      least_faulted laws.words k.words k.left k.left_after k.out k.out_after options (command.RunLeast options) a (least_runs options) accepted (sym wrote.0 ∙ is) w.comes wrote.1
 
   -- the clauses of statuses
   pub writes_clause : IsOwnStatus k.result → Writes k.words k.left k.left_after k.result k.out k.out_after k.err k.err_after

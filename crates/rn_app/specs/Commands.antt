@@ -6,6 +6,7 @@ use Rattle.rn_answer.specs.declared.answer.Answer.{Answer}
 use Rattle.rn_answer.specs.NetTexts.{RefusesNet}
 use Rattle.rn_answer.specs.TextCommands.{ChecksTo, PrintsTo}
 use Rattle.rn_commands.specs.Runs.{RunsTo}
+use Rattle.rn_commands.specs.LeastRuns.{RunsLeastTo}
 use Rattle.rn_commands.specs.Parts.{HasParts}
 use Rattle.rn_commands.specs.NetCommands.{EnabledTo, ReplayComesTo}
 use Rattle.rn_commands.specs.Workloads.{GensTo}
@@ -23,6 +24,7 @@ HasNetText _ bytes net = net ≡ bytes
 -- What a command comes to on the bytes of its input, unless memory runs out.
 abbrev pub ComesTo : Command → List ℕ → Answer → Type 0
 ComesTo (command.Run options) bytes a = RefusesNet bytes a ⊎ RunsTo options bytes a
+ComesTo (command.RunLeast options) bytes a = RefusesNet bytes a ⊎ RunsLeastTo options bytes a
 ComesTo (command.RunSeeded options seed) bytes a = RefusesNet bytes a ⊎ RunsTo options bytes a
 ComesTo command.Check bytes a = RefusesNet bytes a ⊎ ChecksTo bytes a
 ComesTo command.Print bytes a = RefusesNet bytes a ⊎ PrintsTo bytes a

@@ -4,6 +4,7 @@ use Rattle.std.specs.Prelude.{[], Result, Ok, Err, ⊤}
 use Rattle.rn_model.specs.declared.log.Options.{Options}
 use Rattle.rn_model.specs.declared.log.Reason.{Reason}
 use Rattle.rn_model.specs.declared.system.System.{System}
+use Rattle.rn_least.specs.LeastRuns.{LeastLog}
 use Rattle.rn_notation.specs.Limits.{longest_text}
 use Rattle.rn_outside.specs.Bytes.{GivesAll, GivesAtMost, Appends, AppendsPrefix}
 use Rattle.rn_outside.specs.Faults.{Rose, risen}
@@ -87,6 +88,13 @@ pub record WritesRun (options : Options) (left left_after held held_after : Opti
   pub is_run : IsRunOf options bytes text reason
   pub written : Appends held text held_after
 
+-- The same, and the log is a least one: each firing is by the first binding that is enabled where it
+-- fires, in the order of bindings, and a fault is that of the first one at the end.
+pub record WritesLeastRun (options : Options) (left left_after held held_after : Option (List ℕ))
+    (reason : Reason) : Type 0 where
+  pub writes : WritesRun options left left_after held held_after reason
+  pub least : LeastLog writes.is_run.system options writes.is_run.firings (Some reason)
+
 -- The first sink failed before the end of the text of what words and input come to.
 pub record FailsToWrite (words : List (List ℕ)) (left left_after out out_after : Option (List ℕ))
     : Type 0 where
@@ -145,6 +153,7 @@ pub record IsRecorded (options : Options) (bytes : List ℕ) : Type 0 where
 -- the commands that run a net, whose log may end in a fault
 abbrev pub MayFault : Command → Type 0
 MayFault (command.Run options) = ⊤
+MayFault (command.RunLeast options) = ⊤
 MayFault (command.RunSeeded options seed) = ⊤
 MayFault (command.Gen copies options) = ⊤
 MayFault (command.GenSeeded copies options seed) = ⊤

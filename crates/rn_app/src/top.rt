@@ -20,7 +20,8 @@ ghost use Rattle.rn_answer.specs.Refusing.{Concludes};
 ghost use Rattle.rn_answer.specs.Writing.{TakesLine};
 ghost use Rattle.rn_app.specs.Commands.{ComesTo};
 ghost use Rattle.rn_app.specs.TopCall.{ComesOrStops, IsStatus, IsOwnStatus, IsFaultStatus};
-ghost use Rattle.rn_app.specs.TopCall.{Writes, WritesRun, WritesUnfinished, FailsToWrite, FailsToTell};
+ghost use Rattle.rn_app.specs.TopCall.{Writes, WritesRun, WritesLeastRun, WritesUnfinished};
+ghost use Rattle.rn_app.specs.TopCall.{FailsToWrite, FailsToTell};
 ghost use Rattle.rn_app.specs.TopCall.{IsNoInput, IsNoRecord, IsFine, MayFault, RoseOnceAtMost};
 
 use crate::laws::input_laws;
@@ -29,7 +30,7 @@ use rn_answer::{
     write_line,
 };
 use rn_commands::{
-    answer_laws, enabled, moves, parts_laws, replay, run, run_seeded, run_workload,
+    answer_laws, enabled, moves, parts_laws, replay, run, run_least, run_seeded, run_workload,
     run_workload_seeded,
 };
 use rn_outside::{Sink, Source};
@@ -54,6 +55,7 @@ fn work<R: Threads + Wait + Sync, G: Gate + Sync>(
     words_laws();
     match command {
         Command::Run(options) => run(rt, alloc, options, bytes, gate),
+        Command::RunLeast(options) => run_least(rt, alloc, options, bytes, gate),
         Command::RunSeeded(options, seed) => run_seeded(rt, alloc, options, seed, bytes, gate),
         Command::Check => check(alloc, bytes),
         Command::Print => print(alloc, bytes),
@@ -137,6 +139,19 @@ pub fn renew_top<R: Threads + Wait + Sync, I: Source, O: Sink, E: Sink, G: Gate 
         WordsOk (map string_bytes words.now) (Command.RunSeeded options seed) →
         (cause : FaultKind) × (b : Binding)
         × WritesRun options (I.left input.old) (I.left input.new)
+        (O.held out.old) (O.held out.new) (End.Fault cause b) }
+
+    // The same of a least run, and what is written is one: each firing is by the first binding that is
+    // enabled where it fires, in the order of bindings.
+    ensures least { result ≡ DONE → (options : Options) →
+        WordsOk (map string_bytes words.now) (Command.RunLeast options) →
+        (reason : Reason) × ((reason ≡ End.Dead) ⊎ (reason ≡ End.Steps))
+        × WritesLeastRun options (I.left input.old) (I.left input.new)
+        (O.held out.old) (O.held out.new) reason }
+    ensures least_faulted { result ≡ FAULTED → (options : Options) →
+        WordsOk (map string_bytes words.now) (Command.RunLeast options) →
+        (cause : FaultKind) × (b : Binding)
+        × WritesLeastRun options (I.left input.old) (I.left input.new)
         (O.held out.old) (O.held out.new) (End.Fault cause b) }
 
     // With each status but those of faults and of memory, the sinks took what the words and the input

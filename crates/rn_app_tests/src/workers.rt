@@ -41,7 +41,7 @@ fn lines_in(out: &[u8]) -> usize {
 // has committed, and no turn is held meanwhile. What worker 1 found is then fired, or is gone.
 #[test]
 fn workers_meet(rt: HostRuntime) -> Result<(), Fail> {
-    let table: [(&str, &[u8], u64, bool, usize, &[u8], &[u8]); 4] = [
+    let table: [(&str, &[u8], u64, bool, usize, &[u8], &[u8]); 5] = [
         (
             "run --workers 2",
             ONE,
@@ -58,6 +58,16 @@ fn workers_meet(rt: HostRuntime) -> Result<(), Fail> {
             true,
             3,
             b"1 w2 main[1].t x=",
+            b"\nend dead\n",
+        ),
+        // Both have found the first binding.
+        (
+            "run --pick least --workers 2",
+            TWO,
+            50_000_000,
+            true,
+            3,
+            b"1 w2 main[1].t x=1\n2 w",
             b"\nend dead\n",
         ),
         (

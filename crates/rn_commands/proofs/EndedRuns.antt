@@ -39,13 +39,13 @@ counts_live s system table numbers count same stands ascending live counted = re
 module _ (system : System) (options : Options) (s : State) (a : Answer)
     (setup : s.setup ≡ record { system = system; options = options })
     (own : All (IsOfWorkers options.workers) s.fired) where
-  its_log : (reason : Reason) → Log s.setup.system s.setup.options s.fired (Some reason) →
+  pub its_log : (reason : Reason) → Log s.setup.system s.setup.options s.fired (Some reason) →
       Log system options s.fired (Some reason)
   its_log reason log =
       subst (λ (x : Setup). Log x.system x.options s.fired (Some reason)) setup log
 
   -- it is a run of the net text
-  pub runs_to : (bytes : List ℕ) → Accepted bytes system → IsWrittenBy s a → RunsTo options bytes a
+  abbrev pub runs_to : (bytes : List ℕ) → Accepted bytes system → IsWrittenBy s a → RunsTo options bytes a
   runs_to bytes accepted written =
       let record_is = written.0 in
       let closed = written.1 in

@@ -3,6 +3,8 @@ pub mod EndedRuns
 pub mod FirstBindings
 pub mod LastReasons
 pub mod MovesLemmas
+pub mod LeastEnds
+pub mod LeastTexts
 pub mod OneAnswer
 pub mod PartLemmas
 pub mod ReplayLemmas

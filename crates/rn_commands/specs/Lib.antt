@@ -7,3 +7,5 @@ pub mod Workloads
 pub mod Moves
 pub mod NetCommands
 pub mod Laws
+pub mod LeastLaws
+pub mod LeastRuns

@@ -4,6 +4,7 @@
 mod bindings;
 mod ends;
 mod laws;
+mod least_runs;
 mod moving;
 mod replays;
 mod running;
@@ -12,6 +13,7 @@ mod workload;
 
 pub use bindings::enabled;
 pub use laws::{answer_laws, gen_laws, moves_laws, parts_laws};
+pub use least_runs::{least_run_laws, run_least};
 pub use moving::moves;
 pub use replays::replay;
 pub use runs::{run, run_seeded};

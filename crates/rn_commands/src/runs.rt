@@ -47,8 +47,8 @@ pub(crate) fn closed_by(alloc: Global, state: &SimState) -> Result<(u8, Items<u8
     }
 }
 
-// What the run of a state whose log has ended comes to.
-fn written(alloc: Global, state: &SimState) -> Result<Answer, NoMemory>
+/// What the run of a state whose log has ended comes to.
+pub(crate) fn written(alloc: Global, state: &SimState) -> Result<Answer, NoMemory>
     requires { state.now.ended ≢ None }
     ensures { IfOk result (λ a. IsWrittenBy state.now a) }
 {

@@ -6,26 +6,40 @@ use Rattle.std.proofs.lemmas.Slice.Eq.{bytes_eq-Decides}
 use Rattle.rn_words.specs.declared.table.Verb.{Verb}
 use Rattle.rn_words.specs.declared.table.Verb.TheVariants.{Run, Check, Print, Enabled, Replay, Gen, Moves}
 use Rattle.rn_words.specs.declared.table.Setting.{Setting}
+use Rattle.rn_words.specs.declared.chosen.Value.{Value}
 use Rattle.rn_words.specs.declared.chosen.Chosen.{Chosen}
 use Rattle.rn_words.specs.declared.command.Command.{Command}
 use Rattle.rn_words.specs.declared.command.WordsFault.{WordsFault}
-use Rattle.rn_words.specs.Table.{verb_named, verb_word, least, most, most_copies}
-use Rattle.rn_words.specs.Values.{value_within}
-use Rattle.rn_words.specs.Choices.{nothing, with_given, command_of}
+use Rattle.rn_words.specs.Table.{verb_named, verb_word, most_copies}
+use Rattle.rn_words.specs.Values.{value_within, value_of}
+use Rattle.rn_words.specs.Choices.{nothing, fits, with_given, command_of}
 use Rattle.rn_words.specs.Commands.{IsNextOption, GivesOptions, FollowsVerb, WordsOk, dashed}
-use Rattle.rn_words.specs.Reading.{and_then, after_word, as_option, with_option, with_number}
+use Rattle.rn_words.specs.Reading.{and_then, after_word, as_option, with_option, with_one, if_fit}
 use Rattle.rn_words.specs.Reading.{option_of, value_part, read_from, as_command, read_copies}
 use Rattle.rn_words.specs.Reading.{read_after, read_verb, reading}
 use Rattle.rn_words.proofs.ReadingLemmas.{one_word}
 use Rattle.rn_words.proofs.WordParts.{MayStand, names_option, dashed_named, joined_named, dashed_value, joined_value}
 
+-- a value that goes with the options that were given is one of the word, and goes with them
+fit_of : (chosen : Chosen) (o : Option Value) (value : Value) → if_fit chosen o ≡ Some value →
+    (o ≡ Some value) × (fits chosen value ≡ true)
+fit_of chosen None value is = let no : ⊥ = cc in absurd no
+fit_of chosen (Some v) value is = by (fits chosen v) refl is
+  where
+    by : (b : Bool) → fits chosen v ≡ b → (if b then Some v else None) ≡ Some value →
+        (Some v ≡ Some value) × (fits chosen value ≡ true)
+    by true e same =
+        let which : v ≡ value = cc in
+        (same, subst (λ w. fits chosen w ≡ true) which e)
+    by false e same = let no : ⊥ = cc in absurd no
+
 -- what words give where the next one is awaited as the value of an option, or where it isn't
 abbrev pub Rest : Verb → Chosen → Option Setting → List (List ℕ) → Chosen → Type 0
 Rest verb chosen None words all = GivesOptions verb chosen words all
 Rest verb chosen (Some s) words all =
-    (value : List ℕ) × (n : ℕ) × (rest : List (List ℕ)) × (words ≡ value ∷ rest)
-    × (value_within (least s) (most s) value ≡ Some n)
-    × GivesOptions verb (with_given chosen s n) rest all
+    (word : List ℕ) × (value : Value) × (rest : List (List ℕ)) × (words ≡ word ∷ rest)
+    × ((value_of s word ≡ Some value) × (fits chosen value ≡ true))
+    × GivesOptions verb (with_given chosen s value) rest all
 
 -- words that are read without a fault give options
 pub gives_options : (verb : Verb) (words : List (List ℕ)) (at : ℕ) (chosen all : Chosen)
@@ -35,54 +49,69 @@ gives_options verb [] at chosen all None is =
     let same : chosen ≡ all = cc in subst (λ c. GivesOptions verb chosen [] c) same GivesOptions.done
 gives_options verb [] at chosen all (Some s) is = let no : ⊥ = cc in absurd no
 gives_options verb (word ∷ words) at chosen all (Some s) is =
-    by (value_within (least s) (most s) word) refl is
-    (λ n. gives_options verb words (suc at) (with_given chosen s n) all None)
+    by (if_fit chosen (value_of s word)) refl is
+    (λ v. gives_options verb words (suc at) (with_given chosen s v) all None)
   where
-    by : (o : Option ℕ) → value_within (least s) (most s) word ≡ o →
+    by : (o : Option Value) → if_fit chosen (value_of s word) ≡ o →
         and_then (λ st. read_from verb (suc at) st.chosen st.awaits words)
-        (with_number chosen s at o) ≡ Ok all →
-        ((n : ℕ) → read_from verb (suc at) (with_given chosen s n) None words ≡ Ok all →
-        GivesOptions verb (with_given chosen s n) words all) →
+        (with_one chosen s at o) ≡ Ok all →
+        ((v : Value) → read_from verb (suc at) (with_given chosen s v) None words ≡ Ok all →
+        GivesOptions verb (with_given chosen s v) words all) →
         Rest verb chosen (Some s) (word ∷ words) all
     by None e same rest = let no : ⊥ = cc in absurd no
-    by (Some n) e same rest = (word, n, words, refl, e, rest n same)
+    by (Some v) e same rest =
+        (word, v, words, refl, fit_of chosen (value_of s word) v e, rest v same)
 gives_options verb (word ∷ words) at chosen all None is =
     by (option_of verb chosen word) refl is
     (λ s. gives_options verb words (suc at) chosen all (Some s))
-    (λ s n. gives_options verb words (suc at) (with_given chosen s n) all None)
+    (λ s v. gives_options verb words (suc at) (with_given chosen s v) all None)
   where
-    with_number_is : (s : Setting) (value : List ℕ) (o : Option ℕ) → MayStand verb chosen s →
-        word ≡ dashed s ++ 61 ∷ value → value_within (least s) (most s) value ≡ o →
+    with_one_is : (s : Setting) (value : List ℕ) (o : Option Value) → MayStand verb chosen s →
+        word ≡ dashed s ++ 61 ∷ value → if_fit chosen (value_of s value) ≡ o →
         and_then (λ st. read_from verb (suc at) st.chosen st.awaits words)
-        (with_number chosen s at o) ≡ Ok all →
-        ((n : ℕ) → read_from verb (suc at) (with_given chosen s n) None words ≡ Ok all →
-        GivesOptions verb (with_given chosen s n) words all) →
+        (with_one chosen s at o) ≡ Ok all →
+        ((v : Value) → read_from verb (suc at) (with_given chosen s v) None words ≡ Ok all →
+        GivesOptions verb (with_given chosen s v) words all) →
         GivesOptions verb chosen (word ∷ words) all
-    with_number_is s value None stands word_is e same rest = let no : ⊥ = cc in absurd no
-    with_number_is s value (Some n) stands word_is e same rest =
+    with_one_is s value None stands word_is e same rest = let no : ⊥ = cc in absurd no
+    with_one_is s value (Some v) stands word_is e same rest =
+        let fit = fit_of chosen (value_of s value) v e in
         subst (λ w. GivesOptions verb chosen (w ∷ words) all) (sym word_is)
-        (GivesOptions.joined s value n
-        (record { taken = stands.taken; first = stands.first; spells = e }) (rest n same))
+        (GivesOptions.joined s value v
+        (record {
+          taken = stands.taken;
+          first = stands.first;
+          goes = stands.goes;
+          spells = fit.0;
+          fit = fit.1;
+        }) (rest v same))
 
     with_value_is : (s : Setting) (o : Option (List ℕ)) → option_of verb chosen word ≡ Some s →
         value_part word ≡ o →
         and_then (λ st. read_from verb (suc at) st.chosen st.awaits words)
         (with_option chosen s at o) ≡ Ok all →
         (read_from verb (suc at) chosen (Some s) words ≡ Ok all → Rest verb chosen (Some s) words all) →
-        ((n : ℕ) → read_from verb (suc at) (with_given chosen s n) None words ≡ Ok all →
-        GivesOptions verb (with_given chosen s n) words all) →
+        ((v : Value) → read_from verb (suc at) (with_given chosen s v) None words ≡ Ok all →
+        GivesOptions verb (with_given chosen s v) words all) →
         GivesOptions verb chosen (word ∷ words) all
     with_value_is s None named e same awaited rest =
         let names = names_option verb chosen word s named in
         let next = awaited same in
         let stands = names.stands in
+        let fit = next.4 in
         subst (λ w. GivesOptions verb chosen (w ∷ words) all) (sym (names.alone e))
         (subst (λ ws. GivesOptions verb chosen (dashed s ∷ ws) all) (sym next.3)
         (GivesOptions.apart s next.0 next.1
-        (record { taken = stands.taken; first = stands.first; spells = next.4 }) next.5))
+        (record {
+          taken = stands.taken;
+          first = stands.first;
+          goes = stands.goes;
+          spells = fit.0;
+          fit = fit.1;
+        }) next.5))
     with_value_is s (Some value) named e same awaited rest =
         let names = names_option verb chosen word s named in
-        with_number_is s value (value_within (least s) (most s) value) names.stands
+        with_one_is s value (if_fit chosen (value_of s value)) names.stands
         (names.joined value e) refl same rest
 
     by : (o : Option Setting) → option_of verb chosen word ≡ o →
@@ -90,12 +119,17 @@ gives_options verb (word ∷ words) at chosen all None is =
         (as_option chosen at word o) ≡ Ok all →
         ((s : Setting) → read_from verb (suc at) chosen (Some s) words ≡ Ok all →
         Rest verb chosen (Some s) words all) →
-        ((s : Setting) (n : ℕ) → read_from verb (suc at) (with_given chosen s n) None words ≡ Ok all →
-        GivesOptions verb (with_given chosen s n) words all) →
+        ((s : Setting) (v : Value) → read_from verb (suc at) (with_given chosen s v) None words ≡ Ok all →
+        GivesOptions verb (with_given chosen s v) words all) →
         GivesOptions verb chosen (word ∷ words) all
     by None e same awaited rest = let no : ⊥ = cc in absurd no
     by (Some s) e same awaited rest =
         with_value_is s (value_part word) e refl same (awaited s) (rest s)
+
+-- an option that may be next stands
+stands_of : {verb : Verb} {chosen : Chosen} {s : Setting} {word : List ℕ} {value : Value} →
+    IsNextOption verb chosen s word value → MayStand verb chosen s
+stands_of next = record { taken = next.taken; first = next.first; goes = next.goes }
 
 -- an option's word is read as that option
 one_option : (verb : Verb) (at : ℕ) (chosen : Chosen) (s : Setting) → MayStand verb chosen s →
@@ -104,34 +138,42 @@ one_option verb at chosen s stands =
     ap (as_option chosen at (dashed s)) (dashed_named verb chosen s stands)
     ∙ ap (with_option chosen s at) (dashed_value s)
 
+-- a word that is a value of an option, and goes with those that were given, is read as it
+one_value : (verb : Verb) (at : ℕ) (chosen : Chosen) (s : Setting) (word : List ℕ) (value : Value) →
+    IsNextOption verb chosen s word value →
+    with_one chosen s at (if_fit chosen (value_of s word))
+    ≡ Ok (record { chosen = with_given chosen s value; awaits = None })
+one_value verb at chosen s word value next =
+    ap (λ o. with_one chosen s at (if_fit chosen o)) next.spells
+    ∙ ap (λ b. with_one chosen s at (if b then Some value else None)) next.fit
+
 -- and with its value as both
-one_joined : (verb : Verb) (at : ℕ) (chosen : Chosen) (s : Setting) (value : List ℕ) (n : ℕ) →
-    IsNextOption verb chosen s value n →
-    after_word verb at (dashed s ++ 61 ∷ value) chosen None
-    ≡ Ok (record { chosen = with_given chosen s n; awaits = None })
-one_joined verb at chosen s value n next =
-    ap (as_option chosen at (dashed s ++ 61 ∷ value))
-    (joined_named verb chosen s value (record { taken = next.taken; first = next.first }))
-    ∙ ap (with_option chosen s at) (joined_value s value)
-    ∙ ap (with_number chosen s at) next.spells
+one_joined : (verb : Verb) (at : ℕ) (chosen : Chosen) (s : Setting) (word : List ℕ) (value : Value) →
+    IsNextOption verb chosen s word value →
+    after_word verb at (dashed s ++ 61 ∷ word) chosen None
+    ≡ Ok (record { chosen = with_given chosen s value; awaits = None })
+one_joined verb at chosen s word value next =
+    ap (as_option chosen at (dashed s ++ 61 ∷ word)) (joined_named verb chosen s word (stands_of next))
+    ∙ ap (with_option chosen s at) (joined_value s word)
+    ∙ one_value verb at chosen s word value next
 
 -- words that give options are read without a fault
 pub reads_options : (verb : Verb) (chosen all : Chosen) (words : List (List ℕ)) →
     GivesOptions verb chosen words all → (at : ℕ) → read_from verb at chosen None words ≡ Ok all
 reads_options verb chosen all words GivesOptions.done at = refl
-reads_options verb chosen all words (GivesOptions.joined {words = rest} s value n next more) at =
-    one_word verb at (suc at) (dashed s ++ 61 ∷ value) rest chosen None
-    (record { chosen = with_given chosen s n; awaits = None })
-    (one_joined verb at chosen s value n next) refl
-    ∙ reads_options verb (with_given chosen s n) all rest more (suc at)
-reads_options verb chosen all words (GivesOptions.apart {words = rest} s value n next more) at =
-    one_word verb at (suc at) (dashed s) (value ∷ rest) chosen None
+reads_options verb chosen all words (GivesOptions.joined {words = rest} s word value next more) at =
+    one_word verb at (suc at) (dashed s ++ 61 ∷ word) rest chosen None
+    (record { chosen = with_given chosen s value; awaits = None })
+    (one_joined verb at chosen s word value next) refl
+    ∙ reads_options verb (with_given chosen s value) all rest more (suc at)
+reads_options verb chosen all words (GivesOptions.apart {words = rest} s word value next more) at =
+    one_word verb at (suc at) (dashed s) (word ∷ rest) chosen None
     (record { chosen = chosen; awaits = Some s })
-    (one_option verb at chosen s (record { taken = next.taken; first = next.first })) refl
-    ∙ one_word verb (suc at) (suc (suc at)) value rest chosen (Some s)
-    (record { chosen = with_given chosen s n; awaits = None })
-    (ap (with_number chosen s (suc at)) next.spells) refl
-    ∙ reads_options verb (with_given chosen s n) all rest more (suc (suc at))
+    (one_option verb at chosen s (stands_of next)) refl
+    ∙ one_word verb (suc at) (suc (suc at)) word rest chosen (Some s)
+    (record { chosen = with_given chosen s value; awaits = None })
+    (one_value verb (suc at) chosen s word value next) refl
+    ∙ reads_options verb (with_given chosen s value) all rest more (suc (suc at))
 
 -- the command of a word has that word
 verb_word_is : (word : List ℕ) (v : Verb) → verb_named word ≡ Some v → word ≡ verb_word v

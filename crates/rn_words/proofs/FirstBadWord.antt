@@ -5,51 +5,66 @@ use Rattle.std.specs.Prelude.{codes}
 use Rattle.rn_words.specs.declared.table.Verb.{Verb}
 use Rattle.rn_words.specs.declared.table.Verb.TheVariants.{Run, Check, Print, Enabled, Replay, Gen, Moves}
 use Rattle.rn_words.specs.declared.table.Setting.{Setting}
-use Rattle.rn_words.specs.declared.table.Setting.TheVariants.{Workers, Steps, Depth, Sweep, Seed}
+use Rattle.rn_words.specs.declared.table.Setting.TheVariants.{Workers, Steps, Depth, Sweep, Pick, Seed}
+use Rattle.rn_words.specs.declared.table.Picked.TheVariants.{Any}
+use Rattle.rn_words.specs.declared.chosen.Value.{Value}
+use Rattle.rn_words.specs.declared.chosen.Value.TheVariants.{Number, Picks}
 use Rattle.rn_words.specs.declared.chosen.Chosen.{Chosen}
 use Rattle.rn_words.specs.declared.options.State.{State}
 use Rattle.rn_words.specs.declared.command.Command.{Command}
 use Rattle.rn_words.specs.declared.command.WordsFault.{WordsFault}
 use Rattle.rn_words.specs.declared.command.WordsFault.TheVariants.{U1, U2, U3}
-use Rattle.rn_words.specs.Table.{verb_named, least, most, most_copies}
-use Rattle.rn_words.specs.Values.{value_within}
+use Rattle.rn_words.specs.Table.{verb_named, most_copies}
+use Rattle.rn_words.specs.Values.{value_within, value_of}
 use Rattle.rn_words.specs.Choices.{nothing, with_given, command_of}
 use Rattle.rn_words.specs.Laws.{CanGoOn, number_of_fault, IsFirstBad}
-use Rattle.rn_words.specs.Reading.{and_then, after_word, as_option, with_option, with_number, option_of}
+use Rattle.rn_words.specs.Reading.{and_then, after_word, as_option, with_option, with_one, if_fit}
+use Rattle.rn_words.specs.Reading.{option_of}
 use Rattle.rn_words.specs.Reading.{value_part, read_from, as_command, read_copies, read_after, read_verb, reading}
 use Rattle.rn_words.proofs.AcceptedWords.{not_gen, reads_accepted, reads_what_is_accepted}
 
--- 1 is a value of each option
-one_is_value : (s : Setting) → value_within (least s) (most s) (codes "1") ≡ Some 1
-one_is_value Workers = refl
-one_is_value Steps = refl
-one_is_value Depth = refl
-one_is_value Sweep = refl
-one_is_value Seed = refl
+-- a word that is a value of an option whatever else is given
+abbrev some_word : Setting → List ℕ
+some_word Pick = codes "any"
+some_word s = codes "1"
+
+-- and its value
+abbrev some_value : Setting → Value
+some_value Pick = Picks Any
+some_value s = Number 1
+
+is_value : (chosen : Chosen) (s : Setting) →
+    if_fit chosen (value_of s (some_word s)) ≡ Some (some_value s)
+is_value chosen Workers = refl
+is_value chosen Steps = refl
+is_value chosen Depth = refl
+is_value chosen Sweep = refl
+is_value chosen Pick = refl
+is_value chosen Seed = refl
 
 -- some words end what is read so far without a fault
 some_end : (verb : Verb) (at : ℕ) (chosen : Chosen) (awaits : Option Setting) →
     (rest : List (List ℕ)) × (all : Chosen) × (read_from verb at chosen awaits rest ≡ Ok all)
 some_end verb at chosen None = ([], chosen, refl)
 some_end verb at chosen (Some s) = (
-  codes "1" ∷ [],
-  with_given chosen s 1,
-  ap (λ o. and_then (λ st. read_from verb (suc at) st.chosen st.awaits []) (with_number chosen s at o))
-      (one_is_value s),
+  some_word s ∷ [],
+  with_given chosen s (some_value s),
+  ap (λ o. and_then (λ st. read_from verb (suc at) st.chosen st.awaits []) (with_one chosen s at o))
+      (is_value chosen s),
 )
 
 -- a fault of a word has its number
 fault_here : (verb : Verb) (at : ℕ) (word : List ℕ) (chosen : Chosen) (awaits : Option Setting)
     (fault : WordsFault) → after_word verb at word chosen awaits ≡ Err fault →
     number_of_fault fault ≡ at
-fault_here verb at word chosen (Some s) fault is = by (value_within (least s) (most s) word) is
+fault_here verb at word chosen (Some s) fault is = by (if_fit chosen (value_of s word)) is
   where
-    by : (o : Option ℕ) → with_number chosen s at o ≡ Err fault → number_of_fault fault ≡ at
+    by : (o : Option Value) → with_one chosen s at o ≡ Err fault → number_of_fault fault ≡ at
     by None same = let which : U3 at ≡ fault = cc in ap number_of_fault (sym which)
     by (Some n) same = let no : ⊥ = cc in absurd no
 fault_here verb at word chosen None fault is = by (option_of verb chosen word) is
   where
-    number : (s : Setting) (o : Option ℕ) → with_number chosen s at o ≡ Err fault →
+    number : (s : Setting) (o : Option Value) → with_one chosen s at o ≡ Err fault →
         number_of_fault fault ≡ at
     number s None same = let which : U3 at ≡ fault = cc in ap number_of_fault (sym which)
     number s (Some n) same = let no : ⊥ = cc in absurd no
@@ -57,7 +72,7 @@ fault_here verb at word chosen None fault is = by (option_of verb chosen word) i
     value : (s : Setting) (o : Option (List ℕ)) → with_option chosen s at o ≡ Err fault →
         number_of_fault fault ≡ at
     value s None same = let no : ⊥ = cc in absurd no
-    value s (Some v) same = number s (value_within (least s) (most s) v) same
+    value s (Some v) same = number s (if_fit chosen (value_of s v)) same
 
     by : (o : Option Setting) → as_option chosen at word o ≡ Err fault → number_of_fault fault ≡ at
     by None same = let which : U2 at ≡ fault = cc in ap number_of_fault (sym which)

@@ -1,5 +1,6 @@
 -- Accepted words give numbers within their limits.
-use Rattle.std.proofs.Common.{◌≡◌, ◌≤◌, ℕ, List, Option, Some, None, unwrap_or, refl, subst, arith}
+use Rattle.std.proofs.Common.{◌≡◌, ◌≤◌, ◌∙◌, ℕ, List, Option, Some, None, unwrap_or, option_map, refl}
+use Rattle.std.proofs.Common.{ap, subst, arith}
 use Rattle.rn_model.specs.declared.log.Options.{Options}
 use Rattle.rn_model.specs.Good.{IsInLimits}
 use Rattle.rn_model.specs.Limits.{most_workers, most_steps, greatest_depth, greatest_sweep}
@@ -7,14 +8,18 @@ use Rattle.rn_words.specs.declared.table.Verb.{Verb}
 use Rattle.rn_words.specs.declared.table.Verb.TheVariants.{Gen}
 use Rattle.rn_words.specs.declared.table.Verb.TheVariants as verb
 use Rattle.rn_words.specs.declared.table.Setting.{Setting}
-use Rattle.rn_words.specs.declared.table.Setting.TheVariants.{Workers, Steps, Depth, Sweep, Seed}
+use Rattle.rn_words.specs.declared.table.Setting.TheVariants.{Workers, Steps, Depth, Sweep, Pick, Seed}
+use Rattle.rn_words.specs.declared.table.Picked.{Picked}
+use Rattle.rn_words.specs.declared.table.Picked.TheVariants.{Any, Least}
+use Rattle.rn_words.specs.declared.chosen.Value.{Value}
+use Rattle.rn_words.specs.declared.chosen.Value.TheVariants.{Number, Picks}
 use Rattle.rn_words.specs.declared.chosen.Chosen.{Chosen}
 use Rattle.rn_words.specs.declared.command.Command.{Command}
 use Rattle.rn_words.specs.Choices.{nothing, with_given, options_of, run_of, gen_of, command_of}
 use Rattle.rn_words.specs.Commands.{GivesOptions, FollowsVerb}
 use Rattle.rn_words.specs.Laws.{AcceptedAreWithinLimits, IsWithinLimits}
-use Rattle.rn_words.specs.Table.{least, most, most_copies, greatest_seed}
-use Rattle.rn_words.specs.Values.{value_within}
+use Rattle.rn_words.specs.Table.{pick_named, least, most, most_copies, greatest_seed}
+use Rattle.rn_words.specs.Values.{value_within, value_of}
 
 -- each value that is chosen is one that its option may have
 record AreWithin (chosen : Chosen) : Type 0 where
@@ -28,8 +33,8 @@ record AreWithin (chosen : Chosen) : Type 0 where
 within : (low high : ℕ) (word : List ℕ) (n : ℕ) → value_within low high word ≡ Some n → (low ≤ n) × (n ≤ high)
 within low high word n is = grind (arith, is)
 
--- one more value that its option may have
-with_one : (chosen : Chosen) (s : Setting) (n : ℕ) → AreWithin chosen → (least s ≤ n) × (n ≤ most s) → AreWithin (with_given chosen s n)
+-- one more number that its option may have
+with_one : (chosen : Chosen) (s : Setting) (n : ℕ) → AreWithin chosen → (least s ≤ n) × (n ≤ most s) → AreWithin (with_given chosen s (Number n))
 with_one chosen Workers n are (low, high) = record {
   workers = λ m is. let same : n ≡ m = cc in subst (λ k. (1 ≤ k) × (k ≤ most_workers)) same (low, high);
   steps = are.steps;
@@ -58,6 +63,7 @@ with_one chosen Sweep n are (low, high) = record {
   sweep = λ m is. let same : n ≡ m = cc in subst (λ k. k ≤ greatest_sweep) same high;
   seed = are.seed;
 }
+with_one chosen Pick n are limits = are
 with_one chosen Seed n are (low, high) = record {
   workers = are.workers;
   steps = are.steps;
@@ -66,11 +72,47 @@ with_one chosen Seed n are (low, high) = record {
   seed = λ m is. let same : n ≡ m = cc in subst (λ k. k ≤ greatest_seed) same high;
 }
 
+-- a number that a word spells within limits is within them
+by_number : (low high : ℕ) (word : List ℕ) (n : ℕ) →
+    option_map Number (value_within low high word) ≡ Some (Number n) → (low ≤ n) × (n ≤ high)
+by_number low high word n is = by (value_within low high word) refl is
+  where
+    by : (o : Option ℕ) → value_within low high word ≡ o → option_map Number o ≡ Some (Number n) →
+        (low ≤ n) × (n ≤ high)
+    by None e same = let no : ⊥ = cc in absurd no
+    by (Some m) e same = let which : m ≡ n = cc in within low high word n (e ∙ ap Some which)
+
+-- and so is one that is the value of an option
+number_within : (s : Setting) (word : List ℕ) (n : ℕ) → value_of s word ≡ Some (Number n) →
+    (least s ≤ n) × (n ≤ most s)
+number_within Workers word n is = by_number (least Workers) (most Workers) word n is
+number_within Steps word n is = by_number (least Steps) (most Steps) word n is
+number_within Depth word n is = by_number (least Depth) (most Depth) word n is
+number_within Sweep word n is = by_number (least Sweep) (most Sweep) word n is
+number_within Seed word n is = by_number (least Seed) (most Seed) word n is
+number_within Pick word n is = by (pick_named word) is
+  where
+    by : (o : Option Picked) → option_map Picks o ≡ Some (Number n) → (0 ≤ n) × (n ≤ 0)
+    by None same = let no : ⊥ = cc in absurd no
+    by (Some picked) same = let no : ⊥ = cc in absurd no
+
+-- one more value that a word spells
+with_value : (chosen : Chosen) (s : Setting) (word : List ℕ) (value : Value) → AreWithin chosen →
+    value_of s word ≡ Some value → AreWithin (with_given chosen s value)
+with_value chosen s word (Number n) are spells = with_one chosen s n are (number_within s word n spells)
+with_value chosen s word (Picks picked) are spells = record {
+  workers = are.workers;
+  steps = are.steps;
+  depth = are.depth;
+  sweep = are.sweep;
+  seed = are.seed;
+}
+
 -- the options that words give are within their limits
 all_within : (verb : Verb) (chosen all : Chosen) (words : List (List ℕ)) → GivesOptions verb chosen words all → AreWithin chosen → AreWithin all
 all_within verb chosen all words GivesOptions.done are = are
-all_within verb chosen all words (GivesOptions.joined s value n next more) are = all_within verb (with_given chosen s n) all _ more (with_one chosen s n are (within (least s) (most s) value n next.spells))
-all_within verb chosen all words (GivesOptions.apart s value n next more) are = all_within verb (with_given chosen s n) all _ more (with_one chosen s n are (within (least s) (most s) value n next.spells))
+all_within verb chosen all words (GivesOptions.joined s word value next more) are = all_within verb (with_given chosen s value) all _ more (with_value chosen s word value are next.spells)
+all_within verb chosen all words (GivesOptions.apart s word value next more) are = all_within verb (with_given chosen s value) all _ more (with_value chosen s word value are next.spells)
 
 none_within : AreWithin nothing
 none_within = record {
@@ -95,10 +137,13 @@ options_within steps chosen few are = record {
 }
 
 -- the command `run` of options within their limits
-run_within : (options : Options) (seed : Option ℕ) → IsInLimits options →
-    ((n : ℕ) → seed ≡ Some n → n ≤ greatest_seed) → IsWithinLimits (run_of options seed)
-run_within options None are few = are
-run_within options (Some n) are few = (are, few n refl)
+run_within : (options : Options) (pick : Option Picked) (seed : Option ℕ) → IsInLimits options →
+    ((n : ℕ) → seed ≡ Some n → n ≤ greatest_seed) → IsWithinLimits (run_of options pick seed)
+run_within options (Some Least) seed are few = are
+run_within options (Some Any) None are few = are
+run_within options (Some Any) (Some n) are few = (are, few n refl)
+run_within options None None are few = are
+run_within options None (Some n) are few = (are, few n refl)
 
 -- and `gen`
 gen_within : (n : ℕ) (options : Options) (seed : Option ℕ) → (1 ≤ n) × (n ≤ most_copies) →
@@ -108,7 +153,7 @@ gen_within n options None copies are few = (copies, are)
 gen_within n options (Some m) copies are few = (copies, are, few m refl)
 
 command_within : (v : Verb) (n : ℕ) (chosen : Chosen) → (v ≡ Gen → (1 ≤ n) × (n ≤ most_copies)) → AreWithin chosen → IsWithinLimits (command_of v n chosen)
-command_within verb.Run n chosen copies are = run_within (options_of 1000 chosen) chosen.seed (options_within 1000 chosen (omega arith) are) are.seed
+command_within verb.Run n chosen copies are = run_within (options_of 1000 chosen) chosen.pick chosen.seed (options_within 1000 chosen (omega arith) are) are.seed
 command_within verb.Check n chosen copies are = tt
 command_within verb.Print n chosen copies are = tt
 command_within verb.Enabled n chosen copies are = or_default (λ m. m ≤ greatest_depth) chosen.depth 4 are.depth (omega arith)

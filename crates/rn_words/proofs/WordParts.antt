@@ -1,15 +1,15 @@
 -- The parts of a word where an option may stand.
 use Rattle.std.proofs.Common.{ℕ, suc, ◌≡◌, ◌∙◌, List, [], ◌∷◌, ◌++◌, drop, Option, Some, None, Bool, true, false}
-use Rattle.std.proofs.Common.{not, ◌&&◌, nat_eq, refl, sym, ap, subst, is_some, arith}
+use Rattle.std.proofs.Common.{not, ◌&&◌, nat_eq, refl, sym, ap, subst, arith}
 use Rattle.std.specs.Prelude.{codes, option_and_then, bytes_eq, if◌then◌else◌}
 use Rattle.std.proofs.lemmas.Bool.{eqb-true}
 use Rattle.std.proofs.lemmas.Slice.Eq.{bytes_eq-Decides}
 use Rattle.rn_words.specs.declared.table.Verb.{Verb}
 use Rattle.rn_words.specs.declared.table.Setting.{Setting}
-use Rattle.rn_words.specs.declared.table.Setting.TheVariants.{Workers, Steps, Depth, Sweep, Seed}
+use Rattle.rn_words.specs.declared.table.Setting.TheVariants.{Workers, Steps, Depth, Sweep, Pick, Seed}
 use Rattle.rn_words.specs.declared.chosen.Chosen.{Chosen}
 use Rattle.rn_words.specs.Table.{setting_named, setting_name, takes}
-use Rattle.rn_words.specs.Choices.{given}
+use Rattle.rn_words.specs.Choices.{is_given, goes_with}
 use Rattle.rn_words.specs.Commands.{dashed}
 use Rattle.rn_words.specs.Reading.{after_dashes, name_length, name_part, value_part, after_first, if_next, option_of}
 
@@ -85,8 +85,8 @@ dashes_begin (a ∷ b ∷ more) rest is = by (nat_eq a 45) (nat_eq b 45) refl re
 named_is : (name : List ℕ) (s : Setting) → setting_named name ≡ Some s → name ≡ setting_name s
 named_is name s is =
     by (bytes_eq name (codes "workers")) (bytes_eq name (codes "steps"))
-    (bytes_eq name (codes "depth")) (bytes_eq name (codes "drop")) (bytes_eq name (codes "seed"))
-    refl refl refl refl refl is
+    (bytes_eq name (codes "depth")) (bytes_eq name (codes "drop")) (bytes_eq name (codes "pick"))
+    (bytes_eq name (codes "seed")) refl refl refl refl refl refl is
   where
     of : (w : List ℕ) (t : Setting) → bytes_eq name w ≡ true → Some t ≡ Some s →
         w ≡ setting_name t → name ≡ setting_name s
@@ -94,37 +94,45 @@ named_is name s is =
         let which : t ≡ s = cc in
         (bytes_eq-Decides name w).0 e ∙ is_name ∙ ap setting_name which
 
-    by : (a b c d e : Bool) → bytes_eq name (codes "workers") ≡ a →
+    by : (a b c d e f : Bool) → bytes_eq name (codes "workers") ≡ a →
         bytes_eq name (codes "steps") ≡ b → bytes_eq name (codes "depth") ≡ c →
-        bytes_eq name (codes "drop") ≡ d → bytes_eq name (codes "seed") ≡ e →
+        bytes_eq name (codes "drop") ≡ d → bytes_eq name (codes "pick") ≡ e →
+        bytes_eq name (codes "seed") ≡ f →
         (if a then Some Workers else if b then Some Steps else if c then Some Depth
-        else if d then Some Sweep else if e then Some Seed else None) ≡ Some s →
+        else if d then Some Sweep else if e then Some Pick else if f then Some Seed else None)
+        ≡ Some s →
         name ≡ setting_name s
-    by true b c d e p q r t u same = of (codes "workers") Workers p same refl
-    by false true c d e p q r t u same = of (codes "steps") Steps q same refl
-    by false false true d e p q r t u same = of (codes "depth") Depth r same refl
-    by false false false true e p q r t u same = of (codes "drop") Sweep t same refl
-    by false false false false true p q r t u same = of (codes "seed") Seed u same refl
-    by false false false false false p q r t u same = let no : ⊥ = cc in absurd no
+    by true b c d e f p q r t u v same = of (codes "workers") Workers p same refl
+    by false true c d e f p q r t u v same = of (codes "steps") Steps q same refl
+    by false false true d e f p q r t u v same = of (codes "depth") Depth r same refl
+    by false false false true e f p q r t u v same = of (codes "drop") Sweep t same refl
+    by false false false false true f p q r t u v same = of (codes "pick") Pick u same refl
+    by false false false false false true p q r t u v same = of (codes "seed") Seed v same refl
+    by false false false false false false p q r t u v same = let no : ⊥ = cc in absurd no
 
--- the command takes the option, and it wasn't given
+-- the command takes the option, and it wasn't given, and goes with those that were
 pub record MayStand (verb : Verb) (chosen : Chosen) (s : Setting) : Type 0 where
   pub taken : takes verb s ≡ true
-  pub first : given chosen s ≡ None
+  pub first : is_given chosen s ≡ false
+  pub goes : goes_with chosen s ≡ true
 
 next_stands : (verb : Verb) (chosen : Chosen) (o : Option Setting) (s : Setting) →
     if_next verb chosen o ≡ Some s → (o ≡ Some s) × MayStand verb chosen s
 next_stands verb chosen None s is = let no : ⊥ = cc in absurd no
-next_stands verb chosen (Some t) s is = by (takes verb t) (given chosen t) refl refl is
+next_stands verb chosen (Some t) s is =
+    by (takes verb t) (is_given chosen t) (goes_with chosen t) refl refl refl is
   where
-    by : (b : Bool) (o : Option ℕ) → takes verb t ≡ b → given chosen t ≡ o →
-        (if b && not (is_some o) then Some t else None) ≡ Some s →
+    by : (a b c : Bool) → takes verb t ≡ a → is_given chosen t ≡ b → goes_with chosen t ≡ c →
+        (if a && not b && c then Some t else None) ≡ Some s →
         (Some t ≡ Some s) × MayStand verb chosen s
-    by true None e f same =
-        let which : t ≡ s = cc in
-        (same, subst (λ u. MayStand verb chosen u) which (record { taken = e; first = f }))
-    by true (Some n) e f same = let no : ⊥ = cc in absurd no
-    by false o e f same = let no : ⊥ = cc in absurd no
+    by true false true e f g same =
+        let which : t ≡ s = cc in (
+          same,
+          subst (λ u. MayStand verb chosen u) which (record { taken = e; first = f; goes = g }),
+        )
+    by true false false e f g same = let no : ⊥ = cc in absurd no
+    by true true c e f g same = let no : ⊥ = cc in absurd no
+    by false b c e f g same = let no : ⊥ = cc in absurd no
 
 -- A word that names an option, which may stand there: without a value, or with one.
 pub record NamesOption (verb : Verb) (chosen : Chosen) (word : List ℕ) (s : Setting) : Type 0 where
@@ -160,23 +168,33 @@ names_option verb chosen word s is = by (after_dashes word) refl is
               ∙ ap (λ l. l ++ 61 ∷ value) name);
         }
 
+-- an option that may stand is the next one
+stands_next : (verb : Verb) (chosen : Chosen) (s : Setting) → MayStand verb chosen s →
+    if_next verb chosen (Some s) ≡ Some s
+stands_next verb chosen s stands =
+    ap (λ b. if b && not (is_given chosen s) && goes_with chosen s then Some s else None) stands.taken
+    ∙ ap (λ b. if not b && goes_with chosen s then Some s else None) stands.first
+    ∙ ap (λ b. if b then Some s else None) stands.goes
+
 -- an option's word without a value names it
 pub dashed_named : (verb : Verb) (chosen : Chosen) (s : Setting) → MayStand verb chosen s →
     option_of verb chosen (dashed s) ≡ Some s
-dashed_named verb chosen Workers stands = rw (stands.taken, stands.first) refl
-dashed_named verb chosen Steps stands = rw (stands.taken, stands.first) refl
-dashed_named verb chosen Depth stands = rw (stands.taken, stands.first) refl
-dashed_named verb chosen Sweep stands = rw (stands.taken, stands.first) refl
-dashed_named verb chosen Seed stands = rw (stands.taken, stands.first) refl
+dashed_named verb chosen Workers stands = stands_next verb chosen Workers stands
+dashed_named verb chosen Steps stands = stands_next verb chosen Steps stands
+dashed_named verb chosen Depth stands = stands_next verb chosen Depth stands
+dashed_named verb chosen Sweep stands = stands_next verb chosen Sweep stands
+dashed_named verb chosen Pick stands = stands_next verb chosen Pick stands
+dashed_named verb chosen Seed stands = stands_next verb chosen Seed stands
 
 -- and so does the word with a value
 pub joined_named : (verb : Verb) (chosen : Chosen) (s : Setting) (value : List ℕ) →
     MayStand verb chosen s → option_of verb chosen (dashed s ++ 61 ∷ value) ≡ Some s
-joined_named verb chosen Workers value stands = rw (stands.taken, stands.first) refl
-joined_named verb chosen Steps value stands = rw (stands.taken, stands.first) refl
-joined_named verb chosen Depth value stands = rw (stands.taken, stands.first) refl
-joined_named verb chosen Sweep value stands = rw (stands.taken, stands.first) refl
-joined_named verb chosen Seed value stands = rw (stands.taken, stands.first) refl
+joined_named verb chosen Workers value stands = stands_next verb chosen Workers stands
+joined_named verb chosen Steps value stands = stands_next verb chosen Steps stands
+joined_named verb chosen Depth value stands = stands_next verb chosen Depth stands
+joined_named verb chosen Sweep value stands = stands_next verb chosen Sweep stands
+joined_named verb chosen Pick value stands = stands_next verb chosen Pick stands
+joined_named verb chosen Seed value stands = stands_next verb chosen Seed stands
 
 -- the first has no value
 pub dashed_value : (s : Setting) → value_part (dashed s) ≡ None
@@ -184,6 +202,7 @@ dashed_value Workers = refl
 dashed_value Steps = refl
 dashed_value Depth = refl
 dashed_value Sweep = refl
+dashed_value Pick = refl
 dashed_value Seed = refl
 
 -- and the second has it
@@ -193,4 +212,5 @@ joined_value Workers value = refl
 joined_value Steps value = refl
 joined_value Depth value = refl
 joined_value Sweep value = refl
+joined_value Pick value = refl
 joined_value Seed value = refl

@@ -3,8 +3,8 @@ use Rattle.std.specs.Prelude.{ℕ, ◌≡◌, ◌≤◌, ◌+◌, ◌-◌, ◌�
 use Rattle.rn_model.specs.Good.{IsInLimits}
 use Rattle.rn_model.specs.Limits.{greatest_depth}
 use Rattle.rn_words.specs.declared.command.Command.{Command}
-use Rattle.rn_words.specs.declared.command.Command.TheVariants.{Run, RunSeeded, Check, Print, Enabled, Replay}
-use Rattle.rn_words.specs.declared.command.Command.TheVariants.{Gen, GenSeeded, Moves}
+use Rattle.rn_words.specs.declared.command.Command.TheVariants.{Run, RunLeast, RunSeeded, Check, Print}
+use Rattle.rn_words.specs.declared.command.Command.TheVariants.{Enabled, Replay, Gen, GenSeeded, Moves}
 use Rattle.rn_words.specs.declared.command.WordsFault.{WordsFault}
 use Rattle.rn_words.specs.declared.command.WordsFault.TheVariants.{U1, U2, U3}
 use Rattle.rn_words.specs.Commands.{WordsOk}
@@ -18,6 +18,7 @@ ReadsWhatIsAccepted = (words : List (List ℕ)) (c : Command) → reading words 
 -- the numbers of a command are within their limits
 abbrev pub IsWithinLimits : Command → Type 0
 IsWithinLimits (Run options) = IsInLimits options
+IsWithinLimits (RunLeast options) = IsInLimits options
 IsWithinLimits (RunSeeded options seed) = IsInLimits options × (seed ≤ greatest_seed)
 IsWithinLimits Check = ⊤
 IsWithinLimits Print = ⊤

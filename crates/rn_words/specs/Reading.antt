@@ -1,18 +1,19 @@
 -- Reading words from the left up to the first bad one.
 use Rattle.std.specs.Prelude.{ℕ, suc, List, [], ◌∷◌, ◌&&◌, Option, Some, None, Result, Ok, Err}
-use Rattle.std.specs.Prelude.{nat_eq, is_some, not, take, drop, option_and_then, if◌then◌else◌}
+use Rattle.std.specs.Prelude.{nat_eq, not, take, drop, option_and_then, if◌then◌else◌}
 use Rattle.std.specs.List.{prefix_len}
 use Rattle.rn_words.specs.declared.table.Verb.{Verb}
 use Rattle.rn_words.specs.declared.table.Verb.TheVariants.{Gen}
 use Rattle.rn_words.specs.declared.table.Setting.{Setting}
+use Rattle.rn_words.specs.declared.chosen.Value.{Value}
 use Rattle.rn_words.specs.declared.chosen.Chosen.{Chosen}
 use Rattle.rn_words.specs.declared.options.State.{State}
 use Rattle.rn_words.specs.declared.command.Command.{Command}
 use Rattle.rn_words.specs.declared.command.WordsFault.{WordsFault}
 use Rattle.rn_words.specs.declared.command.WordsFault.TheVariants.{U1, U2, U3}
-use Rattle.rn_words.specs.Table.{verb_named, setting_named, takes, least, most, most_copies}
-use Rattle.rn_words.specs.Values.{value_within}
-use Rattle.rn_words.specs.Choices.{nothing, given, with_given, command_of}
+use Rattle.rn_words.specs.Table.{verb_named, setting_named, takes, most_copies}
+use Rattle.rn_words.specs.Values.{value_within, value_of}
+use Rattle.rn_words.specs.Choices.{nothing, is_given, goes_with, fits, with_given, command_of}
 
 -- what stands after the two dashes with which a word begins
 abbrev pub after_dashes : List ℕ → Option (List ℕ)
@@ -37,11 +38,11 @@ after_first (c ∷ rest) = Some rest
 abbrev pub value_part : List ℕ → Option (List ℕ)
 value_part word = after_first (drop (name_length word) word)
 
--- an option that the command takes and that wasn't given
+-- an option that the command takes, that wasn't given and goes with those that were
 abbrev pub if_next : Verb → Chosen → Option Setting → Option Setting
 if_next verb chosen None = None
 if_next verb chosen (Some s) =
-    if takes verb s && not (is_some (given chosen s)) then Some s else None
+    if takes verb s && not (is_given chosen s) && goes_with chosen s then Some s else None
 
 -- the option that a word names, where it may stand
 abbrev pub option_of : Verb → Chosen → List ℕ → Option Setting
@@ -49,14 +50,20 @@ option_of verb chosen word =
     option_and_then (λ rest. if_next verb chosen (setting_named (name_part rest)))
     (after_dashes word)
 
+-- a value that goes with the options that were given
+abbrev pub if_fit : Chosen → Option Value → Option Value
+if_fit chosen None = None
+if_fit chosen (Some value) = if fits chosen value then Some value else None
+
 -- the option is given this value, where it is one
-abbrev pub with_number : Chosen → Setting → ℕ → Option ℕ → Result State WordsFault
-with_number chosen s at None = Err (U3 at)
-with_number chosen s at (Some n) = Ok (record { chosen = with_given chosen s n; awaits = None })
+abbrev pub with_one : Chosen → Setting → ℕ → Option Value → Result State WordsFault
+with_one chosen s at None = Err (U3 at)
+with_one chosen s at (Some value) =
+    Ok (record { chosen = with_given chosen s value; awaits = None })
 
 -- the word with this number is the option's value
 abbrev pub with_value : Chosen → Setting → ℕ → List ℕ → Result State WordsFault
-with_value chosen s at value = with_number chosen s at (value_within (least s) (most s) value)
+with_value chosen s at word = with_one chosen s at (if_fit chosen (value_of s word))
 
 -- the word with this number names the option, and has its value where it has a `=`
 abbrev pub with_option : Chosen → Setting → ℕ → Option (List ℕ) → Result State WordsFault

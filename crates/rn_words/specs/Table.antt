@@ -5,7 +5,9 @@ use Rattle.rn_model.specs.Limits.{most_workers, most_steps, greatest_depth, grea
 use Rattle.rn_words.specs.declared.table.Verb.{Verb}
 use Rattle.rn_words.specs.declared.table.Verb.TheVariants.{Run, Check, Print, Enabled, Replay, Gen, Moves}
 use Rattle.rn_words.specs.declared.table.Setting.{Setting}
-use Rattle.rn_words.specs.declared.table.Setting.TheVariants.{Workers, Steps, Depth, Sweep, Seed}
+use Rattle.rn_words.specs.declared.table.Setting.TheVariants.{Workers, Steps, Depth, Sweep, Pick, Seed}
+use Rattle.rn_words.specs.declared.table.Picked.{Picked}
+use Rattle.rn_words.specs.declared.table.Picked.TheVariants.{Any, Least}
 
 -- the command of a word
 abbrev pub verb_named : List ℕ → Option Verb
@@ -26,7 +28,15 @@ setting_named name =
     else if bytes_eq name (codes "steps") then Some Steps
     else if bytes_eq name (codes "depth") then Some Depth
     else if bytes_eq name (codes "drop") then Some Sweep
+    else if bytes_eq name (codes "pick") then Some Pick
     else if bytes_eq name (codes "seed") then Some Seed
+    else None
+
+-- which binding a value of `--pick` names
+abbrev pub pick_named : List ℕ → Option Picked
+pick_named word =
+    if bytes_eq word (codes "any") then Some Any
+    else if bytes_eq word (codes "least") then Some Least
     else None
 
 -- the word of a command
@@ -45,6 +55,7 @@ setting_name Workers = codes "workers"
 setting_name Steps = codes "steps"
 setting_name Depth = codes "depth"
 setting_name Sweep = codes "drop"
+setting_name Pick = codes "pick"
 setting_name Seed = codes "seed"
 
 -- whether a command takes an option
@@ -60,7 +71,7 @@ takes Moves Steps = true
 takes Moves Depth = true
 takes verb setting = false
 
--- the least value of an option
+-- the least number that an option may have
 abbrev pub least : Setting → ℕ
 least Workers = 1
 least setting = 0
@@ -69,12 +80,13 @@ least setting = 0
 abbrev pub greatest_seed : ℕ
 greatest_seed = 999999
 
--- the greatest value of an option
+-- the greatest number that an option may have; `--pick` has none
 abbrev pub most : Setting → ℕ
 most Workers = most_workers
 most Steps = most_steps
 most Sweep = greatest_sweep
 most Depth = greatest_depth
+most Pick = 0
 most Seed = greatest_seed
 
 -- the most workers that the workload text is made for

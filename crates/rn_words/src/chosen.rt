@@ -1,9 +1,10 @@
 //! The options that are given so far.
-ghost use Rattle.std.specs.Prelude.{◌≡◌, is_some};
-ghost use Rattle.rn_words.specs.Choices.{given, with_given, nothing, options_of, run_of, gen_of, command_of};
+ghost use Rattle.std.specs.Prelude.{◌≡◌};
+ghost use Rattle.rn_words.specs.Choices.{is_given, goes_with, fits, with_given, with_number_given};
+ghost use Rattle.rn_words.specs.Choices.{nothing, options_of, run_of, gen_of, command_of};
 
 use crate::command::Command;
-use crate::table::{Setting, Verb};
+use crate::table::{Picked, Setting, Verb};
 use rn_model::Options;
 
 /// The workers of a run that names none.
@@ -21,6 +22,13 @@ const DEPTH: u32 = 4;
 /// After how many firings of its own a worker drops instances, where a run names none.
 const SWEEP_EVERY: u32 = 64;
 
+/// A value of an option.
+#[derive(Clone, Copy, Debug)]
+pub(crate) enum Value {
+    Number(u32),
+    Picks(Picked),
+}
+
 /// The value of each option that is given.
 #[derive(Clone, Copy, Debug)]
 pub(crate) struct Chosen {
@@ -28,6 +36,7 @@ pub(crate) struct Chosen {
     pub(crate) steps: Option<u32>,
     pub(crate) depth: Option<u32>,
     pub(crate) sweep: Option<u32>,
+    pub(crate) pick: Option<Picked>,
     pub(crate) seed: Option<u32>,
 }
 
@@ -41,48 +50,84 @@ impl Chosen {
             steps: None,
             depth: None,
             sweep: None,
+            pick: None,
             seed: None,
         }
     }
 
     /// Whether an option is given.
     pub(crate) fn has(&self, setting: Setting) -> bool
-        ensures { result ≡ is_some (given self.now setting) }
+        ensures { result ≡ is_given self.now setting }
     {
         match setting {
             Setting::Workers => self.workers.is_some(),
             Setting::Steps => self.steps.is_some(),
             Setting::Depth => self.depth.is_some(),
             Setting::Sweep => self.sweep.is_some(),
+            Setting::Pick => self.pick.is_some(),
             Setting::Seed => self.seed.is_some(),
         }
     }
 
+    /// Whether an option may be given beside the others: a seed can't stand beside `--pick least`.
+    pub(crate) fn goes_with(&self, setting: Setting) -> bool
+        ensures { result ≡ goes_with self.now setting }
+    {
+        match setting {
+            Setting::Seed => !matches!(self.pick, Some(Picked::Least)),
+            _ => true,
+        }
+    }
+
+    /// Whether a value may be given beside the others: `least` can't stand beside a seed.
+    pub(crate) fn fits(&self, value: Value) -> bool
+        ensures { result ≡ fits self.now value }
+    {
+        match value {
+            Value::Picks(Picked::Least) => self.seed.is_none(),
+            _ => true,
+        }
+    }
+
     /// The same with one more option given.
-    pub(crate) fn with(self, setting: Setting, value: u32) -> Chosen
+    pub(crate) fn with(self, setting: Setting, value: Value) -> Chosen
         ensures { result ≡ with_given self setting value }
+    {
+        match value {
+            Value::Picks(picked) => Chosen {
+                pick: Some(picked),
+                ..self
+            },
+            Value::Number(number) => self.with_number(setting, number),
+        }
+    }
+
+    // The same with one more option given, whose value is a number.
+    fn with_number(self, setting: Setting, number: u32) -> Chosen
+        ensures { result ≡ with_number_given self setting number }
     {
         match setting {
             Setting::Workers => Chosen {
-                workers: Some(value),
+                workers: Some(number),
                 ..self
             },
             Setting::Steps => Chosen {
-                steps: Some(value),
+                steps: Some(number),
                 ..self
             },
             Setting::Depth => Chosen {
-                depth: Some(value),
+                depth: Some(number),
                 ..self
             },
             Setting::Sweep => Chosen {
-                sweep: Some(value),
+                sweep: Some(number),
                 ..self
             },
             Setting::Seed => Chosen {
-                seed: Some(value),
+                seed: Some(number),
                 ..self
             },
+            Setting::Pick => self,
         }
     }
 }
@@ -99,13 +144,14 @@ fn options_of(steps: u32, chosen: Chosen) -> Options
     }
 }
 
-// The command `run` of these options, without a seed or with one.
-fn run_of(options: Options, seed: Option<u32>) -> Command
-    ensures { result ≡ run_of options seed }
+// The command `run` of these options.
+fn run_of(options: Options, pick: Option<Picked>, seed: Option<u32>) -> Command
+    ensures { result ≡ run_of options pick seed }
 {
-    match seed {
-        Some(seed) => Command::RunSeeded(options, seed),
-        None => Command::Run(options),
+    match (pick, seed) {
+        (Some(Picked::Least), _) => Command::RunLeast(options),
+        (_, Some(seed)) => Command::RunSeeded(options, seed),
+        (_, None) => Command::Run(options),
     }
 }
 
@@ -124,7 +170,7 @@ pub(crate) fn command_of(verb: Verb, copies: u32, chosen: Chosen) -> Command
     ensures { result ≡ command_of verb copies chosen }
 {
     match verb {
-        Verb::Run => run_of(options_of(STEPS, chosen), chosen.seed),
+        Verb::Run => run_of(options_of(STEPS, chosen), chosen.pick, chosen.seed),
         Verb::Check => Command::Check,
         Verb::Print => Command::Print,
         Verb::Enabled => Command::Enabled(chosen.depth.unwrap_or(DEPTH)),

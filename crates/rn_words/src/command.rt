@@ -6,7 +6,9 @@ use rn_model::Options;
 pub enum Command {
     /// Run a net text and write the run.
     Run(Options),
-    /// The same with this seed.
+    /// The same, each firing being the first binding that is enabled there.
+    RunLeast(Options),
+    /// Run a net text with this seed, and write the run.
     RunSeeded(Options, u32),
     /// Check a net text.
     Check,
@@ -29,9 +31,10 @@ pub enum Command {
 pub enum WordsFault {
     /// There is no word, or the first is no command. The number is 1.
     U1(usize),
-    /// Where an option may stand, the word is none that the command takes, or it is given again.
+    /// Where an option may stand, the word is none that the command takes, it is given again, or it
+    /// can't stand beside the options before it.
     U2(usize),
-    /// A value is missing, is no number, or is out of range. The number of a missing one is one
-    /// more than that of the last word.
+    /// A value is missing, isn't one of the option, is out of range, or can't stand beside the options
+    /// before it. The number of a missing one is one more than that of the last word.
     U3(usize),
 }

@@ -7,8 +7,8 @@ ghost use Rattle.std.specs.Prelude.{None, Ok, length};
 
 use crate::chosen::Chosen;
 use crate::command::WordsFault;
-use crate::table::{Setting, Verb, least, most, setting_named, takes};
-use crate::values::value_within;
+use crate::table::{Setting, Verb, setting_named, takes};
+use crate::values::value_of;
 
 /// The options given so far, and the one whose value is the next word.
 #[derive(Clone, Copy, Debug)]
@@ -57,7 +57,8 @@ fn value_part(word: &[u8]) -> Option<&[u8]>
     }
 }
 
-// The option that a word names, where it may stand: the command takes it, and it wasn't given.
+// The option that a word names, where it may stand: the command takes it, it wasn't given, and it
+// goes with those that were.
 fn option_of(verb: Verb, chosen: &Chosen, word: &[u8]) -> Option<Setting>
     ensures { result ≡ option_of verb chosen.now word.now }
 {
@@ -66,8 +67,11 @@ fn option_of(verb: Verb, chosen: &Chosen, word: &[u8]) -> Option<Setting>
         None => return None,
     };
     match setting_named(name_part(rest)) {
-        Some(setting) if takes(verb, setting) && !chosen.has(setting) => Some(setting),
-        _ => None,
+        Some(setting) => {
+            let stands = takes(verb, setting) && !chosen.has(setting) && chosen.goes_with(setting);
+            if stands { Some(setting) } else { None }
+        }
+        None => None,
     }
 }
 
@@ -80,12 +84,12 @@ fn with_value(
 ) -> Result<State, WordsFault>
     ensures { result ≡ with_value chosen setting at value.now }
 {
-    match value_within(least(setting), most(setting), value) {
-        Some(number) => Ok(State {
-            chosen: chosen.with(setting, number),
+    match value_of(setting, value) {
+        Some(value) if chosen.fits(value) => Ok(State {
+            chosen: chosen.with(setting, value),
             awaits: None,
         }),
-        None => Err(WordsFault::U3(at)),
+        _ => Err(WordsFault::U3(at)),
     }
 }
 

@@ -1,6 +1,6 @@
 //! The commands and their options: names, limits, defaults, and which command takes which.
 ghost use Rattle.std.specs.Prelude.{◌≡◌};
-ghost use Rattle.rn_words.specs.Table.{verb_named, setting_named, takes, least, most};
+ghost use Rattle.rn_words.specs.Table.{verb_named, setting_named, pick_named, takes, least, most};
 
 use rn_model::limits;
 
@@ -16,14 +16,22 @@ pub(crate) enum Verb {
     Moves,
 }
 
-/// An option: `--workers`, `--steps`, `--depth`, `--drop`, `--seed`.
+/// An option: `--workers`, `--steps`, `--depth`, `--drop`, `--pick`, `--seed`.
 #[derive(Clone, Copy, Debug, PartialEq, Eq)]
 pub(crate) enum Setting {
     Workers,
     Steps,
     Depth,
     Sweep,
+    Pick,
     Seed,
+}
+
+/// Which of the enabled bindings of a run fires next: any, or the first in their order.
+#[derive(Clone, Copy, Debug, PartialEq, Eq)]
+pub(crate) enum Picked {
+    Any,
+    Least,
 }
 
 /// The most workers that the workload text is made for.
@@ -67,8 +75,23 @@ pub(crate) fn setting_named(name: &[u8]) -> Option<Setting>
         Some(Setting::Depth)
     } else if name == b"drop".as_slice() {
         Some(Setting::Sweep)
+    } else if name == b"pick".as_slice() {
+        Some(Setting::Pick)
     } else if name == b"seed".as_slice() {
         Some(Setting::Seed)
+    } else {
+        None
+    }
+}
+
+/// Which binding a value of `--pick` names.
+pub(crate) fn pick_named(word: &[u8]) -> Option<Picked>
+    ensures { result ≡ pick_named word.now }
+{
+    if word == b"any".as_slice() {
+        Some(Picked::Any)
+    } else if word == b"least".as_slice() {
+        Some(Picked::Least)
     } else {
         None
     }
@@ -87,7 +110,7 @@ pub(crate) fn takes(verb: Verb, setting: Setting) -> bool
     }
 }
 
-/// The least value of an option.
+/// The least number that an option may have.
 pub(crate) fn least(setting: Setting) -> u32
     ensures { result ≡ least setting }
 {
@@ -97,7 +120,7 @@ pub(crate) fn least(setting: Setting) -> u32
     }
 }
 
-/// The greatest value of an option.
+/// The greatest number that an option may have. `--pick` has none.
 pub(crate) fn most(setting: Setting) -> u32
     ensures { result ≡ most setting }
 {
@@ -106,6 +129,7 @@ pub(crate) fn most(setting: Setting) -> u32
         Setting::Steps => limits::MOST_STEPS,
         Setting::Depth => limits::GREATEST_DEPTH,
         Setting::Sweep => limits::GREATEST_SWEEP,
+        Setting::Pick => 0,
         Setting::Seed => GREATEST_SEED,
     }
 }

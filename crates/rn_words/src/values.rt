@@ -1,9 +1,11 @@
-//! Values of options: numbers of one to six digits, within limits.
+//! Values of options: numbers of one to six digits, within limits, or what `--pick` names.
 ghost use Rattle.std.specs.Prelude.{◌≡◌, ◌≤◌, ◌<◌, length, IsTrue};
 ghost use Rattle.std.specs.List.{list_all};
 ghost use Rattle.rn_value.specs.Characters.{is_digit};
-ghost use Rattle.rn_words.specs.Values.{is_number, number_after, value_within};
+ghost use Rattle.rn_words.specs.Values.{is_number, number_after, value_within, value_of};
 
+use crate::chosen::Value;
+use crate::table::{Setting, least, most, pick_named};
 use rn_value::is_digit;
 
 /// The most digits of a number.
@@ -53,5 +55,15 @@ pub(crate) fn value_within(least: u32, most: u32, word: &[u8]) -> Option<u32>
         Some(number)
     } else {
         None
+    }
+}
+
+/// The value of an option that a word spells.
+pub(crate) fn value_of(setting: Setting, word: &[u8]) -> Option<Value>
+    ensures { result ≡ value_of setting word.now }
+{
+    match setting {
+        Setting::Pick => pick_named(word).map(Value::Picks),
+        _ => value_within(least(setting), most(setting), word).map(Value::Number),
     }
 }

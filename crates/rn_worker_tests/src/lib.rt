@@ -2,6 +2,8 @@
 #![tactic(auto)]
 
 #[cfg(test)]
+mod least;
+#[cfg(test)]
 mod nets;
 #[cfg(test)]
 mod runs;

@@ -12,7 +12,8 @@ use std::sync::{Arc, Wait};
 use std::test::Fail;
 use std::thread::Threads;
 
-fn system_of(alloc: Global, text: &[u8]) -> Result<Arc<System>, Fail>
+/// The system of a net text.
+pub(crate) fn system_of(alloc: Global, text: &[u8]) -> Result<Arc<System>, Fail>
     ensures { IfOk result (λ system. Good system.value) }
 {
     let plain = read_system(alloc, text)?;
@@ -20,7 +21,8 @@ fn system_of(alloc: Global, text: &[u8]) -> Result<Arc<System>, Fail>
     Ok(Arc::new(alloc, system)?)
 }
 
-fn options_of(workers: u32, sweep_every: u32) -> Options
+/// So many workers, each of which drops instances after so many firings of its own.
+pub(crate) fn options_of(workers: u32, sweep_every: u32) -> Options
     requires workers { (1 ≤ workers) × (workers ≤ most_workers) }
     requires sweep { sweep_every ≤ greatest_sweep }
     ensures { IsInLimits result }

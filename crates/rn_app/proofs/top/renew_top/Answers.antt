@@ -2,7 +2,7 @@ use Rattle.std.proofs.Common.{◌∙◌, Err, inl, inr, map, string_bytes, ap, r
 use Rattle.rn_answer.specs.declared.status.TheConstants.{NET_REFUSED, RECORD_REFUSED}
 use Rattle.rn_app.specs.TopCall.{IsNoInput, IsNoRecord}
 use Rattle.rn_app.proofs.Causes.{Laws}
-use Rattle.rn_app.proofs.Written.{Call, IsWritten, err_faults_clause, faulted_clause, few_faults_clause, line_faults, memory_clause, never_read, only_clause, quiet_clause, run_clause, seeded_clause, seeded_faulted_clause, write_fault_clause, writes_clause}
+use Rattle.rn_app.proofs.Written.{Call, IsWritten, err_faults_clause, faulted_clause, few_faults_clause, least_clause, least_faulted_clause, line_faults, memory_clause, never_read, only_clause, quiet_clause, run_clause, seeded_clause, seeded_faulted_clause, write_fault_clause, writes_clause}
 use Rattle.rn_app.proofs.Answering.{came, came_refused, complete_clause, in_place, input_clause, moves_clause, read_failed, record_clause, words_clause}
 use Rattle.rn_app.proofs.top.renew_top.Goals as goal
 
@@ -48,6 +48,8 @@ returns-in-Ok g c =
       faulted = faulted_clause k c.in-Ok.answer w laws;
       seeded = seeded_clause k c.in-Ok.answer w laws;
       seeded_faulted = seeded_faulted_clause k c.in-Ok.answer w laws;
+      least = least_clause k c.in-Ok.answer w laws;
+      least_faulted = least_faulted_clause k c.in-Ok.answer w laws;
       writes = writes_clause k c.in-Ok.answer w;
       quiet = quiet_clause k c.in-Ok.answer w;
       only = only_clause k c.in-Ok.answer w;
@@ -113,6 +115,8 @@ returns-in-Err-Refused g c =
       faulted = faulted_clause k c.in-Err-Refused.answer w laws;
       seeded = seeded_clause k c.in-Err-Refused.answer w laws;
       seeded_faulted = seeded_faulted_clause k c.in-Err-Refused.answer w laws;
+      least = least_clause k c.in-Err-Refused.answer w laws;
+      least_faulted = least_faulted_clause k c.in-Err-Refused.answer w laws;
       writes = writes_clause k c.in-Err-Refused.answer w;
       quiet = quiet_clause k c.in-Err-Refused.answer w;
       only = only_clause k c.in-Err-Refused.answer w;

@@ -18,6 +18,10 @@ run_workload-requires-clause-copies g c κs within = (subst IsWithinLimits c.in-
 pub run_workload-requires-clause-limits : goal.run_workload-requires-clause-limits
 run_workload-requires-clause-limits g c κs within = (subst IsWithinLimits c.in-Gen.is (c.words_laws.ensures.limits c.requires.given.0 c.args.command c.requires.given.1)).1
 
+pub run_least-requires : goal.run_least-requires
+run_least-requires g c =
+    (c.type_bounds.sync-R, (c.type_bounds.sync-G, subst IsWithinLimits c.in-RunLeast.is (c.words_laws.ensures.limits c.requires.given.0 c.args.command c.requires.given.1)))
+
 pub run_seeded-requires-after_bounds : goal.run_seeded-requires-after_bounds
 run_seeded-requires-after_bounds g c κs within = (subst IsWithinLimits c.in-RunSeeded.is (c.words_laws.ensures.limits c.requires.given.0 c.args.command c.requires.given.1)).0
 

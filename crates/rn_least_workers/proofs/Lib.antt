@@ -1,0 +1,2 @@
+pub mod LeastSeen
+pub mod ThreadSafety

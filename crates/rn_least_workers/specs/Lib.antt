@@ -1,0 +1,2 @@
+pub mod LeastPlans
+pub mod LeastPosts

@@ -1,0 +1,148 @@
+//! A worker's turn: it commits what it found, and looks again.
+ghost use Rattle.std.specs.Prelude.{◌≡◌, ◌≤◌, ◌<◌, [], None, false, IfOk, IfSome, length};
+ghost use Rattle.rn_model.specs.Limits.{most_workers};
+ghost use Rattle.rn_desk.specs.Passes.{fixed_of, number, seen, mine, IsOf, HasNoTurn};
+ghost use Rattle.rn_fire.specs.Ends.{MayGoOn};
+ghost use Rattle.rn_fire.specs.States.{logged};
+ghost use Rattle.rn_worker.specs.Seen.{KeepsLog, GoesOn, Shows};
+ghost use Rattle.rn_worker.specs.Plans.{AddsOwn, GrowsBy, HasNoneLive};
+ghost use Rattle.rn_least_workers.specs.LeastPlans.{DropsNone, FitsIn, Knows, WasFound};
+
+use crate::considering::LeastPlan;
+use rn_desk::{Desk, Kept, Pass};
+use rn_items::NoMemory;
+use rn_least_state::{CommitAt, LeastState};
+use rn_worker::{Done, Sight, count_kept, sight_below};
+use std::alloc::Global;
+use std::sync::Wait;
+
+/// What came of a turn: what the worker did, and what it saw then, where it looked.
+#[derive(Drop)]
+pub(crate) struct Acted {
+    pub done: Done,
+    pub sight: Option<Sight>,
+}
+
+// Drops instances that aren't live, and returns how many of them were kept.
+fn drop_listed(state: &mut LeastState, numbers: &[u32]) -> u64
+    requires { HasNoneLive state.old numbers.now }
+    ensures kept { KeepsLog state.old state.new }
+    ensures none { numbers.now ≡ [] → result ≡ 0 }
+{
+    if numbers.is_empty() {
+        return 0;
+    }
+    let count = count_kept(state.base().table(), numbers);
+    state.sweep(numbers);
+    count
+}
+
+// Commits what was found, or that nothing was. Returns whether a firing was added. Without memory
+// the log ends.
+fn commit_plan(
+    alloc: Global,
+    state: &mut LeastState,
+    worker: u32,
+    seen: u64,
+    plan: &LeastPlan,
+) -> bool
+    requires worker { (1 ≤ worker) × (worker ≤ most_workers) }
+    requires going { state.old.ended ≡ None }
+    requires below { MayGoOn state.old }
+    requires found { WasFound state.old seen plan.now.found }
+    ensures added { AddsOwn worker result state.old state.new }
+    ensures later { seen < length (logged state.new) }
+{
+    let Some(candidate) = &plan.found else {
+        state.commit_none(seen);
+        return false;
+    };
+    match state.commit_at(alloc, worker, candidate, seen) {
+        CommitAt::Fired { step: _ } => true,
+        CommitAt::NoMemory => {
+            state.end_memory();
+            false
+        }
+        _ => false,
+    }
+}
+
+// Drops what was listed, and commits what was found, where the log hasn't ended.
+fn act_on(
+    alloc: Global,
+    state: &mut LeastState,
+    worker: u32,
+    seen: u64,
+    plan: &Result<LeastPlan, NoMemory>,
+) -> Done
+    requires worker { (1 ≤ worker) × (worker ≤ most_workers) }
+    requires seen { seen ≤ length state.old.fired }
+    requires plan { IfOk plan.now (FitsIn state.old seen) }
+    ensures added { AddsOwn worker result.fired state.old state.new }
+    ensures more { seen < length (logged state.new) }
+    ensures swept { DropsNone plan.now → result.swept ≡ 0 }
+{
+    let swept = match plan {
+        Ok(plan) => drop_listed(state, plan.dead.as_slice()),
+        Err(_) => 0,
+    };
+    state.end_steps();
+    if state.base().has_ended() {
+        return Done {
+            fired: false,
+            swept,
+        };
+    }
+    let fired = match plan {
+        Ok(plan) => commit_plan(alloc, state, worker, seen, plan),
+        Err(_) => {
+            state.end_memory();
+            false
+        }
+    };
+    Done { fired, swept }
+}
+
+/// Takes a turn and acts. Where the log then goes on below the step limit, and there is memory for it,
+/// it takes the next snapshot too.
+pub(crate) fn act<R: Wait>(
+    rt: &R,
+    alloc: Global,
+    desk: &Desk<LeastState>,
+    pass: &mut Pass<LeastState>,
+    worker: u32,
+    looked: u64,
+    steps: u32,
+    plan: &Result<LeastPlan, NoMemory>,
+) -> Acted
+    requires here { IsOf ⟦<LeastState as Kept>⟧.fixed desk.now pass.old }
+    requires free { HasNoTurn pass.old }
+    requires worker { (1 ≤ worker) × (worker ≤ most_workers) }
+    requires number { number pass.old ≡ worker }
+    requires going { GoesOn (seen pass.old) }
+    requires looked { looked ≡ length (seen pass.old) }
+    requires knows { IfOk plan.now (Knows (fixed_of ⟦<LeastState as Kept>⟧.fixed desk.now)
+        (seen pass.old)) }
+
+    // The pass.
+    ensures here { IsOf ⟦<LeastState as Kept>⟧.fixed desk.now pass.new }
+    ensures free { HasNoTurn pass.new }
+    ensures number { number pass.new ≡ number pass.old }
+    ensures more { length (seen pass.old) < length (seen pass.new) }
+
+    // What it did.
+    ensures mine { GrowsBy result.done.fired (mine pass.old) (mine pass.new) }
+    ensures swept { DropsNone plan.now → result.done.swept ≡ 0 }
+
+    // What it saw then.
+    ensures some { IfSome result.sight (Shows (fixed_of ⟦<LeastState as Kept>⟧.fixed desk.now)
+        (seen pass.new)) }
+{
+    let mut turn = desk.take(rt, pass);
+    let state = turn.state();
+    let _length = state.base().length();
+    let done = act_on(alloc, state, worker, looked, plan);
+    let sight = sight_below(state.base(), steps);
+    desk.give(pass, turn);
+    Acted { done, sight }
+}

@@ -1,0 +1,11 @@
+//! Several workers that do one least run from threads of their own, over one desk.
+#![tactic(auto)]
+
+mod acting;
+mod considering;
+mod looking;
+mod posts;
+mod worker;
+mod workers;
+
+pub use workers::run_least;

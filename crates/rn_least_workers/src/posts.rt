@@ -1,0 +1,64 @@
+//! A worker's pass together with its tally.
+ghost use Rattle.std.specs.Prelude.{◌≡◌, ◌^◌, ◌<◌, IfOk, map, vec_len};
+ghost use Rattle.rn_desk.specs.Numbered.{EachAt};
+ghost use Rattle.rn_desk.specs.Passes.{IsFresh};
+ghost use Rattle.rn_least_workers.specs.LeastPosts.{IsAtWork};
+
+use rn_desk::{Desk, Kept, Pass};
+use rn_items::NoMemory;
+use rn_least_state::LeastState;
+use rn_worker::Tally;
+use std::alloc::Global;
+
+#[derive(Drop)]
+pub(crate) struct LeastPost {
+    pub pass: Pass<LeastState>,
+    pub tally: Tally,
+}
+
+/// Each pass with a tally of nothing.
+pub(crate) fn posts_of(
+    alloc: Global,
+    desk: &Desk<LeastState>,
+    passes: Vec<Pass<LeastState>>,
+) -> Result<Vec<LeastPost>, NoMemory>
+    requires count { vec_len passes < 2 ^ 32 }
+    requires fresh { EachAt (IsFresh ⟦<LeastState as Kept>⟧.fixed desk.now) passes.items }
+    ensures { IfOk result (λ v. (vec_len v ≡ vec_len passes) × EachAt (IsAtWork desk.now) v.items) }
+{
+    let mut posts = Vec::with_capacity(alloc, passes.len())?;
+    let mut rest = passes;
+    let mut worker = 0;
+    while rest.len() > 0 {
+        let pass = rest.remove(0);
+        worker += 1;
+        posts.push_reserved(LeastPost {
+            pass,
+            tally: Tally {
+                worker,
+                fired: 0,
+                swept: 0,
+            },
+        });
+    }
+    Ok(posts)
+}
+
+/// The passes and the tallies, each in order.
+pub(crate) fn parted(
+    alloc: Global,
+    posts: Vec<LeastPost>,
+) -> Result<(Vec<Pass<LeastState>>, Vec<Tally>), NoMemory>
+    ensures passes { IfOk result (λ r. r.0.items ≡ map (λ p. p.pass) posts.items) }
+    ensures tallies { IfOk result (λ r. r.1.items ≡ map (λ p. p.tally) posts.items) }
+{
+    let mut passes = Vec::with_capacity(alloc, posts.len())?;
+    let mut tallies = Vec::with_capacity(alloc, posts.len())?;
+    let mut rest = posts;
+    while rest.len() > 0 {
+        let LeastPost { pass, tally } = rest.remove(0);
+        passes.push_reserved(pass);
+        tallies.push_reserved(tally);
+    }
+    Ok((passes, tallies))
+}

@@ -1,0 +1,78 @@
+//! One worker of a least run.
+ghost use Rattle.std.specs.Prelude.{◌≡◌, ◌≤◌, [], length};
+ghost use Rattle.rn_model.specs.Limits.{most_workers};
+ghost use Rattle.rn_channel.specs.Uplinks.{AreUplinksOf};
+ghost use Rattle.rn_desk.specs.Passes.{fixed_of, number, seen, mine, IsOf, HasNoTurn};
+ghost use Rattle.rn_worker.specs.Seen.{HasEnded};
+
+use crate::acting::{Acted, act};
+use crate::considering::{live_then, plan_at};
+use crate::looking::{look, look_on};
+use rn_channel::Uplinks;
+use rn_desk::{Desk, Kept, Pass};
+use rn_least_state::LeastState;
+use rn_model::{Options, System};
+use rn_worker::{Gate, Pace, Tally};
+use std::alloc::Global;
+use std::sync::Wait;
+
+/// Fires the first binding that is enabled, until the log has ended. In its first turn the worker takes a
+/// snapshot. Then each round takes one turn: the worker searches its snapshot with no turn held, and in
+/// the turn it commits what it found, unless others fired since, and takes the next snapshot. Only where
+/// it gets none there, it looks by a turn of its own.
+///
+/// Without memory it ends the log.
+pub(crate) fn work_least<R: Wait, G: Gate + Sync>(
+    rt: &R,
+    alloc: Global,
+    desk: &Desk<LeastState>,
+    pass: &mut Pass<LeastState>,
+    system: &System,
+    uplinks: &Uplinks,
+    gate: &G,
+    options: &Options,
+    tally: &mut Tally,
+)
+    requires here { IsOf ⟦<LeastState as Kept>⟧.fixed desk.now pass.old }
+    requires free { HasNoTurn pass.old }
+    requires worker { number pass.old ≡ tally.old.worker }
+    requires numbered { (1 ≤ number pass.old) × (number pass.old ≤ most_workers) }
+    requires new { (mine pass.old ≡ []) × (tally.old.fired ≡ 0) × (tally.old.swept ≡ 0) }
+    requires fixed { fixed_of ⟦<LeastState as Kept>⟧.fixed desk.now
+        ≡ record { system = system.now; options = options.now } }
+    requires own { AreUplinksOf system.now uplinks.now }
+
+    // The pass.
+    ensures here { IsOf ⟦<LeastState as Kept>⟧.fixed desk.now pass.new }
+    ensures free { HasNoTurn pass.new }
+    ensures number { number pass.new ≡ number pass.old }
+    ensures ended { HasEnded (seen pass.new) }
+
+    // The tally.
+    ensures worker { tally.new.worker ≡ tally.old.worker }
+    ensures fired { tally.new.fired ≡ length (mine pass.new) }
+    ensures swept { options.now.sweep_every ≡ 0 → tally.new.swept ≡ 0 }
+{
+    let worker = tally.worker;
+    let mut pace = Pace::new();
+    let mut sight = look(rt, desk, pass);
+    while let Some(now) = sight {
+        let seen = now.seen;
+        let due = pace.is_due(options.sweep_every, now.table.next());
+        let plan = plan_at(alloc, system, uplinks, options.depth, now, due);
+        gate.between(worker, seen);
+        let Acted { done, sight: left } = act(
+            rt,
+            alloc,
+            desk,
+            pass,
+            worker,
+            seen,
+            options.steps,
+            &plan,
+        );
+        tally.count(done);
+        pace = pace.after(live_then(&plan), done.fired);
+        sight = look_on(rt, desk, pass, left);
+    }
+}
