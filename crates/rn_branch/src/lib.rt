@@ -3,8 +3,11 @@
 
 mod beginning;
 mod branch;
+mod finder;
 mod made;
 mod offer;
+mod part;
+mod refusals;
 mod room;
 mod settling;
 mod taken_up;
@@ -14,6 +17,7 @@ mod testing;
 mod token_key;
 mod trial;
 mod trying;
+mod vain;
 
 pub use branch::Branch;
 pub use rn_looking::SHARES;
