@@ -3,10 +3,12 @@
 
 mod beginning;
 mod branch;
+mod entered;
 mod finder;
 mod made;
 mod offer;
 mod part;
+mod reached;
 mod refusals;
 mod room;
 mod settling;

@@ -3,7 +3,7 @@ ghost use Rattle.std.specs.Prelude.{ℕ, ◌<◌, ◌≤◌, ◌+◌};
 ghost use Rattle.rn_looking.specs.Branches.{IsBranchOf};
 ghost use Rattle.rn_branch.specs.Offers.{NoneLeadBy};
 
-use crate::finder::{lacking, finder_at};
+use crate::finder::{finder_at, lacking};
 use rn_growing::Growing;
 use rn_search::{Point, Problem};
 use std::alloc::Global;
