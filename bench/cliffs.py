@@ -4,6 +4,9 @@ Each function gives the text of a net. None of them has more than one firing, wh
 """
 
 
+import random
+
+
 def numbers(count):
     return ', '.join(map(str, range(count)))
 
@@ -53,16 +56,30 @@ def dead_tree():
             'trans a { :c(); this:c(); this:c(); } trans b { :c(); this:c(); this:c(); } }\n')
 
 
-def reversed_calls(n):
-    """So many calls squared, each of which needs what the next one answers."""
+def reversed_calls(n, order=None):
+    """So many calls squared, each of which needs what the next one answers, in this order in the text."""
     values = names(n)
 
     def calls(channel, last, first):
         return ''.join(f'this:{channel}({last if k == n - 1 else f"v{k + 1}"}, {first if k == 0 else f"v{k}"}); '
-                       for k in range(n))
+                       for k in (order or range(n)))
     return (f'channel c(int, int); channel d(int, int); net main {{ var x, y, m, {values}: int; place k: int = 1; '
             f'trans t {{ in k: m; {calls("d", "m", "v0")}}} trans u {{ :d(x, y); {calls("c", "x", "y")}}} '
             'trans w { :c(x, y); y = x + 1; } }\n')
+
+
+def shuffled_calls(n):
+    """The same calls in an order in which none stands beside the one that it needs."""
+    order = list(range(n))
+    random.Random(n).shuffle(order)
+    return reversed_calls(n, order)
+
+
+def idle(calls, tokens):
+    """So many calls of two answers that ask for nothing, before two arcs of tokens of which no two pass."""
+    return (f'channel c(); net main {{ var x, y: int; place p: int = {numbers(tokens)}; '
+            f'place q: int = {numbers(tokens)}; trans t {{ {"this:c(); " * calls}in p: x; in q: y; guard x + y < 0; }} '
+            'trans u { :c(); } trans v { :c(); } }\n')
 
 
 def reversed_equalities(n):

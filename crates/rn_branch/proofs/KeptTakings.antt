@@ -1,6 +1,6 @@
 -- What is kept of takings holds as decisions come and go.
 use Rattle.std.proofs.Common.{◌≡◌, ℕ, zero, suc, ◌+◌, ◌<◌, ◌≤◌, Bool, true, false, List, [], ◌∷◌}
-use Rattle.std.proofs.Common.{◌++◌, length, take, get_or, refl, sym, ap, ◌∙◌, subst, arith}
+use Rattle.std.proofs.Common.{◌++◌, length, take, get_or, sym, ap, ◌∙◌, subst, arith}
 use Rattle.std.proofs.Common.{length-append, inl, inr}
 use Rattle.std.specs.Prelude.{Some, slice_get}
 use Rattle.std.proofs.lemmas.List.{length-take-le, take-append-le, take-take}
@@ -14,7 +14,7 @@ use Rattle.rn_growing.specs.declared.decision.Head.{Head}
 use Rattle.rn_growing.specs.declared.decision.Decision.{Decision}
 use Rattle.rn_growing.specs.declared.decision.Decision.TheVariants.{Found}
 use Rattle.rn_growing.specs.Decisions.{transition_in}
-use Rattle.rn_growing.specs.Grown.{Grown, Tries, first_decisions}
+use Rattle.rn_growing.specs.Grown.{Grown, Tries}
 use Rattle.rn_growing.proofs.Growth.{either_at, some_equal, stands_at}
 use Rattle.rn_search.specs.Taking.{taken_so_far}
 use Rattle.rn_branch.specs.declared.takings.Takings.{Takings}

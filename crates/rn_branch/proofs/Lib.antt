@@ -3,6 +3,7 @@ mod BranchSteps
 mod GoingOn
 mod KeptTakings
 mod KeptTests
+mod LackingParts
 mod MadeNodes
 mod MadeSteps
 mod NodesThere

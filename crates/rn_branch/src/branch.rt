@@ -15,11 +15,13 @@ ghost use Rattle.rn_branch.specs.GoingOn.{IsNextOf};
 
 use crate::beginning::begun;
 use crate::made::binding_of;
+use crate::refusals::Refusals;
 use crate::room::Room;
 use crate::settling::Settling;
 use crate::takings::Takings;
 use crate::testing::{Tests, forget_beyond};
 use crate::trying::is_vain;
+use crate::vain::{lacking_at, repeats_at};
 use rn_agree::{does_agree, has_shape};
 use rn_arcs::fits;
 use rn_binding::{Application, Candidate, applications_of};
@@ -55,6 +57,9 @@ pub struct Branch<'a> {
 
     /// What the decisions take.
     takings: Takings,
+
+    /// How the last alternatives of its point went.
+    refusals: Refusals,
 }
 
 impl<'a> Model for Branch<'a> {
@@ -106,6 +111,7 @@ impl<'a> Branch<'a> {
             tests: None,
             repeated: false,
             takings: Takings::new(alloc),
+            refusals: Refusals::none(),
         }
     }
 
@@ -310,6 +316,7 @@ impl<'a> Grows for Branch<'a> {
         let again = is_again(self.last, site);
         self.last = Some(site);
         self.repeated = false;
+        self.refusals = self.refusals.with(alternative, again);
         if is_vain(
             self.alloc,
             problem,
@@ -348,15 +355,17 @@ impl<'a> Grows for Branch<'a> {
     }
 
     fn vain_from(&self, problem: &Problem<'a>, site: Point, alternative: usize) -> usize {
-        if !self.repeated && !is_asked(alternative) {
+        let growing = self.growing.growing();
+        if self.repeated || is_asked(alternative) {
+            let repeats = repeats_at(problem, growing, site, alternative);
+            if repeats > 0 {
+                return repeats;
+            }
+        }
+        if !self.refusals.are_many() || !is_again(self.last, site) {
             return 0;
         }
-        match site {
-            Point::Token(node, arc, from) => {
-                problem.repeats(self.growing.decisions(), node, arc, from, alternative)
-            }
-            _ => 0,
-        }
+        lacking_at(self.alloc, problem, growing, site, alternative)
     }
 
     fn undo(&mut self, _problem: &Problem<'a>, count: usize) {

@@ -3,8 +3,13 @@
 
 mod beginning;
 mod branch;
+mod entered;
+mod finder;
 mod made;
 mod offer;
+mod part;
+mod reached;
+mod refusals;
 mod room;
 mod settling;
 mod taken_up;
@@ -14,6 +19,7 @@ mod testing;
 mod token_key;
 mod trial;
 mod trying;
+mod vain;
 
 pub use branch::Branch;
 pub use rn_looking::SHARES;

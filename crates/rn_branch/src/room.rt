@@ -1,5 +1,6 @@
 //! The vectors of branches, from one to the next.
-use rn_looking::Tested;
+use crate::entered::Entries;
+use rn_looking::{Tested, TextChoice};
 use std::alloc::Global;
 use std::marker::Model;
 
@@ -9,6 +10,8 @@ pub struct Room {
     pub(crate) growing: rn_growing::Room,
     pub(crate) before: Vec<usize>,
     pub(crate) tested_before: Vec<Tested>,
+    pub(crate) choices: Vec<(usize, TextChoice)>,
+    pub(crate) entries: Entries,
 }
 
 impl Model for Room {
@@ -28,6 +31,8 @@ impl Room {
             growing: rn_growing::Room::new(alloc),
             before: Vec::new(alloc),
             tested_before: Vec::new(alloc),
+            choices: Vec::new(alloc),
+            entries: Entries::new(alloc),
         }
     }
 }

@@ -9,13 +9,16 @@ ghost use Rattle.rn_looking.specs.Branches.{IsBranchOf};
 ghost use Rattle.rn_looking.specs.Looks.{Looked};
 ghost use Rattle.rn_looking.specs.Things.{IsOfEntries};
 
+use crate::entered::Entries;
+use crate::reached::begin_near;
 use crate::room::Room;
 use rn_binding::{Application, applications_of};
+use rn_choices::Next;
 use rn_growing::{Decision, Growing};
 use rn_items::Items;
-use rn_looking::{Look, Tested, look_at_all};
+use rn_looking::{Kept, Look, Tested, TextChoice, look_at_all};
 use rn_model::System;
-use rn_search::{Problem, transition_in};
+use rn_search::{Point, Problem, transition_in};
 use rn_value::NoMemory;
 use std::alloc::Global;
 use std::marker::Model;
@@ -35,11 +38,17 @@ pub(crate) struct Settling<'a> {
     /// Beside each decision the operator applications of the node that it enters.
     applications: Vec<Items<Application<'a>>>,
 
-    /// Of how many nodes guards and arcs are known to hold, so that a look needn't test them again.
-    tested: Tested,
+    /// What looks keep for those that follow.
+    kept: Kept,
 
-    /// Of how many they were before each decision.
+    /// Of how many nodes guards and arcs were known to hold before each decision.
     tested_before: Vec<Tested>,
+
+    /// The choices that were met, and how many decisions stood before each.
+    choices: Vec<(usize, TextChoice)>,
+
+    /// The nodes that were entered, where that was asked for.
+    entries: Entries,
 }
 
 impl<'a> Model for Settling<'a> {
@@ -78,6 +87,8 @@ impl<'a> Settling<'a> {
             growing,
             before,
             tested_before,
+            choices,
+            entries,
         } = room;
         Settling {
             system,
@@ -85,8 +96,10 @@ impl<'a> Settling<'a> {
             settled: 0,
             before,
             applications: Vec::new(alloc),
-            tested: Tested::none(),
+            kept: Kept::none(),
             tested_before,
+            choices,
+            entries,
         }
     }
 
@@ -97,14 +110,20 @@ impl<'a> Settling<'a> {
             growing,
             mut before,
             mut tested_before,
+            mut choices,
+            mut entries,
             ..
         } = self;
         before.clear();
         tested_before.clear();
+        choices.clear();
+        entries.truncate(0);
         Room {
             growing: growing.into_room(),
             before,
             tested_before,
+            choices,
+            entries,
         }
     }
 
@@ -149,7 +168,15 @@ impl<'a> Settling<'a> {
         ensures same { self.new ≡ self.old }
     {
         let applications = self.applications.as_slice();
-        self.tested = self.tested.at_least(self.settled);
+        self.kept.settle(self.settled);
+        let decisions = self.growing.decisions();
+        begin_near(
+            alloc,
+            self.system,
+            decisions,
+            &mut self.entries,
+            &mut self.kept,
+        )?;
         let looked = look_at_all(
             alloc,
             problem,
@@ -157,8 +184,9 @@ impl<'a> Settling<'a> {
             applications,
             first,
             self.settled,
-            &mut self.tested,
+            &mut self.kept,
         )?;
+        note_choice(&mut self.choices, self.growing.decisions(), looked.0);
         self.settled = looked.1;
         Ok(looked.0)
     }
@@ -174,13 +202,14 @@ impl<'a> Settling<'a> {
             &mut self.before,
             &mut self.applications,
             &mut self.tested_before,
+            &mut self.choices,
         )?;
         if !decide(alloc, &mut self.growing, decision)? {
             return Ok(false);
         }
         self.before.push_reserved(self.settled);
         self.applications.push_reserved(applications);
-        self.tested_before.push_reserved(self.tested);
+        self.tested_before.push_reserved(self.kept.tested());
         Ok(true)
     }
 
@@ -195,7 +224,11 @@ impl<'a> Settling<'a> {
         self.settled = self.before[count];
         self.before.truncate(count);
         self.applications.truncate(count);
-        self.tested = tested_at(self.tested_before.as_slice(), count).beginning_as(self.tested);
+        self.kept
+            .set_tested(tested_at(self.tested_before.as_slice(), count));
+        self.kept.go_back();
+        fail_beyond(&mut self.choices, &mut self.kept, count);
+        self.entries.truncate(count);
         self.tested_before.truncate(count);
         self.growing.undo(count);
     }
@@ -206,6 +239,7 @@ fn make_room(
     before: &mut Vec<usize>,
     applications: &mut Vec<Items<Application<'_>>>,
     tested_before: &mut Vec<Tested>,
+    choices: &mut Vec<(usize, TextChoice)>,
 ) -> Result<(), NoMemory>
     ensures before { before.new.items ≡ before.old.items }
     ensures applications { applications.new.items ≡ applications.old.items }
@@ -217,6 +251,7 @@ fn make_room(
     before.reserve(1)?;
     applications.reserve(1)?;
     tested_before.reserve(1)?;
+    choices.reserve(1)?;
     Ok(())
 }
 
@@ -225,6 +260,47 @@ fn tested_at(before: &[Tested], index: usize) -> Tested {
     match before.get(index) {
         Some(tested) => *tested,
         None => Tested::none(),
+    }
+}
+
+// The choice by which a look goes on, where it does.
+fn choice_of(decisions: &[Decision], look: Look) -> Option<TextChoice> {
+    let Look::Goes(Next::Choose(point, _, _), _) = look else {
+        return None;
+    };
+    match point {
+        Point::Token(node, _, _) => match decisions.get(node) {
+            Some(Decision::Entered(head, _)) => Some(TextChoice::tokens(head)),
+            _ => None,
+        },
+        Point::Call(node, i, _) => match decisions.get(node) {
+            Some(Decision::Entered(head, _)) => Some(TextChoice::call(head, i)),
+            _ => None,
+        },
+        _ => None,
+    }
+}
+
+// Notes the choice by which a look goes on, where it does. There is room for it since a decision was
+// made; without it the choice isn't noted.
+fn note_choice(choices: &mut Vec<(usize, TextChoice)>, decisions: &[Decision], look: Look) {
+    let Some(choice) = choice_of(decisions, look) else {
+        return;
+    };
+    let _noted = choices.push((decisions.len(), choice)).is_ok();
+}
+
+// The choices that were met after so many decisions were gone through in vain.
+fn fail_beyond(choices: &mut Vec<(usize, TextChoice)>, kept: &mut Kept, count: usize) {
+    for _ in 0..choices.len() {
+        let Some(last) = choices.as_slice().last() else {
+            return;
+        };
+        if last.0 <= count {
+            return;
+        }
+        kept.fail(last.1);
+        choices.pop();
     }
 }
 

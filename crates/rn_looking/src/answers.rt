@@ -6,7 +6,7 @@ use crate::known::Known;
 use crate::parts::finds_token;
 use rn_calc::{Values, is_true};
 use rn_growing::{Growing, Head};
-use rn_model::{Downlink, Expr, NetArc, Transition};
+use rn_model::{ArcKind, Downlink, Expr, NetArc, Transition, Uplink};
 use rn_search::{Called, Problem};
 use rn_value::{InstRef, NoMemory, Value, copy, same};
 use std::alloc::Global;
@@ -21,6 +21,9 @@ pub(crate) struct Left {
 
     /// Whether one of them calls further.
     pub(crate) calls: bool,
+
+    /// Whether each of them asks for nothing, so that any may come whatever else is decided.
+    pub(crate) idle: bool,
 }
 
 /// Of how many answers at most this is asked.
@@ -186,6 +189,54 @@ fn is_excluded(
     Ok(lacks_token(problem, inst, transition, &known))
 }
 
+// Whether all of these are known.
+fn are_all_known(values: &[Option<Value>]) -> bool {
+    for value in values {
+        if value.is_none() {
+            return false;
+        }
+    }
+    true
+}
+
+// Whether an argument of an uplink may be given any value, or one that was compared.
+fn is_plain(arg: &Expr) -> bool {
+    matches!(arg, Expr::Var(_) | Expr::Int(_) | Expr::Text(_))
+}
+
+// Whether an uplink asks nothing of known arguments but what was compared.
+fn is_plain_uplink(uplink: &Option<Uplink>) -> bool {
+    let Some(uplink) = uplink else {
+        return false;
+    };
+    for arg in uplink.args.as_slice() {
+        if !is_plain(arg) {
+            return false;
+        }
+    }
+    true
+}
+
+// Whether arcs only put tokens.
+fn only_put(arcs: &[NetArc]) -> bool {
+    for arc in arcs {
+        if !matches!(arc.kind, ArcKind::Output) {
+            return false;
+        }
+    }
+    true
+}
+
+// Whether a transition that answers with known arguments asks for nothing: it has no guards,
+// equalities and calls, and finds no tokens.
+fn is_idle(transition: &Transition) -> bool {
+    transition.guards.is_empty()
+        && transition.equalities.is_empty()
+        && transition.downlinks.is_empty()
+        && is_plain_uplink(&transition.uplink)
+        && only_put(transition.arcs.as_slice())
+}
+
 // The transition of a net.
 fn transition_at<'a>(
     problem: &'a Problem<'_>,
@@ -204,6 +255,7 @@ fn all_of(count: usize) -> Left {
         count,
         first: 0,
         calls: true,
+        idle: false,
     }
 }
 
@@ -220,6 +272,7 @@ fn left_among(
         count: 0,
         first: 0,
         calls: false,
+        idle: are_all_known(values),
     };
     for a in 0..answers.len() {
         let Some(transition) = transition_at(problem, net, answers[a]) else {
@@ -231,6 +284,7 @@ fn left_among(
             }
             left.count = left.count.saturating_add(1);
             left.calls = left.calls || !transition.downlinks.is_empty();
+            left.idle = left.idle && is_idle(transition);
         }
     }
     Ok(left)

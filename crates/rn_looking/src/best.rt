@@ -37,6 +37,25 @@ pub(crate) fn is_best(look: Look) -> bool
     }
 }
 
+/// Whether nothing better was found than a call of which each answer asks for nothing.
+pub(crate) fn is_idle(look: Look) -> bool {
+    match look {
+        Look::Goes(_, count) => count == usize::MAX,
+        _ => false,
+    }
+}
+
+/// Whether it need not be looked further: nothing better can come, or nothing better was there when a
+/// look went on with such a call, and this is one.
+pub(crate) fn is_enough(look: Look, idle: bool) -> bool
+    ensures { IsTrue result → Urges look }
+{
+    match look {
+        Look::Goes(_, count) => count < 2 || (idle && count == usize::MAX),
+        _ => false,
+    }
+}
+
 /// As how many alternatives a look counts.
 pub(crate) fn count_of(look: Look) -> usize {
     match look {

@@ -1,5 +1,5 @@
 //! Looking at the calls of a node.
-ghost use Rattle.std.specs.Prelude.{◌≡◌, ◌<◌, ◌^◌, ◌++◌, ◌∷◌, [], ℕ, IfOk, Some, length, nat_lt};
+ghost use Rattle.std.specs.Prelude.{◌≡◌, ◌<◌, ◌^◌, ◌++◌, ◌∷◌, [], ℕ, IfOk, IfSome, Some, length, nat_lt};
 ghost use Rattle.std.specs.Prelude.{IsTrue, slice_get};
 ghost use Rattle.rn_choices.specs.declared.next.Next.TheVariants.{Stuck};
 ghost use Rattle.rn_growing.specs.Decisions.{transition_in};
@@ -14,8 +14,9 @@ ghost use Rattle.rn_looking.specs.Looks.{GoesOn, Looked};
 ghost use Rattle.rn_looking.specs.Things.{IsOnCall, IsOnCalls, IsToBeCalled};
 
 use crate::answers::{Left, answers_left};
-use crate::best::{better, is_best};
+use crate::best::{better, goes_on, is_best, is_enough};
 use crate::look::Look;
+use crate::tested::{Kept, TextChoice};
 use rn_choices::Next;
 use rn_growing::{Decision, Growing, Head};
 use rn_model::{Downlink, Expr, System, Transition};
@@ -109,14 +110,18 @@ fn open_before(depth: usize, decisions: usize) -> usize {
 }
 
 // As how many alternatives a call counts. Its answers may call further, and a token may decide them:
-// then it counts as more than there are, and where much is open already it comes after all tokens.
+// then it counts as more than there are, and where much is open already it comes after all tokens. One
+// of which each answer asks for nothing comes last of all.
 fn counts_as(left: Left, depth: usize, decisions: usize) -> usize {
+    if left.count > 1 && left.idle {
+        return usize::MAX;
+    }
     if left.count < 2 || !left.calls {
         return left.count;
     }
     let all = left.count.saturating_mul(open_before(depth, decisions));
     if all > OPEN {
-        return usize::MAX;
+        return usize::MAX - 1;
     }
     all * 8
 }
@@ -130,6 +135,7 @@ fn look_for_answer(
     head: &Head,
     transition: &Transition,
     i: usize,
+    kept: &Kept,
 ) -> Result<Look, NoMemory>
     requires at { IsLookedAt problem.now growing.now node head.now transition.now }
     requires open { IsToBeCalled growing.now.decisions head.now transition.now i }
@@ -156,6 +162,11 @@ fn look_for_answer(
         alloc, problem, growing, node, head, i, downlink, inst, called,
     )?;
     let count = counts_as(left, head.path.len(), decisions.len());
+    let count = if count == usize::MAX {
+        count
+    } else {
+        kept.weighed(TextChoice::call(head, i), count)
+    };
     Ok(Look::Goes(Next::Choose(point, of, left.first), count))
 }
 
@@ -197,6 +208,7 @@ fn look_at_call(
     head: &Head,
     transition: &Transition,
     i: usize,
+    kept: &Kept,
 ) -> Result<Look, NoMemory>
     requires at { IsLookedAt problem.now growing.now node head.now transition.now }
     requires within { i < length transition.now.downlinks }
@@ -207,7 +219,49 @@ fn look_at_call(
     if growing.was_entered(path.as_slice()) {
         return Ok(Look::Done);
     }
-    look_for_answer(alloc, problem, growing, node, head, transition, i)
+    look_for_answer(alloc, problem, growing, node, head, transition, i, kept)
+}
+
+// From so many calls on a look begins with those beside the one that was found last.
+const MANY: usize = 8;
+
+// How many calls are looked at beyond the first by which the search can go on.
+const FURTHER: usize = 16;
+
+// Looks at the two calls beside the one that a look found last, and at that. It counts where nothing
+// better can come.
+fn look_near_call(
+    alloc: Global,
+    problem: &Problem<'_>,
+    growing: &Growing<'_>,
+    node: usize,
+    head: &Head,
+    transition: &Transition,
+    kept: &mut Kept,
+) -> Result<Option<Look>, NoMemory>
+    requires { IsLookedAt problem.now growing.now node head.now transition.now }
+    ensures { IfOk result (λ best. IfSome best (Looked problem.now growing.now.decisions
+        (IsOnCalls head.now (length transition.now.downlinks)))) }
+{
+    if node != kept.caller || transition.downlinks.len() < MANY {
+        return Ok(None);
+    }
+    let beside = [
+        kept.call.saturating_add(1),
+        kept.call.saturating_sub(1),
+        kept.call,
+    ];
+    for k in 0..3 {
+        let i = beside[k];
+        if i < transition.downlinks.len() {
+            let look = look_at_call(alloc, problem, growing, node, head, transition, i, &*kept)?;
+            if is_enough(look, kept.idle) {
+                kept.call = i;
+                return Ok(Some(look));
+            }
+        }
+    }
+    Ok(None)
 }
 
 /// Looks at the calls of a node.
@@ -218,17 +272,30 @@ pub(crate) fn look_at_calls(
     node: usize,
     head: &Head,
     transition: &Transition,
+    kept: &mut Kept,
 ) -> Result<Look, NoMemory>
     requires { IsLookedAt problem.now growing.now node head.now transition.now }
     ensures { IfOk result (λ look. Looked problem.now growing.now.decisions
         (IsOnCalls head.now (length transition.now.downlinks)) look) }
 {
+    if let Some(nearest) = look_near_call(alloc, problem, growing, node, head, transition, kept)? {
+        return Ok(nearest);
+    }
     let mut best = Look::Done;
+    let mut further = 0usize;
     for i in 0..transition.downlinks.len() {
-        let look = look_at_call(alloc, problem, growing, node, head, transition, i)?;
+        let look = look_at_call(alloc, problem, growing, node, head, transition, i, &*kept)?;
         best = better(best, look);
         if is_best(best) {
+            kept.caller = node;
+            kept.call = i;
             return Ok(best);
+        }
+        if goes_on(best) {
+            if further == FURTHER {
+                return Ok(best);
+            }
+            further = further.saturating_add(1);
         }
     }
     Ok(best)

@@ -6,9 +6,9 @@ ghost use Rattle.rn_looking.specs.declared.look.Look.TheVariants as L;
 ghost use Rattle.rn_looking.specs.Applying.{AreAppliedIn};
 ghost use Rattle.rn_looking.specs.Branches.{IsBranchOf, IsLookedAt};
 ghost use Rattle.rn_choices.specs.declared.next.Next.TheVariants.{Stuck};
-ghost use Rattle.rn_looking.specs.Looks.{GoesOn, Looked, Urges};
+ghost use Rattle.rn_looking.specs.Looks.{GoesOn, IsNarrowed, Looked, Urges};
 ghost use Rattle.rn_looking.specs.Settling.{AreSettled, LookedOn};
-ghost use Rattle.rn_looking.specs.Things.{IsOfEntries, IsOfNode, IsOfEntry};
+ghost use Rattle.rn_looking.specs.Things.{IsOfEntries, IsOfNode, IsOfEntry, IsOnArcs};
 
 use crate::arcs::look_at_arcs;
 use crate::best::{better, goes_on, is_best};
@@ -17,9 +17,10 @@ use crate::flexible::test_lists;
 use crate::guards::test_guards;
 use crate::inhibitors::test_inhibitors;
 use crate::look::Look;
+use crate::near::look_near;
 use crate::parts::transition_in;
 use crate::results::look_at_results;
-use crate::tested::{Tested, step_on};
+use crate::tested::{Kept, TextChoice, step_on};
 use crate::told::{has_failed, holds};
 use rn_binding::Application;
 use rn_choices::Next;
@@ -96,17 +97,49 @@ fn fails(
     node: usize,
     head: &Head,
     transition: &Transition,
-    tested: &mut Tested,
+    kept: &mut Kept,
 ) -> Result<bool, NoMemory>
     requires { IsLookedAt problem.now growing.now node head.now transition.now }
     ensures { IfOk result (λ yes. IsTrue yes → GoesOn problem.now growing.now.decisions Stuck) }
 {
-    let passed = &mut tested.guards;
+    let passed = &mut kept.tested.guards;
     if fails_guard(alloc, problem, growing, node, head, transition, passed)? {
         return Ok(true);
     }
-    let passed = &mut tested.lists;
+    let passed = &mut kept.tested.lists;
     fails_list(alloc, problem, growing, node, head, transition, passed)
+}
+
+// A look at a choice of a token counts by how often such ones were gone through in vain.
+fn weighed(look: Look, kept: &Kept, head: &Head) -> Look
+    ensures { IsNarrowed look result }
+{
+    match look {
+        Look::Goes(Next::Choose(point, of, begin), count) => {
+            let count = kept.weighed(TextChoice::tokens(head), count);
+            Look::Goes(Next::Choose(point, of, begin), count)
+        }
+        _ => look,
+    }
+}
+
+// Looks at what the arcs of a node find.
+fn look_for_tokens(
+    alloc: Global,
+    problem: &Problem<'_>,
+    growing: &Growing<'_>,
+    node: usize,
+    head: &Head,
+    transition: &Transition,
+    first: usize,
+    kept: &Kept,
+) -> Result<Look, NoMemory>
+    requires { IsLookedAt problem.now growing.now node head.now transition.now }
+    ensures { IfOk result (λ look. Looked problem.now growing.now.decisions
+        (IsOnArcs head.now (length transition.now.arcs)) look) }
+{
+    let look = look_at_arcs(alloc, problem, growing, node, head, transition, first)?;
+    Ok(weighed(look, kept, head))
 }
 
 // Looks at a node of this transition.
@@ -119,14 +152,14 @@ fn look_within(
     transition: &Transition,
     found: &[Application<'_>],
     first: usize,
-    tested: &mut Tested,
+    kept: &mut Kept,
 ) -> Result<Look, NoMemory>
     requires at { IsLookedAt problem.now growing.now node head.now transition.now }
     requires are { map application_of found.now ≡ holes_of transition.now }
     ensures { IfOk result (λ look. Looked problem.now growing.now.decisions
         (IsOfNode head.now) look) }
 {
-    if fails(alloc, problem, growing, node, head, transition, tested)? {
+    if fails(alloc, problem, growing, node, head, transition, kept)? {
         return Ok(Look::Goes(Next::Stuck, 0));
     }
     let results = look_at_results(
@@ -137,29 +170,31 @@ fn look_within(
         head,
         transition,
         found,
-        &mut tested.result,
+        &mut kept.result,
     )?;
     if is_best(results) {
         return Ok(results);
     }
-    let arcs = look_at_arcs(alloc, problem, growing, node, head, transition, first)?;
+    let arcs = look_for_tokens(
+        alloc, problem, growing, node, head, transition, first, &*kept,
+    )?;
     let both = better(results, arcs);
     if is_best(both) {
         return Ok(both);
     }
-    let calls = look_at_calls(alloc, problem, growing, node, head, transition)?;
+    let calls = look_at_calls(alloc, problem, growing, node, head, transition, kept)?;
     Ok(better(both, calls))
 }
 
-// Looks at what a decision asks.
-fn look_at_node(
+/// Looks at what a decision asks.
+pub(crate) fn look_at_node(
     alloc: Global,
     problem: &Problem<'_>,
     growing: &Growing<'_>,
     applications: &[Items<Application<'_>>],
     node: usize,
     first: usize,
-    tested: &mut Tested,
+    kept: &mut Kept,
 ) -> Result<Look, NoMemory>
     requires branch { IsBranchOf problem.now growing.now }
     requires applied { AreAppliedIn growing.now.system growing.now.decisions applications.now }
@@ -168,14 +203,14 @@ fn look_at_node(
         (IsOfEntry growing.now.decisions node) look) }
 {
     let Decision::Entered(head, _) = &growing.decisions()[node] else {
-        tested.pass(node);
+        kept.tested.pass(node);
         return Ok(Look::Done);
     };
     let _ = problem.table();
     let transition = transition_in(problem.system(), head);
     let found = applications[node].as_slice();
     look_within(
-        alloc, problem, growing, node, head, transition, found, first, tested,
+        alloc, problem, growing, node, head, transition, found, first, kept,
     )
 }
 
@@ -190,91 +225,11 @@ fn is_done(look: Look) -> bool
     }
 }
 
-// From so many decisions on that may not be settled a look begins near where the last one ended.
-const MANY: usize = 16;
-
 // How many nodes are looked at beyond the first by which the search can go on with one of several
 // alternatives, and how many of the newest ones then.
 const FURTHER: usize = 16;
 
 const NEWEST: usize = 4;
-
-// Looks at what a decision asks. It counts where nothing better can come.
-fn look_at_best(
-    alloc: Global,
-    problem: &Problem<'_>,
-    growing: &Growing<'_>,
-    applications: &[Items<Application<'_>>],
-    node: usize,
-    first: usize,
-    tested: &mut Tested,
-) -> Result<Option<Look>, NoMemory>
-    requires branch { IsBranchOf problem.now growing.now }
-    requires applied { AreAppliedIn growing.now.system growing.now.decisions applications.now }
-    requires within { node < length growing.now.decisions }
-    ensures { IfOk result (λ best. IfSome best (λ look. Looked problem.now growing.now.decisions
-        (IsOfEntries growing.now.decisions (length growing.now.decisions)) look)) }
-{
-    let look = look_at_node(alloc, problem, growing, applications, node, first, tested)?;
-    if !is_best(look) {
-        return Ok(None);
-    }
-    tested.near = node;
-    Ok(Some(look))
-}
-
-// How far from the decision by which one found last how to go on a look goes before it goes through
-// all: at most so far, and a part of all.
-const WIDE: usize = 4;
-
-const PART: usize = 16;
-
-// Where a look begins: with the newest decision, that by which one found last how to go on, and those
-// around it, the nearest first.
-fn place(k: usize, near: usize, end: usize) -> usize {
-    if k == 0 {
-        return end.saturating_sub(1);
-    }
-    let away = k / 2;
-    if k % 2 == 0 {
-        near.saturating_sub(away)
-    } else {
-        near.saturating_add(away)
-    }
-}
-
-// Looks there.
-fn look_near(
-    alloc: Global,
-    problem: &Problem<'_>,
-    growing: &Growing<'_>,
-    applications: &[Items<Application<'_>>],
-    first: usize,
-    from: usize,
-    tested: &mut Tested,
-) -> Result<Option<Look>, NoMemory>
-    requires branch { IsBranchOf problem.now growing.now }
-    requires applied { AreAppliedIn growing.now.system growing.now.decisions applications.now }
-    ensures { IfOk result (λ best. IfSome best (λ look. Looked problem.now growing.now.decisions
-        (IsOfEntries growing.now.decisions (length growing.now.decisions)) look)) }
-{
-    let end = growing.mark();
-    if end.saturating_sub(from) < MANY {
-        return Ok(None);
-    }
-    let near = tested.near;
-    let wide = ((end.saturating_sub(from)) / PART).min(WIDE);
-    for k in 0..2 * wide + 2 {
-        let node = place(k, near, end);
-        if from <= node && node < end {
-            let best = look_at_best(alloc, problem, growing, applications, node, first, tested)?;
-            if best.is_some() {
-                return Ok(best);
-            }
-        }
-    }
-    Ok(None)
-}
 
 // Looks at the newest decisions too, from one on, where it is known how the search can go on.
 fn look_at_newest(
@@ -284,7 +239,7 @@ fn look_at_newest(
     applications: &[Items<Application<'_>>],
     from: usize,
     first: usize,
-    tested: &mut Tested,
+    kept: &mut Kept,
     known: Look,
 ) -> Result<Look, NoMemory>
     requires branch { IsBranchOf problem.now growing.now }
@@ -298,41 +253,36 @@ fn look_at_newest(
     let mut best = known;
     let end = growing.mark();
     for node in from.max(end.saturating_sub(NEWEST))..end {
-        let look = look_at_node(alloc, problem, growing, applications, node, first, tested)?;
+        let look = look_at_node(alloc, problem, growing, applications, node, first, kept)?;
         best = better(best, look);
     }
     Ok(best)
 }
 
-/// Looks at what is asked, and finds how it goes on, and how many of the first decisions are
-/// settled. It begins after those that are known to be, or near where the last look found how to go
-/// on. Where it can go on, few more nodes are looked at; where it can't, all are. The operator
-/// applications of the nodes stand beside the decisions.
-pub fn look_at_all(
+// Looks at what is asked, from the first decision that may not be settled on. Where it can go on, few
+// more nodes are looked at; where it can't, all are.
+fn look_at_rest(
     alloc: Global,
     problem: &Problem<'_>,
     growing: &Growing<'_>,
     applications: &[Items<Application<'_>>],
     first: usize,
     from: usize,
-    tested: &mut Tested,
+    kept: &mut Kept,
 ) -> Result<(Look, usize), NoMemory>
     requires branch { IsBranchOf problem.now growing.now }
     requires applied { AreAppliedIn growing.now.system growing.now.decisions applications.now }
     requires settled { AreSettled problem.now.system growing.now.decisions from }
     ensures { IfOk result (λ looked. LookedOn problem.now growing.now.decisions looked.0 looked.1) }
 {
-    if let Some(nearest) = look_near(alloc, problem, growing, applications, first, from, tested)? {
-        return Ok((nearest, from));
-    }
     let mut best = Look::Done;
     let mut settled = from;
     let mut further = 0usize;
     for node in from..growing.mark() {
-        let look = look_at_node(alloc, problem, growing, applications, node, first, tested)?;
+        let look = look_at_node(alloc, problem, growing, applications, node, first, kept)?;
         best = better(best, look);
         if is_best(best) {
-            tested.near = node;
+            kept.near = node;
             return Ok((best, settled));
         }
         if is_done(best) {
@@ -347,7 +297,7 @@ pub fn look_at_all(
                     applications,
                     node + 1,
                     first,
-                    tested,
+                    kept,
                     best,
                 )?;
                 return Ok((look, settled));
@@ -356,4 +306,29 @@ pub fn look_at_all(
         }
     }
     Ok((best, settled))
+}
+
+/// Looks at what is asked, and finds how it goes on, and how many of the first decisions are
+/// settled. It begins after those that are known to be, or near where the last look found how to go
+/// on. The operator applications of the nodes stand beside the decisions.
+pub fn look_at_all(
+    alloc: Global,
+    problem: &Problem<'_>,
+    growing: &Growing<'_>,
+    applications: &[Items<Application<'_>>],
+    first: usize,
+    from: usize,
+    kept: &mut Kept,
+) -> Result<(Look, usize), NoMemory>
+    requires branch { IsBranchOf problem.now growing.now }
+    requires applied { AreAppliedIn growing.now.system growing.now.decisions applications.now }
+    requires settled { AreSettled problem.now.system growing.now.decisions from }
+    ensures { IfOk result (λ looked. LookedOn problem.now growing.now.decisions looked.0 looked.1) }
+{
+    if let Some(nearest) = look_near(alloc, problem, growing, applications, first, from, kept)? {
+        return Ok((nearest, from));
+    }
+    let looked = look_at_rest(alloc, problem, growing, applications, first, from, kept)?;
+    kept.keep_idle(looked.0);
+    Ok(looked)
 }

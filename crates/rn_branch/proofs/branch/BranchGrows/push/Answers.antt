@@ -8,7 +8,7 @@ use Rattle.rn_branch.specs.Testing.{AreKept}
 use Rattle.rn_branch.proofs.Applied.{applied_outside}
 use Rattle.rn_branch.proofs.BranchSteps.{push_comes, push_fresh, push_heads, push_is, push_kept}
 use Rattle.rn_branch.proofs.BranchSteps.{push_never, push_none, push_room, push_stands}
-use Rattle.rn_branch.proofs.KeptTakings.{no_takings, takings_by_tries}
+use Rattle.rn_branch.proofs.KeptTakings.{takings_by_tries}
 use Rattle.rn_branch.proofs.KeptTests.{kept_by_tries}
 use Rattle.rn_branch.proofs.branch.BranchGrows.push.Goals as goal
 

@@ -1,14 +1,24 @@
--- By the tokens that are repeats.
-use Rattle.std.proofs.Common.{◌≡◌, sym, subst}
-use Rattle.std.specs.Prelude.{None}
-use Rattle.rn_search.specs.Points.{offered}
-use Rattle.rn_branch.proofs.BranchSteps.{passed_are_vain}
+-- By the tokens that are repeats, or lack a part.
+use Rattle.std.proofs.Common.{◌∙◌, sym, subst}
+use Rattle.rn_growing.specs.Grown.{Grown}
+use Rattle.rn_looking.specs.Branches.{IsBranchOf}
+use Rattle.rn_branch.specs.Offers.{NoneLeadBy}
 use Rattle.rn_branch.proofs.branch.BranchGrows.vain_from.Goals as goal
 
-pub returns-in-Token : goal.returns-in-Token
-returns-in-Token c a from below =
-    let p = c.args.problem.now in
-    passed_are_vain p c.self.inside.growing c.args.self.now c.self.view_is c.requires
-    c.decisions.result.now c.decisions.ensures c.args.site a
-    (subst (λ q. offered p c.decisions.result.now q a ≡ None) (sym c.in-Token.is)
-    (c.repeats.ensures a from below))
+pub repeats_at-repeats-requires : goal.repeats_at-repeats-requires
+repeats_at-repeats-requires c =
+    subst (IsBranchOf c.args.problem.now) (sym (c.growing-growing.ensures ∙ c.self.view_is)) c.requires
+
+pub lacking_at-requires : goal.lacking_at-requires
+lacking_at-requires c =
+    subst (IsBranchOf c.args.problem.now) (sym (c.growing-growing.ensures ∙ c.self.view_is)) c.requires
+
+pub returns-then-repeats-gt0 : goal.returns-then-repeats-gt0
+returns-then-repeats-gt0 c a from below =
+    subst (λ (g : Grown). NoneLeadBy c.args.problem.now g.decisions c.args.site a)
+    (c.growing-growing.ensures ∙ c.self.view_is) (c.repeats_at-repeats.ensures a from below)
+
+pub returns : goal.returns
+returns c a from below =
+    subst (λ (g : Grown). NoneLeadBy c.args.problem.now g.decisions c.args.site a)
+    (c.growing-growing.ensures ∙ c.self.view_is) (c.lacking_at.ensures a from below)

@@ -23,6 +23,9 @@ look_at_all-requires-clause-applied c =
     subst (AreAppliedIn c.self.inside.growing.system c.self.inside.growing.decisions)
     (sym c.as_slice-applications.ensures.value) c.self.invariant.1.applied
 
+pub invariant_of-self-in_err-looked : goal.invariant_of-self-in_err-looked
+invariant_of-self-in_err-looked c = c.self.invariant
+
 pub invariant_of-self-2 : goal.invariant_of-self-2
 invariant_of-self-2 c = (
   keeps_settled c.self.inside.growing c.self.inside.settled c.in_ok-looked.looked.1

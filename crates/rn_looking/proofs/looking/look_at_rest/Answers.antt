@@ -6,8 +6,8 @@ use Rattle.rn_looking.specs.Things.{IsOfEntries, IsOfEntry}
 use Rattle.rn_looking.proofs.LookSteps.{looked_best, looked_both}
 use Rattle.rn_looking.proofs.NodeLooks.{one_more_entry}
 use Rattle.rn_looking.proofs.SettledLooks.{settled_by_look}
-use Rattle.rn_looking.proofs.looking.look_at_all.Goals as goal
-use Rattle.rn_looking.proofs.looking.look_at_all.Goals.{After-better-best, then-is_done, else-is_done}
+use Rattle.rn_looking.proofs.looking.look_at_rest.Goals as goal
+use Rattle.rn_looking.proofs.looking.look_at_rest.Goals.{After-better-best, then-is_done, else-is_done}
 
 more : (c : After-better-best) → Looked c.args.problem.now c.args.growing.now.decisions
     (IsOfEntries c.args.growing.now.decisions (c.loop-node.node + 1)) c.better-best.result

@@ -1,7 +1,7 @@
 use Rattle.rn_looking.specs.Looks.{Looked}
 use Rattle.rn_looking.specs.Settling.{AreSettled}
 use Rattle.rn_looking.specs.Things.{IsOfEntries}
-use Rattle.rn_looking.proofs.looking.look_at_all.Given as goal
+use Rattle.rn_looking.proofs.looking.look_at_rest.Given as goal
 
 -- what the look at the first decisions came to, and how many of them are settled
 abbrev pub invariant-loop-node : goal.invariant-loop-node

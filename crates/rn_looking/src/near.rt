@@ -1,0 +1,109 @@
+//! Where a look begins, before it goes through all that is asked.
+ghost use Rattle.std.specs.Prelude.{◌<◌, IfOk, IfSome, length};
+ghost use Rattle.rn_looking.specs.Applying.{AreAppliedIn};
+ghost use Rattle.rn_looking.specs.Branches.{IsBranchOf};
+ghost use Rattle.rn_looking.specs.Looks.{Looked};
+ghost use Rattle.rn_looking.specs.Things.{IsOfEntries};
+
+use crate::best::is_enough;
+use crate::look::Look;
+use crate::looking::look_at_node;
+use crate::tested::Kept;
+use rn_binding::Application;
+use rn_growing::Growing;
+use rn_items::Items;
+use rn_search::Problem;
+use rn_value::NoMemory;
+use std::alloc::Global;
+
+// From so many decisions on that may not be settled a look begins near where the last one ended.
+const MANY: usize = 16;
+
+// Looks at what a decision asks. It counts where nothing better can come.
+fn look_at_best(
+    alloc: Global,
+    problem: &Problem<'_>,
+    growing: &Growing<'_>,
+    applications: &[Items<Application<'_>>],
+    node: usize,
+    first: usize,
+    kept: &mut Kept,
+) -> Result<Option<Look>, NoMemory>
+    requires branch { IsBranchOf problem.now growing.now }
+    requires applied { AreAppliedIn growing.now.system growing.now.decisions applications.now }
+    requires within { node < length growing.now.decisions }
+    ensures { IfOk result (λ best. IfSome best (λ look. Looked problem.now growing.now.decisions
+        (IsOfEntries growing.now.decisions (length growing.now.decisions)) look)) }
+{
+    let look = look_at_node(alloc, problem, growing, applications, node, first, kept)?;
+    if is_enough(look, kept.idle) {
+        kept.near = node;
+        return Ok(Some(look));
+    }
+    Ok(None)
+}
+
+// How far from the decision by which one found last how to go on a look goes before it goes through
+// all: at most so far, and a part of all.
+const WIDE: usize = 4;
+
+const PART: usize = 16;
+
+// Where a look begins: with the nodes that are kept for it, the newest decision, that by which one found
+// last how to go on, and those around it, the nearest first.
+fn place(kept: &Kept, k: usize, near: usize, end: usize) -> usize {
+    let begins = kept.begins();
+    if k < begins {
+        return kept.begin(k);
+    }
+    let k = k - begins;
+    if k == 0 {
+        return end.saturating_sub(1);
+    }
+    let away = k / 2;
+    if k % 2 == 0 {
+        near.saturating_sub(away)
+    } else {
+        near.saturating_add(away)
+    }
+}
+
+// Whether a look that begins there goes by this node.
+fn is_beside(node: usize, near: usize) -> bool {
+    node.max(near) - node.min(near) <= WIDE
+}
+
+/// Looks there, and counts where nothing better can come.
+pub(crate) fn look_near(
+    alloc: Global,
+    problem: &Problem<'_>,
+    growing: &Growing<'_>,
+    applications: &[Items<Application<'_>>],
+    first: usize,
+    from: usize,
+    kept: &mut Kept,
+) -> Result<Option<Look>, NoMemory>
+    requires branch { IsBranchOf problem.now growing.now }
+    requires applied { AreAppliedIn growing.now.system growing.now.decisions applications.now }
+    ensures { IfOk result (λ best. IfSome best (λ look. Looked problem.now growing.now.decisions
+        (IsOfEntries growing.now.decisions (length growing.now.decisions)) look)) }
+{
+    let end = growing.mark();
+    if end.saturating_sub(from) < MANY {
+        return Ok(None);
+    }
+    let near = kept.near;
+    let wide = ((end.saturating_sub(from)) / PART).min(WIDE);
+    for k in 0..kept.begins().saturating_add(2 * wide + 2) {
+        let node = place(&*kept, k, near, end);
+        if from <= node && node < end {
+            let best = look_at_best(alloc, problem, growing, applications, node, first, kept)?;
+            if best.is_some() {
+                kept.found_near(k, is_beside(node, near));
+                return Ok(best);
+            }
+        }
+    }
+    kept.found_nothing();
+    Ok(None)
+}
