@@ -87,6 +87,15 @@ module _ (system : System) (m : Marking) (depth : ℕ) where
         (λ b has also. differ b (just.so b has).1 (others.so b also).1);
   }
 
+  -- those of them, in any order
+  pub just_sorted : (Of : Binding → Type 0) (found sorted : List Binding) → Just Of found →
+      IsPermutation found sorted → (b : Binding) → Contains sorted b ↔ (Is b × Of b)
+  just_sorted Of found sorted just moved b = (
+    λ has. just.so b (Contains-permutation sorted found b
+        (IsPermutation-sym found sorted moved) has),
+    λ is. Contains-permutation found sorted b moved (just.all b is.0 is.1),
+  )
+
   -- all of them, in any order
   pub just_enabled : (found sorted : List Binding) → Just (λ b. ⊤) found →
       IsPermutation found sorted → (b : Binding) → Contains sorted b ↔ Is b

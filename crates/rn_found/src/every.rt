@@ -50,8 +50,8 @@ fn all_from(
     Ok(found)
 }
 
-// Puts all bindings that start with an instance.
-fn put_at(
+/// Puts all bindings that start with an instance.
+pub(crate) fn put_at(
     alloc: Global,
     marked: Marked<'_>,
     room: &mut Room,
@@ -92,8 +92,8 @@ fn all_of(alloc: Global, marked: Marked<'_>) -> Result<Vec<Candidate>, NoMemory>
     Ok(found)
 }
 
-// Puts bindings in order.
-fn sort_bindings(found: &mut Vec<Candidate>) -> Result<(), NoMemory>
+/// Puts bindings in order.
+pub(crate) fn sort_bindings(found: &mut Vec<Candidate>) -> Result<(), NoMemory>
     ensures sorted { OnOk result (IsSorted binding_cmp found.new.items) }
     ensures same { IsPermutation found.old.items found.new.items }
 {

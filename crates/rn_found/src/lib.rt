@@ -7,6 +7,7 @@ mod explorer;
 mod exploring;
 mod finding;
 mod hint;
+mod instance;
 mod laws;
 mod marked;
 mod room;
@@ -15,5 +16,6 @@ mod turns;
 
 pub use every::{all_bindings, least};
 pub use finding::{Finding, find};
+pub use instance::bindings_of;
 pub use laws::tokens_fit;
 pub use rn_choices::{Flag, Halt};

@@ -1,0 +1,4 @@
+pub mod HoldingLemmas
+pub mod PutLemmas
+pub mod ReachingLemmas
+pub mod ReferenceLemmas

@@ -1,0 +1,33 @@
+use Rattle.std.proofs.Common.{◌≡◌, ℕ, List, take, rules}
+use Rattle.std.specs.Prelude.{Some, None, slice_get}
+use Rattle.std.specs.List.{list_any}
+use Rattle.rn_value.specs.declared.value.Value.{Value}
+use Rattle.rn_model.specs.Liveness.{mentions}
+use Rattle.rn_live.proofs.TokenLemmas.{got, past, same_run}
+use Rattle.rn_holders.proofs.PutLemmas.{then, through}
+use Rattle.rn_holders.proofs.references.put_bag.Goals as goal
+
+pub loop-token-preserved : goal.loop-token-preserved
+loop-token-preserved c =
+    let tokens = c.args.bag.now in
+    let i = c.loop-token.index in
+    let j = c.next_other-index.result in
+    let token = c.in-Some.token.now in
+    let first : slice_get tokens i ≡ Some token = search rules in
+    record {
+      within = c.next_other-index.ensures.bound;
+      puts = then (λ n. list_any (λ token. mentions token n) (take i tokens)) (mentions token)
+          (λ n. list_any (λ token. mentions token n) (take j tokens))
+          (λ n. same_run (λ token. mentions token n) tokens token i j
+          (c.next_other-index.ensures.later
+          (got tokens i token first).0) first c.next_other-index.ensures.equal)
+          c.loop-token.invariant.puts c.in_ok-put_value.ensures;
+    }
+
+pub returns : goal.returns
+returns c =
+    let tokens = c.args.bag.now in
+    let i = c.loop-token.index in
+    let none : slice_get tokens i ≡ None = search rules in
+    through (λ (tokens : List Value) (n : ℕ). list_any (λ token. mentions token n) tokens) tokens i
+    (past tokens i none) c.loop-token.invariant.puts

@@ -1,0 +1,15 @@
+use Rattle.std.proofs.Common.{◌≤◌, ◌-◌, take, length}
+use Rattle.std.specs.List.{list_any}
+use Rattle.rn_model.specs.Liveness.{mentions}
+use Rattle.rn_holders.specs.Puts.{Puts}
+use Rattle.rn_holders.proofs.references.put_bag.Given as goal
+
+abbrev pub invariant-loop-token : goal.invariant-loop-token
+invariant-loop-token l = record {
+  within : l.index ≤ length l.bag;
+  puts : Puts (λ n. list_any (λ token. mentions token n)
+      (take l.index l.bag)) l.initial.numbers.items l.numbers.items;
+}
+
+abbrev pub decreases-loop-token : goal.decreases-loop-token
+decreases-loop-token l = length l.bag - l.index

@@ -1,0 +1,10 @@
+//! Which instances may refer to which, and which of them reach some.
+#![tactic(auto)]
+
+mod backwards;
+mod holding;
+mod references;
+mod values;
+
+pub use backwards::reaching;
+pub use holding::hold_all;

@@ -1,0 +1,5 @@
+mod ListedLemmas
+mod OrderLemmas
+mod PlaceLemmas
+mod RefreshLemmas
+mod StartLemmas

@@ -1,0 +1,9 @@
+//! Kept lists of the bindings that are enabled in each instance: after a firing only those are made anew
+//! that it may have changed.
+#![tactic(auto)]
+
+mod counting;
+mod held;
+mod lists;
+
+pub use lists::{Cands, Lists, open_lists};
