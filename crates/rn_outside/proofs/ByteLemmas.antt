@@ -1,9 +1,9 @@
 -- Pieces that a source gives and a sink takes one after another.
 use Rattle.std.proofs.Common.{◌≡◌, ℕ, ◌+◌, ◌-◌, ◌≤◌, List, [], ◌++◌, length, take, drop, Option, Some, None, sym, refl, ap, ◌∙◌, subst, append_assoc, append-nil, length-append, arith}
 use Rattle.std.proofs.Math.Seq.{take-add, take-append-add}
-use Rattle.std.proofs.lemmas.List.{take-append-le, take_rest}
+use Rattle.std.proofs.lemmas.List.{length-take-le, take-append-le, take_rest}
 use Rattle.std.specs.Option.{option_map}
-use Rattle.rn_outside.specs.Bytes.{Gives, GivesAtMost, GivesPrefix, Appends, AppendsPrefix}
+use Rattle.rn_outside.specs.Bytes.{Gives, GivesAtMost, GivesPrefix, Appends, AppendsPrefix, IsCalledSeldom}
 
 -- a source that gave nothing is as it was
 pub Gives-nothing : (left : Option (List ℕ)) → Gives left [] left
@@ -83,5 +83,22 @@ pub Appends-offered : (a b c : Option (List ℕ)) (bytes : List ℕ) (m n : ℕ)
 Appends-offered a b c bytes m n first second =
     Appends-take a b c bytes m n first (rw (sym (take_rest bytes m)) second)
 
+-- where each call took a byte at least but one, which may have taken none, there were few calls
+pub IsCalledSeldom-taken : (a b : Option (List ℕ)) (bytes : List ℕ) (taken calls calls_after : ℕ) → Appends a (take taken bytes) b → taken ≤ length bytes → calls_after ≤ calls + taken + 1 → IsCalledSeldom a b calls calls_after
+IsCalledSeldom-taken None b bytes taken calls calls_after appends within few = tt
+IsCalledSeldom-taken (Some held) b bytes taken calls calls_after appends within few =
+    subst (λ after. IsCalledSeldom (Some held) after calls calls_after) (sym appends) (omega (arith, few, length-append held (take taken bytes), length-take-le taken bytes within))
+
+-- a sink that wasn't called
+pub IsCalledSeldom-never : (a : Option (List ℕ)) (calls : ℕ) → IsCalledSeldom a a calls calls
+IsCalledSeldom-never None calls = tt
+IsCalledSeldom-never (Some held) calls = omega arith
+
 -- for functions that read or write several times
 pub ruleset pieces = (Gives-nothing, Gives-append, GivesPrefix-append, GivesPrefix-from_two, GivesAtMost-from_two, GivesAtMost-from_one, Appends-nothing, Appends-append, Appends-offered, AppendsPrefix-append, AppendsPrefix-longer)
+
+-- for functions whose sinks may not be called
+pub ruleset seldom = (IsCalledSeldom-never)
+
+-- for a function that writes by several calls
+pub ruleset calls = (Appends-nothing, Appends-offered, IsCalledSeldom-taken)

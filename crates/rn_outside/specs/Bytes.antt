@@ -1,6 +1,6 @@
 -- What a source gives and what a sink takes. The bytes of each are known or not: what is left in a
 -- source, and what a sink holds, is `Some bytes`, or `None` where it isn't known.
-use Rattle.std.specs.Prelude.{◌≡◌, ℕ, ◌<◌, ◌≤◌, List, [], ◌++◌, length, take, Option, IfSome}
+use Rattle.std.specs.Prelude.{◌≡◌, ℕ, ◌+◌, ◌<◌, ◌≤◌, List, [], ◌++◌, length, take, Option, IfSome}
 use Rattle.std.specs.Option.{option_map}
 
 -- A source gave `prefix`: what was left is `prefix`, and then what is left now.
@@ -36,3 +36,9 @@ pub record AppendsPrefix (before : Option (List ℕ)) (bytes : List ℕ) (after 
   pub taken : ℕ
   pub short : taken < length bytes
   pub appends : Appends before (take taken bytes) after
+
+-- A sink was called at most once for each byte that it took, and once more, where its bytes are known:
+-- what it held, what it holds, and how often it was called before and since.
+abbrev pub IsCalledSeldom : Option (List ℕ) → Option (List ℕ) → ℕ → ℕ → Type 0
+IsCalledSeldom held held_after calls calls_after = IfSome held (λ before. IfSome held_after (λ now.
+    calls_after + length before ≤ calls + length now + 1))

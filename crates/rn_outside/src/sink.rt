@@ -1,5 +1,5 @@
 //! What a sink is.
-ghost use Rattle.std.specs.Prelude.{◌≡◌, ◌<◌, ◌≤◌, ℕ, List, Option, length, take, IfOk};
+ghost use Rattle.std.specs.Prelude.{◌≡◌, ◌+◌, ◌<◌, ◌≤◌, ℕ, List, Option, length, take, IfOk};
 ghost use Rattle.std.specs.Prelude.{OnOk, OnErr};
 ghost use Rattle.rn_outside.specs.Bytes.{Appends};
 ghost use Rattle.rn_outside.specs.Faults.{Rose, risen};
@@ -19,6 +19,12 @@ pub trait Sink {
     /// How often it has failed, a count of 64 bits.
     ghost faults: { Self → ℕ };
 
+    /// How often it was called to write, where it counts that.
+    ghost writes: { Self → ℕ };
+
+    /// How often it was called for no bytes, where it counts that.
+    ghost empty_writes: { Self → ℕ };
+
     /// Takes the first bytes of `piece`, at least one where there is one, and returns how many.
     fn write(&mut self, piece: &[u8]) -> Result<usize, SinkFailed>
         ensures within { IfOk result (λ n. n ≤ length piece.now) }
@@ -34,5 +40,7 @@ pub trait Sink {
         ensures one_fault { OnErr result (faults self.new ≡ risen (faults self.old)) }
         ensures no_fault { OnOk result (faults self.new ≡ faults self.old) }
 
-        ensures never_falls { faults self.old ≤ faults self.new };
+        ensures never_falls { faults self.old ≤ faults self.new }
+        ensures counted { writes self.new ≤ writes self.old + 1 }
+        ensures filled { 0 < length piece.now → empty_writes self.new ≡ empty_writes self.old };
 }

@@ -42,6 +42,10 @@ impl<W: Write> Sink for StdSink<W> {
 
     ghost faults = { λ s. s.faults };
 
+    ghost writes = { λ _. 0 };
+
+    ghost empty_writes = { λ _. 0 };
+
     fn write(&mut self, piece: &[u8]) -> Result<usize, SinkFailed>
         ensures ok { OnOk result (self.new.faults ≡ self.old.faults) }
         ensures err { OnErr result (self.new.faults ≡ risen self.old.faults) }

@@ -1,6 +1,6 @@
 //! Writing all bytes to a sink.
-ghost use Rattle.std.specs.Prelude.{◌≡◌, ◌≤◌, [], OnOk, OnErr};
-ghost use Rattle.rn_outside.specs.Bytes.{Appends, AppendsPrefix};
+ghost use Rattle.std.specs.Prelude.{◌≡◌, ◌+◌, ◌≤◌, [], length, OnOk, OnErr};
+ghost use Rattle.rn_outside.specs.Bytes.{Appends, AppendsPrefix, IsCalledSeldom};
 ghost use Rattle.rn_outside.specs.Faults.{Rose, risen};
 
 use crate::sink::Sink;
@@ -11,7 +11,7 @@ pub struct WriteFault;
 
 /// Writes all the bytes. After a short write the rest is offered again. It stops at the first write
 /// that fails. For no bytes no write is made. It takes no memory.
-#[tactic(auto, using(crate::proofs::ByteLemmas::pieces))]
+#[tactic(auto, using(crate::proofs::ByteLemmas::calls))]
 pub fn write_all<O: Sink>(sink: &mut O, bytes: &[u8]) -> Result<(), WriteFault>
     ensures all { OnOk result (Appends (O.held sink.old) bytes.now (O.held sink.new)) }
     ensures prefix { OnErr result (AppendsPrefix (O.held sink.old) bytes.now (O.held sink.new)) }
@@ -25,6 +25,12 @@ pub fn write_all<O: Sink>(sink: &mut O, bytes: &[u8]) -> Result<(), WriteFault>
 
     // Where there is nothing to write, the sink isn't called.
     ensures nothing { bytes.now ≡ [] → sink.new ≡ sink.old }
+
+    // Each call but one that fails takes a byte at least, and none is for no bytes.
+    ensures calls { O.writes sink.new ≤ O.writes sink.old + (length bytes.now + 1) }
+    ensures seldom { IsCalledSeldom (O.held sink.old) (O.held sink.new)
+        (O.writes sink.old) (O.writes sink.new) }
+    ensures none_empty { O.empty_writes sink.new ≡ O.empty_writes sink.old }
 {
     let mut taken = 0;
     while taken < bytes.len() {

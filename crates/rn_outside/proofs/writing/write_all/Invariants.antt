@@ -1,8 +1,8 @@
-use Rattle.std.proofs.Common.{◌≡◌, ◌-◌, ◌≤◌, [], length, take}
+use Rattle.std.proofs.Common.{◌≡◌, ◌+◌, ◌-◌, ◌≤◌, [], length, take}
 use Rattle.rn_outside.specs.Bytes.{Appends}
 use Rattle.rn_outside.proofs.writing.write_all.Given as goal
 
--- the prefix of the bytes that was taken stands in the sink
+-- the prefix of the bytes that was taken stands in the sink, by at most one call for each byte
 abbrev pub invariant-loop-taken : goal.invariant-loop-taken
 invariant-loop-taken g l =
     let sink = g.O.Sink in
@@ -10,6 +10,8 @@ invariant-loop-taken g l =
       within : l.taken ≤ length l.bytes;
       appends : Appends (sink.held l.initial.sink) (take l.taken l.bytes) (sink.held l.sink);
       no_fault : sink.faults l.sink ≡ sink.faults l.initial.sink;
+      few : sink.writes l.sink ≤ sink.writes l.initial.sink + l.taken;
+      filled : sink.empty_writes l.sink ≡ sink.empty_writes l.initial.sink;
       nothing : l.bytes ≡ [] → l.sink ≡ l.initial.sink;
     }
 
