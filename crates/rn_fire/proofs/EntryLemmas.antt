@@ -9,7 +9,7 @@ use Rattle.rn_model.specs.Runs.{Firing, entries_of}
 use Rattle.rn_model.proofs.AskedValues.{got_contained, map_source}
 use Rattle.rn_fire.specs.States.{firings_in, end_in}
 
-abbrev entry_of : Firing → Entry
+abbrev pub entry_of : Firing → Entry
 entry_of f = Fire f.worker f.binding f.outs
 
 -- the firings of a log's entries, and its end

@@ -6,6 +6,7 @@ mod dropping;
 mod ending;
 mod kept;
 mod outcome;
+mod rewinding;
 mod setup;
 mod sharing;
 mod state;

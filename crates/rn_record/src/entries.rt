@@ -11,8 +11,9 @@ use rn_model::{Binding, Entry, FaultKind, Reason, System, named, write_nodes};
 use rn_value::{Names, NoMemory, Value, write_numeral, write_value};
 use std::alloc::Global;
 
-/// The lines of a binding's nodes. The instances that it makes get their names.
-pub(crate) fn put_binding(
+/// Appends the lines of a binding's nodes, each after `lead`, where the instances so far have these
+/// names. The instances that it makes get the next numbers and their names.
+pub fn put_binding(
     alloc: Global,
     system: &System,
     binding: &Binding,
@@ -140,7 +141,9 @@ fn put_end(
     Ok(())
 }
 
-fn put_entry(
+/// Appends the lines of the entry with this number, where the instances so far have these names. The
+/// instances that it makes get their names.
+pub fn put_entry(
     alloc: Global,
     system: &System,
     step: u64,

@@ -67,7 +67,7 @@ fn put_mark(
 }
 
 /// Appends the lines of marks, each a place of an instance with its tokens.
-pub(crate) fn put_marks(
+pub fn put_marks(
     alloc: Global,
     system: &System,
     lines: &[MarkLine],

@@ -59,7 +59,7 @@ pub(crate) fn push_made(
 }
 
 /// The names at the start of a run.
-pub(crate) fn first_names(alloc: Global) -> Result<Names, NoMemory>
+pub fn first_names(alloc: Global) -> Result<Names, NoMemory>
     ensures { IfOk result (λ names. names ≡ codes "main" ∷ []) }
 {
     let mut names = Names::new(alloc);

@@ -16,7 +16,7 @@ use Rattle.rn_model.specs.Firing.{Effects, Fired, creations_of, effects, firing_
 use Rattle.rn_model.specs.Good.{Good}
 use Rattle.rn_model.specs.Liveness.{IsMarkOf}
 use Rattle.rn_model.specs.Markings.{IsMarking, Marking, initial_marking, tokens_at}
-use Rattle.rn_model.specs.Runs.{EndsTruly, Firing, Fires, RunFrom, after_firing, end_entries, end_from, end_of, entries_of}
+use Rattle.rn_model.specs.Runs.{EndsTruly, Firing, Fires, Log, Run, RunFrom, after_firing, end_entries, end_from, end_of, entries_of}
 use Rattle.rn_model.specs.SoundTokens.{HasSoundTokens}
 use Rattle.rn_model.proofs.CountsAfterFiring.{next_after_firing}
 use Rattle.rn_model.proofs.InitialTokens.{initial_tokens_are_sound}
@@ -170,16 +170,31 @@ ends_enabled system options fs (Some Steps) e good = tt
 ends_enabled system options fs (Some (Fault cause b)) e good = e.0
 ends_enabled system options fs (Some Memory) e good = tt
 
+-- the entries of a log can be written
+pub logs_have_entries : (system : System) (options : Options) (fs : List Firing)
+    (ended : Option Reason) → Good system → Log system options fs ended →
+    HaveEntries system first_names (entries_of fs ended)
+logs_have_entries system options fs ended good log =
+    have_entries system options.depth good fs ended 1 (initial_marking system) first_names
+    (first_named system options.depth good) log.run (ends_enabled system options fs ended log.ends good)
+
+-- there are as many names as instances were made, and the next one gets the number after theirs
+pub names_are_counted : (system : System) (depth : ℕ) (fs : List Firing) → Good system →
+    Run system depth fs →
+    length (names_at_end system first_names (entries_of fs None)) + 1 ≡ (end_of system fs).next
+names_are_counted system depth fs good run =
+    (named_at_end system depth good fs None 1 (initial_marking system) first_names
+    (first_named system depth good) run).count
+
 pub logs_have_text : LogsHaveText
 logs_have_text system options fs ended marks good log live =
     let depth = options.depth in
     let m = initial_marking system in
-    let first = first_named system depth good in
     let names = names_at_end system first_names (entries_of fs ended) in
-    let at_end = named_at_end system depth good fs ended 1 m first_names first log.run in
+    let at_end =
+    named_at_end system depth good fs ended 1 m first_names (first_named system depth good) log.run in
     record {
-      entries = have_entries system depth good fs ended 1 m first_names first log.run
-          (ends_enabled system options fs ended log.ends good);
+      entries = logs_have_entries system options fs ended good log;
       marks =
           All-weaker (IsMarkOf system (end_of system fs)) (λ line. All (AreNamed names) line.values)
           (mark_named system depth good (end_of system fs) names at_end) marks live.each;
