@@ -24,27 +24,27 @@ first_are fs ended count within =
 module _ (setup : Setup) (entries : List Entry) (room : ℕ) (table after : Kept)
     (k : KeepsState setup entries room table) (count : ℕ) (within : count ≤ length (firings_in entries))
   where
-  abbrev fs : List Firing
-  fs = firings_in entries
+    abbrev fs : List Firing
+    fs = firings_in entries
 
-  first_entries : take count entries ≡ entries_of (take count fs) None
-  first_entries = ap (take count) k.whole ∙ first_are fs (end_in entries) count within
+    first_entries : take count entries ≡ entries_of (take count fs) None
+    first_entries = ap (take count) k.whole ∙ first_are fs (end_in entries) count within
 
-  pub goes_back : state_of setup (take count entries) after
-      ≡ record { setup = setup; fired = take count fs; ended = None; table = after }
-  goes_back =
-      ap (λ es. state_of setup es after) first_entries ∙ state_with setup (take count fs) None after
+    pub goes_back : state_of setup (take count entries) after
+        ≡ record { setup = setup; fired = take count fs; ended = None; table = after }
+    goes_back =
+        ap (λ es. state_of setup es after) first_entries ∙ state_with setup (take count fs) None after
 
-  pub keeps_first : Stands setup.system after.marking (end_of setup.system (take count fs)) →
-      IsTableOf setup.system after → KeepsState setup (take count entries) room after
-  keeps_first stands of =
-      keeps setup (take count entries) room after (take count fs) None first_entries
-      (record {
-        good = k.state.good;
-        limits = k.state.limits;
-        log = prefixes_are_logs setup.system setup.options (take count fs) (drop count fs) (end_in entries)
-            (subst (λ gs. Log setup.system setup.options gs (end_in entries))
-            (sym (take-append-drop count fs)) k.state.log);
-        stands = stands;
-        of_system = of;
-      }) k.enough
+    pub keeps_first : Stands setup.system after.marking (end_of setup.system (take count fs)) →
+        IsTableOf setup.system after → KeepsState setup (take count entries) room after
+    keeps_first stands of =
+        keeps setup (take count entries) room after (take count fs) None first_entries
+        (record {
+          good = k.state.good;
+          limits = k.state.limits;
+          log = prefixes_are_logs setup.system setup.options (take count fs) (drop count fs) (end_in entries)
+              (subst (λ gs. Log setup.system setup.options gs (end_in entries))
+              (sym (take-append-drop count fs)) k.state.log);
+          stands = stands;
+          of_system = of;
+        }) k.enough

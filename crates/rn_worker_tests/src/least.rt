@@ -1,4 +1,7 @@
 //! Least runs: workers that meet, the same run for every number of workers, and a commit that is late.
+ghost use Rattle.std.specs.Prelude.{◌≤◌};
+ghost use Rattle.rn_model.specs.Limits.{most_workers};
+
 use crate::nets::{options_of, system_of};
 use rn_least_workers::run_least;
 use rn_model::{Binding, Entry, Reason, same_binding};
@@ -8,8 +11,6 @@ use std::alloc::Global;
 use std::sync::Wait;
 use std::test::Fail;
 use std::thread::Threads;
-ghost use Rattle.std.specs.Prelude.{◌≤◌};
-ghost use Rattle.rn_model.specs.Limits.{most_workers};
 
 // Two tokens that either worker may take.
 const TWO: &[u8] = b"net main { var x: int; place p: int = 2, 1; trans t { in p: x; } }";
@@ -81,9 +82,13 @@ fn first_number(binding: &Binding) -> i64 {
 
 fn begins_with(finished: &Finished, by: u32, number: i64) -> bool {
     match finished.state.entries().first() {
-        Some(Entry::Fire {
-            worker, binding, ..
-        }) => *worker == by && first_number(binding) == number,
+        Some(
+            Entry::Fire {
+                worker,
+                binding,
+                ..
+            },
+        ) => *worker == by && first_number(binding) == number,
         _ => false,
     }
 }
