@@ -1,10 +1,15 @@
 //! Which binding fires: everyone gets a turn, and a seed draws.
+ghost use Rattle.std.specs.Prelude.{◌≤◌};
+ghost use Rattle.rn_model.specs.Limits.{most_workers};
+
 use crate::nets::{run_text, run_text_seeded};
 use rn_items::NoMemory;
 use rn_model::Entry;
 use rn_worker::{Finished, NoGate};
 use std::alloc::Global;
+use std::sync::Wait;
 use std::test::Fail;
+use std::thread::Threads;
 
 // Its two transitions may fire in turn, or the first alone.
 const BUFFER: &[u8] = b"net main { place ready = []; place buffer; place waiting = []; place eaten;
@@ -32,16 +37,29 @@ fn starts(alloc: Global, finished: &Finished) -> Result<Vec<u32>, NoMemory> {
     Ok(starts)
 }
 
+// How often the first net fires, how often it consumes, and how long the log of the second one is.
+fn turns_of<R: Threads + Wait + Sync>(
+    rt: &R,
+    alloc: Global,
+    workers: u32,
+) -> Result<(usize, usize, u64), Fail>
+    requires { (1 ≤ workers) × (workers ≤ most_workers) }
+{
+    let finished = run_text(rt, alloc, BUFFER, workers, 0, &NoGate)?;
+    let starts = starts(alloc, &finished)?;
+    let consumed = starts.iter().filter(|t| **t == 1).count();
+    let finished = run_text(rt, alloc, LOOPS, workers, 0, &NoGate)?;
+    Ok((starts.len(), consumed, finished.state.length()))
+}
+
 #[test]
 fn everyone_gets_a_turn(rt: HostRuntime) -> Result<(), Fail> {
-    for workers in [1, 4] {
-        let finished = run_text(&rt, rt.alloc(), BUFFER, workers, 0, &NoGate)?;
-        let starts = starts(rt.alloc(), &finished)?;
-        let consumed = starts.iter().filter(|t| **t == 1).count();
-        assert_eq!(rt; starts.len(), 1000, "{workers} workers");
-        assert!(rt; 300 <= consumed && consumed <= 700, "{workers} workers");
-        let finished = run_text(&rt, rt.alloc(), LOOPS, workers, 0, &NoGate)?;
-        assert!(rt; finished.state.length() <= 51, "{workers} workers");
+    let one = turns_of(&rt, rt.alloc(), 1)?;
+    let four = turns_of(&rt, rt.alloc(), 4)?;
+    for (fired, consumed, length) in [one, four] {
+        assert_eq!(rt; fired, 1000);
+        assert!(rt; 300 <= consumed && consumed <= 700);
+        assert!(rt; length <= 51);
     }
     Ok(())
 }
