@@ -1,4 +1,5 @@
 pub mod Branches
+pub mod FirstBindings
 pub mod FitTokens
 pub mod JustThese
 pub mod KeptStarts

@@ -1,7 +1,7 @@
 -- Bindings in order, each once.
 use Rattle.std.proofs.Common.{◌≡◌, ◌≢◌, ◌<◌, ◌+◌, ℕ, List, length, get_or, Bool, false}
 use Rattle.std.proofs.Common.{subst, sym, refl, ap, ◌∙◌, arith, Decides}
-use Rattle.std.specs.Prelude.{Contains, AllPairs, ◌↔◌}
+use Rattle.std.specs.Prelude.{Contains, AllPairs}
 use Rattle.std.specs.List.{AllAdjacentBelow}
 use Rattle.std.specs.List.Sorted.{IsPermutation, IsSorted}
 use Rattle.std.specs.Ordering.{is_eq, is_lt, ordering_reverse}
@@ -13,9 +13,6 @@ use Rattle.std.proofs.lemmas.List.Sorted.{ranks_by, sorted_far}
 use Rattle.std.proofs.lemmas.Map.Keys.{IsDistinct-IsPermutation}
 use Rattle.std.proofs.lemmas.Map.Made.{AllPairs-from_IsDistinct, IsDistinct-from_AllPairs}
 use Rattle.rn_model.specs.declared.binding.Binding.{Binding}
-use Rattle.rn_model.specs.declared.system.System.{System}
-use Rattle.rn_model.specs.Enabling.{Enabled, DeadAt}
-use Rattle.rn_model.specs.Markings.{Marking}
 use Rattle.rn_model.specs.Order.{binding_cmp}
 use Rattle.rn_model.specs.OrderLaws.{binding_cmp-total}
 use Rattle.rn_model.proofs.BindingOrder.{binding_cmp-apart, equal_iff_same}
@@ -64,37 +61,15 @@ ascends xs up once k d within =
     (λ tied. once k (k + 1) d (omega arith) within
     (binding_cmp-apart (get_or xs k d) (get_or xs (k + 1) d) tied))
 
--- where each is less than the next, none is less than the first
-pub first_is_least : (xs : List Binding) (first c : Binding) →
-    AllAdjacentBelow (λ b c. binding_cmp b c ≡ Less) xs (length xs) → first ≡ get_or xs 0 first →
-    Contains xs c → binding_cmp first c ≢ Greater
-first_is_least xs first c up is (k, within, at) =
-    let rising : IsSorted binding_cmp xs = λ i d low more.
-    ap is_lt (binding_cmp-total.antisymm (get_or xs (i + 1) d) (get_or xs i d)
-    ∙ ap ordering_reverse (up i d more)) in
+-- of sorted ones none is less than the first
+pub sorted_is_least : (xs : List Binding) (first c : Binding) → IsSorted binding_cmp xs →
+    first ≡ get_or xs 0 first → Contains xs c → binding_cmp first c ≢ Greater
+sorted_is_least xs first c rising is (k, within, at) =
     let far = sorted_far (λ x y. is_lt (binding_cmp x y)) (ranks_by binding_cmp-total (λ x. x)) xs
     rising 0 k c (omega arith) within in
     let here : get_or xs 0 c ≡ first
-    = get_or_default xs 0 c first (omega arith) ∙ sym is in
+    = get_or_default xs 0 c first (omega (arith, within)) ∙ sym is in
     let back : is_lt (binding_cmp c first) ≡ false
     = subst (λ b. is_lt (binding_cmp c b) ≡ false) here
     (subst (λ b. is_lt (binding_cmp b (get_or xs 0 c)) ≡ false) at far) in
     not_greater (binding_cmp first c) (reversed first c back)
-
-module _ (system : System) (m : Marking) (depth : ℕ) (found : List Binding)
-    (just : (b : Binding) → Contains found b ↔ Enabled system m b depth) where
-  -- the first of all
-  pub least_of_all : (first : Binding) →
-      AllAdjacentBelow (λ b c. binding_cmp b c ≡ Less) found (length found) → 0 < length found →
-      first ≡ get_or found 0 first →
-      Enabled system m first depth
-      × ((c : Binding) → Enabled system m c depth → binding_cmp first c ≢ Greater)
-  least_of_all first up some is = (
-    (just first).0 (0, some, sym is),
-    λ c enabled. first_is_least found first c up is ((just c).1 enabled),
-  )
-
-  -- none of none
-  pub none_of_none : length found ≡ 0 → DeadAt system m depth
-  none_of_none none b enabled =
-      let there = (just b).1 enabled in absurd (omega (arith, there.1))

@@ -67,7 +67,7 @@ may_start_of system m number net t is there uplink = record {
   uplink = uplink;
 }
 
-head_is : (start : Head) (number : ℕ) → start.path ≡ [] → start.inst ≡ Old number →
+pub head_is : (start : Head) (number : ℕ) → start.path ≡ [] → start.inst ≡ Old number →
     start ≡ start_of number start.net start.transition
 head_is start number path inst =
     ap
@@ -114,6 +114,17 @@ pub one_transition : (b : Binding) (number net t u : ℕ) → StartsAt b (start_
 one_transition b number net t u starts also =
     ap (λ h. h.transition)
     (one_start b (start_of number net t) (start_of number net u) starts also)
+
+-- by that of its net alone
+pub one_net : (system : System) (m : Marking) (depth : ℕ) (b : Binding) (number other net t : ℕ) →
+    Enabled system m b depth → net_of m number ≡ Some net →
+    StartsAt b (start_of number other t) → other ≡ net
+one_net system m depth b number other net t enabled is starts =
+    let start = is_start_of system m number other t
+    (may_start_there system m depth b (start_of number other t) enabled starts) in
+    let also = start.of_net in
+    let same : other ≡ net = cc in
+    same
 
 -- a binding starts by one of the first transitions of an instance, or with one of the first instances
 abbrev pub HasStartBelow : ℕ → ℕ → ℕ → Binding → Type 0
@@ -304,7 +315,7 @@ module _ (system : System) (uplinks : Uplinks) (table : Kept) (depth : ℕ)
   Those = AreJust system table.marking depth
 
   -- the instance of an enabled binding's start
-  starts_among : (b : Binding) (number : ℕ) → Enabled system table.marking b depth →
+  pub starts_among : (b : Binding) (number : ℕ) → Enabled system table.marking b depth →
       HasStartIn number b → Contains table.starting number
   starts_among b number enabled (net, t, starts) =
       is_among system uplinks table number net t searched

@@ -1,12 +1,12 @@
-//! All bindings that are enabled, and the first of them.
-ghost use Rattle.std.specs.Prelude.{◌≡◌, ◌≢◌, ◌↔◌, ◌<◌, IfOk, IfSome, OnOk, IsNone, Some, ⊤, Contains, length};
+//! All bindings that are enabled.
+ghost use Rattle.std.specs.Prelude.{◌≡◌, ◌↔◌, ◌<◌, IfOk, OnOk, Some, ⊤, Contains, length};
 ghost use Rattle.std.specs.List.{AllAdjacentBelow};
 ghost use Rattle.std.specs.List.Sorted.{IsPermutation, IsSorted};
-ghost use Rattle.std.specs.declared.cmp.Ordering.TheVariants.{Less, Greater};
+ghost use Rattle.std.specs.declared.cmp.Ordering.TheVariants.{Less};
 ghost use Rattle.rn_model.specs.Order.{binding_cmp};
 ghost use Rattle.rn_model.specs.declared.binding.Binding.{Binding};
 ghost use Rattle.rn_model.specs.Good.{Good};
-ghost use Rattle.rn_model.specs.Enabling.{Enabled, DeadAt};
+ghost use Rattle.rn_model.specs.Enabling.{Enabled};
 ghost use Rattle.rn_search.specs.Problems.{HasFitTokens};
 ghost use Rattle.rn_model.specs.Systems.{net_at};
 ghost use Rattle.rn_channel.specs.Uplinks.{AreUplinksOf};
@@ -24,8 +24,8 @@ use rn_table::{Inst, Table};
 use rn_value::NoMemory;
 use std::alloc::Global;
 
-// All bindings that start with a transition of an instance.
-fn all_from(
+/// All bindings that start with a transition of an instance.
+pub(crate) fn all_from(
     alloc: Global,
     marked: Marked<'_>,
     room: &mut Room,
@@ -129,30 +129,4 @@ pub fn all_bindings(
     let mut found = all_of(alloc, marked)?;
     sort_bindings(&mut found)?;
     Ok(found)
-}
-
-/// The first of them, or `None` exactly where there is none.
-pub fn least(
-    alloc: Global,
-    system: &System,
-    uplinks: &Uplinks,
-    table: &Table,
-    depth: u32,
-) -> Result<Option<Candidate>, NoMemory>
-    requires good { Good system.now }
-    requires own { AreUplinksOf system.now uplinks.now }
-    requires table { IsTableOf system.now table.now }
-    requires tokens { HasFitTokens system.now table.now.marking }
-    ensures least { IfOk result (λ found. IfSome found (λ b.
-        Enabled system.now table.now.marking b depth
-        × ((c : Binding) → Enabled system.now table.now.marking c depth →
-        binding_cmp b c ≢ Greater))) }
-    ensures none { IfOk result (λ found. IsNone found
-        ↔ DeadAt system.now table.now.marking depth) }
-{
-    let mut found = all_bindings(alloc, system, uplinks, table, depth)?;
-    if found.is_empty() {
-        return Ok(None);
-    }
-    Ok(Some(found.swap_remove(0)))
 }

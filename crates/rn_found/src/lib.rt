@@ -6,6 +6,7 @@ mod every;
 mod explorer;
 mod exploring;
 mod finding;
+mod first;
 mod hint;
 mod instance;
 mod laws;
@@ -14,8 +15,9 @@ mod room;
 mod starts;
 mod turns;
 
-pub use every::{all_bindings, least};
+pub use every::all_bindings;
 pub use finding::{Finding, find};
+pub use first::least;
 pub use instance::bindings_of;
 pub use laws::tokens_fit;
 pub use rn_choices::{Flag, Halt};
