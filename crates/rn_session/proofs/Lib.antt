@@ -1,0 +1,10 @@
+pub mod AnsweredLines
+pub mod AnsweredRequests
+pub mod Committed
+pub mod KeptTables
+pub mod LastEntries
+pub mod NamesSoFar
+pub mod NumberedNow
+pub mod SessionStates
+pub mod Sessions
+pub mod TakenNames

@@ -1,0 +1,107 @@
+//! Firing the binding with a number.
+ghost use Rattle.std.specs.Prelude.{◌≡◌, ◌<◌, IfOk, IfSome, IfNone, None, length};
+ghost use Rattle.rn_served.specs.Listed.{IsNumbered, NoneIsNumbered};
+ghost use Rattle.rn_fire.specs.States.{end_marking};
+ghost use Rattle.rn_fire.specs.Commits.{IsEnabledNow};
+ghost use Rattle.rn_session.specs.Keeping.{CommitsTo, HasRefusal, IsFirst, Tells};
+ghost use Rattle.rn_session.specs.Sessions.{FiresBy};
+
+use crate::session::Session;
+use rn_binding::Candidate;
+use rn_fire::Commit;
+use rn_found::least;
+use rn_items::NoMemory;
+use rn_served::FireAnswer;
+use std::alloc::Global;
+
+impl Session {
+    /// Fires the binding with this number in the list, as worker 1. Its number in the list is from 1.
+    ///
+    /// For the first binding the list isn't made.
+    pub fn fire(&mut self, alloc: Global, k: u64) -> Result<FireAnswer, NoMemory>
+        ensures { FiresBy self.old k result self.new }
+    {
+        if let Some(number) = self.refusal() {
+            return Ok(FireAnswer::Refused(number));
+        }
+        match self.numbered(alloc, k)? {
+            Some(candidate) => self.commit(alloc, &candidate),
+            None => Ok(FireAnswer::Refused(1)),
+        }
+    }
+
+    /// Why no binding may fire, whatever its number: the run has ended (3), or the step limit is reached
+    /// (2).
+    fn refusal(&self) -> Option<u32>
+        ensures { HasRefusal self.now result }
+    {
+        if self.state.has_ended() {
+            return Some(3);
+        }
+        if self.state.length() == self.options.steps as u64 {
+            return Some(2);
+        }
+        None
+    }
+
+    /// The binding with this number in the list.
+    fn numbered(&self, alloc: Global, k: u64) -> Result<Option<Candidate>, NoMemory>
+        ensures some { IfOk result (λ o. IfSome o (λ b. IsNumbered self.now.setup.system
+            (end_marking self.now) self.now.setup.options.depth k b)) }
+        ensures none { IfOk result (λ o. IfNone o (NoneIsNumbered self.now.setup.system
+            (end_marking self.now) self.now.setup.options.depth k)) }
+    {
+        if k == 1 {
+            return self.first(alloc);
+        }
+        let mut found = self.list(alloc)?;
+        if k == 0 || (found.len() as u64) < k {
+            return Ok(None);
+        }
+        Ok(Some(found.swap_remove(k as usize - 1)))
+    }
+
+    /// The first binding of the list.
+    fn first(&self, alloc: Global) -> Result<Option<Candidate>, NoMemory>
+        ensures some { IfOk result (λ o. IfSome o (λ b. IsNumbered self.now.setup.system
+            (end_marking self.now) self.now.setup.options.depth 1 b)) }
+        ensures none { IfOk result (λ o. IfNone o (NoneIsNumbered self.now.setup.system
+            (end_marking self.now) self.now.setup.options.depth 1)) }
+    {
+        let _length = self.state.length();
+        let system = self.state.system();
+        let table = self.state.table();
+        least(alloc, system, &self.uplinks, table, self.options.depth)
+    }
+
+    /// Does the firing of a binding that is enabled, or ends the run with its fault. The table of before
+    /// is kept.
+    fn commit(&mut self, alloc: Global, candidate: &Candidate) -> Result<FireAnswer, NoMemory>
+        requires going { self.old.ended ≡ None }
+        requires below { length self.old.fired < self.old.setup.options.steps }
+        requires enabled { IsEnabledNow self.old candidate.now }
+        ensures { CommitsTo self.old candidate.now result self.new }
+    {
+        let seen = self.state.length();
+        let before = self.state.table().snapshot()?;
+        self.kept.reserve(1)?;
+        let committed = self.state.commit(alloc, 1, candidate, seen);
+        let answer = told(committed)?;
+        self.kept.push_reserved(before);
+        let _length = self.state.length();
+        Ok(answer)
+    }
+}
+
+// What a commit comes to that nobody came before.
+fn told(committed: Commit) -> Result<FireAnswer, NoMemory>
+    requires { IsFirst committed }
+    ensures { Tells committed result }
+{
+    match committed {
+        Commit::Fired { step } => Ok(FireAnswer::Fired { step }),
+        Commit::Faulted => Ok(FireAnswer::Faulted),
+        Commit::NoMemory => Err(NoMemory),
+        Commit::Conflict { .. } | Commit::Ended => unreachable!(),
+    }
+}
