@@ -3,7 +3,7 @@ use Rattle.std.specs.Prelude.{ℕ, ◌≡◌, ◌<◌, List, length, codes, Opti
 use Rattle.rn_notation.specs.Limits.{longest_net_text, longest_text}
 use Rattle.rn_outside.specs.Faults.{Rose}
 use Rattle.rn_words.specs.declared.command.Command.{Command}
-use Rattle.rn_words.specs.declared.command.Command.TheVariants.{Gen, GenSeeded, Replay, Moves}
+use Rattle.rn_words.specs.declared.command.Command.TheVariants.{Gen, GenSeeded, Replay, Session, Moves}
 use Rattle.rn_answer.specs.declared.answer.Answer.{Answer}
 use Rattle.rn_answer.specs.declared.stopped.Stopped.{Stopped}
 use Rattle.rn_answer.specs.declared.stopped.Stopped.TheVariants.{Refused, ReadFault, NoMemory}
@@ -15,6 +15,7 @@ abbrev pub longest_input : Command → Option ℕ
 longest_input (Gen n options) = None
 longest_input (GenSeeded n options seed) = None
 longest_input (Replay options) = Some longest_text
+longest_input (Session options) = Some longest_text
 longest_input (Moves options) = Some longest_text
 longest_input _ = Some longest_net_text
 

@@ -11,11 +11,13 @@ use Rattle.rn_commands.specs.Parts.{HasParts}
 use Rattle.rn_commands.specs.NetCommands.{EnabledTo, ReplayComesTo}
 use Rattle.rn_commands.specs.Workloads.{GensTo}
 use Rattle.rn_commands.specs.Moves.{MovesComeTo}
+use Rattle.rn_commands.specs.Stepping.{SessionComesTo}
 
 -- the net text of a command's input, which stands before a line `---` where more comes after it; `gen`
 -- has none
 abbrev pub HasNetText : Command → List ℕ → List ℕ → Type 0
 HasNetText (command.Replay options) bytes net = (rest : List ℕ) × HasParts bytes net rest
+HasNetText (command.Session options) bytes net = (rest : List ℕ) × HasParts bytes net rest
 HasNetText (command.Moves options) bytes net = (rest : List ℕ) × HasParts bytes net rest
 HasNetText (command.Gen copies options) bytes net = ⊥
 HasNetText (command.GenSeeded copies options seed) bytes net = ⊥
@@ -32,4 +34,5 @@ ComesTo (command.Enabled depth) bytes a = RefusesNet bytes a ⊎ EnabledTo depth
 ComesTo (command.Replay options) bytes a = ReplayComesTo options bytes a
 ComesTo (command.Gen copies options) bytes a = GensTo copies options a
 ComesTo (command.GenSeeded copies options seed) bytes a = GensTo copies options a
+ComesTo (command.Session options) bytes a = SessionComesTo options bytes a
 ComesTo (command.Moves options) bytes a = MovesComeTo options bytes a

@@ -150,6 +150,14 @@ pub record IsRecorded (options : Options) (bytes : List ℕ) : Type 0 where
   pub reason : Reason
   pub run : IsRecordOfRun system options record_bytes count reason
 
+-- the input of `session` begins with an accepted net text
+pub record BeginsWithNet (bytes : List ℕ) : Type 0 where
+  pub net : List ℕ
+  pub lines : List ℕ
+  pub parts : HasParts bytes net lines
+  pub system : System
+  pub accepted : Accepted net system
+
 -- the commands that run a net, whose log may end in a fault
 abbrev pub MayFault : Command → Type 0
 MayFault (command.Run options) = ⊤
@@ -159,8 +167,8 @@ MayFault (command.Gen copies options) = ⊤
 MayFault (command.GenSeeded copies options seed) = ⊤
 MayFault _ = ⊥
 
--- The input is what the command can do: an accepted net text, and for `replay` and `moves` the text of
--- a run of it. `gen` asks for none.
+-- The input is what the command can do: an accepted net text, for `replay` and `moves` with the text of
+-- a run of it, and for `session` with any lines. `gen` asks for none.
 abbrev pub IsFine : Command → Option (List ℕ) → Type 0
 IsFine (command.Gen copies options) left = ⊤
 IsFine (command.GenSeeded copies options seed) left = ⊤
@@ -168,4 +176,6 @@ IsFine (command.Replay options) left = (bytes : List ℕ) × (left ≡ Some byte
     × (length bytes ≤ longest_text) × IsRecorded options bytes
 IsFine (command.Moves options) left = (bytes : List ℕ) × (left ≡ Some bytes)
     × (length bytes ≤ longest_text) × IsRecorded options bytes
+IsFine (command.Session options) left = (bytes : List ℕ) × (left ≡ Some bytes)
+    × (length bytes ≤ longest_text) × BeginsWithNet bytes
 IsFine c left = (bytes : List ℕ) × (left ≡ Some bytes) × ((system : System) × Accepted bytes system)

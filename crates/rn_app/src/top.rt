@@ -31,7 +31,7 @@ use rn_answer::{
 };
 use rn_commands::{
     answer_laws, enabled, moves, parts_laws, replay, run, run_least, run_seeded, run_workload,
-    run_workload_seeded,
+    run_workload_seeded, session,
 };
 use rn_outside::{Sink, Source};
 use rn_words::{Command, words_laws};
@@ -65,6 +65,7 @@ fn work<R: Threads + Wait + Sync, G: Gate + Sync>(
         Command::GenSeeded(copies, options, seed) => {
             run_workload_seeded(rt, alloc, copies, options, seed, gate)
         }
+        Command::Session(options) => session(alloc, options, bytes),
         Command::Moves(options) => moves(alloc, options, bytes),
     }
 }

@@ -8,3 +8,4 @@ pub mod LeastTexts
 pub mod OneAnswer
 pub mod PartLemmas
 pub mod ReplayLemmas
+pub mod SessionLemmas

@@ -1,4 +1,4 @@
-//! The commands that need the states of a net: `enabled`, `run`, `replay` and `gen`.
+//! The commands that need the states of a net: `enabled`, `run`, `replay`, `moves`, `session` and `gen`.
 #![tactic(auto)]
 
 mod bindings;
@@ -9,6 +9,7 @@ mod moving;
 mod replays;
 mod running;
 mod runs;
+mod stepping;
 mod workload;
 
 pub use bindings::enabled;
@@ -17,4 +18,5 @@ pub use least_runs::{least_run_laws, run_least};
 pub use moving::moves;
 pub use replays::replay;
 pub use runs::{run, run_seeded};
+pub use stepping::session;
 pub use workload::{run_workload, run_workload_seeded};

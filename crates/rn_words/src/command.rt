@@ -22,6 +22,8 @@ pub enum Command {
     Gen(u32, Options),
     /// The same with this seed.
     GenSeeded(u32, Options, u32),
+    /// Step through a net text by lines.
+    Session(Options),
     /// Write what each firing of a record took and put.
     Moves(Options),
 }

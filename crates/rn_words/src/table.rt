@@ -13,6 +13,7 @@ pub(crate) enum Verb {
     Enabled,
     Replay,
     Gen,
+    Session,
     Moves,
 }
 
@@ -56,6 +57,8 @@ pub(crate) fn verb_named(word: &[u8]) -> Option<Verb>
         Some(Verb::Replay)
     } else if word == b"gen".as_slice() {
         Some(Verb::Gen)
+    } else if word == b"session".as_slice() {
+        Some(Verb::Session)
     } else if word == b"moves".as_slice() {
         Some(Verb::Moves)
     } else {
@@ -105,7 +108,9 @@ pub(crate) fn takes(verb: Verb, setting: Setting) -> bool
         Verb::Run => true,
         Verb::Check | Verb::Print => false,
         Verb::Enabled => matches!(setting, Setting::Depth),
-        Verb::Replay | Verb::Moves => matches!(setting, Setting::Steps | Setting::Depth),
+        Verb::Replay | Verb::Session | Verb::Moves => {
+            matches!(setting, Setting::Steps | Setting::Depth)
+        }
         Verb::Gen => matches!(setting, Setting::Workers | Setting::Sweep | Setting::Seed),
     }
 }

@@ -30,3 +30,6 @@ run_workload_seeded-requires-clause-limits g c κs within = (subst IsWithinLimit
 
 pub moves-requires-clause-limits : goal.moves-requires-clause-limits
 moves-requires-clause-limits g c = subst IsWithinLimits c.in-Moves.is (c.words_laws.ensures.limits c.requires.given.0 c.args.command c.requires.given.1)
+
+pub session-requires : goal.session-requires
+session-requires g c = subst IsWithinLimits c.in-Session.is (c.words_laws.ensures.limits c.requires.given.0 c.args.command c.requires.given.1)
