@@ -1,7 +1,0 @@
-//! Tests of sessions.
-#![tactic(auto)]
-
-#[cfg(test)]
-mod nets;
-#[cfg(test)]
-mod rows;
