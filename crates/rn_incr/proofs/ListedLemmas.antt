@@ -1,21 +1,37 @@
 -- Lists of bindings, one for each instance: how many there are, and which is the first.
-use Rattle.std.proofs.Common.{◌≡◌, ◌<◌, ◌≤◌, ◌+◌, ◌-◌, ℕ, zero, suc, List, [], ◌∷◌, ◌++◌, length, get_or}
+use Rattle.std.proofs.Common.{◌≡◌, ◌≢◌, ◌<◌, ◌≤◌, ◌+◌, ◌-◌, ℕ, zero, suc, List, [], ◌∷◌, ◌++◌, length, get_or}
 use Rattle.std.proofs.Common.{refl, sym, ap, subst, ◌∙◌, arith, inl, inr, ⊎_elim}
 use Rattle.std.specs.Prelude.{Contains, ◌↔◌, Option, Some, None, IsNone, IfSome, IfNone, flat_map, slice_get}
+use Rattle.std.specs.List.{AllAdjacentBelow}
+use Rattle.std.specs.List.Sorted.{IsSorted}
+use Rattle.std.specs.Ordering.{is_lt, ordering_reverse}
+use Rattle.std.specs.declared.cmp.Ordering.TheVariants.{Less, Greater}
 use Rattle.std.proofs.lemmas.List.{length-append, get_or_append_left, get_or-append_right, get_or_default}
 use Rattle.rn_model.specs.declared.binding.Binding.{Binding}
 use Rattle.rn_model.specs.declared.system.System.{System}
 use Rattle.rn_model.specs.Enabling.{Enabled, DeadAt}
 use Rattle.rn_model.specs.Markings.{Marking}
+use Rattle.rn_model.specs.Order.{binding_cmp}
+use Rattle.rn_model.specs.OrderLaws.{binding_cmp-total}
 use Rattle.rn_model.proofs.EnablingLemmas.{not_in_nil}
 use Rattle.rn_least.specs.LeastRuns.{IsLeast}
 use Rattle.rn_found.specs.Starting.{AreJust, HasStartIn}
 use Rattle.rn_found.proofs.JustThese.{just_more, just_none}
 use Rattle.rn_found.proofs.Numbers.{less_or_not}
-use Rattle.rn_found.proofs.Ordered.{first_is_least}
+use Rattle.rn_found.proofs.Ordered.{sorted_is_least}
 use Rattle.rn_found.proofs.StartingBindings.{one_number, starts_in}
 use Rattle.rn_incr.specs.Lists.{IsListOf, IsCount}
 use Rattle.rn_incr.proofs.OrderLemmas.{adjacent_apart, lower_is_less}
+
+-- where each is less than the next, none is less than the first
+first_is_least : (xs : List Binding) (first c : Binding) →
+    AllAdjacentBelow (λ b c. binding_cmp b c ≡ Less) xs (length xs) → first ≡ get_or xs 0 first →
+    Contains xs c → binding_cmp first c ≢ Greater
+first_is_least xs first c up is has =
+    let rising : IsSorted binding_cmp xs = λ i d low more.
+    ap is_lt (binding_cmp-total.antisymm (get_or xs (i + 1) d) (get_or xs i d)
+    ∙ ap ordering_reverse (up i d more)) in
+    sorted_is_least xs first c rising is has
 
 -- all bindings of lists
 abbrev pub joined : List (List Binding) → List Binding
