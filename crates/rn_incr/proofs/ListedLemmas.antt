@@ -38,7 +38,7 @@ abbrev pub joined : List (List Binding) → List Binding
 joined = flat_map (λ bs. bs)
 
 -- past the last there is no list
-past_default : (lists : List (List Binding)) (n : ℕ) → length lists ≤ n → get_or lists n [] ≡ []
+pub past_default : (lists : List (List Binding)) (n : ℕ) → length lists ≤ n → get_or lists n [] ≡ []
 past_default [] n h = refl
 past_default (xs ∷ lists) zero h = absurd (let no : ⊥ = omega (arith, h) in no)
 past_default (xs ∷ lists) (suc n) h = past_default lists n (omega (arith, h))

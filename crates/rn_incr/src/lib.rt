@@ -3,7 +3,11 @@
 #![tactic(auto)]
 
 mod counting;
+mod fresh;
 mod held;
 mod lists;
+mod putting;
+mod refreshing;
+mod touched;
 
 pub use lists::{Cands, Lists, open_lists};

@@ -1,0 +1,60 @@
+use Rattle.std.proofs.Common.{◌≡◌, ◌≢◌, ℕ, [], get_or, sym, ap, subst, ◌∙◌, arith}
+use Rattle.std.specs.Prelude.{AllPairs, Contains}
+use Rattle.std.proofs.lemmas.Bool.Decides.{Decides-eqb}
+use Rattle.std.proofs.lemmas.Map.Made.{AllPairs-from_IsDistinct}
+use Rattle.rn_incr.specs.Lists.{IsListOf, IsTouched, MayStartIn}
+use Rattle.rn_incr.proofs.PlaceLemmas.{fit_near, none_past}
+use Rattle.rn_incr.proofs.RefreshLemmas.{list_stays, number_as}
+use Rattle.rn_incr.proofs.refreshing.remake.Goals as goal
+
+pub reaching-requires-clause-near : goal.reaching-requires-clause-near
+reaching-requires-clause-near c =
+    fit_near c.args.system.now c.args.table.now.marking c.requires.good c.requires.tokens
+
+pub count_starting-count-requires : goal.count_starting-count-requires
+count_starting-count-requires c =
+    subst (AllPairs (λ (m n : ℕ). m ≢ n)) (sym c.as_slice-numbers.ensures.keys)
+    (AllPairs-from_IsDistinct Decides-eqb c.in_ok-touched.touched.keys c.in_ok-touched.ensures.once)
+
+pub returns-clause-lists : goal.returns-clause-lists
+returns-clause-lists c m differ are =
+    let system = c.args.system.now in
+    let other = c.args.table.now.marking in
+    let changed = c.args.changed.now in
+    let depth = c.args.depth in
+    let before = c.args.lists.now.items in
+    let longer = c.lengthen.new.lists.items in
+    c.put_all.ensures.put system other depth c.in_ok-fresh.ensures.lists
+    (λ n not.
+    let same : get_or longer n [] ≡ get_or before n [] =
+    c.lengthen.ensures.same n ∙ ap (λ xs. get_or xs n []) c.in_ok-make_room.ensures.same in
+    subst (IsListOf system other depth n) (sym same)
+    (list_stays system m other changed depth differ n (get_or before n [])
+    (λ reaches. not (subst (λ xs. Contains xs n)
+    (sym (c.in_ok-fresh.ensures.numbers ∙ c.as_slice-numbers.ensures.keys))
+    ((c.in_ok-touched.ensures.just n).1 reaches)))
+    (are n)))
+    (λ n past. none_past system other depth c.next-end.result n c.next-end.ensures.below
+    (omega (arith, past, c.lengthen.ensures.long)))
+
+pub returns-clause-number : goal.returns-clause-number
+returns-clause-number c =
+    let system = c.args.system.now in
+    let other = c.args.table.now.marking in
+    let changed = c.args.changed.now in
+    number_as
+    (λ n. MayStartIn system other n × Contains c.as_slice-numbers.result.now n)
+    (IsTouched system other changed) c.count_starting-count.result
+    (λ n. (
+      λ has. (
+        has.0,
+        (c.in_ok-touched.ensures.just n).0
+            (subst (λ xs. Contains xs n) c.as_slice-numbers.ensures.keys has.1),
+      ),
+      λ its. (
+        its.0,
+        subst (λ xs. Contains xs n) (sym c.as_slice-numbers.ensures.keys)
+            ((c.in_ok-touched.ensures.just n).1 its.1),
+      ),
+    ))
+    c.count_starting-count.ensures
