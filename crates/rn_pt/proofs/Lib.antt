@@ -1,0 +1,9 @@
+pub mod Phrases
+pub mod NotedLemmas
+pub mod FirstLemmas
+pub mod TableLemmas
+pub mod NameLemmas
+pub mod UnbrokenLemmas
+pub mod Settling
+pub mod Said
+pub mod Weighing

@@ -1,0 +1,10 @@
+use Rattle.std.proofs.Common.{◌≡◌, take, List, ℕ}
+use Rattle.std.specs.Prelude.{flat_map}
+use Rattle.rn_pt.specs.Faults.{first_from}
+use Rattle.rn_pt.specs.Rules.{transition_broken, number_among}
+use Rattle.rn_pt.specs.Tables.{found_in}
+use Rattle.rn_pt.proofs.checking.note_transitions.Given as goal
+
+abbrev pub invariant-loop-transition : goal.invariant-loop-transition
+invariant-loop-transition l = (names : List (List ℕ)) → ((name : List ℕ) → found_in l.table name ≡ number_among names name) →
+    l.first.broken ≡ first_from l.initial.first.broken (flat_map (transition_broken names) (take l.transition-index l.transitions))

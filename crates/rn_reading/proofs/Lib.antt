@@ -1,0 +1,4 @@
+pub mod Steps
+pub mod Sorts
+pub mod Wholes
+pub mod Uncounted

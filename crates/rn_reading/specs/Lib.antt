@@ -1,0 +1,5 @@
+pub mod Phrases
+pub mod Single
+pub mod Counting
+pub mod Stages
+pub mod Texts

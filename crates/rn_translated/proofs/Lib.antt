@@ -1,0 +1,14 @@
+mod ArcDemands
+mod BlackTokens
+mod FormsBack
+mod FormsMean
+mod FormsOfNets
+mod FormsUnbroken
+mod NamesDeclared
+mod OccurrencesFire
+mod OccurrencesFit
+mod OneOccurrence
+mod RunsAlike
+mod TokensFit
+mod TokensOfNets
+mod TranslationsChecked

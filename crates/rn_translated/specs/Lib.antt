@@ -1,0 +1,5 @@
+pub mod AcceptedLaws
+pub mod RunLaws
+pub mod TranslatedSystem
+pub mod Translation
+pub mod WeightedRuns

@@ -1,0 +1,27 @@
+//! Laws of the translation, as contracts of functions that do nothing.
+ghost use Rattle.rn_translated.specs.RunLaws.{RunsCorrespond, EndsCorrespond, OneInstanceAlone};
+ghost use Rattle.rn_translated.specs.AcceptedLaws.{TranslationsAreChecked, SpotsDoNotCount};
+ghost use Rattle.rn_translated.specs.AcceptedLaws.{TranslationsAreAccepted, OneSystemIsRead};
+ghost use Rattle.rn_translated.specs.RunLaws.{RunsHaveOccurrences, EachRunIsWeighted};
+
+use rn_print::printing_laws;
+
+/// A weighted net and the system that stands for it have the same runs.
+pub fn translations_run_alike()
+    ensures runs { RunsCorrespond }
+    ensures ends { EndsCorrespond }
+    ensures alone { OneInstanceAlone }
+    ensures occurrences { RunsHaveOccurrences }
+    ensures each { EachRunIsWeighted }
+{}
+
+/// No rule is broken in the translation of a weighted net, and it means that system. Its canonical
+/// text, if it is no longer than a net text may be, is accepted with that system.
+pub fn translations_are_accepted()
+    ensures checked { TranslationsAreChecked }
+    ensures spots { SpotsDoNotCount }
+    ensures accepted { TranslationsAreAccepted }
+    ensures read { OneSystemIsRead }
+{
+    printing_laws();
+}
