@@ -3,17 +3,16 @@
 #![tactic(auto)]
 
 mod ending;
+mod streams;
 mod words;
 
 use crate::ending::ending;
+use crate::streams::standard;
 use crate::words::words_of;
-use rn_outside::{StdSink, StdSource};
 use std::process::ExitCode;
 
 fn main(rt: HostRuntime) -> ExitCode {
     let words = words_of(&rt);
-    let mut input = StdSource::new(rt.stdin());
-    let mut out = StdSink::new(rt.stdout());
-    let mut err = StdSink::new(rt.stderr());
-    ExitCode::from(ending(&rt, rt.alloc(), &words, &mut input, &mut out, &mut err))
+    let mut streams = standard(&rt);
+    ExitCode::from(ending(&rt, rt.alloc(), &words, &mut streams))
 }

@@ -1,6 +1,6 @@
 //! Writing what a command comes to.
 ghost use Rattle.std.specs.Prelude.{◌≡◌, ◌≢◌, ◌⊎◌, []};
-ghost use Rattle.rn_outside.specs.Bytes.{Appends, AppendsPrefix};
+ghost use Rattle.rn_outside.specs.Bytes.{Appends, AppendsPrefix, IsCalledSeldom};
 ghost use Rattle.rn_outside.specs.Faults.{risen};
 ghost use Rattle.rn_answer.specs.declared.status.TheConstants.{NO_MEMORY, WRITE_FAULT};
 ghost use Rattle.rn_answer.specs.Writing.{TakesLine};
@@ -11,6 +11,7 @@ use rn_outside::{Sink, write_all};
 
 /// Writes what a command comes to: its text, and then its line. Memory that ran out stays told where
 /// the line fails.
+#[tactic(auto, using(rn_outside::proofs::ByteLemmas::seldom))]
 pub fn write_answer<O: Sink, E: Sink>(out: &mut O, err: &mut E, answer: &Answer) -> u8
     ensures written { result ≢ WRITE_FAULT → (result ≡ answer.now.status)
         × Appends (O.held out.old) answer.now.text (O.held out.new)
@@ -29,6 +30,14 @@ pub fn write_answer<O: Sink, E: Sink>(out: &mut O, err: &mut E, answer: &Answer)
         × (O.faults out.new ≡ O.faults out.old)
         × AppendsPrefix (E.held err.old) answer.now.line (E.held err.new)
         × (E.faults err.new ≡ risen (E.faults err.old))) }
+
+    // Each sink is called at most once for each byte that it takes, and once more, and never for none.
+    ensures seldom { IsCalledSeldom (O.held out.old) (O.held out.new)
+        (O.writes out.old) (O.writes out.new)
+        × IsCalledSeldom (E.held err.old) (E.held err.new)
+        (E.writes err.old) (E.writes err.new) }
+    ensures none_empty { (O.empty_writes out.new ≡ O.empty_writes out.old)
+        × (E.empty_writes err.new ≡ E.empty_writes err.old) }
 {
     if write_all(out, answer.text.as_slice()).is_err() {
         return WRITE_FAULT;
@@ -46,6 +55,11 @@ pub fn write_line<E: Sink>(err: &mut E, line: &[u8], status: u8) -> u8
     ensures status { result ≡ status }
     ensures line { TakesLine (E.held err.old) (E.held err.new)
         (E.faults err.old) (E.faults err.new) line.now }
+
+    // The sink is called at most once for each byte that it takes, and once more, and never for none.
+    ensures seldom { IsCalledSeldom (E.held err.old) (E.held err.new)
+        (E.writes err.old) (E.writes err.new) }
+    ensures none_empty { E.empty_writes err.new ≡ E.empty_writes err.old }
 {
     let _written = write_all(err, line);
     status

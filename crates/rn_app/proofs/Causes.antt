@@ -28,6 +28,7 @@ use Rattle.rn_commands.specs.Runs.{RunsTo}
 use Rattle.rn_commands.specs.LeastRuns.{RunsLeastTo}
 use Rattle.rn_commands.specs.Moves.{RecordMovesTo, MovesTo, MovesComeTo}
 use Rattle.rn_commands.specs.Stepping.{SessionTo, SessionComesTo}
+use Rattle.rn_commands.specs.Counting.{CountsTo}
 use Rattle.rn_app.specs.Commands.{ComesTo, HasNetText}
 use Rattle.rn_app.specs.Laws.{AcceptedIsNotRefused, OneSystemAccepted, RunIsRead}
 use Rattle.rn_app.specs.TopCall.{BeginsWithNet, Comes, IsFine, IsNoInput, IsNoRecord, IsRecorded, MayFault}
@@ -74,6 +75,7 @@ net_status laws command.Print bytes net line a is refused comes = refused_or law
 net_status laws (command.Enabled depth) bytes net line a is refused comes = refused_or laws (EnabledTo depth bytes a) bytes net line a is refused (λ lists. (lists.0, lists.2)) comes
 net_status laws (command.Replay options) bytes net line a has refused comes = refused_before laws (λ other more. ReplaysTo options other more a) bytes net line a has refused (λ other more replays. (replays.0, replays.1)) comes
 net_status laws (command.Session options) bytes net line a has refused comes = refused_before laws (λ other more. SessionTo options other more a) bytes net line a has refused (λ other more serves. (serves.0, serves.1)) comes
+net_status laws (command.Counts options) bytes net line a is refused comes = refused_or laws (CountsTo options bytes a) bytes net line a is refused (λ counted. (counted.counts.system, counted.counts.accepted)) comes
 net_status laws (command.Moves options) bytes net line a has refused comes = refused_before laws (λ other more. MovesTo options other more a) bytes net line a has refused (λ other more moves. (moves.0, moves.1)) comes
 net_status laws (command.Gen copies options) bytes net line a is refused gens = absurd is
 net_status laws (command.GenSeeded copies options seed) bytes net line a is refused gens = absurd is
@@ -94,6 +96,7 @@ none_refused (command.Run options) bytes none (IsNoInput.refused has refused) = 
 none_refused (command.RunLeast options) bytes none (IsNoInput.refused has refused) = absurd cc
 none_refused (command.RunSeeded options seed) bytes none (IsNoInput.refused has refused) = absurd cc
 none_refused (command.Session options) bytes none (IsNoInput.refused has refused) = absurd cc
+none_refused (command.Counts options) bytes none (IsNoInput.refused has refused) = absurd cc
 none_refused (command.Moves options) bytes none (IsNoInput.refused has refused) = absurd cc
 none_refused command.Check bytes none (IsNoInput.refused has refused) = absurd cc
 none_refused command.Print bytes none (IsNoInput.refused has refused) = absurd cc
@@ -238,6 +241,8 @@ whole_status laws (command.Enabled depth) left bytes a within fine all (inl refu
 whole_status laws (command.Enabled depth) left bytes a within fine all (inr (system, found, accepted, just, same)) = inl (ap (λ x. x.status) same)
 whole_status laws (command.Replay options) left bytes a within (known, is, few, recorded) all comes = inl (replay_status laws options bytes a within (subst (λ b. IsRecorded options b) (all_left left bytes known all is) recorded) comes)
 whole_status laws (command.Session options) left bytes a within (known, is, few, begins) all comes = inl (session_status laws options bytes a (subst BeginsWithNet (all_left left bytes known all is) begins) comes)
+whole_status laws (command.Counts options) left bytes a within fine all (inl refuses) = absurd (never_refused laws left bytes a fine all refuses)
+whole_status laws (command.Counts options) left bytes a within fine all (inr counted) = run_status ⊤ counted.reason a.status counted.status tt
 whole_status laws (command.Moves options) left bytes a within (known, is, few, recorded) all comes = inl (moves_status laws options bytes a within (subst (λ b. IsRecorded options b) (all_left left bytes known all is) recorded) comes)
 whole_status laws (command.Gen copies options) left bytes a within fine all gens = run_status ⊤ gens.reason a.status gens.status tt
 whole_status laws (command.GenSeeded copies options seed) left bytes a within fine all gens = run_status ⊤ gens.reason a.status gens.status tt
@@ -250,6 +255,7 @@ inputless_status (command.Run options) a none comes = absurd cc
 inputless_status (command.RunLeast options) a none comes = absurd cc
 inputless_status (command.RunSeeded options seed) a none comes = absurd cc
 inputless_status (command.Session options) a none comes = absurd cc
+inputless_status (command.Counts options) a none comes = absurd cc
 inputless_status (command.Moves options) a none comes = absurd cc
 inputless_status command.Check a none comes = absurd cc
 inputless_status command.Print a none comes = absurd cc
@@ -279,6 +285,7 @@ fine_fits command.Print limit left fine most long = let same : limit ≡ longest
 fine_fits (command.Enabled depth) limit left fine most long = let same : limit ≡ longest_net_text = cc in fits limit left fine same long
 fine_fits (command.Replay options) limit left (known, is, few, recorded) most long = let same : limit ≡ longest_text = cc in fits_text limit left known is few same long
 fine_fits (command.Session options) limit left (known, is, few, begins) most long = let same : limit ≡ longest_text = cc in fits_text limit left known is few same long
+fine_fits (command.Counts options) limit left fine most long = let same : limit ≡ longest_net_text = cc in fits limit left fine same long
 fine_fits (command.Moves options) limit left (known, is, few, recorded) most long = let same : limit ≡ longest_text = cc in fits_text limit left known is few same long
 fine_fits (command.Gen copies options) limit left fine most long = absurd cc
 fine_fits (command.GenSeeded copies options seed) limit left fine most long = absurd cc

@@ -89,6 +89,8 @@ command_told (command.Replay options) bytes a (net, rest, parts, inl (line, why,
 command_told (command.Replay options) bytes a (net, rest, parts, inr (system, accepted, told)) = replay_told system options rest a told
 command_told (command.Session options) bytes a (net, rest, parts, inl (line, why, is)) = IsToldBy.refused (inl (ap (λ x. x.status) is))
 command_told (command.Session options) bytes a (net, rest, parts, inr (system, accepted, (text, served, is))) = IsToldBy.quiet (ap (λ x. x.status) is) (ap (λ x. x.line) is)
+command_told (command.Counts options) bytes a (inl (line, why, is)) = IsToldBy.refused (inl (ap (λ x. x.status) is))
+command_told (command.Counts options) bytes a (inr counted) = IsToldBy.ended counted.reason (suc (length counted.counts.firings)) counted.status counted.line
 command_told (command.Moves options) bytes a (net, rest, parts, inl (line, why, is)) = IsToldBy.refused (inl (ap (λ x. x.status) is))
 command_told (command.Moves options) bytes a (net, rest, parts, inr (system, accepted, told)) = moves_told system options rest a told
 command_told (command.Gen copies options) bytes a gens = IsToldBy.ended gens.reason (suc (length gens.firings)) gens.status gens.line

@@ -12,6 +12,7 @@ use Rattle.rn_commands.specs.NetCommands.{EnabledTo, ReplayComesTo}
 use Rattle.rn_commands.specs.Workloads.{GensTo}
 use Rattle.rn_commands.specs.Moves.{MovesComeTo}
 use Rattle.rn_commands.specs.Stepping.{SessionComesTo}
+use Rattle.rn_commands.specs.Counting.{CountsTo}
 
 -- the net text of a command's input, which stands before a line `---` where more comes after it; `gen`
 -- has none
@@ -35,4 +36,5 @@ ComesTo (command.Replay options) bytes a = ReplayComesTo options bytes a
 ComesTo (command.Gen copies options) bytes a = GensTo copies options a
 ComesTo (command.GenSeeded copies options seed) bytes a = GensTo copies options a
 ComesTo (command.Session options) bytes a = SessionComesTo options bytes a
+ComesTo (command.Counts options) bytes a = RefusesNet bytes a ⊎ CountsTo options bytes a
 ComesTo (command.Moves options) bytes a = MovesComeTo options bytes a

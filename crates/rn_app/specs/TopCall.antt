@@ -162,6 +162,7 @@ pub record BeginsWithNet (bytes : List ℕ) : Type 0 where
 abbrev pub MayFault : Command → Type 0
 MayFault (command.Run options) = ⊤
 MayFault (command.RunLeast options) = ⊤
+MayFault (command.Counts options) = ⊤
 MayFault (command.RunSeeded options seed) = ⊤
 MayFault (command.Gen copies options) = ⊤
 MayFault (command.GenSeeded copies options seed) = ⊤

@@ -7,7 +7,7 @@ ghost use Rattle.rn_model.specs.declared.log.Reason.TheVariants as End;
 ghost use Rattle.rn_model.specs.declared.log.FaultKind.{FaultKind};
 ghost use Rattle.rn_model.specs.declared.binding.Binding.{Binding};
 ghost use Rattle.rn_notation.specs.Limits.{longest_text};
-ghost use Rattle.rn_outside.specs.Bytes.{GivesAtMost};
+ghost use Rattle.rn_outside.specs.Bytes.{GivesAtMost, IsCalledSeldom};
 ghost use Rattle.rn_outside.specs.Faults.{Rose, risen};
 ghost use Rattle.rn_words.specs.declared.command.Command.{Command as Given};
 ghost use Rattle.rn_words.specs.declared.command.WordsFault.{WordsFault as Fault};
@@ -30,8 +30,8 @@ use rn_answer::{
     write_line,
 };
 use rn_commands::{
-    answer_laws, enabled, moves, parts_laws, replay, run, run_least, run_seeded, run_workload,
-    run_workload_seeded, session,
+    answer_laws, counts, enabled, moves, parts_laws, replay, run, run_least, run_seeded,
+    run_workload, run_workload_seeded, session,
 };
 use rn_outside::{Sink, Source};
 use rn_words::{Command, words_laws};
@@ -66,6 +66,7 @@ fn work<R: Threads + Wait + Sync, G: Gate + Sync>(
             run_workload_seeded(rt, alloc, copies, options, seed, gate)
         }
         Command::Session(options) => session(alloc, options, bytes),
+        Command::Counts(options) => counts(alloc, options, bytes),
         Command::Moves(options) => moves(alloc, options, bytes),
     }
 }
@@ -227,6 +228,14 @@ pub fn renew_top<R: Threads + Wait + Sync, I: Source, O: Sink, E: Sink, G: Gate 
     ensures err_faults { IsOwnStatus result → E.faults err.new ≡ E.faults err.old }
     ensures few_faults { RoseOnceAtMost (O.faults out.old) (O.faults out.new)
         × RoseOnceAtMost (E.faults err.old) (E.faults err.new) }
+
+    // Each output is called at most once for each byte that it takes, and once more, and never for none.
+    ensures seldom { IsCalledSeldom (O.held out.old) (O.held out.new)
+        (O.writes out.old) (O.writes out.new)
+        × IsCalledSeldom (E.held err.old) (E.held err.new)
+        (E.writes err.old) (E.writes err.new) }
+    ensures none_empty { (O.empty_writes out.new ≡ O.empty_writes out.old)
+        × (E.empty_writes err.new ≡ E.empty_writes err.old) }
 {
     words_laws();
     input_laws();

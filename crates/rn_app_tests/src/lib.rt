@@ -6,6 +6,8 @@ mod calling;
 #[cfg(test)]
 mod lines;
 #[cfg(test)]
+mod meeting;
+#[cfg(test)]
 mod reads;
 #[cfg(test)]
 mod record;

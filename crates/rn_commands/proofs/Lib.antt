@@ -1,4 +1,5 @@
 pub mod AcceptedWorkloads
+pub mod Counted
 pub mod EndedRuns
 pub mod FirstBindings
 pub mod LastReasons

@@ -1,7 +1,9 @@
-//! The commands that need the states of a net: `enabled`, `run`, `replay`, `moves`, `session` and `gen`.
+//! The commands that need the states of a net: `enabled`, `run`, `replay`, `moves`, `session`,
+//! `counts` and `gen`.
 #![tactic(auto)]
 
 mod bindings;
+mod counting;
 mod ends;
 mod laws;
 mod least_runs;
@@ -13,6 +15,7 @@ mod stepping;
 mod workload;
 
 pub use bindings::enabled;
+pub use counting::counts;
 pub use laws::{answer_laws, gen_laws, moves_laws, parts_laws};
 pub use least_runs::{least_run_laws, run_least};
 pub use moving::moves;

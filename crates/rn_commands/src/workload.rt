@@ -35,8 +35,8 @@ fn put_counted(alloc: Global, word: &[u8], count: u64, text: &mut Vec<u8>) -> Re
     Ok(())
 }
 
-// The first line of the end of a log.
-fn end_line(state: &SimState) -> &'static [u8]
+/// The first line of the end of a log.
+pub(crate) fn end_line(state: &SimState) -> &'static [u8]
     ensures { IfSome state.now.ended (λ reason. result.now ≡ end_line reason) }
 {
     match state.entries().last() {

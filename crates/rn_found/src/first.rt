@@ -56,9 +56,9 @@ fn first_from(
     first_of(found)
 }
 
-// The first binding that starts with an instance: its transitions are taken in order, up to one with
-// which a binding starts.
-fn first_in(
+/// The first binding that starts with an instance: its transitions are taken in order, up to one with
+/// which a binding starts.
+pub(crate) fn first_in(
     alloc: Global,
     marked: Marked<'_>,
     room: &mut Room,

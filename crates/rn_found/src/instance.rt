@@ -1,4 +1,4 @@
-//! The bindings that start in one instance.
+//! The bindings that start in one instance, and the first of them.
 ghost use Rattle.std.specs.Prelude.{◌≡◌, ◌↔◌, IfOk, Contains, length};
 ghost use Rattle.std.specs.List.{AllAdjacentBelow};
 ghost use Rattle.std.specs.declared.cmp.Ordering.TheVariants.{Less};
@@ -9,9 +9,11 @@ ghost use Rattle.rn_model.specs.Enabling.{Enabled};
 ghost use Rattle.rn_search.specs.Problems.{HasFitTokens};
 ghost use Rattle.rn_channel.specs.Uplinks.{AreUplinksOf};
 ghost use Rattle.rn_table.specs.Tables.{IsTableOf};
+ghost use Rattle.rn_found.specs.First.{IsFirstOf};
 ghost use Rattle.rn_found.specs.Starting.{HasStartIn};
 
 use crate::every::{put_at, sort_bindings};
+use crate::first::first_in;
 use crate::marked::Marked;
 use crate::room::Room;
 use rn_binding::Candidate;
@@ -52,4 +54,31 @@ pub fn bindings_of(
     put_at(alloc, marked, &mut room, instance, &mut found)?;
     sort_bindings(&mut found)?;
     Ok(found)
+}
+
+/// The first of the bindings that are enabled at the table within the depth and start in this
+/// instance, by `compare_bindings`, or `None` exactly where none does.
+pub fn least_of(
+    alloc: Global,
+    system: &System,
+    uplinks: &Uplinks,
+    table: &Table,
+    depth: u32,
+    instance: u32,
+) -> Result<Option<Candidate>, NoMemory>
+    requires good { Good system.now }
+    requires own { AreUplinksOf system.now uplinks.now }
+    requires table { IsTableOf system.now table.now }
+    requires tokens { HasFitTokens system.now table.now.marking }
+    ensures { IfOk result (IsFirstOf system.now table.now.marking depth (HasStartIn instance)) }
+{
+    let _end = table.next();
+    let marked = Marked {
+        system,
+        uplinks,
+        table,
+        depth,
+    };
+    let mut room = Room::new(alloc);
+    first_in(alloc, marked, &mut room, instance)
 }

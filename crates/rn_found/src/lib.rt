@@ -18,6 +18,6 @@ mod turns;
 pub use every::all_bindings;
 pub use finding::{Finding, find};
 pub use first::least;
-pub use instance::bindings_of;
+pub use instance::{bindings_of, least_of};
 pub use laws::tokens_fit;
 pub use rn_choices::{Flag, Halt};

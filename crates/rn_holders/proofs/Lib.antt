@@ -1,3 +1,4 @@
+pub mod BackLemmas
 pub mod HoldingLemmas
 pub mod PutLemmas
 pub mod ReachingLemmas

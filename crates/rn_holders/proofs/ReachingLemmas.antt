@@ -134,12 +134,12 @@ module _ (xs : List ℕ) (i : ℕ) (within : i < length xs) where
       (Contains (take (i + 1) xs)) taken_more still_taken
       (λ n is. subst (Contains (take (i + 1) xs)) (sym is) now_taken)
 
-get_or_is : (xs : List ℕ) (i x d : ℕ) → slice_get xs i ≡ Some x → get_or xs i d ≡ x
+pub get_or_is : (xs : List ℕ) (i x d : ℕ) → slice_get xs i ≡ Some x → get_or xs i d ≡ x
 get_or_is [] i x d e = absurd (let no : ⊥ = cc in no)
 get_or_is (y ∷ ys) zero x d e = let same : y ≡ x = cc in same
 get_or_is (y ∷ ys) (suc i) x d e = get_or_is ys i x d e
 
-less_or_same : (i j : ℕ) → i < j + 1 → (i < j) ⊎ (i ≡ j)
+pub less_or_same : (i j : ℕ) → i < j + 1 → (i < j) ⊎ (i ≡ j)
 less_or_same zero zero h = inr refl
 less_or_same zero (suc j) h = inl (omega arith)
 less_or_same (suc i) zero h = absurd (let no : ⊥ = omega (arith, h) in no)

@@ -24,6 +24,12 @@ HaveTheseHolders m those holders =
     (holder n : ℕ) → Contains those holder → RefersTo m holder n →
     Contains (held_by holders n) holder
 
+-- these numbers are found, and with each number its holders
+pub record HasItsHolders (holders : List (List ℕ)) (those found : List ℕ) : Type 0 where
+  pub these : (n : ℕ) → Contains those n → Contains found n
+  pub back : (holder n : ℕ) → Contains found n → Contains (held_by holders n) holder →
+      Contains found holder
+
 -- no token past the first 2^32 - 1 places of an instance mentions an existing one, as where tokens have
 -- the kinds of their places
 abbrev pub MentionNear : Marking → Type 0

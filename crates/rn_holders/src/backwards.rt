@@ -2,7 +2,7 @@
 ghost use Rattle.std.specs.Prelude.{◌≡◌, ◌↔◌, ◌<◌, ◌^◌, ℕ, Some, IsTrue, nat_eq, length, Contains, IfOk, OnOk};
 ghost use Rattle.std.specs.List.{IsDistinct};
 ghost use Rattle.rn_reach.specs.Reach.{ReachesOne, RefersTo};
-ghost use Rattle.rn_holders.specs.Holders.{MentionNear, HaveHolders, held_by};
+ghost use Rattle.rn_holders.specs.Holders.{MentionNear, HaveHolders, HasItsHolders, held_by};
 ghost use Rattle.rn_holders.specs.Puts.{Joins, AreFound};
 
 use crate::references::referred;
@@ -109,6 +109,32 @@ fn go_back(
     }
     let _len = found.len();
     Ok(())
+}
+
+// Goes from each that is there to all that are listed as its holders.
+fn go_back_by(holders: &[Nums], found: &mut IndexSet<u32>) -> Result<(), NoMemory>
+    ensures { OnOk result (HasItsHolders holders.now found.old.keys found.new.keys) }
+{
+    for at in 0..usize::MAX {
+        let Some(number) = found.get_index(at) else {
+            return Ok(());
+        };
+        let number = *number;
+        join_all(holders_of(holders, number), found)?;
+    }
+    let _len = found.len();
+    Ok(())
+}
+
+/// The instances that may reach one of these, by lists of the instances that may refer to each: these,
+/// and the holders of each that is found. It looks at no token.
+pub fn may_reach(alloc: Global, holders: &[Nums], those: &[u32]) -> Result<IndexSet<u32>, NoMemory>
+    ensures { IfOk result (λ found. HasItsHolders holders.now those.now found.keys) }
+{
+    let mut found = IndexSet::new(alloc);
+    join_all(those, &mut found)?;
+    go_back_by(holders, &mut found)?;
+    Ok(found)
 }
 
 /// The instances that reach one of these, each once, by lists of the instances that may refer to each.

@@ -6,5 +6,5 @@ mod holding;
 mod references;
 mod values;
 
-pub use backwards::reaching;
+pub use backwards::{may_reach, reaching};
 pub use holding::hold_all;

@@ -3,5 +3,6 @@ mod OrderLemmas
 mod PlaceLemmas
 mod PutLemmas
 mod RefreshLemmas
+mod RunningLemmas
 mod StartLemmas
 mod TouchedLemmas

@@ -8,6 +8,8 @@ mod held;
 mod lists;
 mod putting;
 mod refreshing;
+mod running;
 mod touched;
 
 pub use lists::{Cands, Lists, open_lists};
+pub use running::{Counted, Counts, run_counts};

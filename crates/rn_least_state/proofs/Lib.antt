@@ -1,2 +1,3 @@
+pub mod ChangedLemmas
 pub mod LeastLogs
 pub mod ThreadSafety

@@ -2,6 +2,7 @@
 //! at the log's end.
 #![tactic(auto)]
 
+mod changed;
 mod committing;
 mod ending;
 mod kept;

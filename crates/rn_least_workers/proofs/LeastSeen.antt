@@ -28,12 +28,21 @@ use Rattle.rn_least_workers.specs.declared.considering.LeastPlan.{LeastPlan}
 use Rattle.rn_least_workers.specs.LeastPlans.{FitsIn, IsLeastAt, IsPlanAt, Knows, WasFound}
 
 -- what the search for the least binding tells
-pub least_at : (system : System) (depth : ℕ) (m : Marking) (found : Option Binding) →
+least_at : (system : System) (depth : ℕ) (m : Marking) (found : Option Binding) →
     IfSome found (λ b. Enabled system m b depth
     × ((c : Binding) → Enabled system m c depth → binding_cmp b c ≢ Greater)) →
     (IsNone found ↔ DeadAt system m depth) → IsLeastAt system depth m found
 least_at system depth m (Some b) some none = record { enabled = some.0; first = some.1 }
 least_at system depth m None some none = none.0 refl
+
+-- the same of a search that may have ended out of memory
+pub least_both : (system : System) (depth : ℕ) (m : Marking)
+    (r : Result (Option Binding) NoMemory) →
+    IfOk r (λ found. IfSome found (λ b. Enabled system m b depth
+    × ((c : Binding) → Enabled system m c depth → binding_cmp b c ≢ Greater))) →
+    IfOk r (λ found. IsNone found ↔ DeadAt system m depth) → IfOk r (IsLeastAt system depth m)
+least_both system depth m (Ok found) some none = least_at system depth m found some none
+least_both system depth m (Err refused) some none = tt
 
 -- what is found of any binding
 found_at : (system : System) (depth : ℕ) (m : Marking) (found : Option Binding) →

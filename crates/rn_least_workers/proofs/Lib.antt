@@ -1,2 +1,3 @@
+pub mod LaterViews
 pub mod LeastSeen
 pub mod ThreadSafety

@@ -1,2 +1,3 @@
 pub mod LeastPlans
 pub mod LeastPosts
+pub mod Views

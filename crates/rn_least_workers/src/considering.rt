@@ -4,14 +4,17 @@ ghost use Rattle.std.specs.Prelude.{◌≡◌, IfOk, IfSome, IsNone, ◌↔◌, 
 ghost use Rattle.rn_model.specs.Enabling.{DeadAt};
 ghost use Rattle.rn_least.specs.LeastRuns.{IsLeast};
 ghost use Rattle.rn_worker.specs.Plans.{IsToSearch};
-ghost use Rattle.rn_least_workers.specs.LeastPlans.{DropsNone, IsPlanAt};
+ghost use Rattle.rn_firsts.specs.Known.{IsKnown};
+ghost use Rattle.rn_least_workers.specs.Views.{FollowsIn};
+ghost use Rattle.rn_least_workers.specs.LeastPlans.{DropsNone, IsLeastAt, IsPlanAt};
 
+use crate::looking::View;
 use rn_binding::Candidate;
 use rn_channel::Uplinks;
-use rn_found::least;
+use rn_firsts::Firsts;
 use rn_items::NoMemory;
 use rn_model::System;
-use rn_worker::{Sight, listed_at};
+use rn_worker::listed_at;
 use std::alloc::Global;
 
 /// What a worker found: the first binding that was enabled, or `None` where none was; instances that
@@ -23,21 +26,48 @@ pub(crate) struct LeastPlan {
     pub live: Option<u64>,
 }
 
+// The first binding of a snapshot.
+fn find_at(
+    alloc: Global,
+    system: &System,
+    uplinks: &Uplinks,
+    depth: u32,
+    firsts: &mut Firsts,
+    view: &View,
+) -> Result<Option<Candidate>, NoMemory>
+    requires table { IsToSearch system.now uplinks.now view.now.sight.table }
+    requires follows { FollowsIn system.now depth firsts.old view.now }
+    ensures least { IfOk result (IsLeastAt system.now depth view.now.sight.table.marking) }
+    ensures known { IsKnown system.now view.now.sight.table.marking depth firsts.new }
+{
+    let table = &view.sight.table;
+    match &view.changed {
+        Some(numbers) => {
+            let changed = Some(numbers.as_slice());
+            firsts.look(alloc, system, uplinks, table, depth, changed)
+        }
+        None => firsts.look(alloc, system, uplinks, table, depth, None),
+    }
+}
+
 /// Searches a snapshot, and lists what isn't live there where that is due.
 pub(crate) fn plan_at(
     alloc: Global,
     system: &System,
     uplinks: &Uplinks,
     depth: u32,
-    sight: Sight,
+    firsts: &mut Firsts,
+    view: View,
     due: bool,
 ) -> Result<LeastPlan, NoMemory>
-    requires { IsToSearch system.now uplinks.now sight.table }
-    ensures plan { IfOk result (IsPlanAt system.now depth sight.table) }
+    requires table { IsToSearch system.now uplinks.now view.sight.table }
+    requires follows { FollowsIn system.now depth firsts.old view }
+    ensures plan { IfOk result (IsPlanAt system.now depth view.sight.table) }
     ensures none { due ≡ false → DropsNone result }
+    ensures known { IsKnown system.now view.sight.table.marking depth firsts.new }
 {
-    let (dead, live) = listed_at(alloc, system, &sight.table, due)?;
-    let found = least(alloc, system, uplinks, &sight.table, depth)?;
+    let found = find_at(alloc, system, uplinks, depth, firsts, &view)?;
+    let (dead, live) = listed_at(alloc, system, &view.sight.table, due)?;
     Ok(LeastPlan { found, dead, live })
 }
 

@@ -2,12 +2,21 @@
 ghost use Rattle.std.specs.Prelude.{◌≡◌, ◌≢◌, ◌≤◌, None, IfNone, IfSome};
 ghost use Rattle.rn_desk.specs.Entries.{StartsWith};
 ghost use Rattle.rn_desk.specs.Passes.{fixed_of, number, seen, mine, IsOf, HasNoTurn};
-ghost use Rattle.rn_worker.specs.Seen.{HasEnded, IsSightOf, Shows, StaysOrEnds};
+ghost use Rattle.rn_worker.specs.Seen.{HasEnded, IsSightOf, StaysOrEnds};
+ghost use Rattle.rn_firsts.specs.Known.{Known};
+ghost use Rattle.rn_least_workers.specs.Views.{Follows, ShowsView};
 
 use rn_desk::{Desk, Kept, Pass};
 use rn_least_state::LeastState;
 use rn_worker::Sight;
 use std::sync::Wait;
+
+/// A snapshot, and the instances that may have changed since the one before, where that is known.
+#[derive(Drop)]
+pub(crate) struct View {
+    pub sight: Sight,
+    pub changed: Option<Vec<u32>>,
+}
 
 // A snapshot of a state whose log goes on. A log at the step limit ends so, and one without memory
 // for the snapshot ends so.
@@ -31,12 +40,12 @@ fn sight_of(state: &mut LeastState) -> Option<Sight>
     }
 }
 
-/// Takes a turn and looks. `None` exactly where the log has then ended.
+/// Takes a turn and looks. `None` exactly where the log has then ended. What changed isn't looked for.
 pub(crate) fn look<R: Wait>(
     rt: &R,
     desk: &Desk<LeastState>,
     pass: &mut Pass<LeastState>,
-) -> Option<Sight>
+) -> Option<View>
     requires here { IsOf ⟦<LeastState as Kept>⟧.fixed desk.now pass.old }
     requires free { HasNoTurn pass.old }
     requires numbered { 1 ≤ number pass.old }
@@ -45,14 +54,22 @@ pub(crate) fn look<R: Wait>(
     ensures number { number pass.new ≡ number pass.old }
     ensures mine { mine pass.new ≡ mine pass.old }
     ensures entries { StartsWith (seen pass.new) (seen pass.old) }
-    ensures some { IfSome result (Shows (fixed_of ⟦<LeastState as Kept>⟧.fixed desk.now)
+    ensures some { IfSome result (ShowsView (fixed_of ⟦<LeastState as Kept>⟧.fixed desk.now)
         (seen pass.new)) }
     ensures none { IfNone result (HasEnded (seen pass.new)) }
+    ensures follows { (k : Known) → IfSome result
+        (Follows (fixed_of ⟦<LeastState as Kept>⟧.fixed desk.now) k) }
 {
     let mut turn = desk.take(rt, pass);
     let sight = sight_of(turn.state());
     desk.give(pass, turn);
-    sight
+    match sight {
+        Some(sight) => Some(View {
+            sight,
+            changed: None,
+        }),
+        None => None,
+    }
 }
 
 /// What a worker sees next: what its last turn left, or else what it sees by a turn of its own. `None`
@@ -61,24 +78,27 @@ pub(crate) fn look_on<R: Wait>(
     rt: &R,
     desk: &Desk<LeastState>,
     pass: &mut Pass<LeastState>,
-    left: Option<Sight>,
-) -> Option<Sight>
+    left: Option<View>,
+) -> Option<View>
     requires here { IsOf ⟦<LeastState as Kept>⟧.fixed desk.now pass.old }
     requires free { HasNoTurn pass.old }
     requires numbered { 1 ≤ number pass.old }
-    requires left { IfSome left (Shows (fixed_of ⟦<LeastState as Kept>⟧.fixed desk.now)
+    requires left { IfSome left (ShowsView (fixed_of ⟦<LeastState as Kept>⟧.fixed desk.now)
         (seen pass.old)) }
     ensures here { IsOf ⟦<LeastState as Kept>⟧.fixed desk.now pass.new }
     ensures free { HasNoTurn pass.new }
     ensures number { number pass.new ≡ number pass.old }
     ensures mine { mine pass.new ≡ mine pass.old }
     ensures entries { StartsWith (seen pass.new) (seen pass.old) }
-    ensures some { IfSome result (Shows (fixed_of ⟦<LeastState as Kept>⟧.fixed desk.now)
+    ensures some { IfSome result (ShowsView (fixed_of ⟦<LeastState as Kept>⟧.fixed desk.now)
         (seen pass.new)) }
     ensures none { IfNone result (HasEnded (seen pass.new)) }
+    ensures follows { (k : Known) →
+        IfSome left (Follows (fixed_of ⟦<LeastState as Kept>⟧.fixed desk.now) k) →
+        IfSome result (Follows (fixed_of ⟦<LeastState as Kept>⟧.fixed desk.now) k) }
 {
     match left {
-        Some(sight) => Some(sight),
+        Some(view) => Some(view),
         None => look(rt, desk, pass),
     }
 }

@@ -10,6 +10,7 @@ use crate::considering::{live_then, plan_at};
 use crate::looking::{look, look_on};
 use rn_channel::Uplinks;
 use rn_desk::{Desk, Kept, Pass};
+use rn_firsts::Firsts;
 use rn_least_state::LeastState;
 use rn_model::{Options, System};
 use rn_worker::{Gate, Pace, Tally};
@@ -55,24 +56,27 @@ pub(crate) fn work_least<R: Wait, G: Gate + Sync>(
 {
     let worker = tally.worker;
     let mut pace = Pace::new();
-    let mut sight = look(rt, desk, pass);
-    while let Some(now) = sight {
-        let seen = now.seen;
-        let due = pace.is_due(options.sweep_every, now.table.next());
-        let plan = plan_at(alloc, system, uplinks, options.depth, now, due);
+    let mut firsts = Firsts::new(alloc);
+    let mut view = look(rt, desk, pass);
+    while let Some(now) = view {
+        let seen = now.sight.seen;
+        let next = now.sight.table.next();
+        let due = pace.is_due(options.sweep_every, next);
+        let plan = plan_at(alloc, system, uplinks, options.depth, &mut firsts, now, due);
         gate.between(worker, seen);
-        let Acted { done, sight: left } = act(
+        let Acted { done, view: left } = act(
             rt,
             alloc,
             desk,
             pass,
             worker,
             seen,
+            next,
             options.steps,
             &plan,
         );
         tally.count(done);
         pace = pace.after(live_then(&plan), done.fired);
-        sight = look_on(rt, desk, pass, left);
+        view = look_on(rt, desk, pass, left);
     }
 }

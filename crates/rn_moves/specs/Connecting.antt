@@ -1,6 +1,8 @@
 -- What the steps of the code give. This only connects the code to the definitions.
-use Rattle.std.specs.Prelude.{ℕ, suc, ◌≡◌, ◌+◌, List, [], ◌∷◌, ◌++◌, length, map, All, ⊤}
+use Rattle.std.specs.Prelude.{ℕ, suc, ◌≡◌, ◌+◌, List, [], ◌∷◌, ◌++◌, length, map, All, codes, ⊤}
+use Rattle.rn_value.specs.declared.value.InstRef.TheVariants.{Old}
 use Rattle.rn_value.specs.declared.value.Value.{Value}
+use Rattle.rn_value.specs.Text.{numeral}
 use Rattle.rn_model.specs.declared.system.System.{System}
 use Rattle.rn_model.specs.declared.system.Place.{Place}
 use Rattle.rn_model.specs.declared.binding.Binding.{Binding}
@@ -8,12 +10,15 @@ use Rattle.rn_model.specs.declared.log.Entry.{Entry}
 use Rattle.rn_model.specs.declared.log.Entry.TheVariants.{Fire, End}
 use Rattle.rn_model.specs.Bindings.{IsNodeOf}
 use Rattle.rn_model.specs.Firing.{creations_of}
+use Rattle.rn_model.specs.NodeText.{instance_text}
 use Rattle.rn_model.specs.Systems.{net_at}
+use Rattle.rn_record.specs.RecordText.{place_name}
 use Rattle.rn_table.specs.declared.change.Row.{Row}
+use Rattle.rn_moves.specs.declared.lead.Lead.{Lead}
 use Rattle.rn_moves.specs.declared.token.Token.{Token}
 use Rattle.rn_moves.specs.declared.token.Moves.{Moves}
 use Rattle.rn_moves.specs.Moves.{AreMovesFrom, AreMovesOf}
-use Rattle.rn_moves.specs.MovesText.{all_lines, moves_lines}
+use Rattle.rn_moves.specs.MovesText.{all_lines, moves_lines, net_numbered}
 
 -- these values as tokens of a place of an instance
 abbrev pub tokens_of : ℕ → ℕ → List Value → List Token
@@ -34,6 +39,17 @@ abbrev pub made_tokens : System → ℕ → List ℕ → List Token
 made_tokens system next [] = []
 made_tokens system next (net ∷ nets) =
     initial_tokens next 0 (net_at system net).places ++ made_tokens system (next + 1) nets
+
+-- how the lines of a place of an instance begin, by a number and a sign
+abbrev pub line_lead : System → List ℕ → ℕ → List ℕ → ℕ → ℕ → List ℕ
+line_lead system nets step sign n place =
+    numeral step ++ (sign ++ ((instance_text (net_at system (net_numbered nets n)).name (Old n)
+    ++ codes "." ++ place_name (net_at system (net_numbered nets n)) place) ++ codes " "))
+
+-- the lines of its place begin so
+abbrev pub IsLead : System → List ℕ → ℕ → List ℕ → Lead → Type 0
+IsLead system nets step sign lead =
+    lead.text.items ≡ line_lead system nets step sign lead.inst lead.place
 
 -- the lines of a firing are written, and the numbers go on
 pub record WritesMoves (system : System) (nets : List ℕ) (names : List (List ℕ)) (next step : ℕ)

@@ -3,6 +3,7 @@
 
 mod gathering;
 mod laws;
+mod lead;
 mod lines;
 mod moving;
 mod naming;

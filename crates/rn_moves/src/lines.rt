@@ -1,63 +1,42 @@
 //! The lines of moves.
 ghost use Rattle.std.specs.Prelude.{◌≡◌, ◌++◌, All, OnOk, flat_map, codes, length};
 ghost use Rattle.rn_value.specs.Names.{AreNamed};
-ghost use Rattle.rn_model.specs.Systems.{net_at};
-ghost use Rattle.rn_record.specs.RecordText.{place_name};
+ghost use Rattle.rn_value.specs.Text.{value_text};
 ghost use Rattle.rn_moves.specs.Movable.{AreWithin};
-ghost use Rattle.rn_moves.specs.MovesText.{moves_lines, place_text, token_line};
+ghost use Rattle.rn_moves.specs.MovesText.{moves_lines, token_line};
 
-use crate::naming::net_numbered;
+use crate::lead::lead_at;
 use crate::token::{Moves, Token};
 use rn_items::NoMemory;
-use rn_model::{System, write_instance};
-use rn_value::{Names, write_numeral, write_value};
+use rn_model::System;
+use rn_value::{Names, Value, write_int, write_value};
 use std::alloc::Global;
 
-fn put_place_name(system: &System, net: u32, place: u32, out: &mut Vec<u8>) -> Result<(), NoMemory>
-    ensures { OnOk result (out.new.items ≡ out.old.items ++ place_name (net_at system.now net) place) }
+/// Appends the text of a value. A whole number takes no text of its own on the way.
+fn put_value(alloc: Global, names: &Names, value: &Value, out: &mut Vec<u8>) -> Result<(), NoMemory>
+    requires { AreNamed names.now value.now }
+    ensures { OnOk result (out.new.items ≡ out.old.items ++ value_text value.now names.now) }
 {
-    if let Some(net) = system.nets.get(net as usize) {
-        if let Some(place) = net.places.get(place as usize) {
-            out.extend_from_slice(place.name.as_str().as_bytes())?;
-        }
+    match value {
+        Value::Int(n) => write_int(alloc, *n, out),
+        _ => write_value(alloc, value, names, out),
     }
-    Ok(())
 }
 
-fn put_place(
+/// Appends a line with this beginning.
+fn put_line(
     alloc: Global,
-    system: &System,
-    nets: &[u32],
-    token: &Token,
-    out: &mut Vec<u8>,
-) -> Result<(), NoMemory>
-    ensures { OnOk result (out.new.items ≡ out.old.items ++ place_text system.now nets.now token.now) }
-{
-    let net = net_numbered(nets, token.inst);
-    write_instance(alloc, system, net, token.inst, out)?;
-    out.extend_from_slice(b".")?;
-    put_place_name(system, net, token.place, out)
-}
-
-fn put_token(
-    alloc: Global,
-    system: &System,
-    nets: &[u32],
     names: &Names,
-    step: u64,
-    sign: &[u8],
-    token: &Token,
+    lead: &[u8],
+    value: &Value,
     out: &mut Vec<u8>,
 ) -> Result<(), NoMemory>
-    requires { AreNamed names.now token.now.value }
-    ensures { OnOk result (out.new.items ≡ out.old.items
-        ++ token_line system.now nets.now names.now step sign.now token.now) }
+    requires { AreNamed names.now value.now }
+    ensures { OnOk result (out.new.items
+        ≡ out.old.items ++ (lead.now ++ (value_text value.now names.now ++ codes "\n"))) }
 {
-    write_numeral(alloc, step, out)?;
-    out.extend_from_slice(sign)?;
-    put_place(alloc, system, nets, token, out)?;
-    out.extend_from_slice(b" ")?;
-    write_value(alloc, &token.value, names, out)?;
+    out.extend_from_slice(lead)?;
+    put_value(alloc, names, value, out)?;
     out.extend_from_slice(b"\n")?;
     Ok(())
 }
@@ -76,8 +55,11 @@ fn put_tokens(
     ensures { OnOk result (out.new.items ≡ out.old.items
         ++ flat_map (token_line system.now nets.now names.now step sign.now) tokens.now) }
 {
+    let mut lead = None;
     for token in tokens {
-        put_token(alloc, system, nets, names, step, sign, token, out)?;
+        let here = lead_at(alloc, system, nets, step, sign, token, lead)?;
+        put_line(alloc, names, here.text.as_slice(), &token.value, out)?;
+        lead = Some(here);
     }
     Ok(())
 }

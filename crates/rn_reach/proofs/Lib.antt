@@ -1,3 +1,4 @@
 pub mod ChangedInstances
+pub mod OtherInstances
 pub mod ReachDecided
 pub mod ReachLemmas

@@ -1,11 +1,14 @@
 -- Laws over the instances that one reaches. Each is the contract of a function that does nothing.
-use Rattle.std.specs.Prelude.{ℕ, ◌≡◌, ◌↔◌, List, Contains}
+use Rattle.std.specs.Prelude.{ℕ, ◌≡◌, ◌↔◌, List, ◌++◌, Contains}
 use Rattle.rn_value.specs.declared.value.InstRef.TheVariants.{Old}
 use Rattle.rn_model.specs.declared.system.System.{System}
 use Rattle.rn_model.specs.declared.binding.Node.{Node}
 use Rattle.rn_model.specs.declared.binding.Binding.{Binding}
-use Rattle.rn_model.specs.Markings.{Marking}
+use Rattle.rn_model.specs.Good.{Good}
+use Rattle.rn_model.specs.Markings.{Marking, instance_at}
 use Rattle.rn_model.specs.Enabling.{Enabled}
+use Rattle.rn_model.specs.Runs.{Firing, Run, end_of}
+use Rattle.rn_reach.specs.Changes.{MayChange}
 use Rattle.rn_reach.specs.Reach.{Reach, StartsIn, IsSameInReach, ReachesOne}
 use Rattle.rn_reach.specs.Reach.{DifferAtMostIn}
 
@@ -37,3 +40,11 @@ abbrev pub OthersStay : Type 0
 OthersStay = (system : System) (m other : Marking) (changed : List ℕ) (b : Binding) (depth n : ℕ) →
     DifferAtMostIn changed m other → ¬ ReachesOne m changed n → StartsIn b n →
     Enabled system m b depth ↔ Enabled system other b depth
+
+-- the later firings of a run change no other instances than those on which their nodes stand and
+-- those that they make
+abbrev pub FiringsChangeNoOther : Type 0
+FiringsChangeNoOther = (system : System) (depth : ℕ) (fs gs : List Firing) (n : ℕ) →
+    Good system → Run system depth (fs ++ gs) →
+    ¬ MayChange gs (end_of system fs).next (end_of system (fs ++ gs)).next n →
+    instance_at (end_of system (fs ++ gs)) n ≡ instance_at (end_of system fs) n

@@ -1,6 +1,6 @@
 //! Laws over the instances that one reaches, the contract of a function that does nothing.
 ghost use Rattle.rn_reach.specs.Laws.{BindingsStayInReach, ReachDecides, ReachIsTheSame};
-ghost use Rattle.rn_reach.specs.Laws.{ChangesAreReachedInBoth, OthersStay};
+ghost use Rattle.rn_reach.specs.Laws.{ChangesAreReachedInBoth, FiringsChangeNoOther, OthersStay};
 
 /// An enabled binding that starts in an instance stands only on existing instances that it reaches.
 /// Where two markings have the same instances, with their nets and tokens, at all that one reaches,
@@ -16,4 +16,9 @@ pub fn bindings_stay_in_reach()
 pub fn changes_stay_in_reach()
     ensures reached { ChangesAreReachedInBoth }
     ensures others { OthersStay }
+{}
+
+/// Firings change no other instances than those on which their nodes stand and those that they make.
+pub fn firings_change_no_other()
+    ensures { FiringsChangeNoOther }
 {}

@@ -3,4 +3,4 @@
 
 mod laws;
 
-pub use laws::{bindings_stay_in_reach, changes_stay_in_reach};
+pub use laws::{bindings_stay_in_reach, changes_stay_in_reach, firings_change_no_other};

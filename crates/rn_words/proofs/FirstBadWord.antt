@@ -3,7 +3,8 @@ use Rattle.std.proofs.Common.{ℕ, suc, ◌≡◌, ◌≢◌, ◌∙◌, ◌+◌
 use Rattle.std.proofs.Common.{Option, Some, None, Result, Ok, Err, refl, sym, ap, subst, arith}
 use Rattle.std.specs.Prelude.{codes}
 use Rattle.rn_words.specs.declared.table.Verb.{Verb}
-use Rattle.rn_words.specs.declared.table.Verb.TheVariants.{Run, Check, Print, Enabled, Replay, Gen, Session, Moves}
+use Rattle.rn_words.specs.declared.table.Verb.TheVariants.{Run, Check, Print, Enabled, Replay, Gen}
+use Rattle.rn_words.specs.declared.table.Verb.TheVariants.{Session, Counts, Moves}
 use Rattle.rn_words.specs.declared.table.Setting.{Setting}
 use Rattle.rn_words.specs.declared.table.Setting.TheVariants.{Workers, Steps, Depth, Sweep, Pick, Seed}
 use Rattle.rn_words.specs.declared.table.Picked.TheVariants.{Any}
@@ -263,6 +264,8 @@ bad_after_verb word Replay words fault named is =
     bad_option word Replay words fault named (λ e. let no : ⊥ = cc in no) is
 bad_after_verb word Session words fault named is =
     bad_option word Session words fault named (λ e. let no : ⊥ = cc in no) is
+bad_after_verb word Counts words fault named is =
+    bad_option word Counts words fault named (λ e. let no : ⊥ = cc in no) is
 bad_after_verb word Moves words fault named is =
     bad_option word Moves words fault named (λ e. let no : ⊥ = cc in no) is
 

@@ -160,6 +160,7 @@ command_within verb.Enabled n chosen copies are = or_default (λ m. m ≤ greate
 command_within verb.Replay n chosen copies are = options_within 1000 chosen (omega arith) are
 command_within verb.Gen n chosen copies are = gen_within n (options_of 200000 chosen) chosen.seed (copies refl) (options_within 200000 chosen (omega arith) are) are.seed
 command_within verb.Session n chosen copies are = options_within 1000 chosen (omega arith) are
+command_within verb.Counts n chosen copies are = options_within 1000 chosen (omega arith) are
 command_within verb.Moves n chosen copies are = options_within 1000 chosen (omega arith) are
 
 follows_within : (v : Verb) (rest : List (List ℕ)) (c : Command) → FollowsVerb v rest c → IsWithinLimits c

@@ -92,4 +92,5 @@ command_of verb.Enabled n chosen = command.Enabled (unwrap_or chosen.depth 4)
 command_of verb.Replay n chosen = command.Replay (options_of 1000 chosen)
 command_of verb.Gen n chosen = gen_of n (options_of 200000 chosen) chosen.seed
 command_of verb.Session n chosen = command.Session (options_of 1000 chosen)
+command_of verb.Counts n chosen = command.Counts (options_of 1000 chosen)
 command_of verb.Moves n chosen = command.Moves (options_of 1000 chosen)

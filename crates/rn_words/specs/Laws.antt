@@ -4,7 +4,8 @@ use Rattle.rn_model.specs.Good.{IsInLimits}
 use Rattle.rn_model.specs.Limits.{greatest_depth}
 use Rattle.rn_words.specs.declared.command.Command.{Command}
 use Rattle.rn_words.specs.declared.command.Command.TheVariants.{Run, RunLeast, RunSeeded, Check, Print}
-use Rattle.rn_words.specs.declared.command.Command.TheVariants.{Enabled, Replay, Gen, GenSeeded, Session, Moves}
+use Rattle.rn_words.specs.declared.command.Command.TheVariants.{Enabled, Replay, Gen, GenSeeded}
+use Rattle.rn_words.specs.declared.command.Command.TheVariants.{Session, Counts, Moves}
 use Rattle.rn_words.specs.declared.command.WordsFault.{WordsFault}
 use Rattle.rn_words.specs.declared.command.WordsFault.TheVariants.{U1, U2, U3}
 use Rattle.rn_words.specs.Commands.{WordsOk}
@@ -28,6 +29,7 @@ IsWithinLimits (Gen copies options) = ((1 ≤ copies) × (copies ≤ most_copies
 IsWithinLimits (GenSeeded copies options seed) =
     ((1 ≤ copies) × (copies ≤ most_copies)) × IsInLimits options × (seed ≤ greatest_seed)
 IsWithinLimits (Session options) = IsInLimits options
+IsWithinLimits (Counts options) = IsInLimits options
 IsWithinLimits (Moves options) = IsInLimits options
 
 -- accepted words give a command within the limits

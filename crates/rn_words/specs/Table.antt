@@ -3,7 +3,8 @@ use Rattle.std.specs.Prelude.{ℕ, List, Bool, true, false, Option, Some, None, 
 use Rattle.std.specs.Prelude.{if◌then◌else◌}
 use Rattle.rn_model.specs.Limits.{most_workers, most_steps, greatest_depth, greatest_sweep}
 use Rattle.rn_words.specs.declared.table.Verb.{Verb}
-use Rattle.rn_words.specs.declared.table.Verb.TheVariants.{Run, Check, Print, Enabled, Replay, Gen, Session, Moves}
+use Rattle.rn_words.specs.declared.table.Verb.TheVariants.{Run, Check, Print, Enabled, Replay, Gen}
+use Rattle.rn_words.specs.declared.table.Verb.TheVariants.{Session, Counts, Moves}
 use Rattle.rn_words.specs.declared.table.Setting.{Setting}
 use Rattle.rn_words.specs.declared.table.Setting.TheVariants.{Workers, Steps, Depth, Sweep, Pick, Seed}
 use Rattle.rn_words.specs.declared.table.Picked.{Picked}
@@ -19,6 +20,7 @@ verb_named word =
     else if bytes_eq word (codes "replay") then Some Replay
     else if bytes_eq word (codes "gen") then Some Gen
     else if bytes_eq word (codes "session") then Some Session
+    else if bytes_eq word (codes "counts") then Some Counts
     else if bytes_eq word (codes "moves") then Some Moves
     else None
 
@@ -49,6 +51,7 @@ verb_word Enabled = codes "enabled"
 verb_word Replay = codes "replay"
 verb_word Gen = codes "gen"
 verb_word Session = codes "session"
+verb_word Counts = codes "counts"
 verb_word Moves = codes "moves"
 
 -- the name of an option, which stands after `--`
@@ -71,6 +74,8 @@ takes Gen Sweep = true
 takes Gen Seed = true
 takes Session Steps = true
 takes Session Depth = true
+takes Counts Steps = true
+takes Counts Depth = true
 takes Moves Steps = true
 takes Moves Depth = true
 takes verb setting = false

@@ -177,6 +177,7 @@ pub(crate) fn command_of(verb: Verb, copies: u32, chosen: Chosen) -> Command
         Verb::Replay => Command::Replay(options_of(STEPS, chosen)),
         Verb::Gen => gen_of(copies, options_of(GEN_STEPS, chosen), chosen.seed),
         Verb::Session => Command::Session(options_of(STEPS, chosen)),
+        Verb::Counts => Command::Counts(options_of(STEPS, chosen)),
         Verb::Moves => Command::Moves(options_of(STEPS, chosen)),
     }
 }

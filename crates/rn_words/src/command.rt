@@ -24,6 +24,8 @@ pub enum Command {
     GenSeeded(u32, Options, u32),
     /// Step through a net text by lines.
     Session(Options),
+    /// Write how many bindings are enabled after each firing of the least run.
+    Counts(Options),
     /// Write what each firing of a record took and put.
     Moves(Options),
 }

@@ -14,6 +14,7 @@ pub(crate) enum Verb {
     Replay,
     Gen,
     Session,
+    Counts,
     Moves,
 }
 
@@ -59,6 +60,8 @@ pub(crate) fn verb_named(word: &[u8]) -> Option<Verb>
         Some(Verb::Gen)
     } else if word == b"session".as_slice() {
         Some(Verb::Session)
+    } else if word == b"counts".as_slice() {
+        Some(Verb::Counts)
     } else if word == b"moves".as_slice() {
         Some(Verb::Moves)
     } else {
@@ -108,7 +111,7 @@ pub(crate) fn takes(verb: Verb, setting: Setting) -> bool
         Verb::Run => true,
         Verb::Check | Verb::Print => false,
         Verb::Enabled => matches!(setting, Setting::Depth),
-        Verb::Replay | Verb::Session | Verb::Moves => {
+        Verb::Replay | Verb::Session | Verb::Counts | Verb::Moves => {
             matches!(setting, Setting::Steps | Setting::Depth)
         }
         Verb::Gen => matches!(setting, Setting::Workers | Setting::Sweep | Setting::Seed),

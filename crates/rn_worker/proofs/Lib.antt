@@ -1,3 +1,4 @@
+pub mod DroppingFirst
 pub mod Elements
 pub mod KeptTables
 pub mod SeenEntries

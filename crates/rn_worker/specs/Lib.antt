@@ -1,3 +1,4 @@
+pub mod Pacing
 pub mod Ends
 pub mod Plans
 pub mod Posts

@@ -5,6 +5,8 @@ ghost use Rattle.rn_desk.specs.Passes.{fixed_of, number, seen, mine, IsOf, HasNo
 ghost use Rattle.rn_fire.specs.Ends.{MayGoOn};
 ghost use Rattle.rn_fire.specs.States.{logged};
 ghost use Rattle.rn_worker.specs.Seen.{KeepsLog, GoesOn, Shows, StaysOrEnds};
+ghost use Rattle.rn_worker.specs.Pacing.{DoesFiring, DropsListed, DropsThenFires, IsSwept};
+ghost use Rattle.rn_worker.specs.Pacing.{dropped_by, kept_among};
 ghost use Rattle.rn_worker.specs.Plans.{AddsOwn, DropsNone, FitsIn, GrowsBy, HasNoneLive, Knows, WasFound, WasStopped};
 
 use crate::considering::Plan;
@@ -26,7 +28,8 @@ pub(crate) struct Acted {
 
 /// How many of these instances are kept.
 pub fn count_kept(table: &Table, numbers: &[u32]) -> u64
-    ensures { result ≤ length numbers.now }
+    ensures few { result ≤ length numbers.now }
+    ensures exact { result ≡ kept_among numbers.now table.now.marking }
 {
     let mut count = 0;
     for number in numbers {
@@ -42,13 +45,26 @@ fn drop_listed(state: &mut SimState, numbers: &[u32]) -> u64
     requires { HasNoneLive state.old numbers.now }
     ensures kept { KeepsLog state.old state.new }
     ensures none { numbers.now ≡ [] → result ≡ 0 }
+    ensures swept { IsSwept numbers.now state.old state.new }
+    ensures count { result ≡ kept_among numbers.now state.old.table.marking }
 {
-    if numbers.is_empty() {
-        return 0;
-    }
     let count = count_kept(state.table(), numbers);
     state.sweep(numbers);
     count
+}
+
+// Drops what was listed, if anything was, and returns how many instances that were.
+fn drop_planned(state: &mut SimState, plan: &Result<Plan, Halt>) -> u64
+    requires { IfOk plan.now (λ p. HasNoneLive state.old p.dead.items) }
+    ensures kept { KeepsLog state.old state.new }
+    ensures none { DropsNone plan.now → result ≡ 0 }
+    ensures swept { DropsListed plan.now state.old state.new }
+    ensures count { result ≡ dropped_by plan.now state.old.table.marking }
+{
+    match plan {
+        Ok(plan) => drop_listed(state, plan.dead.as_slice()),
+        Err(_) => 0,
+    }
 }
 
 // Commits what was found, or that nothing was. Returns whether a firing was added. Without memory
@@ -60,6 +76,7 @@ fn commit_plan(alloc: Global, state: &mut SimState, worker: u32, seen: u64, plan
     requires found { WasFound state.old seen plan.now.found }
     ensures added { AddsOwn worker result state.old state.new }
     ensures later { seen < length (logged state.new) }
+    ensures table { DoesFiring result state.old state.new }
 {
     let Some(candidate) = &plan.found else {
         state.commit_none(seen);
@@ -75,8 +92,39 @@ fn commit_plan(alloc: Global, state: &mut SimState, worker: u32, seen: u64, plan
     }
 }
 
-// Drops what was listed, and commits what was found, where the log hasn't ended. Of a search that was
-// stopped nothing is known, and all stays but for an end at the step limit.
+// Commits what was found, where the log hasn't ended. Of a search that was stopped nothing is known, and
+// all stays but for an end at the step limit. Returns whether a firing was added.
+fn commit_planned(
+    alloc: Global,
+    state: &mut SimState,
+    worker: u32,
+    seen: u64,
+    plan: &Result<Plan, Halt>,
+) -> bool
+    requires worker { (1 ≤ worker) × (worker ≤ most_workers) }
+    requires seen { seen ≤ length state.old.fired }
+    requires plan { IfOk plan.now (λ p. WasFound state.old seen p.found) }
+    ensures added { AddsOwn worker result state.old state.new }
+    ensures later { seen ≤ length (logged state.new) }
+    ensures more { ¬ WasStopped plan.now → seen < length (logged state.new) }
+    ensures stopped { WasStopped plan.now → result ≡ false }
+    ensures table { DoesFiring result state.old state.new }
+{
+    state.end_steps();
+    if state.has_ended() {
+        return false;
+    }
+    match plan {
+        Ok(plan) => commit_plan(alloc, state, worker, seen, plan),
+        Err(Halt::NoMemory) => {
+            state.end_memory();
+            false
+        }
+        Err(Halt::Stopped) => false,
+    }
+}
+
+// Drops what was listed, and commits what was found, where the log hasn't ended.
 fn act_on(
     alloc: Global,
     state: &mut SimState,
@@ -92,26 +140,11 @@ fn act_on(
     ensures more { ¬ WasStopped plan.now → seen < length (logged state.new) }
     ensures stopped { WasStopped plan.now → result.fired ≡ false }
     ensures swept { DropsNone plan.now → result.swept ≡ 0 }
+    ensures count { result.swept ≡ dropped_by plan.now state.old.table.marking }
+    ensures dropped { DropsThenFires plan.now result.fired state.old state.new }
 {
-    let swept = match plan {
-        Ok(plan) => drop_listed(state, plan.dead.as_slice()),
-        Err(_) => 0,
-    };
-    state.end_steps();
-    if state.has_ended() {
-        return Done {
-            fired: false,
-            swept,
-        };
-    }
-    let fired = match plan {
-        Ok(plan) => commit_plan(alloc, state, worker, seen, plan),
-        Err(Halt::NoMemory) => {
-            state.end_memory();
-            false
-        }
-        Err(Halt::Stopped) => false,
-    };
+    let swept = drop_planned(state, plan);
+    let fired = commit_planned(alloc, state, worker, seen, plan);
     Done { fired, swept }
 }
 

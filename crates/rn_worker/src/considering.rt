@@ -1,11 +1,15 @@
 //! What a worker does between its turns: it searches its snapshot.
-ghost use Rattle.std.specs.Prelude.{◌≡◌, ◌↔◌, ◌<◌, ◌^◌, ℕ, [], Some, IfOk, IfSome, IsNone, false, true, length};
+ghost use Rattle.std.specs.Prelude.{◌≡◌, ◌↔◌, ◌<◌, ◌+◌, ◌^◌, ℕ, [], Some, IfOk, IfSome, IsNone};
+ghost use Rattle.std.specs.Prelude.{MatchBool, false, true, is_some, length, min};
 ghost use Rattle.rn_model.specs.Enabling.{DeadAt, Enabled};
 ghost use Rattle.rn_model.specs.Markings.{Instance, instance_at};
+ghost use Rattle.rn_worker.specs.Pacing.{AreAllDead, IsDue, last_count, met_by, paced};
 ghost use Rattle.rn_worker.specs.Plans.{AreDeadAt, DropsNone, IsPlanAt, IsToSearch, WasStopped};
 
 use crate::looking::Sight;
+use crate::pacing::Pace;
 use crate::standby::Watch;
+use crate::tally::{Done, Tally};
 use rn_binding::Candidate;
 use rn_channel::Uplinks;
 use rn_found::{Finding, Halt};
@@ -77,6 +81,9 @@ pub fn listed_at(
         instance_at table.now.marking n ≡ Some i → length i.places < 2 ^ 32 }
     ensures dead { IfOk result (λ r. AreDeadAt system.now table.now.marking r.0.items) }
     ensures none { IfOk result (λ r. due ≡ false → r.0.items ≡ []) }
+    ensures all { IfOk result (λ r. due ≡ true →
+        AreAllDead system.now table.now.marking r.0.items) }
+    ensures met { IfOk result (λ r. is_some r.1 ≡ due) }
 {
     if !due {
         return Ok((Vec::new(alloc), None));
@@ -113,8 +120,8 @@ fn find_at(
     }
 }
 
-/// Searches a snapshot, and lists what isn't live there where that is due. Unless the snapshot is to be
-/// searched whole, the search ends where the watch says.
+/// Searches a snapshot, and lists what isn't live there where that is due by the pace. Unless the
+/// snapshot is to be searched whole, the search ends where the watch says.
 pub(crate) fn plan_at(
     alloc: Global,
     system: &System,
@@ -122,15 +129,21 @@ pub(crate) fn plan_at(
     depth: u32,
     finding: &mut Finding,
     sight: Sight,
-    due: bool,
+    pace: Pace,
+    every: u32,
     watch: &Watch<'_>,
     whole: bool,
 ) -> Result<Plan, Halt>
     requires { IsToSearch system.now uplinks.now sight.table }
     ensures plan { IfOk result (IsPlanAt system.now depth sight.table) }
-    ensures none { due ≡ false → DropsNone result }
+    ensures due { IsDue every sight.table.marking.next pace → IfOk result (λ p.
+        AreAllDead system.now sight.table.marking p.dead.items × (is_some p.live ≡ true)) }
+    ensures not_due { ¬ IsDue every sight.table.marking.next pace → IfOk result (λ p.
+        (p.dead.items ≡ []) × (is_some p.live ≡ false)) }
+    ensures none { every ≡ 0 → DropsNone result }
     ensures whole { whole ≡ true → ¬ WasStopped result }
 {
+    let due = pace.is_due(every, sight.table.next());
     let Ok((dead, live)) = listed_at(alloc, system, &sight.table, due) else {
         return Err(Halt::NoMemory);
     };
@@ -148,11 +161,28 @@ pub(crate) fn was_stopped(plan: &Result<Plan, Halt>) -> bool
 }
 
 /// How many instances and tokens were live, where a worker listed the instances that weren't.
-pub(crate) fn live_then(plan: &Result<Plan, Halt>) -> Option<u64> {
+pub(crate) fn live_then(plan: &Result<Plan, Halt>) -> Option<u64>
+    ensures { result ≡ met_by plan.now }
+{
     match plan {
         Ok(plan) => plan.live,
         Err(_) => None,
     }
+}
+
+/// Counts a round: what was done in its turn, and how often the worker fired since it last listed
+/// anything.
+pub(crate) fn count_round(tally: &mut Tally, pace: &mut Pace, plan: &Result<Plan, Halt>, done: Done)
+    requires { tally.old.fired + 1 < 2 ^ 64 }
+    ensures worker { tally.new.worker ≡ tally.old.worker }
+    ensures fired { MatchBool done.fired (tally.new.fired ≡ tally.old.fired + 1)
+        (tally.new.fired ≡ tally.old.fired) }
+    ensures none { tally.old.swept ≡ 0 → done.swept ≡ 0 → tally.new.swept ≡ 0 }
+    ensures swept { tally.new.swept ≡ min (tally.old.swept + done.swept) last_count }
+    ensures pace { pace.new ≡ paced pace.old (met_by plan.now) done.fired }
+{
+    tally.count(done);
+    *pace = pace.after(live_then(plan), done.fired);
 }
 
 // A number of a worker's own after so many entries, below 2^24.

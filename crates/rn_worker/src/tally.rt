@@ -1,5 +1,6 @@
 //! What each worker did.
-ghost use Rattle.std.specs.Prelude.{◌≡◌, ◌<◌, ◌+◌, ◌^◌, MatchBool, false};
+ghost use Rattle.std.specs.Prelude.{◌≡◌, ◌<◌, ◌+◌, ◌^◌, MatchBool, false, min};
+ghost use Rattle.rn_worker.specs.Pacing.{last_count};
 
 use rn_items::Items;
 
@@ -29,6 +30,7 @@ impl Tally {
         ensures fired { MatchBool done.fired (self.new.fired ≡ self.old.fired + 1)
             (self.new.fired ≡ self.old.fired) }
         ensures swept { self.old.swept ≡ 0 → done.swept ≡ 0 → self.new.swept ≡ 0 }
+        ensures added { self.new.swept ≡ min (self.old.swept + done.swept) last_count }
     {
         if done.fired {
             self.fired += 1;

@@ -7,7 +7,7 @@ ghost use Rattle.rn_worker.specs.Seen.{HasEnded};
 
 use crate::acting::{Acted, act};
 use crate::considering::{
-    Seed, go_beside, go_on_after, late_after, live_then, plan_at, searcher, start_beside,
+    Seed, count_round, go_beside, go_on_after, late_after, plan_at, searcher, start_beside,
     was_stopped,
 };
 use crate::gate::Gate;
@@ -117,7 +117,6 @@ pub(crate) fn work_while<R: Wait, G: Gate + Sync>(
     while let Some(now) = sight {
         let seen = now.seen;
         let next = now.table.next();
-        let due = pace.is_due(options.sweep_every, next);
         go_on_after(&mut finding, rests, worker, next);
         watch.begin(&finding);
         let plan = plan_at(
@@ -127,7 +126,8 @@ pub(crate) fn work_while<R: Wait, G: Gate + Sync>(
             options.depth,
             &mut finding,
             now,
-            due,
+            pace,
+            options.sweep_every,
             &watch,
             stopped,
         );
@@ -143,8 +143,7 @@ pub(crate) fn work_while<R: Wait, G: Gate + Sync>(
             options.steps,
             &plan,
         );
-        tally.count(done);
-        pace = pace.after(live_then(&plan), done.fired);
+        count_round(tally, &mut pace, &plan, done);
         go_beside(&mut finding, done.fired, beside);
         late = late_after(late, done.fired);
         stopped = was_stopped(&plan);

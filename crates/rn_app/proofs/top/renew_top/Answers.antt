@@ -1,5 +1,6 @@
 use Rattle.std.proofs.Common.{◌∙◌, Err, inl, inr, map, string_bytes, ap, refl}
 use Rattle.rn_answer.specs.declared.status.TheConstants.{NET_REFUSED, RECORD_REFUSED}
+use Rattle.rn_outside.proofs.ByteLemmas.{IsCalledSeldom-never}
 use Rattle.rn_app.specs.TopCall.{IsNoInput, IsNoRecord}
 use Rattle.rn_app.proofs.Causes.{Laws}
 use Rattle.rn_app.proofs.Written.{Call, IsWritten, err_faults_clause, faulted_clause, few_faults_clause, least_clause, least_faulted_clause, line_faults, memory_clause, never_read, only_clause, quiet_clause, run_clause, seeded_clause, seeded_faulted_clause, write_fault_clause, writes_clause}
@@ -71,6 +72,8 @@ returns-in-Ok g c =
       out_faults = λ other. (wrote.written other).2;
       err_faults = err_faults_clause k c.in-Ok.answer w;
       few_faults = few_faults_clause k c.in-Ok.answer w;
+      seldom = wrote.seldom;
+      none_empty = wrote.none_empty;
     }
 
 pub returns-in-Err-Refused : goal.returns-in-Err-Refused
@@ -138,6 +141,8 @@ returns-in-Err-Refused g c =
       out_faults = λ other. (wrote.written other).2;
       err_faults = err_faults_clause k c.in-Err-Refused.answer w;
       few_faults = few_faults_clause k c.in-Err-Refused.answer w;
+      seldom = wrote.seldom;
+      none_empty = wrote.none_empty;
     }
 
 pub returns-in-Err-ReadFault-clause-refuses_input : goal.returns-in-Err-ReadFault-clause-refuses_input
@@ -154,6 +159,9 @@ returns-in-Err-ReadFault-clause-refuses_record g c = λ options accepted.
 
 pub returns-in-Err-ReadFault-clause-few_faults : goal.returns-in-Err-ReadFault-clause-few_faults
 returns-in-Err-ReadFault-clause-few_faults g c = (inl refl, line_faults (g.E.Sink.held c.args.err.now) (g.E.Sink.held c.write_line.new.err) (g.E.Sink.faults c.args.err.now) (g.E.Sink.faults c.write_line.new.err) _ c.write_line.ensures.line)
+
+pub returns-in-Err-ReadFault-clause-seldom : goal.returns-in-Err-ReadFault-clause-seldom
+returns-in-Err-ReadFault-clause-seldom g c = (IsCalledSeldom-never (g.O.Sink.held c.args.out.now) (g.O.Sink.writes c.args.out.now), c.write_line.ensures.seldom)
 
 pub returns-in-Err-ReadFault-clause-read_fault : goal.returns-in-Err-ReadFault-clause-read_fault
 returns-in-Err-ReadFault-clause-read_fault g c = λ is. (read_failed (map string_bytes c.args.words.now) (g.I.Source.left c.args.input.now) (g.I.Source.left c.answer.new.input) (g.I.Source.faults c.args.input.now) (g.I.Source.faults c.answer.new.input) c.answer.result (c.in-Err-ReadFault.is ∙ ap Err c.in-Err-ReadFault.field-0-is) c.answer.ensures.comes, refl, c.write_line.ensures.line)
@@ -181,6 +189,9 @@ returns-in-Err-NoMemory-clause-refuses_record g c = λ options accepted.
 
 pub returns-in-Err-NoMemory-clause-few_faults : goal.returns-in-Err-NoMemory-clause-few_faults
 returns-in-Err-NoMemory-clause-few_faults g c = (inl refl, line_faults (g.E.Sink.held c.args.err.now) (g.E.Sink.held c.write_line-in-Err-NoMemory.new.err) (g.E.Sink.faults c.args.err.now) (g.E.Sink.faults c.write_line-in-Err-NoMemory.new.err) _ c.write_line-in-Err-NoMemory.ensures.line)
+
+pub returns-in-Err-NoMemory-clause-seldom : goal.returns-in-Err-NoMemory-clause-seldom
+returns-in-Err-NoMemory-clause-seldom g c = (IsCalledSeldom-never (g.O.Sink.held c.args.out.now) (g.O.Sink.writes c.args.out.now), c.write_line-in-Err-NoMemory.ensures.seldom)
 
 pub returns-in-Err-NoMemory-clause-refuses_words : goal.returns-in-Err-NoMemory-clause-refuses_words
 returns-in-Err-NoMemory-clause-refuses_words g c = λ fault faulty. (inr (inr c.write_line-in-Err-NoMemory.ensures.status), (c.answer.ensures.refuses_words fault faulty).0)

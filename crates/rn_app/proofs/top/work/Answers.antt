@@ -33,3 +33,6 @@ moves-requires-clause-limits g c = subst IsWithinLimits c.in-Moves.is (c.words_l
 
 pub session-requires : goal.session-requires
 session-requires g c = subst IsWithinLimits c.in-Session.is (c.words_laws.ensures.limits c.requires.given.0 c.args.command c.requires.given.1)
+
+pub counts-requires : goal.counts-requires
+counts-requires g c = subst IsWithinLimits c.in-Counts.is (c.words_laws.ensures.limits c.requires.given.0 c.args.command c.requires.given.1)

@@ -1,45 +1,144 @@
 -- What is shown by each snapshot, and one round.
-use Rattle.std.proofs.Common.{length, subst, arith}
-use Rattle.std.specs.Prelude.{IfSome}
-use Rattle.rn_desk.specs.Passes.{fixed_of, seen}
+use Rattle.std.proofs.Common.{ℕ, ◌<◌, ◌≤◌, ◌∙◌, List, length, ap, subst, sym, arith, rules}
+use Rattle.std.specs.Prelude.{Bool, true, false, IfSome}
+use Rattle.rn_model.specs.declared.log.Entry.{Entry}
+use Rattle.rn_worker.specs.Plans.{GrowsBy}
+use Rattle.rn_desk.specs.Passes.{fixed_of, mine, seen}
 use Rattle.rn_fire.specs.declared.setup.Setup.{Setup}
 use Rattle.rn_worker.specs.Seen.{Shows}
 use Rattle.rn_worker.proofs.SeenStates.{few_by, never_fewer, never_many, searched_by}
+use Rattle.rn_least_workers.specs.Views.{Follows, FollowsIn, ShowsView}
+use Rattle.rn_firsts.specs.Known.{IsKnown}
+use Rattle.rn_least_workers.proofs.LaterViews.{follow_then}
 use Rattle.rn_least_workers.proofs.LeastSeen.{known_by, rounds_end}
 use Rattle.rn_least_workers.proofs.worker.work_least.Goals as goal
 
-pub plan_at-plan-requires : goal.plan_at-plan-requires
-plan_at-plan-requires g c =
+-- firings of one's own are among the entries that were seen
+still_within : (fired : Bool) (own more : List Entry) (old turned new : ℕ) →
+    GrowsBy fired own more → length own ≤ old → old < turned → turned ≤ new → length more ≤ new
+still_within true own more old turned new grows within later then =
+    omega (arith, grows, within, later, then)
+still_within false own more old turned new grows within later then =
+    let same = ap length grows in omega (arith, same, within, later, then)
+
+pub plan_at-plan-requires-clause-table : goal.plan_at-plan-requires-clause-table
+plan_at-plan-requires-clause-table g c =
     let setup : Setup = fixed_of (λ s. s.setup) c.args.desk.now in
-    let es = seen c.loop-sight.pass in
-    let shown : Shows setup es c.in-Some.now = subst (λ o. IfSome o (Shows setup es)) c.in-Some.is c.loop-sight.invariant.some in
-    searched_by setup c.args.system.now c.args.options.now c.requires.fixed es c.in-Some.now shown
+    let es = seen c.loop-view.pass in
+    let shown : Shows setup es c.in-Some.now.sight = subst (λ o. IfSome o (ShowsView setup es)) c.in-Some.is c.loop-view.invariant.some in
+    searched_by setup c.args.system.now c.args.options.now c.requires.fixed es c.in-Some.now.sight shown
     c.args.uplinks.now c.requires.own
 
 pub act-left-requires-clause-knows : goal.act-left-requires-clause-knows
 act-left-requires-clause-knows g c =
     let setup : Setup = fixed_of (λ s. s.setup) c.args.desk.now in
-    let es = seen c.loop-sight.pass in
-    let shown : Shows setup es c.in-Some.now = subst (λ o. IfSome o (Shows setup es)) c.in-Some.is c.loop-sight.invariant.some in
-    known_by setup c.args.system.now c.args.options.now c.requires.fixed es c.in-Some.now shown
+    let es = seen c.loop-view.pass in
+    let shown : Shows setup es c.in-Some.now.sight = subst (λ o. IfSome o (ShowsView setup es)) c.in-Some.is c.loop-view.invariant.some in
+    known_by setup c.args.system.now c.args.options.now c.requires.fixed es c.in-Some.now.sight shown
     c.plan_at-plan.result c.plan_at-plan.ensures.plan
 
 pub count-requires : goal.count-requires
 count-requires g c =
     let setup : Setup = fixed_of (λ s. s.setup) c.args.desk.now in
-    let es = seen c.loop-sight.pass in
-    let shown : Shows setup es c.in-Some.now = subst (λ o. IfSome o (Shows setup es)) c.in-Some.is c.loop-sight.invariant.some in
-    let few = never_many setup es c.in-Some.now shown in
-    let fired = c.loop-sight.invariant.fired in
-    let within = c.loop-sight.invariant.within in
+    let es = seen c.loop-view.pass in
+    let shown : Shows setup es c.in-Some.now.sight = subst (λ o. IfSome o (ShowsView setup es)) c.in-Some.is c.loop-view.invariant.some in
+    let few = never_many setup es c.in-Some.now.sight shown in
+    let fired = c.loop-view.invariant.fired in
+    let within = c.loop-view.invariant.within in
     omega (arith, few, fired, within)
 
-pub loop-sight-smaller : goal.loop-sight-smaller
-loop-sight-smaller g c =
+pub loop-view-smaller : goal.loop-view-smaller
+loop-view-smaller g c =
     let setup : Setup = fixed_of (λ s. s.setup) c.args.desk.now in
-    let es = seen c.loop-sight.pass in
-    let shown : Shows setup es c.in-Some.now = subst (λ o. IfSome o (Shows setup es)) c.in-Some.is c.loop-sight.invariant.some in
+    let es = seen c.loop-view.pass in
+    let shown : Shows setup es c.in-Some.now.sight = subst (λ o. IfSome o (ShowsView setup es)) c.in-Some.is c.loop-view.invariant.some in
     let did = c.act-left.ensures in
-    rounds_end c.args.options.now.steps (length es) (length (seen c.act-left.new.pass)) (length (seen c.look_on-sight.new.pass))
-    (few_by setup c.args.system.now c.args.options.now c.requires.fixed es c.in-Some.now shown)
-    did.more (never_fewer (seen c.look_on-sight.new.pass) (seen c.act-left.new.pass) c.look_on-sight.ensures.entries)
+    rounds_end c.args.options.now.steps (length es) (length (seen c.act-left.new.pass)) (length (seen c.look_on-view.new.pass))
+    (few_by setup c.args.system.now c.args.options.now c.requires.fixed es c.in-Some.now.sight shown)
+    did.more (never_fewer (seen c.look_on-view.new.pass) (seen c.act-left.new.pass) c.look_on-view.ensures.entries)
+
+pub plan_at-plan-requires-clause-follows : goal.plan_at-plan-requires-clause-follows
+plan_at-plan-requires-clause-follows g c =
+    let setup : Setup = fixed_of (λ s. s.setup) c.args.desk.now in
+    let k = c.loop-view.firsts in
+    subst (λ (s : Setup). FollowsIn s.system s.options.depth k c.in-Some.now) c.requires.fixed
+    (subst (λ o. IfSome o (Follows setup k)) c.in-Some.is c.loop-view.invariant.follows)
+
+pub act-left-requires-clause-next : goal.act-left-requires-clause-next
+act-left-requires-clause-next g c =
+    let setup : Setup = fixed_of (λ s. s.setup) c.args.desk.now in
+    let es = seen c.loop-view.pass in
+    let shown : Shows setup es c.in-Some.now.sight = subst (λ o. IfSome o (ShowsView setup es)) c.in-Some.is c.loop-view.invariant.some in
+    c.next-next.ensures.number ∙ shown.stands.next
+
+pub loop-view-init : goal.loop-view-init
+loop-view-init g c = record {
+  here = search rules;
+  free = search rules;
+  number = search rules;
+  worker = search rules;
+  fired = search rules;
+  within = search rules;
+  swept = search rules;
+  some = search rules;
+  follows = c.look-view.ensures.follows c.new-firsts.result;
+  none = search rules;
+}
+
+pub loop-view-preserved : goal.loop-view-preserved
+loop-view-preserved g c =
+    let setup : Setup = fixed_of (λ s. s.setup) c.args.desk.now in
+    let es = seen c.loop-view.pass in
+    let shown : Shows setup es c.in-Some.now.sight = subst (λ o. IfSome o (ShowsView setup es)) c.in-Some.is c.loop-view.invariant.some in
+    let k = c.plan_at-plan.new.firsts in
+    let known = subst (λ (s : Setup). IsKnown s.system c.in-Some.now.sight.table.marking s.options.depth k) (sym c.requires.fixed) c.plan_at-plan.ensures.known in
+    record {
+      here = search rules;
+      free = search rules;
+      number = search rules;
+      worker = search rules;
+      fired = search rules;
+      within = subst (λ own. length own ≤ length (seen c.look_on-view.new.pass))
+          (sym c.look_on-view.ensures.mine)
+          (still_within c.act-left.result.done.fired (mine c.loop-view.pass)
+          (mine c.act-left.new.pass) (length es) (length (seen c.act-left.new.pass))
+          (length (seen c.look_on-view.new.pass)) c.act-left.ensures.mine
+          c.loop-view.invariant.within c.act-left.ensures.more
+          (never_fewer (seen c.look_on-view.new.pass) (seen c.act-left.new.pass)
+          c.look_on-view.ensures.entries));
+      swept = search rules;
+      some = search rules;
+      follows = c.look_on-view.ensures.follows k
+          (follow_then setup es (seen c.act-left.new.pass) c.in-Some.now c.act-left.result.view k
+          shown c.act-left.ensures.entries c.act-left.ensures.some c.act-left.ensures.changed known);
+      none = search rules;
+    }
+
+pub loop-view-preserved-in-Some : goal.loop-view-preserved-in-Some
+loop-view-preserved-in-Some g c =
+    let setup : Setup = fixed_of (λ s. s.setup) c.args.desk.now in
+    let es = seen c.loop-view.pass in
+    let shown : Shows setup es c.in-Some.now.sight = subst (λ o. IfSome o (ShowsView setup es)) c.in-Some.is c.loop-view.invariant.some in
+    let k = c.plan_at-plan.new.firsts in
+    let known = subst (λ (s : Setup). IsKnown s.system c.in-Some.now.sight.table.marking s.options.depth k) (sym c.requires.fixed) c.plan_at-plan.ensures.known in
+    record {
+      here = search rules;
+      free = search rules;
+      number = search rules;
+      worker = search rules;
+      fired = search rules;
+      within = subst (λ own. length own ≤ length (seen c.look_on-view.new.pass))
+          (sym c.look_on-view.ensures.mine)
+          (still_within c.act-left.result.done.fired (mine c.loop-view.pass)
+          (mine c.act-left.new.pass) (length es) (length (seen c.act-left.new.pass))
+          (length (seen c.look_on-view.new.pass)) c.act-left.ensures.mine
+          c.loop-view.invariant.within c.act-left.ensures.more
+          (never_fewer (seen c.look_on-view.new.pass) (seen c.act-left.new.pass)
+          c.look_on-view.ensures.entries));
+      swept = search rules;
+      some = search rules;
+      follows = c.look_on-view.ensures.follows k
+          (follow_then setup es (seen c.act-left.new.pass) c.in-Some.now c.act-left.result.view k
+          shown c.act-left.ensures.entries c.act-left.ensures.some c.act-left.ensures.changed known);
+      none = search rules;
+    }

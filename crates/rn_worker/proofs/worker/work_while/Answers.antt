@@ -23,8 +23,8 @@ act-left-requires-clause-knows g c =
     known_by setup c.args.system.now c.args.options.now c.requires.fixed es c.in-Some.now shown
     c.plan_at-plan.result c.plan_at-plan.ensures.plan
 
-pub count-requires : goal.count-requires
-count-requires g c =
+pub count_round-requires : goal.count_round-requires
+count_round-requires g c =
     let setup : Setup = fixed_of (λ s. s.setup) c.args.desk.now in
     let es = seen c.loop-sight.pass in
     let shown : Shows setup es c.in-Some.now = subst (λ o. IfSome o (Shows setup es)) c.in-Some.is c.loop-sight.invariant.some in

@@ -1,0 +1,3 @@
+mod AfterChange
+mod InOrder
+mod Numbers

@@ -1,0 +1,71 @@
+//! Looking at instances in the order of their numbers, up to one with which a binding starts.
+ghost use Rattle.std.specs.Prelude.{◌≡◌, ⊤, [], Some, IfOk, MatchOption};
+ghost use Rattle.rn_found.specs.First.{IsFirstOf};
+ghost use Rattle.rn_found.specs.Starting.{IsSearchable};
+ghost use Rattle.rn_firsts.specs.Known.{IsLookedAt};
+
+use crate::pace::Pace;
+use rn_binding::Candidate;
+use rn_channel::Uplinks;
+use rn_found::least_of;
+use rn_items::NoMemory;
+use rn_model::System;
+use rn_table::Table;
+use std::alloc::Global;
+use std::collections::BTreeSet;
+
+/// The first of all bindings, where one starts with one of those that are to be looked at again. These
+/// are looked at in order, and go where none starts.
+pub(crate) fn first_again(
+    alloc: Global,
+    system: &System,
+    uplinks: &Uplinks,
+    table: &Table,
+    depth: u32,
+    until: u32,
+    again: &mut BTreeSet<u32>,
+) -> Result<Option<Candidate>, NoMemory>
+    requires searched { IsSearchable system.now uplinks.now table.now }
+    requires looked { IsLookedAt system.now table.now.marking depth until again.old.keys }
+    ensures first { IfOk result (λ found. MatchOption found (again.new.keys ≡ [])
+        (λ b. IsFirstOf system.now table.now.marking depth (λ b. ⊤) (Some b))) }
+    ensures looked { IsLookedAt system.now table.now.marking depth until again.new.keys }
+{
+    while let Some(first) = again.first() {
+        let number = *first;
+        let found = least_of(alloc, system, uplinks, table, depth, number)?;
+        if let Some(first) = found {
+            return Ok(Some(first));
+        }
+        let _gone = again.pop_first();
+    }
+    Ok(None)
+}
+
+/// The first of all bindings, where none starts with an instance below a number. The others are looked
+/// at in order, and the number rises.
+pub(crate) fn first_from(
+    alloc: Global,
+    system: &System,
+    uplinks: &Uplinks,
+    table: &Table,
+    depth: u32,
+    until: &mut u32,
+    pace: &mut Pace,
+) -> Result<Option<Candidate>, NoMemory>
+    requires searched { IsSearchable system.now uplinks.now table.now }
+    requires looked { IsLookedAt system.now table.now.marking depth until.old [] }
+    ensures first { IfOk result (IsFirstOf system.now table.now.marking depth (λ b. ⊤)) }
+    ensures looked { IsLookedAt system.now table.now.marking depth until.new [] }
+{
+    let _end = table.next();
+    while let Some(number) = table.first_starting(*until) {
+        let found = least_of(alloc, system, uplinks, table, depth, number)?;
+        if let Some(first) = found {
+            return Ok(Some(first));
+        }
+        pace.pass();
+        *until = number + 1;
+    }
+    Ok(None)
+}

@@ -1,0 +1,7 @@
+//! Tests of kept lists of bindings.
+#![tactic(auto)]
+
+#[cfg(test)]
+mod nets;
+#[cfg(test)]
+mod runs;
