@@ -4,11 +4,14 @@ mod FormsBack
 mod FormsMean
 mod FormsOfNets
 mod FormsUnbroken
+mod MarksOfEnds
 mod NamesDeclared
 mod OccurrencesFire
 mod OccurrencesFit
 mod OneOccurrence
+mod RecordsOfRuns
 mod RunsAlike
+mod TextLengths
 mod TokensFit
 mod TokensOfNets
 mod TranslationsChecked

@@ -1,7 +1,6 @@
 -- A weighted net and the system that stands for it have the same runs.
-use Rattle.std.proofs.Common.{◌≡◌, ℕ, zero, suc, ◌<◌, Bool, true, false, cond, List, [], ◌∷◌, map, length, refl, sym, ap, ◌∙◌, subst, arith}
-use Rattle.std.specs.Prelude.{Some, None, Result, Ok, Err, All, slice_get, nat_eq, unwrap_or, option_map}
-use Rattle.std.proofs.lemmas.Bool.{eqb-true}
+use Rattle.std.proofs.Common.{◌≡◌, ℕ, zero, suc, ◌<◌, ◌≤◌, List, [], ◌∷◌, map, length, refl, sym, ap, ◌∙◌, subst, arith}
+use Rattle.std.specs.Prelude.{Some, Result, Ok, Err, All, slice_get, unwrap_or}
 use Rattle.std.proofs.lemmas.List.{length-map}
 use Rattle.std.proofs.lemmas.List.Elements.{All-nil, All-cons, All-head, All-get_or}
 use Rattle.std.proofs.lemmas.Option.{same_Some, slice_get-get_or, unwrap_or-slice_get}
@@ -15,9 +14,10 @@ use Rattle.rn_model.specs.declared.log.FaultKind.{FaultKind}
 use Rattle.rn_model.specs.Lists.{ordered_values}
 use Rattle.rn_model.specs.Systems.{net_at, transition_at, empty_transition}
 use Rattle.rn_model.specs.Bindings.{IsNodeOf}
-use Rattle.rn_model.specs.Markings.{Instance, initial_marking, net_of, tokens_at}
+use Rattle.rn_model.specs.Markings.{initial_marking, net_of, tokens_at}
 use Rattle.rn_model.specs.Firing.{Fired, fire}
 use Rattle.rn_model.specs.Enabling.{Enabled}
+use Rattle.rn_model.specs.Limits.{most_workers}
 use Rattle.rn_model.specs.Runs.{Firing, Fires, RunFrom, after_firing, marking_or, end_from}
 use Rattle.rn_model.proofs.SingleNodes.{single_node}
 use Rattle.rn_weighted.specs.declared.weighted.Weighted.{Weighted}
@@ -28,6 +28,7 @@ use Rattle.rn_translated.specs.WeightedRuns.{WEnabled, WRunFrom, w_after, w_end_
 use Rattle.rn_translated.specs.TranslatedSystem.{blacks, net_place, net_transition, translated_system, occurrence, firing_of, marking_of}
 use Rattle.rn_translated.specs.RunLaws.{RunsCorrespond, EndsCorrespond, OneInstanceAlone, IsOccurrence, RunsHaveOccurrences, EachRunIsWeighted}
 use Rattle.rn_translated.proofs.BlackTokens.{ordered_blacks, held}
+use Rattle.rn_translated.proofs.MarksOfEnds.{its_net}
 use Rattle.rn_translated.proofs.OneOccurrence.{no_downlinks}
 use Rattle.rn_translated.proofs.OccurrencesFit.{occurs, may_occur}
 use Rattle.rn_translated.proofs.OccurrencesFire.{fires}
@@ -49,7 +50,7 @@ first_places (place ∷ ps) =
     (ordered_blacks place.initial)
     ∙ ap (λ others. blacks place.initial ∷ others) (first_places ps)
 
-begins : (net : Weighted) →
+pub begins : (net : Weighted) →
     initial_marking (translated_system net) ≡ marking_of (w_initial net)
 begins net =
     ap
@@ -83,13 +84,13 @@ module _ (net : Weighted) (good : IsWeighted net) where
   abbrev no_transition : WTransition
   no_transition = record { name = []; arcs = [] }
 
-  there : (t : ℕ) → t < length net.transitions →
+  pub there : (t : ℕ) → t < length net.transitions →
       slice_get net.transitions t ≡ Some (w_transition net t)
   there t within =
       slice_get-get_or net.transitions t no_transition within
       ∙ ap Some (sym (unwrap_or-slice_get net.transitions t no_transition))
 
-  its_arcs : (t : ℕ) → t < length net.transitions →
+  pub its_arcs : (t : ℕ) → t < length net.transitions →
       All (IsWArc (length net.places)) (w_transition net t).arcs
   its_arcs t within =
       let is = All-get_or (IsWTransition (length net.places)) net.transitions t no_transition within
@@ -98,30 +99,32 @@ module _ (net : Weighted) (good : IsWeighted net) where
       (sym (unwrap_or-slice_get net.transitions t no_transition)) is.arcs
 
   module _ (t : ℕ) (within : t < length net.transitions) (step : ℕ) (m : List ℕ) where
-    abbrev then_m : List ℕ
+    abbrev pub then_m : List ℕ
     then_m = w_after (w_transition net t) m
 
-    fires_so : fire system (marking_of m) (occurrence t) step
+    pub fires_so : fire system (marking_of m) (occurrence t) step
         ≡ Ok (record { marking = marking_of then_m; outs = [] })
     fires_so = fires net t (w_transition net t) (there t within) (its_arcs t within) step m
 
-    led : after_firing system step (marking_of m) (firing_of t) ≡ marking_of then_m
+    pub led : after_firing system step (marking_of m) (firing_of t) ≡ marking_of then_m
     led = ap (λ r. marking_or r (marking_of m)) fires_so
 
-    one_fires : (depth : ℕ) → WEnabled (w_transition net t) m →
-        Fires system depth step (marking_of m) (firing_of t)
-    one_fires depth enabled = record {
+    pub one_fires : (depth worker : ℕ) → (1 ≤ worker) × (worker ≤ most_workers) →
+        WEnabled (w_transition net t) m →
+        Fires system depth step (marking_of m)
+        (record { worker = worker; binding = occurrence t; outs = [] })
+    one_fires depth worker can enabled = record {
       enabled =
           occurs net t (w_transition net t) (there t within) (its_arcs t within) m depth enabled;
       fired = fires_so ∙ ap (λ after. Ok (record { marking = after; outs = [] })) (sym led);
-      worker = (omega arith, omega arith);
+      worker = can;
     }
 
   all_fire : (depth step : ℕ) (m ts : List ℕ) → WRunFrom net m ts →
       RunFrom system depth step (marking_of m) (map firing_of ts)
   all_fire depth step m [] run = tt
   all_fire depth step m (t ∷ ts) run = (
-    one_fires t run.0 step m depth run.1,
+    one_fires t run.0 step m depth 1 (omega arith, omega arith) run.1,
     subst (λ x. RunFrom system depth (suc step) x (map firing_of ts)) (sym (led t run.0 step m))
         (all_fire depth (suc step) (w_after (w_transition net t) m) ts run.2),
   )
@@ -141,22 +144,12 @@ module _ (net : Weighted) (good : IsWeighted net) where
             record { path = path; inst = inst; net = n; transition = t; values = values } ∷ [];
       }
 
-  abbrev IsOne : Binding → Type 0
+  abbrev pub IsOne : Binding → Type 0
   IsOne b = (t : ℕ) × (t < length net.transitions) × (b ≡ occurrence t)
 
   no_values : (values : List Value) → length values ≡ 0 → values ≡ []
   no_values [] e = refl
   no_values (v ∷ vs) e = let never : ⊥ = omega (arith, e) in absurd never
-
-  its_instance : (m : List ℕ) (k n : ℕ) → net_of (marking_of m) k ≡ Some n → (1 ≡ k) × (0 ≡ n)
-  its_instance m k n e = by_number (nat_eq 1 k) refl e
-    where
-      by_number : (same : Bool) → nat_eq 1 k ≡ same →
-          option_map (λ (i : Instance). i.net)
-          (cond same (Some (record { number = 1; net = 0; places = map blacks m })) None) ≡ Some n →
-          (1 ≡ k) × (0 ≡ n)
-      by_number true is has = (eqb-true 1 k is, same_Some 0 n has)
-      by_number false is has = let never : ⊥ = cc in absurd never
 
   one_at : (depth : ℕ) (m : List ℕ) (inst : InstRef) (n t : ℕ) (values : List Value) (k : ℕ) →
       inst ≡ Old k → Enabled system (marking_of m) (one_of [] inst n t values) depth →
@@ -164,7 +157,7 @@ module _ (net : Weighted) (good : IsWeighted net) where
   one_at depth m inst n t values k old e =
       let node : Node =
       record { path = []; inst = inst; net = n; transition = t; values = values } in
-      let of_net = its_instance m k n
+      let of_net = its_net m k n
       (All-head (λ x. (j : ℕ) → x.inst ≡ Old j → net_of (marking_of m) j ≡ Some x.net) node []
       e.fits.there k old) in
       let is = All-head (IsNodeOf system) node [] e.shape.nodes in
@@ -194,7 +187,7 @@ module _ (net : Weighted) (good : IsWeighted net) where
       let old = e.shape.start.2.exists in
       one_at depth m inst n t values old.0 (ap (λ x. x.inst) same ∙ old.1) e
 
-  is_one : (depth : ℕ) (m : List ℕ) (b : Binding) → Enabled system (marking_of m) b depth → IsOne b
+  pub is_one : (depth : ℕ) (m : List ℕ) (b : Binding) → Enabled system (marking_of m) b depth → IsOne b
   is_one depth m b e =
       let single = single_node system b depth e.shape
       (λ n there. no_downlinks net n.net n.transition) in
@@ -213,7 +206,7 @@ module _ (net : Weighted) (good : IsWeighted net) where
     pub led_to : after_firing system step (marking_of m) f
         ≡ marking_of (w_after (w_transition net t) m)
 
-  one_fired : (depth step : ℕ) (m : List ℕ) (f : Firing) →
+  pub one_fired : (depth step : ℕ) (m : List ℕ) (f : Firing) →
       Fires system depth step (marking_of m) f → OneFired depth step m f
   one_fired depth step m f fired =
       let one = is_one depth m f.binding fired.enabled in

@@ -8,6 +8,7 @@ use Rattle.rn_check.specs.Checked.{Checked}
 use Rattle.rn_print.specs.Nets.{canonical_text}
 use Rattle.rn_print.specs.SameButSpots.{SameButSpots}
 use Rattle.rn_weighted.specs.declared.weighted.Weighted.{Weighted}
+use Rattle.rn_weighted.specs.TextLength.{text_length}
 use Rattle.rn_weighted.specs.Weighted.{IsWeighted}
 use Rattle.rn_translated.specs.TranslatedSystem.{translated_system}
 use Rattle.rn_translated.specs.Translation.{translated}
@@ -37,3 +38,9 @@ abbrev pub OneSystemIsRead : Type 0
 OneSystemIsRead = (net : Weighted) (plain : Plain) (system : System) → IsWeighted net →
     Spells (canonical_text (translated net)) plain → Checked plain system →
     system ≡ translated_system net
+
+-- The canonical text of the translation has just as many bytes as are counted line by line without
+-- making it.
+abbrev pub TextsHaveTheirLength : Type 0
+TextsHaveTheirLength = (net : Weighted) → IsWeighted net →
+    length (canonical_text (translated net)) ≡ text_length net

@@ -1,4 +1,5 @@
 pub mod AcceptedLaws
+pub mod RecordLaws
 pub mod RunLaws
 pub mod TranslatedSystem
 pub mod Translation

@@ -2,7 +2,9 @@
 ghost use Rattle.rn_translated.specs.RunLaws.{RunsCorrespond, EndsCorrespond, OneInstanceAlone};
 ghost use Rattle.rn_translated.specs.AcceptedLaws.{TranslationsAreChecked, SpotsDoNotCount};
 ghost use Rattle.rn_translated.specs.AcceptedLaws.{TranslationsAreAccepted, OneSystemIsRead};
+ghost use Rattle.rn_translated.specs.AcceptedLaws.{TextsHaveTheirLength};
 ghost use Rattle.rn_translated.specs.RunLaws.{RunsHaveOccurrences, EachRunIsWeighted};
+ghost use Rattle.rn_translated.specs.RecordLaws.{RecordsAreOfRuns};
 
 use rn_print::printing_laws;
 
@@ -25,3 +27,14 @@ pub fn translations_are_accepted()
 {
     printing_laws();
 }
+
+/// The canonical text of the translation has as many bytes as `text_length` of `rn_weighted` says.
+pub fn translations_have_their_length()
+    ensures { TextsHaveTheirLength }
+{}
+
+/// The texts of the runs of that system, with their ends and marks, are those of the runs of the
+/// weighted net.
+pub fn records_tell_runs()
+    ensures { RecordsAreOfRuns }
+{}

@@ -5,5 +5,8 @@
 mod laws;
 mod translating;
 
-pub use laws::{translations_are_accepted, translations_run_alike};
+pub use laws::{
+    records_tell_runs, translations_are_accepted, translations_have_their_length,
+    translations_run_alike,
+};
 pub use translating::translate;
