@@ -17,8 +17,8 @@ use rn_net::{Plain, Refusal, read_system};
 use rn_notation::Spot;
 use std::alloc::Global;
 
-/// The refusal of a net text, by a code and a spot.
-pub(crate) fn refused_at(alloc: Global, code: &[u8], spot: Spot) -> Stopped
+/// The refusal of a text of nets, by a code and a spot.
+pub fn refused_at(alloc: Global, code: &[u8], spot: Spot) -> Stopped
     ensures { Stops (λ a. a ≡ refusal NET_REFUSED (spot_line code.now spot)) result }
 {
     match spot_line(alloc, code, spot) {

@@ -29,6 +29,10 @@ use Rattle.rn_commands.specs.LeastRuns.{RunsLeastTo}
 use Rattle.rn_commands.specs.Moves.{RecordMovesTo, MovesTo, MovesComeTo}
 use Rattle.rn_commands.specs.Stepping.{SessionTo, SessionComesTo}
 use Rattle.rn_commands.specs.Counting.{CountsTo}
+use Rattle.rn_commands.specs.Translating.{RefusesWeighted, TranslatesTo}
+use Rattle.rn_weighted.specs.declared.weighted.Weighted.{Weighted}
+use Rattle.rn_pt.specs.declared.fault.PtFault.{PtFault}
+use Rattle.rn_pt.specs.Texts.{IsRefused, Spells}
 use Rattle.rn_app.specs.Commands.{ComesTo, HasNetText}
 use Rattle.rn_app.specs.Laws.{AcceptedIsNotRefused, OneSystemAccepted, RunIsRead}
 use Rattle.rn_app.specs.TopCall.{BeginsWithNet, Comes, IsFine, IsNoInput, IsNoRecord, IsRecorded, MayFault}
@@ -77,8 +81,14 @@ net_status laws (command.Replay options) bytes net line a has refused comes = re
 net_status laws (command.Session options) bytes net line a has refused comes = refused_before laws (λ other more. SessionTo options other more a) bytes net line a has refused (λ other more serves. (serves.0, serves.1)) comes
 net_status laws (command.Counts options) bytes net line a is refused comes = refused_or laws (CountsTo options bytes a) bytes net line a is refused (λ counted. (counted.counts.system, counted.counts.accepted)) comes
 net_status laws (command.Moves options) bytes net line a has refused comes = refused_before laws (λ other more. MovesTo options other more a) bytes net line a has refused (λ other more moves. (moves.0, moves.1)) comes
+net_status laws command.Pt bytes net line a is refused comes = absurd is
 net_status laws (command.Gen copies options) bytes net line a is refused gens = absurd is
 net_status laws (command.GenSeeded copies options seed) bytes net line a is refused gens = absurd is
+
+-- a text that is refused is translated by none
+unweighted_status : (bytes : List ℕ) (why : PtFault) (a : Answer) → IsRefused bytes why → RefusesWeighted bytes a ⊎ TranslatesTo bytes a → a.status ≡ NET_REFUSED
+unweighted_status bytes why a refused (inl refuses) = ap (λ x. x.status) refuses.is
+unweighted_status bytes why a refused (inr translates) = absurd (translates.unrefused why refused)
 
 -- a command whose input isn't what it asks for says so, where it was within the limit
 within_status : Laws → (c : Command) (limit : ℕ) (bytes : List ℕ) (a : Answer) → longest_input c ≡ Some limit → length bytes ≤ limit → IsNoInput c bytes → ComesTo c bytes a → a.status ≡ NET_REFUSED
@@ -86,10 +96,12 @@ within_status laws c limit bytes a is few (IsNoInput.longer other most long) com
     let same : limit ≡ other = cc in
     absurd (omega (arith, few, long, same))
 within_status laws c limit bytes a is few (IsNoInput.refused {net} {line} has refused) comes = net_status laws c bytes net line a has refused comes
+within_status laws c limit bytes a is few (IsNoInput.unweighted {why = why} refused) comes = unweighted_status bytes why a refused comes
 
 -- no input of `gen` is refused
 none_refused : (c : Command) (bytes : List ℕ) → longest_input c ≡ None → IsNoInput c bytes → ⊥
 none_refused c bytes none (IsNoInput.longer limit is long) = absurd cc
+none_refused c bytes none (IsNoInput.unweighted refused) = absurd cc
 none_refused (command.Gen copies options) bytes none (IsNoInput.refused has refused) = has
 none_refused (command.GenSeeded copies options seed) bytes none (IsNoInput.refused has refused) = has
 none_refused (command.Run options) bytes none (IsNoInput.refused has refused) = absurd cc
@@ -98,6 +110,7 @@ none_refused (command.RunSeeded options seed) bytes none (IsNoInput.refused has 
 none_refused (command.Session options) bytes none (IsNoInput.refused has refused) = absurd cc
 none_refused (command.Counts options) bytes none (IsNoInput.refused has refused) = absurd cc
 none_refused (command.Moves options) bytes none (IsNoInput.refused has refused) = absurd cc
+none_refused command.Pt bytes none (IsNoInput.refused has refused) = has
 none_refused command.Check bytes none (IsNoInput.refused has refused) = absurd cc
 none_refused command.Print bytes none (IsNoInput.refused has refused) = absurd cc
 none_refused (command.Enabled depth) bytes none (IsNoInput.refused has refused) = absurd cc
@@ -225,6 +238,10 @@ all_left left bytes known all is = sym (subst (λ o. IfSome o (λ l. bytes ≡ l
 never_refused : Laws → (left : Option (List ℕ)) (bytes : List ℕ) (a : Answer) → ((known : List ℕ) × (left ≡ Some known) × ((system : System) × Accepted known system)) → IfSome left (λ l. bytes ≡ l) → RefusesNet bytes a → ⊥
 never_refused laws left bytes a (known, is, (system, accepted)) all (line, why, same) = laws.texts bytes line system (subst (λ b. Accepted b system) (all_left left bytes known all is) accepted) why
 
+-- nor is the text of a weighted net
+never_unweighted : (left : Option (List ℕ)) (bytes : List ℕ) (a : Answer) → ((known : List ℕ) × (left ≡ Some known) × ((net : Weighted) × Spells known net)) → IfSome left (λ l. bytes ≡ l) → RefusesWeighted bytes a → ⊥
+never_unweighted left bytes a (known, is, (net, spells)) all refuses = refuses.unspelled net (subst (λ b. Spells b net) (all_left left bytes known all is) spells)
+
 -- a command does what an input that is fine asks for
 whole_status : Laws → (c : Command) (left : Option (List ℕ)) (bytes : List ℕ) (a : Answer) → IsWithinLimits c → IsFine c left → IfSome left (λ l. bytes ≡ l) → ComesTo c bytes a → IsDoneBut c a.status
 whole_status laws (command.Run options) left bytes a within fine all (inl refuses) = absurd (never_refused laws left bytes a fine all refuses)
@@ -244,6 +261,8 @@ whole_status laws (command.Session options) left bytes a within (known, is, few,
 whole_status laws (command.Counts options) left bytes a within fine all (inl refuses) = absurd (never_refused laws left bytes a fine all refuses)
 whole_status laws (command.Counts options) left bytes a within fine all (inr counted) = run_status ⊤ counted.reason a.status counted.status tt
 whole_status laws (command.Moves options) left bytes a within (known, is, few, recorded) all comes = inl (moves_status laws options bytes a within (subst (λ b. IsRecorded options b) (all_left left bytes known all is) recorded) comes)
+whole_status laws command.Pt left bytes a within fine all (inl refuses) = absurd (never_unweighted left bytes a fine all refuses)
+whole_status laws command.Pt left bytes a within fine all (inr translates) = inl (ap (λ x. x.status) translates.is)
 whole_status laws (command.Gen copies options) left bytes a within fine all gens = run_status ⊤ gens.reason a.status gens.status tt
 whole_status laws (command.GenSeeded copies options seed) left bytes a within fine all gens = run_status ⊤ gens.reason a.status gens.status tt
 
@@ -257,6 +276,7 @@ inputless_status (command.RunSeeded options seed) a none comes = absurd cc
 inputless_status (command.Session options) a none comes = absurd cc
 inputless_status (command.Counts options) a none comes = absurd cc
 inputless_status (command.Moves options) a none comes = absurd cc
+inputless_status command.Pt a none comes = absurd cc
 inputless_status command.Check a none comes = absurd cc
 inputless_status command.Print a none comes = absurd cc
 inputless_status (command.Enabled depth) a none comes = absurd cc
@@ -267,6 +287,13 @@ fits : (limit : ℕ) (left : Option (List ℕ)) → ((known : List ℕ) × (left
 fits limit left (known, is, (system, accepted)) most long =
     let longer = subst (λ o. IsTooLong limit o) is long in
     let few = accepted.spelled.fits in
+    omega (arith, longer, few, most)
+
+-- nor is the text of a weighted net
+fits_weighted : (limit : ℕ) (left : Option (List ℕ)) → ((known : List ℕ) × (left ≡ Some known) × ((net : Weighted) × Spells known net)) → limit ≡ longest_net_text → IsTooLong limit left → ⊥
+fits_weighted limit left (known, is, (net, spells)) most long =
+    let longer = subst (λ o. IsTooLong limit o) is long in
+    let few = spells.says.fits in
     omega (arith, longer, few, most)
 
 -- nor is what isn't longer than the longest text
@@ -287,6 +314,7 @@ fine_fits (command.Replay options) limit left (known, is, few, recorded) most lo
 fine_fits (command.Session options) limit left (known, is, few, begins) most long = let same : limit ≡ longest_text = cc in fits_text limit left known is few same long
 fine_fits (command.Counts options) limit left fine most long = let same : limit ≡ longest_net_text = cc in fits limit left fine same long
 fine_fits (command.Moves options) limit left (known, is, few, recorded) most long = let same : limit ≡ longest_text = cc in fits_text limit left known is few same long
+fine_fits command.Pt limit left fine most long = let same : limit ≡ longest_net_text = cc in fits_weighted limit left fine same long
 fine_fits (command.Gen copies options) limit left fine most long = absurd cc
 fine_fits (command.GenSeeded copies options seed) limit left fine most long = absurd cc
 

@@ -93,6 +93,8 @@ command_told (command.Counts options) bytes a (inl (line, why, is)) = IsToldBy.r
 command_told (command.Counts options) bytes a (inr counted) = IsToldBy.ended counted.reason (suc (length counted.counts.firings)) counted.status counted.line
 command_told (command.Moves options) bytes a (net, rest, parts, inl (line, why, is)) = IsToldBy.refused (inl (ap (λ x. x.status) is))
 command_told (command.Moves options) bytes a (net, rest, parts, inr (system, accepted, told)) = moves_told system options rest a told
+command_told command.Pt bytes a (inl refuses) = IsToldBy.refused (inl (ap (λ x. x.status) refuses.is))
+command_told command.Pt bytes a (inr translates) = IsToldBy.quiet (ap (λ x. x.status) translates.is) (ap (λ x. x.line) translates.is)
 command_told (command.Gen copies options) bytes a gens = IsToldBy.ended gens.reason (suc (length gens.firings)) gens.status gens.line
 command_told (command.GenSeeded copies options seed) bytes a gens = IsToldBy.ended gens.reason (suc (length gens.firings)) gens.status gens.line
 

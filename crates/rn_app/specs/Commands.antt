@@ -13,15 +13,17 @@ use Rattle.rn_commands.specs.Workloads.{GensTo}
 use Rattle.rn_commands.specs.Moves.{MovesComeTo}
 use Rattle.rn_commands.specs.Stepping.{SessionComesTo}
 use Rattle.rn_commands.specs.Counting.{CountsTo}
+use Rattle.rn_commands.specs.Translating.{RefusesWeighted, TranslatesTo}
 
 -- the net text of a command's input, which stands before a line `---` where more comes after it; `gen`
--- has none
+-- and `pt` have none
 abbrev pub HasNetText : Command → List ℕ → List ℕ → Type 0
 HasNetText (command.Replay options) bytes net = (rest : List ℕ) × HasParts bytes net rest
 HasNetText (command.Session options) bytes net = (rest : List ℕ) × HasParts bytes net rest
 HasNetText (command.Moves options) bytes net = (rest : List ℕ) × HasParts bytes net rest
 HasNetText (command.Gen copies options) bytes net = ⊥
 HasNetText (command.GenSeeded copies options seed) bytes net = ⊥
+HasNetText command.Pt bytes net = ⊥
 HasNetText _ bytes net = net ≡ bytes
 
 -- What a command comes to on the bytes of its input, unless memory runs out.
@@ -38,3 +40,4 @@ ComesTo (command.GenSeeded copies options seed) bytes a = GensTo copies options 
 ComesTo (command.Session options) bytes a = SessionComesTo options bytes a
 ComesTo (command.Counts options) bytes a = RefusesNet bytes a ⊎ CountsTo options bytes a
 ComesTo (command.Moves options) bytes a = MovesComeTo options bytes a
+ComesTo command.Pt bytes a = RefusesWeighted bytes a ⊎ TranslatesTo bytes a

@@ -6,6 +6,9 @@ use Rattle.rn_model.specs.declared.log.Reason.{Reason}
 use Rattle.rn_model.specs.declared.system.System.{System}
 use Rattle.rn_least.specs.LeastRuns.{LeastLog}
 use Rattle.rn_notation.specs.Limits.{longest_text}
+use Rattle.rn_weighted.specs.declared.weighted.Weighted.{Weighted}
+use Rattle.rn_pt.specs.declared.fault.PtFault.{PtFault}
+use Rattle.rn_pt.specs.Texts.{Spells, IsRefused}
 use Rattle.rn_outside.specs.Bytes.{GivesAll, GivesAtMost, Appends, AppendsPrefix}
 use Rattle.rn_outside.specs.Faults.{Rose, risen}
 use Rattle.rn_words.specs.declared.command.Command.{Command}
@@ -119,13 +122,15 @@ pub record WritesUnfinished (words : List (List ℕ)) (left left_after out out_a
   pub memory : a.status ≡ NO_MEMORY
   pub text : Appends out a.text out_after
 
--- The bytes of a command's input aren't what it asks for: they are too many, or the net text is
--- refused.
+-- The bytes of a command's input aren't what it asks for: they are too many; or the net text is
+-- refused; or, for `pt`, there is a reason to refuse the text of a weighted net.
 pub data IsNoInput : Command → List ℕ → Type 0 where
   longer : {c : Command} {bytes : List ℕ} (limit : ℕ) → longest_input c ≡ Some limit →
       limit < length bytes → IsNoInput c bytes
   refused : {c : Command} {bytes net line : List ℕ} → HasNetText c bytes net →
       IsRefusedBy net line → IsNoInput c bytes
+  unweighted : {bytes : List ℕ} {why : PtFault} → IsRefused bytes why →
+      IsNoInput command.Pt bytes
 
 -- the input of `replay` or `moves` is a net text and a record that isn't the text of a run, and not too
 -- long
@@ -169,7 +174,8 @@ MayFault (command.GenSeeded copies options seed) = ⊤
 MayFault _ = ⊥
 
 -- The input is what the command can do: an accepted net text, for `replay` and `moves` with the text of
--- a run of it, and for `session` with any lines. `gen` asks for none.
+-- a run of it, and for `session` with any lines. For `pt` it is the text of a weighted net. `gen` asks
+-- for none.
 abbrev pub IsFine : Command → Option (List ℕ) → Type 0
 IsFine (command.Gen copies options) left = ⊤
 IsFine (command.GenSeeded copies options seed) left = ⊤
@@ -179,4 +185,6 @@ IsFine (command.Moves options) left = (bytes : List ℕ) × (left ≡ Some bytes
     × (length bytes ≤ longest_text) × IsRecorded options bytes
 IsFine (command.Session options) left = (bytes : List ℕ) × (left ≡ Some bytes)
     × (length bytes ≤ longest_text) × BeginsWithNet bytes
+IsFine command.Pt left = (bytes : List ℕ) × (left ≡ Some bytes)
+    × ((net : Weighted) × Spells bytes net)
 IsFine c left = (bytes : List ℕ) × (left ≡ Some bytes) × ((system : System) × Accepted bytes system)

@@ -30,7 +30,7 @@ use rn_answer::{
     write_line,
 };
 use rn_commands::{
-    answer_laws, counts, enabled, moves, parts_laws, replay, run, run_least, run_seeded,
+    answer_laws, counts, enabled, moves, parts_laws, pt, replay, run, run_least, run_seeded,
     run_workload, run_workload_seeded, session,
 };
 use rn_outside::{Sink, Source};
@@ -68,6 +68,7 @@ fn work<R: Threads + Wait + Sync, G: Gate + Sync>(
         Command::Session(options) => session(alloc, options, bytes),
         Command::Counts(options) => counts(alloc, options, bytes),
         Command::Moves(options) => moves(alloc, options, bytes),
+        Command::Pt => pt(alloc, bytes),
     }
 }
 

@@ -10,3 +10,4 @@ pub mod OneAnswer
 pub mod PartLemmas
 pub mod ReplayLemmas
 pub mod SessionLemmas
+pub mod Translations

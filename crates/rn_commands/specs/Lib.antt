@@ -7,6 +7,7 @@ pub mod Workloads
 pub mod Moves
 pub mod Counting
 pub mod Stepping
+pub mod Translating
 pub mod NetCommands
 pub mod Laws
 pub mod LeastLaws

@@ -1,5 +1,5 @@
 //! The commands that need the states of a net: `enabled`, `run`, `replay`, `moves`, `session`,
-//! `counts` and `gen`.
+//! `counts` and `gen`; and `pt`, which translates weighted nets.
 #![tactic(auto)]
 
 mod bindings;
@@ -12,6 +12,7 @@ mod replays;
 mod running;
 mod runs;
 mod stepping;
+mod translating;
 mod workload;
 
 pub use bindings::enabled;
@@ -22,4 +23,5 @@ pub use moving::moves;
 pub use replays::replay;
 pub use runs::{run, run_seeded};
 pub use stepping::session;
+pub use translating::pt;
 pub use workload::{run_workload, run_workload_seeded};

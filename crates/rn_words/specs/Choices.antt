@@ -94,3 +94,4 @@ command_of verb.Gen n chosen = gen_of n (options_of 200000 chosen) chosen.seed
 command_of verb.Session n chosen = command.Session (options_of 1000 chosen)
 command_of verb.Counts n chosen = command.Counts (options_of 1000 chosen)
 command_of verb.Moves n chosen = command.Moves (options_of 1000 chosen)
+command_of verb.Pt n chosen = command.Pt

@@ -179,5 +179,6 @@ pub(crate) fn command_of(verb: Verb, copies: u32, chosen: Chosen) -> Command
         Verb::Session => Command::Session(options_of(STEPS, chosen)),
         Verb::Counts => Command::Counts(options_of(STEPS, chosen)),
         Verb::Moves => Command::Moves(options_of(STEPS, chosen)),
+        Verb::Pt => Command::Pt,
     }
 }

@@ -28,6 +28,8 @@ pub enum Command {
     Counts(Options),
     /// Write what each firing of a record took and put.
     Moves(Options),
+    /// Write the reference net that stands for a weighted net.
+    Pt,
 }
 
 /// The first bad word, by its number from 1.

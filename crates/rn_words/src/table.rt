@@ -16,6 +16,7 @@ pub(crate) enum Verb {
     Session,
     Counts,
     Moves,
+    Pt,
 }
 
 /// An option: `--workers`, `--steps`, `--depth`, `--drop`, `--pick`, `--seed`.
@@ -64,6 +65,8 @@ pub(crate) fn verb_named(word: &[u8]) -> Option<Verb>
         Some(Verb::Counts)
     } else if word == b"moves".as_slice() {
         Some(Verb::Moves)
+    } else if word == b"pt".as_slice() {
+        Some(Verb::Pt)
     } else {
         None
     }
@@ -109,7 +112,7 @@ pub(crate) fn takes(verb: Verb, setting: Setting) -> bool
 {
     match verb {
         Verb::Run => true,
-        Verb::Check | Verb::Print => false,
+        Verb::Check | Verb::Print | Verb::Pt => false,
         Verb::Enabled => matches!(setting, Setting::Depth),
         Verb::Replay | Verb::Session | Verb::Counts | Verb::Moves => {
             matches!(setting, Setting::Steps | Setting::Depth)
