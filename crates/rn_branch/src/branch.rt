@@ -26,7 +26,7 @@ use rn_agree::{does_agree, has_shape};
 use rn_arcs::fits;
 use rn_binding::{Application, Candidate, applications_of};
 use rn_choices::{Grows, Next};
-use rn_growing::{Decision, Way, copy_head};
+use rn_growing::{Decision, Growing, Way, copy_head};
 use rn_items::Items;
 use rn_looking::{Look, transition_in};
 use rn_model::{Binding, System};
@@ -113,6 +113,13 @@ impl<'a> Branch<'a> {
             takings: Takings::new(alloc),
             refusals: Refusals::none(),
         }
+    }
+
+    /// What is decided.
+    pub fn growing(&self) -> &Growing<'a>
+        ensures { result.now ≡ self.now }
+    {
+        self.growing.growing()
     }
 
     /// Its room, for another branch.
