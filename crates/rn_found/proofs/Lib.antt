@@ -3,6 +3,8 @@ pub mod FirstBindings
 pub mod FitTokens
 pub mod JustThese
 pub mod KeptStarts
+pub mod LesserBindings
 pub mod Numbers
 pub mod Ordered
 pub mod StartingBindings
+pub mod StraightSearch

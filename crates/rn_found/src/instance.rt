@@ -57,7 +57,7 @@ pub fn bindings_of(
 }
 
 /// The first of the bindings that are enabled at the table within the depth and start in this
-/// instance, by `compare_bindings`, or `None` exactly where none does.
+/// instance, by `compare_bindings`, or `None` exactly where none does. The room is lent.
 pub fn least_of(
     alloc: Global,
     system: &System,
@@ -65,6 +65,7 @@ pub fn least_of(
     table: &Table,
     depth: u32,
     instance: u32,
+    room: &mut Room,
 ) -> Result<Option<Candidate>, NoMemory>
     requires good { Good system.now }
     requires own { AreUplinksOf system.now uplinks.now }
@@ -79,6 +80,5 @@ pub fn least_of(
         table,
         depth,
     };
-    let mut room = Room::new(alloc);
-    first_in(alloc, marked, &mut room, instance)
+    first_in(alloc, marked, room, instance)
 }

@@ -10,9 +10,11 @@ mod first;
 mod hint;
 mod instance;
 mod laws;
+mod lesser;
 mod marked;
 mod room;
 mod starts;
+mod straight;
 mod turns;
 
 pub use every::all_bindings;
@@ -21,3 +23,4 @@ pub use first::least;
 pub use instance::{bindings_of, least_of};
 pub use laws::tokens_fit;
 pub use rn_choices::{Flag, Halt};
+pub use room::Room;

@@ -9,19 +9,20 @@ use rn_search::Point;
 use std::alloc::Global;
 use std::mem;
 
-/// The choices of a search, and the room of its branch, for the next one.
+/// The vectors of a search, for the next one: those of its choices and of its branch. A search that is
+/// lent them makes none anew, as far as these have room.
 #[derive(Drop)]
-pub(crate) struct Room {
-    pub choices: Choices<Point>,
-    pub branch: rn_branch::Room,
+pub struct Room {
+    pub(crate) choices: Choices<Point>,
+    pub(crate) branch: rn_branch::Room,
 
     /// How many starts were passed by.
-    pub passed: u64,
+    pub(crate) passed: u64,
 }
 
 impl Room {
     /// It takes no memory.
-    pub(crate) fn new(alloc: Global) -> Room {
+    pub fn new(alloc: Global) -> Room {
         Room {
             choices: Choices::new(alloc),
             branch: rn_branch::Room::new(alloc),
@@ -42,5 +43,10 @@ impl Room {
     {
         let room = mem::replace(&mut self.branch, rn_branch::Room::new(alloc));
         Branch::open_in(alloc, room, system, first)
+    }
+
+    /// The room of a branch is put back.
+    pub(crate) fn close(&mut self, branch: Branch<'_>) {
+        self.branch = branch.into_room();
     }
 }
