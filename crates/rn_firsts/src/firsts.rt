@@ -18,6 +18,7 @@ use crate::looking::{first_again, first_from};
 use crate::pace::{Pace, is_light};
 use rn_binding::Candidate;
 use rn_channel::Uplinks;
+use rn_found::Room;
 use rn_holders::may_reach;
 use rn_items::NoMemory;
 use rn_model::{Nums, System};
@@ -29,7 +30,8 @@ use std::marker::Model;
 /// Finds the first of the enabled bindings at one table after the other.
 ///
 /// It knows of the instances below a number that no enabled binding starts in them, but for those that
-/// are to be looked at again; and which instances may refer to which.
+/// are to be looked at again; and which instances may refer to which. It keeps the room of its searches
+/// from one look to the next.
 #[derive(Drop)]
 pub struct Firsts {
     until: u32,
@@ -37,6 +39,7 @@ pub struct Firsts {
     holders: Vec<Nums>,
     held: bool,
     pace: Pace,
+    room: Room,
 }
 
 impl Model for Firsts {
@@ -66,6 +69,7 @@ impl Firsts {
             holders: Vec::new(alloc),
             held: false,
             pace: Pace::new(),
+            room: Room::new(alloc),
         }
     }
 
@@ -158,12 +162,16 @@ impl Firsts {
     {
         let _end = table.next();
         let until = self.until;
-        let found = first_again(alloc, system, uplinks, table, depth, until, &mut self.again)?;
+        let again = &mut self.again;
+        let room = &mut self.room;
+        let found = first_again(alloc, system, uplinks, table, depth, until, again, room)?;
         if let Some(first) = found {
             return Ok(Some(first));
         }
         let until = &mut self.until;
-        first_from(alloc, system, uplinks, table, depth, until, &mut self.pace)
+        let pace = &mut self.pace;
+        let room = &mut self.room;
+        first_from(alloc, system, uplinks, table, depth, until, pace, room)
     }
 
     /// The first of all bindings that are enabled at the table within the depth, by `compare_bindings`, or

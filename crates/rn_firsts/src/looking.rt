@@ -7,7 +7,7 @@ ghost use Rattle.rn_firsts.specs.Known.{IsLookedAt};
 use crate::pace::Pace;
 use rn_binding::Candidate;
 use rn_channel::Uplinks;
-use rn_found::least_of;
+use rn_found::{Room, least_of};
 use rn_items::NoMemory;
 use rn_model::System;
 use rn_table::Table;
@@ -24,6 +24,7 @@ pub(crate) fn first_again(
     depth: u32,
     until: u32,
     again: &mut BTreeSet<u32>,
+    room: &mut Room,
 ) -> Result<Option<Candidate>, NoMemory>
     requires searched { IsSearchable system.now uplinks.now table.now }
     requires looked { IsLookedAt system.now table.now.marking depth until again.old.keys }
@@ -33,7 +34,7 @@ pub(crate) fn first_again(
 {
     while let Some(first) = again.first() {
         let number = *first;
-        let found = least_of(alloc, system, uplinks, table, depth, number)?;
+        let found = least_of(alloc, system, uplinks, table, depth, number, room)?;
         if let Some(first) = found {
             return Ok(Some(first));
         }
@@ -52,6 +53,7 @@ pub(crate) fn first_from(
     depth: u32,
     until: &mut u32,
     pace: &mut Pace,
+    room: &mut Room,
 ) -> Result<Option<Candidate>, NoMemory>
     requires searched { IsSearchable system.now uplinks.now table.now }
     requires looked { IsLookedAt system.now table.now.marking depth until.old [] }
@@ -60,7 +62,7 @@ pub(crate) fn first_from(
 {
     let _end = table.next();
     while let Some(number) = table.first_starting(*until) {
-        let found = least_of(alloc, system, uplinks, table, depth, number)?;
+        let found = least_of(alloc, system, uplinks, table, depth, number, room)?;
         if let Some(first) = found {
             return Ok(Some(first));
         }
