@@ -1,3 +1,4 @@
+mod BusyLemmas
 mod ListedLemmas
 mod OrderLemmas
 mod PlaceLemmas
@@ -5,4 +6,5 @@ mod PutLemmas
 mod RefreshLemmas
 mod RunningLemmas
 mod StartLemmas
+mod SumLemmas
 mod TouchedLemmas

@@ -1,12 +1,12 @@
 -- Lists of bindings, one for each instance: how many there are, and which is the first.
 use Rattle.std.proofs.Common.{◌≡◌, ◌≢◌, ◌<◌, ◌≤◌, ◌+◌, ◌-◌, ℕ, zero, suc, List, [], ◌∷◌, ◌++◌, length, get_or}
 use Rattle.std.proofs.Common.{refl, sym, ap, subst, ◌∙◌, arith, inl, inr, ⊎_elim}
-use Rattle.std.specs.Prelude.{Contains, ◌↔◌, Option, Some, None, IsNone, IfSome, IfNone, flat_map, slice_get}
+use Rattle.std.specs.Prelude.{Contains, ◌↔◌, Option, Some, None, IsNone, IfSome, IfNone, flat_map}
 use Rattle.std.specs.List.{AllAdjacentBelow}
 use Rattle.std.specs.List.Sorted.{IsSorted}
 use Rattle.std.specs.Ordering.{is_lt, ordering_reverse}
 use Rattle.std.specs.declared.cmp.Ordering.TheVariants.{Less, Greater}
-use Rattle.std.proofs.lemmas.List.{length-append, get_or_append_left, get_or-append_right, get_or_default}
+use Rattle.std.proofs.lemmas.List.{length-append, get_or_append_left, get_or-append_right}
 use Rattle.rn_model.specs.declared.binding.Binding.{Binding}
 use Rattle.rn_model.specs.declared.system.System.{System}
 use Rattle.rn_model.specs.Enabling.{Enabled, DeadAt}
@@ -76,22 +76,6 @@ module _ (P : ℕ → List Binding → Type 0) where
       (λ (not_before : i ≤ n).
       subst (P n) (sym (past_default lists n (omega (arith, not_before, long)))) (none n not_before))
       (less_or_not n i)
-
--- a list without a first element
-pub not_got : (xs : List Binding) → slice_get xs 0 ≡ None → xs ≡ []
-not_got [] e = refl
-not_got (x ∷ xs) e = absurd (let no : ⊥ = cc in no)
-
--- one empty list more
-pub one_more_empty : (lists : List (List Binding)) (i : ℕ) (xs : List Binding) → i < length lists →
-    xs ≡ get_or lists i xs → xs ≡ [] → ((n : ℕ) → n < i → get_or lists n [] ≡ []) →
-    (n : ℕ) → n < i + 1 → get_or lists n [] ≡ []
-one_more_empty lists i xs within is none before n low = ⊎_elim
-    (λ (less : n < i). before n less)
-    (λ (not_less : i ≤ n).
-    let same : n ≡ i = omega (arith, low, not_less) in
-    ap (λ k. get_or lists k []) same ∙ get_or_default lists i [] xs within ∙ sym is ∙ none)
-    (less_or_not n i)
 
 -- a binding starts in an instance from a number on
 abbrev HasStartFrom : ℕ → Binding → Type 0

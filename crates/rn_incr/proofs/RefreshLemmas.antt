@@ -20,7 +20,7 @@ use Rattle.rn_incr.specs.Lists.{IsListOf, IsNumberOf}
 use Rattle.rn_incr.proofs.StartLemmas.{starts_in_it}
 
 -- a number is in a list or it isn't
-in_or_not : (xs : List ℕ) (n : ℕ) → Contains xs n ⊎ (¬ Contains xs n)
+pub in_or_not : (xs : List ℕ) (n : ℕ) → Contains xs n ⊎ (¬ Contains xs n)
 in_or_not xs n = by_test (list_any (nat_eq n) xs) refl
   where
     by_test : (is : Bool) → list_any (nat_eq n) xs ≡ is → Contains xs n ⊎ (¬ Contains xs n)

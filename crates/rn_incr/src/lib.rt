@@ -2,9 +2,11 @@
 //! that it may have changed.
 #![tactic(auto)]
 
+mod busy;
 mod counting;
 mod fresh;
 mod held;
+mod kept;
 mod lists;
 mod putting;
 mod refreshing;

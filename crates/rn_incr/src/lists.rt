@@ -8,6 +8,7 @@ ghost use Rattle.rn_table.specs.Tables.{IsTableOf};
 ghost use Rattle.rn_incr.specs.Lists.{AreListsOf, IsListOf};
 
 use crate::held::holders_at;
+use crate::kept::Kept;
 use rn_binding::Candidate;
 use rn_channel::Uplinks;
 use rn_found::bindings_of;
@@ -28,7 +29,7 @@ pub type Cands = Items<Candidate>;
 pub struct Lists {
     pub(crate) depth: u32,
     pub(crate) table: Table,
-    pub(crate) lists: Vec<Cands>,
+    pub(crate) kept: Kept,
     pub(crate) holders: Vec<Nums>,
 }
 
@@ -46,7 +47,7 @@ impl Model for Lists {
     ghost view = { λ l. record {
       marking = l.table.marking;
       depth = l.depth;
-      lists = l.lists.items;
+      lists = l.kept;
     } };
 
     ghost invariant = { λ l. HaveHolders l.table.marking l.holders.items };
@@ -92,12 +93,13 @@ pub fn open_lists(
     ensures lists { IfOk result (λ lists. AreListsOf system.now lists) }
 {
     let lists = lists_at(alloc, system, uplinks, table, depth)?;
+    let kept = Kept::open(alloc, lists)?;
     let holders = holders_at(alloc, system, table)?;
     let table = table.snapshot()?;
     Ok(Lists {
         depth,
         table,
-        lists,
+        kept,
         holders,
     })
 }

@@ -10,25 +10,27 @@ ghost use Rattle.rn_holders.specs.Holders.{HaveHolders};
 ghost use Rattle.rn_incr.specs.Lists.{AreListsOf, IsListOf, IsNumberOf, IsTouched};
 
 use crate::fresh::fresh_lists;
-use crate::lists::{Cands, Lists};
-use crate::putting::{lengthen, make_room, put_all};
+use crate::kept::Kept;
+use crate::lists::Lists;
 use crate::touched::count_starting;
 use rn_channel::Uplinks;
 use rn_holders::{hold_all, reaching};
 use rn_items::NoMemory;
 use rn_model::{Nums, System};
 use rn_table::Table;
+use std::alloc::Global;
 
 // The lists of the instances that reach a changed one are made anew. It returns how many of these may
 // start a firing. All memory is taken before a list changes.
 fn remake(
+    alloc: Global,
     system: &System,
     uplinks: &Uplinks,
     table: &Table,
     depth: u32,
     holders: &[Nums],
     changed: &[u32],
-    lists: &mut Vec<Cands>,
+    kept: &mut Kept,
 ) -> Result<u64, NoMemory>
     requires good { Good system.now }
     requires own { AreUplinksOf system.now uplinks.now }
@@ -36,22 +38,19 @@ fn remake(
     requires tokens { HasFitTokens system.now table.now.marking }
     requires held { HaveHolders table.now.marking holders.now }
     ensures lists { OnOk result ((m : Marking) → DifferAtMostIn changed.now m table.now.marking →
-        ((n : ℕ) → IsListOf system.now m depth n (slice_index_or lists.old.items n [])) →
+        ((n : ℕ) → IsListOf system.now m depth n (slice_index_or kept.old n [])) →
         (n : ℕ) → IsListOf system.now table.now.marking depth n
-        (slice_index_or lists.new.items n [])) }
+        (slice_index_or kept.new n [])) }
     ensures number { IfOk result
         (IsNumberOf (IsTouched system.now table.now.marking changed.now)) }
-    ensures err { OnErr result (lists.new.items ≡ lists.old.items) }
+    ensures err { OnErr result (kept.new ≡ kept.old) }
 {
-    let alloc = *lists.allocator();
     let touched = reaching(alloc, table, holders, changed)?;
     let numbers = touched.as_slice();
-    let mut fresh = fresh_lists(alloc, system, uplinks, table, depth, numbers)?;
-    let end = table.next() as usize;
-    make_room(lists, end)?;
+    let fresh = fresh_lists(alloc, system, uplinks, table, depth, numbers)?;
     let count = count_starting(system, table, numbers);
-    lengthen(alloc, lists, end);
-    put_all(lists, &mut fresh);
+    let end = table.next() as usize;
+    kept.put(end, numbers, fresh)?;
     Ok(count)
 }
 
@@ -84,14 +83,16 @@ impl Lists {
     {
         hold_all(table, changed, &mut self.holders)?;
         let kept = table.snapshot()?;
+        let alloc = *self.holders.allocator();
         let count = remake(
+            alloc,
             system,
             uplinks,
             table,
             self.depth,
             self.holders.as_slice(),
             changed,
-            &mut self.lists,
+            &mut self.kept,
         )?;
         self.table = kept;
         Ok(count)

@@ -1,10 +1,10 @@
-use Rattle.std.proofs.Common.{◌≡◌, length, subst, arith}
-use Rattle.std.specs.Prelude.{flat_map}
-use Rattle.std.proofs.lemmas.List.{take_all}
+use Rattle.std.proofs.Common.{◌≤◌, arith}
+use Rattle.rn_incr.proofs.SumLemmas.{count_more}
 use Rattle.rn_incr.proofs.counting.count_of.Goals as goal
 
-pub returns : goal.returns
-returns c =
-    subst (λ xs. c.loop-list.count ≡ length (flat_map (λ bs. bs) xs))
-    (take_all c.loop-list.list-index c.args.lists.now (omega (arith, c.loop-list-test.false)))
-    c.loop-list.invariant.0
+pub loop-list-preserved : goal.loop-list-preserved
+loop-list-preserved c =
+    let small = c.len.type_inv in
+    let fits : c.len.result ≤ 18446744073709551615 = omega (arith, small) in
+    count_more c.args.lists.now c.loop-list.list-index c.loop-list.count c.len.result
+    c.list-item.result c.loop-list-test.true c.list-item.is c.len.ensures fits c.loop-list.invariant

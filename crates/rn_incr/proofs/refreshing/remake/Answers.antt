@@ -1,9 +1,10 @@
-use Rattle.std.proofs.Common.{◌≡◌, ◌≢◌, ℕ, [], get_or, sym, ap, subst, ◌∙◌, arith}
+use Rattle.std.proofs.Common.{◌≢◌, ℕ, [], get_or, sym, subst, ◌∙◌}
 use Rattle.std.specs.Prelude.{AllPairs, Contains}
 use Rattle.std.proofs.lemmas.Bool.Decides.{Decides-eqb}
 use Rattle.std.proofs.lemmas.Map.Made.{AllPairs-from_IsDistinct}
 use Rattle.rn_incr.specs.Lists.{IsListOf, IsTouched, MayStartIn}
 use Rattle.rn_incr.proofs.PlaceLemmas.{fit_near, none_past}
+use Rattle.rn_incr.proofs.PutLemmas.{all_put}
 use Rattle.rn_incr.proofs.RefreshLemmas.{list_stays, number_as}
 use Rattle.rn_incr.proofs.refreshing.remake.Goals as goal
 
@@ -22,20 +23,16 @@ returns-clause-lists c m differ are =
     let other = c.args.table.now.marking in
     let changed = c.args.changed.now in
     let depth = c.args.depth in
-    let before = c.args.lists.now.items in
-    let longer = c.lengthen.new.lists.items in
-    c.put_all.ensures.put system other depth c.in_ok-fresh.ensures.lists
-    (λ n not.
-    let same : get_or longer n [] ≡ get_or before n [] =
-    c.lengthen.ensures.same n ∙ ap (λ xs. get_or xs n []) c.in_ok-make_room.ensures.same in
-    subst (IsListOf system other depth n) (sym same)
-    (list_stays system m other changed depth differ n (get_or before n [])
+    let before = c.args.kept.now in
+    all_put (IsListOf system other depth) c.next-end.result c.in_ok-fresh.fresh.items before
+    c.put.new.self
+    c.in_ok-put.ensures.put c.in_ok-fresh.ensures.lists
+    (λ n not. list_stays system m other changed depth differ n (get_or before n [])
     (λ reaches. not (subst (λ xs. Contains xs n)
     (sym (c.in_ok-fresh.ensures.numbers ∙ c.as_slice-numbers.ensures.keys))
     ((c.in_ok-touched.ensures.just n).1 reaches)))
-    (are n)))
-    (λ n past. none_past system other depth c.next-end.result n c.next-end.ensures.below
-    (omega (arith, past, c.lengthen.ensures.long)))
+    (are n))
+    (λ n past. none_past system other depth c.next-end.result n c.next-end.ensures.below past)
 
 pub returns-clause-number : goal.returns-clause-number
 returns-clause-number c =

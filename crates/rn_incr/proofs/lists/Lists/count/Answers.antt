@@ -6,6 +6,6 @@ use Rattle.rn_incr.proofs.lists.Lists.count.Goals as goal
 pub returns : goal.returns
 returns c system are =
     let l = c.args.self.now in
-    let same : c.as_slice.result.now ≡ l.lists = c.as_slice.ensures.value ∙ ap (λ x. x.lists) c.self.view_is in
-    count_is system l.marking l.depth l.lists c.count_of.result are
-    (c.count_of.ensures ∙ ap (λ lists. length (flat_map (λ bs. bs) lists)) same)
+    let same : c.self.inside.kept ≡ l.lists = ap (λ x. x.lists) c.self.view_is in
+    count_is system l.marking l.depth l.lists c.total.result are
+    (c.total.ensures ∙ ap (λ lists. length (flat_map (λ bs. bs) lists)) same)

@@ -49,7 +49,7 @@ returns-clause-lists c =
     (sym (ap (λ (x : Listed). x.marking) c.self.view_is)) c.requires.changed in
     subst
     (λ (t : Kept). (n : ℕ) → IsListOf c.args.system.now t.marking c.self.inside.depth n
-    (get_or c.remake.new.lists.items n []))
+    (get_or c.remake.new.kept n []))
     (sym c.in_ok-kept.ensures)
     (c.in_ok-count.ensures.lists m differ
     (subst (AreListsOf c.args.system.now) (sym c.self.view_is) c.requires.lists))
