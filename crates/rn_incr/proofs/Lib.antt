@@ -4,7 +4,7 @@ mod OrderLemmas
 mod PlaceLemmas
 mod PutLemmas
 mod RefreshLemmas
-mod RunningLemmas
+pub mod RunningLemmas
 mod StartLemmas
 mod SumLemmas
 mod TouchedLemmas

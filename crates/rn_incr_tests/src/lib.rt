@@ -2,6 +2,10 @@
 #![tactic(auto)]
 
 #[cfg(test)]
+mod anew;
+#[cfg(test)]
 mod nets;
 #[cfg(test)]
 mod runs;
+#[cfg(test)]
+mod touched;
