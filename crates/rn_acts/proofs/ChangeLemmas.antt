@@ -15,10 +15,10 @@ use Rattle.rn_model.specs.Demands.{taken_at, cleared_at}
 use Rattle.rn_model.specs.Firing.{Effects, creations_of, marking_after}
 use Rattle.rn_model.specs.Lists.{count_of}
 use Rattle.rn_model.specs.Markings.{Marking}
-use Rattle.rn_arcs.specs.Demanded.{AreDemandsOf, one_row, row_place, rows_at}
+use Rattle.rn_arcs.specs.Demanded.{AreTakingsOf, one_row, row_place, rows_at}
 use Rattle.rn_arcs.specs.Places.{is_at}
 use Rattle.rn_arcs.specs.declared.demands.Place2.{Place2}
-use Rattle.rn_arcs.specs.declared.demands.Demands.{Demands}
+use Rattle.rn_arcs.specs.declared.demands.Takings.{Takings}
 use Rattle.rn_arcs.proofs.PlaceOrder.{eq_then}
 use Rattle.rn_table.proofs.FiringLemmas.{firing_is_change}
 use Rattle.rn_table.specs.Changes.{changed, values_at}
@@ -67,14 +67,14 @@ module _ (n place : ℕ) where
       ∙ sym (by_test (is_at (Old n, place) (row_place r)) r.values r rest refl)
 
 module _ (system : System) (b : Binding) where
-  pub taken_are : (d : Demands) (rows : List Row) → AreDemandsOf system b d →
+  pub taken_are : (d : Takings) (rows : List Row) → AreTakingsOf system b d →
       rows ≡ flat_map numbered_row d.taken → (n place : ℕ) →
       values_at rows n place ≡ taken_at system b (Old n) place
   taken_are d rows are is n place =
       ap (λ rs. values_at rs n place) is ∙ numbered_at n place d.taken
       ∙ ap all_of (are.taken.exact (Old n) place) ∙ all_of_one (taken_at system b (Old n) place)
 
-  pub cleared_are : (d : Demands) (rows : List Row) → AreDemandsOf system b d →
+  pub cleared_are : (d : Takings) (rows : List Row) → AreTakingsOf system b d →
       rows ≡ flat_map numbered_row d.cleared → (n place : ℕ) →
       values_at rows n place ≡ all_of (cleared_at system b (Old n) place)
   cleared_are d rows are is n place =

@@ -19,10 +19,10 @@ use Rattle.rn_model.proofs.EnablingLemmas.{not_in_nil, the_one}
 use Rattle.rn_model.proofs.PutValues.{StaysSo, reading_stays}
 use Rattle.rn_model.proofs.ReadConditions.{each_in}
 use Rattle.rn_arcs.proofs.PlaceOrder.{at_itself}
-use Rattle.rn_arcs.specs.Demanded.{AreDemandsOf, one_row, row_place, rows_at}
+use Rattle.rn_arcs.specs.Demanded.{AreTakingsOf, one_row, row_place, rows_at}
 use Rattle.rn_arcs.specs.Places.{is_at}
 use Rattle.rn_arcs.specs.declared.demands.Place2.{Place2}
-use Rattle.rn_arcs.specs.declared.demands.Demands.{Demands}
+use Rattle.rn_arcs.specs.declared.demands.Takings.{Takings}
 use Rattle.rn_table.specs.declared.change.Row.{Row}
 use Rattle.rn_acts.specs.Acted.{AreOfArcs, IsOfArc, arc_rows, node_rows, nothing, row_of, with_effects}
 use Rattle.rn_acts.specs.ChangeRows.{numbered_row, row_at}
@@ -90,7 +90,7 @@ module _ (system : System) (b : Binding) where
   in_one_row [] us there = absurd (not_in_nil us there)
   in_one_row (v ∷ vs) us there = (v, (0, omega arith, refl))
 
-  pub taken_of_arcs : (d : Demands) (rows : List Row) → AreDemandsOf system b d →
+  pub taken_of_arcs : (d : Takings) (rows : List Row) → AreTakingsOf system b d →
       rows ≡ flat_map numbered_row d.taken → AreOfArcs system b.nodes rows
   taken_of_arcs d rows are is = all_in (IsOfArc system b.nodes) rows (λ row there.
       let listed = row_source d.taken row (subst (λ rs. Contains rs row) is there) in
@@ -98,7 +98,7 @@ module _ (system : System) (b : Binding) where
       (subst (λ vss. Contains vss row.values) (are.taken.exact (Old row.inst) row.place) listed) in
       of_asked takes row some.0 (from_ordered some.0 (asked_at takes system (readings system b) (Old row.inst) row.place) some.1))
 
-  pub cleared_of_arcs : (d : Demands) (rows : List Row) → AreDemandsOf system b d →
+  pub cleared_of_arcs : (d : Takings) (rows : List Row) → AreTakingsOf system b d →
       rows ≡ flat_map numbered_row d.cleared → AreOfArcs system b.nodes rows
   cleared_of_arcs d rows are is = all_in (IsOfArc system b.nodes) rows (λ row there.
       let listed = row_source d.cleared row (subst (λ rs. Contains rs row) is there) in

@@ -1,13 +1,11 @@
 -- What the actions of a firing give.
-use Rattle.std.specs.Prelude.{ℕ, ◌≡◌, Bool, true, false, List, [], ◌∷◌, ◌++◌, Option}
+use Rattle.std.specs.Prelude.{ℕ, ◌≡◌, List, [], ◌∷◌, ◌++◌, Option}
 use Rattle.std.specs.Prelude.{option_map, flat_map, All, Contains}
 use Rattle.std.specs.Option.{option_map_or}
 use Rattle.rn_value.specs.declared.value.InstRef.{InstRef}
 use Rattle.rn_value.specs.declared.value.InstRef.TheVariants.{Old, New}
 use Rattle.rn_value.specs.declared.value.Value.{Value}
 use Rattle.rn_model.specs.declared.system.System.{System}
-use Rattle.rn_model.specs.declared.system.ArcKind.{ArcKind}
-use Rattle.rn_model.specs.declared.system.ArcKind.TheVariants.{Output, Reserve, FlexOutput}
 use Rattle.rn_model.specs.declared.system.NetArc.{NetArc}
 use Rattle.rn_model.specs.declared.binding.Node.{Node}
 use Rattle.rn_model.specs.Demands.{asked_at, puts}
@@ -39,13 +37,6 @@ abbrev pub AreOfArcs : System → List Node → List Row → Type 0
 AreOfArcs system nodes rows = All (IsOfArc system nodes) rows
 
 -- What follows only connects the code to the definitions.
-
--- whether an arc of this kind puts something
-abbrev pub may_put : ArcKind → Bool
-may_put Output = true
-may_put Reserve = true
-may_put FlexOutput = true
-may_put _ = false
 
 -- these values as a row of a place, where there are some and the instance has a number
 abbrev pub row_of : InstRef → ℕ → List Value → List Row

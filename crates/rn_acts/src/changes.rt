@@ -11,7 +11,7 @@ ghost use Rattle.rn_acts.specs.Acted.{AreOfArcs, ArePut};
 ghost use Rattle.rn_acts.specs.ChangeRows.{numbered_row};
 
 use crate::creations::nets_made;
-use rn_arcs::{Demands, Place2, Places2, demands_of};
+use rn_arcs::{Place2, Places2, Takings, takings_of};
 use rn_items::{Items, NoMemory};
 use rn_model::{Binding, System};
 use rn_table::{Change, Row, Rows};
@@ -63,7 +63,7 @@ pub fn change_of(
         changed system.now change m
         ≡ marking_after system.now m (creations_of system.now binding.now) binding.now effects) }
 {
-    let Demands { taken, cleared, .. } = demands_of(alloc, system, binding)?;
+    let Takings { taken, cleared } = takings_of(alloc, system, binding)?;
     Ok(Change {
         taken: numbered_rows(alloc, taken)?,
         cleared: numbered_rows(alloc, cleared)?,

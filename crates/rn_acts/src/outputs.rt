@@ -4,27 +4,17 @@ ghost use Rattle.std.specs.List.{list_all};
 ghost use Rattle.rn_model.specs.Demands.{puts};
 ghost use Rattle.rn_model.specs.Firing.{output_defined};
 ghost use Rattle.rn_acts.specs.Acting.{env_acting};
-ghost use Rattle.rn_acts.specs.Acted.{may_put, row_of, arc_rows};
+ghost use Rattle.rn_acts.specs.Acted.{row_of, arc_rows};
 
 use crate::acting::Acting;
 use rn_agree::awaits_action;
-use rn_arcs::elements_of;
+use rn_arcs::{elements_of, may_put};
 use rn_calc::{Values, evaluate};
 use rn_items::{Items, NoMemory};
 use rn_model::{ArcKind, NetArc, Transition};
 use rn_table::{Row, Rows};
 use rn_value::{InstRef, Vals, Value};
 use std::alloc::Global;
-
-/// Whether an arc puts something.
-fn may_put(kind: ArcKind) -> bool
-    ensures { result ≡ may_put kind }
-{
-    matches!(
-        kind,
-        ArcKind::Output | ArcKind::FlexOutput | ArcKind::Reserve
-    )
-}
 
 /// What an arc puts, by the value of its inscription.
 fn put_by(alloc: Global, kind: ArcKind, value: Value) -> Result<Vals, NoMemory>

@@ -1,6 +1,5 @@
 mod AgreeLemmas
 mod EachLemmas
 mod LinkLemmas
-mod MentionLemmas
 mod PathLemmas
 mod PartsAgree

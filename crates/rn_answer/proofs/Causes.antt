@@ -11,7 +11,7 @@ use Rattle.rn_declared.specs.declared.fault.Rule.{Rule}
 use Rattle.rn_declared.specs.declared.fault.Rule.TheVariants as Rule
 use Rattle.rn_declared.specs.declared.fault.CheckFault.{CheckFault}
 use Rattle.rn_declared.specs.declared.fault.CheckFault.TheVariants.{C1, C2, C3, C4, C5, C6}
-use Rattle.rn_declared.specs.declared.fault.CheckFault.TheVariants.{C7, C8, C9, C10, C11}
+use Rattle.rn_declared.specs.declared.fault.CheckFault.TheVariants.{C7, C8, C9, C10, C11, C12, C13}
 use Rattle.rn_declared.specs.declared.fault.CheckFault.TheVariants as C
 use Rattle.rn_declared.specs.Faults.{report_of}
 use Rattle.rn_rules.specs.Broken.{BreaksFirst}
@@ -51,6 +51,8 @@ plain_refused plain (C8 spot) (Refused a) breaks memory is = (Rule.Channel, spot
 plain_refused plain (C9 spot) (Refused a) breaks memory is = (Rule.Limit, spot, breaks Rule.Limit spot refl, is)
 plain_refused plain (C10 spot) (Refused a) breaks memory is = (Rule.Creation, spot, breaks Rule.Creation spot refl, is)
 plain_refused plain (C11 spot) (Refused a) breaks memory is = (Rule.Comparison, spot, breaks Rule.Comparison spot refl, is)
+plain_refused plain (C12 spot) (Refused a) breaks memory is = (Rule.Capacity, spot, breaks Rule.Capacity spot refl, is)
+plain_refused plain (C13 spot) (Refused a) breaks memory is = (Rule.Counted, spot, breaks Rule.Counted spot refl, is)
 plain_refused plain C.NoMemory (Refused a) breaks memory is = let no : Refused a ≡ NoMemory = memory refl in absurd cc
 plain_refused plain fault ReadFault breaks memory is = is
 plain_refused plain fault NoMemory breaks memory is = tt

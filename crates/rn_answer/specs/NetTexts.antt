@@ -11,7 +11,7 @@ use Rattle.rn_net.specs.Refusals.{IsRefused}
 use Rattle.rn_declared.specs.declared.fault.Rule.{Rule}
 use Rattle.rn_declared.specs.declared.fault.CheckFault.{CheckFault}
 use Rattle.rn_declared.specs.declared.fault.CheckFault.TheVariants.{C1, C2, C3, C4, C5, C6}
-use Rattle.rn_declared.specs.declared.fault.CheckFault.TheVariants.{C7, C8, C9, C10, C11}
+use Rattle.rn_declared.specs.declared.fault.CheckFault.TheVariants.{C7, C8, C9, C10, C11, C12, C13}
 use Rattle.rn_declared.specs.declared.fault.CheckFault.TheVariants as C
 use Rattle.rn_declared.specs.Faults.{report_of}
 use Rattle.rn_check.specs.Checked.{Checked}
@@ -52,6 +52,8 @@ check_line (C8 spot) = spot_line (codes "C8") spot
 check_line (C9 spot) = spot_line (codes "C9") spot
 check_line (C10 spot) = spot_line (codes "C10") spot
 check_line (C11 spot) = spot_line (codes "C11") spot
+check_line (C12 spot) = spot_line (codes "C12") spot
+check_line (C13 spot) = spot_line (codes "C13") spot
 check_line C.NoMemory = []
 
 -- The bytes are no net text, by this line: they spell no system, for this reason; or they spell one

@@ -61,6 +61,8 @@ fn refused_plain(alloc: Global, fault: CheckFault) -> Stopped
         CheckFault::C9(spot) => refused_at(alloc, b"C9", spot),
         CheckFault::C10(spot) => refused_at(alloc, b"C10", spot),
         CheckFault::C11(spot) => refused_at(alloc, b"C11", spot),
+        CheckFault::C12(spot) => refused_at(alloc, b"C12", spot),
+        CheckFault::C13(spot) => refused_at(alloc, b"C13", spot),
         CheckFault::NoMemory => Stopped::NoMemory,
     }
 }

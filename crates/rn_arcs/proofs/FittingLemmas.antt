@@ -1,6 +1,6 @@
 -- A place fits exactly where its tokens meet what is asked of it, and all places fit exactly where
 -- those fit of which something is asked.
-use Rattle.std.proofs.Common.{◌≡◌, ℕ, zero, suc, ◌-◌, ◌<◌, Bool, List, [], ◌∷◌}
+use Rattle.std.proofs.Common.{◌≡◌, ℕ, zero, suc, ◌-◌, ◌<◌, Bool, false, List, [], ◌∷◌}
 use Rattle.std.proofs.Common.{refl, sym, ap, ◌∙◌, subst, inl, inr, arith}
 use Rattle.std.specs.Prelude.{◌⊎◌, ◌↔◌, IsTrue, All, Contains, Some}
 use Rattle.std.specs.List.{flat_map}
@@ -21,8 +21,10 @@ use Rattle.rn_model.proofs.ReadConditions.{each_in}
 use Rattle.rn_model.proofs.ValueLists.{others_are_taken}
 use Rattle.rn_arcs.specs.Groups.{place_of, AreAsked}
 use Rattle.rn_arcs.specs.Meeting.{Meets}
+use Rattle.rn_arcs.specs.Room.{AllHaveRoom}
 use Rattle.rn_arcs.specs.Places.{InstPlace}
 use Rattle.rn_arcs.specs.declared.asked.Asked.{Asked}
+use Rattle.rn_arcs.proofs.TokenLemmas.{part_fails}
 use Rattle.rn_arcs.proofs.RisingPlaces.{those_at, one_at, OneAt, each_one, all_map}
 
 abbrev flat : List (List Value) → List Value
@@ -127,14 +129,15 @@ module _ (outputs : Bool) (system : System) (m : Marking) (b : Binding) (gs : Li
     (asked : AreAsked outputs system b gs) where
   -- what the only one of a place asks in one way
   only_asks : {A : Type 0} (select : Asked → List A) (k : InstPlace) (g : Asked) (vs : List A) →
-      flat_map select (those_at k gs) ≡ vs → those_at k gs ≡ g ∷ [] → select g ≡ vs
+      flat_map select (those_at place_of k gs) ≡ vs → those_at place_of k gs ≡ g ∷ [] →
+      select g ≡ vs
   only_asks select k g vs are only =
       sym (append-nil (select g)) ∙ sym (ap (flat_map select) only) ∙ are
 
   abbrev MeetsThere : Asked → Type 0
   MeetsThere g = Meets (tokens m g.inst g.place) g
 
-  module _ (k : InstPlace) (g : Asked) (only : those_at k gs ≡ g ∷ []) where
+  module _ (k : InstPlace) (g : Asked) (only : those_at place_of k gs ≡ g ∷ []) where
     pub taken_is : g.taken ≡ taken_at system b k.0 k.1
     taken_is = only_asks (λ g. g.taken) k g _ (asked.taken k) only
 
@@ -148,11 +151,11 @@ module _ (outputs : Bool) (system : System) (m : Marking) (b : Binding) (gs : Li
     cleared_is = only_asks (λ g. g.cleared) k g _ (asked.cleared k) only
 
   none_asked : {A : Type 0} (select : Asked → List A) (k : InstPlace) (vs : List A) →
-      flat_map select (those_at k gs) ≡ vs → those_at k gs ≡ [] → vs ≡ []
+      flat_map select (those_at place_of k gs) ≡ vs → those_at place_of k gs ≡ [] → vs ≡ []
   none_asked select k vs are none = sym are ∙ ap (flat_map select) none
 
-  fits_by_place : (k : InstPlace) → All MeetsThere gs → (those_at k gs ≡ []) ⊎ OneAt k gs →
-      PlaceFits system m b k.0 k.1
+  fits_by_place : (k : InstPlace) → All MeetsThere gs →
+      (those_at place_of k gs ≡ []) ⊎ OneAt place_of k gs → PlaceFits system m b k.0 k.1
   fits_by_place k meet (inl none) =
       idle system m b k.0 k.1
       (none_asked (λ g. g.taken) k _ (asked.taken k) none)
@@ -167,24 +170,33 @@ module _ (outputs : Bool) (system : System) (m : Marking) (b : Binding) (gs : Li
 
   places_fit : All MeetsThere gs → (inst : InstRef) (place : ℕ) → PlaceFits system m b inst place
   places_fit meet inst place =
-      fits_by_place (inst, place) meet (one_at (inst, place) gs asked.rises)
+      fits_by_place (inst, place) meet (one_at place_of (inst, place) gs asked.rises)
 
   all_meet : ((inst : InstRef) (place : ℕ) → PlaceFits system m b inst place) →
       All MeetsThere gs
   all_meet fit =
       All-from_recursion MeetsThere gs
-      (all_map (λ g. those_at (place_of g) gs ≡ g ∷ []) MeetsThere gs
+      (all_map (λ g. those_at place_of (place_of g) gs ≡ g ∷ []) MeetsThere gs
       (λ g only. fits_meets system m b g.inst g.place g
       (taken_is (place_of g) g only) (tested_is (place_of g) g only)
       (inhibited_is (place_of g) g only) (cleared_is (place_of g) g only)
       (fit g.inst g.place))
-      (each_one gs asked.rises))
+      (each_one place_of gs asked.rises))
 
-  -- with the instances there, the binding fits exactly where all that is asked is met
-  pub fits_exactly : (r : Bool) → IsTrue r ↔ All MeetsThere gs →
+  -- with the instances there and all met that is asked, the binding fits exactly where its places
+  -- have room
+  pub fits_exactly : All MeetsThere gs →
       All (λ node. (n : ℕ) → node.inst ≡ Old n → net_of m n ≡ Some node.net) b.nodes →
-      IsTrue r ↔ Fits system m b
-  fits_exactly r both there = (
-    λ yes. record { there = there; places = places_fit (both.0 yes) },
-    λ fits. both.1 (all_meet fits.places),
+      (r : Bool) → IsTrue r ↔ AllHaveRoom system m b → IsTrue r ↔ Fits system m b
+  fits_exactly meet there r both = (
+    λ yes.
+        let room = both.0 yes in
+        record { there = there; places = places_fit meet; room = room.0; made = room.1 },
+    λ fits. both.1 (fits.room, fits.made),
   )
+
+  -- where something isn't met, it doesn't fit
+  pub fits_fails : (r : Bool) → IsTrue r ↔ All MeetsThere gs → r ≡ false →
+      IsTrue false ↔ Fits system m b
+  fits_fails r both fails = part_fails r (All MeetsThere gs) (Fits system m b) both fails
+      (λ fits. all_meet fits.places)

@@ -1,12 +1,16 @@
 pub mod AsksOfBindings
-pub mod AsksOfPlaces
 pub mod CountLemmas
+pub mod EachIndex
+pub mod FillLemmas
 pub mod FittingLemmas
 pub mod Gathering
+pub mod JoiningItems
 pub mod MeetingLemmas
 pub mod PlaceOrder
 pub mod PlacesInOrder
 pub mod RisingPlaces
+pub mod RoomLemmas
 pub mod RowLemmas
+pub mod SearchedPlaces
 pub mod SortedLists
 pub mod TokenLemmas

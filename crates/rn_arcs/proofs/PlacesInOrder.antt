@@ -19,14 +19,14 @@ use Rattle.rn_model.specs.Lists.{ordered_values}
 use Rattle.rn_model.specs.Demands.{readings, asked_at, takes, puts, tests, inhibits, clears}
 use Rattle.rn_model.proofs.ValueLists.{ordered_values_ascend}
 use Rattle.rn_arcs.specs.Asks.{place_asked, is_wanted, binding_asks}
-use Rattle.rn_arcs.specs.Groups.{place_of, fresh, with_arc, groups_of, in_order, Rises}
-use Rattle.rn_arcs.specs.Groups.{asked_in, AreAsked}
+use Rattle.rn_arcs.specs.Groups.{place_of, fresh, with_arc, first_of, joined_ask, groups_of}
+use Rattle.rn_arcs.specs.Groups.{in_order, Rises, asked_in, AreAsked}
 use Rattle.rn_arcs.specs.Places.{InstPlace, place_cmp, is_at}
 use Rattle.rn_arcs.specs.declared.ask.Ask.{Ask}
 use Rattle.rn_arcs.specs.declared.asked.Asked.{Asked}
 use Rattle.rn_arcs.proofs.AsksOfBindings.{asks_are}
-use Rattle.rn_arcs.proofs.AsksOfPlaces.{groups-ask}
-use Rattle.rn_arcs.proofs.RisingPlaces.{those_at, one_at, OneAt, groups-rise}
+use Rattle.rn_arcs.proofs.JoiningItems.{joined_give}
+use Rattle.rn_arcs.proofs.RisingPlaces.{those_at, one_at, OneAt, joined_rise}
 
 mapped_test : (g : Asked) (hs : List Asked) (here : Bool) →
     cond here (in_order g ∷ map in_order hs) (map in_order hs)
@@ -35,12 +35,12 @@ mapped_test g hs true = refl
 mapped_test g hs false = refl
 
 those_mapped : (k : InstPlace) (gs : List Asked) →
-    those_at k (map in_order gs) ≡ map in_order (those_at k gs)
+    those_at place_of k (map in_order gs) ≡ map in_order (those_at place_of k gs)
 those_mapped k [] = refl
 those_mapped k (g ∷ gs) =
     let here = is_at k (place_of g) in
     ap (λ hs. cond here (in_order g ∷ hs) hs) (those_mapped k gs)
-    ∙ mapped_test g (those_at k gs) here
+    ∙ mapped_test g (those_at place_of k gs) here
 
 all_mapped : (k : InstPlace) (gs : List Asked) →
     AllByRecursion (λ h. place_cmp k (place_of h) ≡ Less) gs →
@@ -55,8 +55,10 @@ rises_mapped (g ∷ gs) r = (all_mapped (place_of g) gs r.0, rises_mapped gs r.1
 -- putting the places in order changes what is asked of each
 module _ {A : Type 0} (select : Asked → List A) (change : List A → List A)
     (nothing : change [] ≡ []) (is : (g : Asked) → select (in_order g) ≡ change (select g)) where
-  by_places : (k : InstPlace) (gs : List Asked) → (those_at k gs ≡ []) ⊎ OneAt k gs →
-      flat_map select (map in_order (those_at k gs)) ≡ change (flat_map select (those_at k gs))
+  by_places : (k : InstPlace) (gs : List Asked) →
+      (those_at place_of k gs ≡ []) ⊎ OneAt place_of k gs →
+      flat_map select (map in_order (those_at place_of k gs))
+      ≡ change (flat_map select (those_at place_of k gs))
   by_places k gs (inl none) =
       ap (λ hs. flat_map select (map in_order hs)) none
       ∙ sym nothing ∙ ap (λ hs. change (flat_map select hs)) (sym none)
@@ -69,7 +71,7 @@ module _ {A : Type 0} (select : Asked → List A) (change : List A → List A)
   ordered_asks : (gs : List Asked) → Rises gs → (k : InstPlace) →
       asked_in select (map in_order gs) k ≡ change (asked_in select gs k)
   ordered_asks gs r k =
-      ap (flat_map select) (those_mapped k gs) ∙ by_places k gs (one_at k gs r)
+      ap (flat_map select) (those_mapped k gs) ∙ by_places k gs (one_at place_of k gs r)
 
 -- only outputs are left out, and these take, test, inhibit and clear nothing
 unwanted : (kind : ArcKind) → is_wanted false kind ≡ false →
@@ -102,6 +104,10 @@ module _ (outputs : Bool) (system : System) (b : Binding) (sorted : List Ask)
     (up : IsSortedByKey place_asked place_cmp sorted)
     (stable : (k : InstPlace) → filter (λ a. is_at k (place_asked a)) sorted
     ≡ filter (λ a. is_at k (place_asked a)) (binding_asks outputs system b)) where
+  groups_rise : Rises (groups_of sorted)
+  groups_rise =
+      joined_rise place_of place_asked first_of joined_ask (λ a. refl) (λ a g. refl) sorted up
+
   module _ {A : Type 0} (select : Asked → List A) (pick : ArcKind → Value → List A)
       (none : (k : InstPlace) → select (fresh k) ≡ [])
       (more : (kind : ArcKind) (v : Value) (g : Asked) →
@@ -111,7 +117,11 @@ module _ (outputs : Bool) (system : System) (b : Binding) (sorted : List Ask)
     groups_are : (k : InstPlace) →
         asked_in select (groups_of sorted) k ≡ asked_at pick system (readings system b) k.0 k.1
     groups_are k =
-        groups-ask select pick none more k [] sorted
+        joined_give place_of place_asked first_of joined_ask select (λ a. pick a.kind a.value)
+        (λ a. refl) (λ a g. refl)
+        (λ a. more a.kind a.value (fresh (place_asked a))
+        ∙ ap (λ vs. vs ++ pick a.kind a.value) (none (place_asked a)))
+        (λ a g. more a.kind a.value g) k [] sorted
         ∙ ap (flat_map (λ a. pick a.kind a.value)) (stable k)
         ∙ asks_are pick outputs wanted k system b
 
@@ -120,12 +130,12 @@ module _ (outputs : Bool) (system : System) (b : Binding) (sorted : List Ask)
         asked_in select (map in_order (groups_of sorted)) k
         ≡ change (asked_at pick system (readings system b) k.0 k.1)
     in_order_are change nothing is k =
-        ordered_asks select change nothing is (groups_of sorted) (groups-rise sorted up) k
+        ordered_asks select change nothing is (groups_of sorted) (groups_rise) k
         ∙ ap change (groups_are k)
 
   pub are_asked : AreAsked outputs system b (map in_order (groups_of sorted))
   are_asked = record {
-    rises = rises_mapped (groups_of sorted) (groups-rise sorted up);
+    rises = rises_mapped (groups_of sorted) (groups_rise);
     taken = in_order_are (λ g. g.taken) takes (λ k. refl) (λ kind v g. refl)
         (pick_wanted takes (λ v. refl) (λ v. refl) outputs) ordered_values refl (λ g. refl);
     tested = in_order_are (λ g. g.tested) tests (λ k. refl) (λ kind v g. refl)

@@ -1,18 +1,15 @@
--- The places of sorted asks rise, and so each place comes once.
-use Rattle.std.proofs.Common.{◌≡◌, suc, ◌+◌, Bool, true, false, cond, List, [], ◌∷◌}
-use Rattle.std.proofs.Common.{get_or, refl, ap, ◌∙◌, subst, arith, inl, inr}
+-- The places of sorted items rise once those of one place are joined, and so each place comes once.
+use Rattle.std.proofs.Common.{◌≡◌, zero, suc, ◌+◌, Bool, true, false, cond, List, [], ◌∷◌, ◌++◌}
+use Rattle.std.proofs.Common.{get_or, refl, sym, ap, ◌∙◌, subst, arith, inl, inr}
 use Rattle.std.specs.Prelude.{⊤, ◌⊎◌, fold, filter, Contains}
 use Rattle.std.specs.List.{AllByRecursion}
 use Rattle.std.specs.List.Sorted.{IsSortedByKey}
-use Rattle.std.specs.Ordering.{is_eq, is_lt}
+use Rattle.std.specs.Ordering.{is_eq, is_lt, ordering_reverse}
 use Rattle.std.specs.declared.cmp.Ordering.TheVariants.{Less}
 use Rattle.std.proofs.lemmas.List.Elements.{recursion_from_All}
 use Rattle.std.proofs.lemmas.List.Sorted.{ranks_by, sorted_far}
-use Rattle.rn_arcs.specs.Asks.{place_asked}
-use Rattle.rn_arcs.specs.Groups.{place_of, first_of, with_arc, with_ask, groups_of, Rises}
+use Rattle.rn_arcs.specs.Joining.{Rising, with_item}
 use Rattle.rn_arcs.specs.Places.{InstPlace, place_cmp, is_at}
-use Rattle.rn_arcs.specs.declared.ask.Ask.{Ask}
-use Rattle.rn_arcs.specs.declared.asked.Asked.{Asked}
 use Rattle.rn_arcs.proofs.PlaceOrder.{place_total, is_above, stays_below, same_place}
 use Rattle.rn_arcs.proofs.PlaceOrder.{not_at_above, at_itself}
 
@@ -31,144 +28,187 @@ all_of : {X : Type 0} (P : X → Type 0) (xs : List X) → ((x : X) → P x) →
 all_of P [] f = tt
 all_of P (x ∷ xs) f = (f x, all_of P xs f)
 
--- no later ask is of a place below
-abbrev Ups : List Ask → Type 0
-Ups [] = ⊤
-Ups (a ∷ bs) =
-    AllByRecursion (λ b. is_lt (place_cmp (place_asked b) (place_asked a)) ≡ false) bs × Ups bs
+-- what holds of all that two lists have
+pub all_join : {X : Type 0} (P : X → Type 0) (xs ys : List X) → AllByRecursion P xs →
+    AllByRecursion P ys → AllByRecursion P (xs ++ ys)
+all_join P [] ys all more = more
+all_join P (x ∷ xs) ys all more = (all.0, all_join P xs ys all.1 more)
 
-abbrev below : Ask → Ask → Bool
-below a b = is_lt (place_cmp (place_asked a) (place_asked b))
+module _ {X : Type 0} (item_place : X → InstPlace) where
+  -- no later item is of a place below
+  abbrev pub Ups : List X → Type 0
+  Ups [] = ⊤
+  Ups (a ∷ bs) =
+      AllByRecursion (λ b. is_lt (place_cmp (item_place b) (item_place a)) ≡ false) bs × Ups bs
 
-rest_sorted : (a : Ask) (bs : List Ask) → IsSortedByKey place_asked place_cmp (a ∷ bs) →
-    IsSortedByKey place_asked place_cmp bs
-rest_sorted a bs up = λ k d low high.
-    let e : suc k + 1 ≡ suc (k + 1) = omega arith in
-    let here = up (suc k) d (omega arith) (omega (arith, high)) in
-    subst (λ j. below (get_or (a ∷ bs) j d) (get_or bs k d) ≡ false) e here
+  abbrev below : X → X → Bool
+  below a b = is_lt (place_cmp (item_place a) (item_place b))
 
-ups_of : (bs : List Ask) → IsSortedByKey place_asked place_cmp bs → Ups bs
-ups_of [] up = tt
-ups_of (a ∷ bs) up = (
-  recursion_from_All (λ b. below b a ≡ false) bs
-      (λ k d low. sorted_far below (ranks_by place_total place_asked) (a ∷ bs) up 0 (suc k) d
-      (omega arith) (omega (arith, low))),
-  ups_of bs (rest_sorted a bs up),
-)
+  pub sorted_of : (xs : List X) → Ups xs → IsSortedByKey item_place place_cmp xs
+  sorted_of [] up k d low high = absurd (let no : ⊥ = omega (arith, high) in no)
+  sorted_of (x ∷ []) up k d low high = absurd (let no : ⊥ = omega (arith, high) in no)
+  sorted_of (x ∷ y ∷ xs) up zero d low high = up.0.0
+  sorted_of (x ∷ y ∷ xs) up (suc k) d low high =
+      let e : suc k + 1 ≡ suc (k + 1) = omega arith in
+      subst (λ j. is_lt (place_cmp (item_place (get_or (x ∷ y ∷ xs) j d))
+      (item_place (get_or (y ∷ xs) k d))) ≡ false) (sym e)
+      (sorted_of (y ∷ xs) up.1 k d (omega arith) (omega (arith, high)))
 
--- what holds of all places, and of the new one
-by_test : (P : InstPlace → Type 0) (g : Asked) (a : Ask) (here : Bool) → P (place_of g) →
-    P (place_asked a) →
-    AllByRecursion (λ g. P (place_of g))
-    (cond here (with_arc a.kind a.value g ∷ []) (g ∷ first_of a ∷ []))
-by_test P g a true p q = (p, tt)
-by_test P g a false p q = (p, (q, tt))
+  rest_sorted : (a : X) (bs : List X) → IsSortedByKey item_place place_cmp (a ∷ bs) →
+      IsSortedByKey item_place place_cmp bs
+  rest_sorted a bs up = λ k d low high.
+      let e : suc k + 1 ≡ suc (k + 1) = omega arith in
+      let here = up (suc k) d (omega arith) (omega (arith, high)) in
+      subst (λ j. below (get_or (a ∷ bs) j d) (get_or bs k d) ≡ false) e here
 
-all_with : (P : InstPlace → Type 0) (gs : List Asked) (a : Ask) →
-    AllByRecursion (λ g. P (place_of g)) gs → P (place_asked a) →
-    AllByRecursion (λ g. P (place_of g)) (with_ask gs a)
-all_with P [] a all p = (p, tt)
-all_with P (g ∷ []) a all p = by_test P g a (is_at (place_of g) (place_asked a)) all.0 p
-all_with P (g ∷ h ∷ gs) a all p = (all.0, all_with P (h ∷ gs) a all.1 p)
+  ups_of : (bs : List X) → IsSortedByKey item_place place_cmp bs → Ups bs
+  ups_of [] up = tt
+  ups_of (a ∷ bs) up = (
+    recursion_from_All (λ b. below b a ≡ false) bs
+        (λ k d low. sorted_far below (ranks_by place_total item_place) (a ∷ bs) up 0 (suc k) d
+        (omega arith) (omega (arith, low))),
+    ups_of bs (rest_sorted a bs up),
+  )
 
--- the ask isn't of a place below
-abbrev NotBelow : Ask → Asked → Type 0
-NotBelow a g = is_lt (place_cmp (place_asked a) (place_of g)) ≡ false
+-- what is above isn't below
+pub not_below : (k l : InstPlace) → place_cmp k l ≡ Less → is_lt (place_cmp l k) ≡ false
+not_below k l low = ap is_lt (place_total.antisymm l k ∙ ap ordering_reverse low)
 
-last_rises : (g : Asked) (a : Ask) (here : Bool) → is_at (place_of g) (place_asked a) ≡ here →
-    NotBelow a g →
-    Rises (cond here (with_arc a.kind a.value g ∷ []) (g ∷ first_of a ∷ []))
-last_rises g a true e low = (tt, tt)
-last_rises g a false e low = ((is_above (place_of g) (place_asked a) low e, tt), (tt, tt))
-
-rises_with : (gs : List Asked) (a : Ask) → Rises gs → AllByRecursion (NotBelow a) gs →
-    Rises (with_ask gs a)
-rises_with [] a r low = (tt, tt)
-rises_with (g ∷ []) a r low =
-    last_rises g a (is_at (place_of g) (place_asked a)) refl low.0
-rises_with (g ∷ h ∷ gs) a r low = (
-  all_with (λ m. place_cmp (place_of g) m ≡ Less) (h ∷ gs) a r.0
-      (stays_below (place_of g) (place_of h) (place_asked a) r.0.0 low.1.0),
-  rises_with (h ∷ gs) a r.1 low.1,
-)
-
-rises_fold : (gs : List Asked) (bs : List Ask) → Rises gs →
-    AllByRecursion (λ b. AllByRecursion (NotBelow b) gs) bs → Ups bs →
-    Rises (fold with_ask gs bs)
-rises_fold gs [] r low up = r
-rises_fold gs (a ∷ bs) r low up =
-    rises_fold (with_ask gs a) bs (rises_with gs a r low.0)
-    (all_both (λ b. AllByRecursion (NotBelow b) gs) (λ b. below b a ≡ false)
-    (λ b. AllByRecursion (NotBelow b) (with_ask gs a)) bs
-    (λ b all new. all_with (λ m. is_lt (place_cmp (place_asked b) m) ≡ false) gs a all new)
-    low.1 up.0)
-    up.1
-
-pub groups-rise : (bs : List Ask) → IsSortedByKey place_asked place_cmp bs → Rises (groups_of bs)
-groups-rise bs up =
-    rises_fold [] bs tt (all_of (λ b. ⊤) bs (λ b. tt)) (ups_of bs up)
-
--- those of a place
-abbrev pub those_at : InstPlace → List Asked → List Asked
-those_at k gs = filter (λ g. is_at k (place_of g)) gs
-
-none_at : (k : InstPlace) (gs : List Asked) → AllByRecursion (λ g. is_at k (place_of g) ≡ false) gs →
-    those_at k gs ≡ []
-none_at k [] all = refl
-none_at k (g ∷ gs) all =
-    ap (λ t. cond t (g ∷ those_at k gs) (those_at k gs)) all.0 ∙ none_at k gs all.1
-
--- it is the only one of that place
-abbrev pub OneAt : InstPlace → List Asked → Type 0
-OneAt k gs = (g : Asked) × Contains gs g × (place_of g ≡ k) × (those_at k gs ≡ g ∷ [])
-
-first_only : (k : InstPlace) (g : Asked) (gs : List Asked) → Rises (g ∷ gs) →
-    is_at k (place_of g) ≡ true → those_at k (g ∷ gs) ≡ g ∷ []
-first_only k g gs r e =
-    let same : place_of g ≡ k = same_place k (place_of g) e in
-    let others = all_map (λ h. place_cmp (place_of g) (place_of h) ≡ Less)
-    (λ h. is_at k (place_of h) ≡ false) gs
-    (λ h low. not_at_above k (place_of h)
-    (subst (λ m. place_cmp m (place_of h) ≡ Less) same low)) r.0 in
-    ap (λ t. cond t (g ∷ those_at k gs) (those_at k gs)) e
-    ∙ ap (λ hs. g ∷ hs) (none_at k gs others)
-
-later_there : (g : Asked) (gs : List Asked) (h : Asked) → Contains gs h → Contains (g ∷ gs) h
-later_there g gs h (n, low, e) = (suc n, omega (arith, low), e)
-
-by_here : (k : InstPlace) (g : Asked) (gs : List Asked) (here : Bool) → is_at k (place_of g) ≡ here →
-    Rises (g ∷ gs) → (those_at k gs ≡ []) ⊎ OneAt k gs →
-    (those_at k (g ∷ gs) ≡ []) ⊎ OneAt k (g ∷ gs)
-by_here k g gs true e r rest =
-    inr (g, (0, omega arith, refl), same_place k (place_of g) e, first_only k g gs r e)
-by_here k g gs false e r (inl none) =
-    inl (ap (λ t. cond t (g ∷ those_at k gs) (those_at k gs)) e ∙ none)
-by_here k g gs false e r (inr (h, there, is, only)) =
-    inr (
-      h,
-      later_there g gs h there,
-      is,
-      ap (λ t. cond t (g ∷ those_at k gs) (those_at k gs)) e ∙ only,
+pub rising_is_sorted : {G : Type 0} (place : G → InstPlace) (gs : List G) → Rising place gs →
+    IsSortedByKey place place_cmp gs
+rising_is_sorted place gs r = sorted_of place gs (ups place gs r)
+  where
+    ups : {G : Type 0} (place : G → InstPlace) (gs : List G) → Rising place gs → Ups place gs
+    ups place [] r = tt
+    ups place (g ∷ gs) r = (
+      all_map (λ h. place_cmp (place g) (place h) ≡ Less)
+          (λ h. is_lt (place_cmp (place h) (place g)) ≡ false) gs
+          (λ h low. not_below (place g) (place h) low) r.0,
+      ups place gs r.1,
     )
 
-pub one_at : (k : InstPlace) (gs : List Asked) → Rises gs → (those_at k gs ≡ []) ⊎ OneAt k gs
-one_at k [] r = inl refl
-one_at k (g ∷ gs) r =
-    by_here k g gs (is_at k (place_of g)) refl r (one_at k gs r.1)
+module _ {G X : Type 0} (place : G → InstPlace) (item_place : X → InstPlace) (first : X → G)
+    (join : X → G → G) (first_stays : (x : X) → place (first x) ≡ item_place x)
+    (join_stays : (x : X) (g : G) → place (join x g) ≡ place g) where
+  abbrev with_one : List G → X → List G
+  with_one = with_item place item_place first join
 
--- each is the only one of its place
-below_others : (h g : Asked) (gs : List Asked) → place_cmp (place_of g) (place_of h) ≡ Less →
-    those_at (place_of h) gs ≡ h ∷ [] → those_at (place_of h) (g ∷ gs) ≡ h ∷ []
-below_others h g gs low only =
-    let hs = those_at (place_of h) gs in
-    ap (λ r. cond (is_eq r) (g ∷ hs) hs) low ∙ only
+  -- what holds of all places, and of the new one
+  by_test : (P : InstPlace → Type 0) (g : G) (x : X) (here : Bool) → P (place g) →
+      P (item_place x) →
+      AllByRecursion (λ h. P (place h)) (cond here (join x g ∷ []) (g ∷ first x ∷ []))
+  by_test P g x true p q = (subst P (sym (join_stays x g)) p, tt)
+  by_test P g x false p q = (p, (subst P (sym (first_stays x)) q, tt))
 
-pub each_one : (gs : List Asked) → Rises gs →
-    AllByRecursion (λ g. those_at (place_of g) gs ≡ g ∷ []) gs
-each_one [] r = tt
-each_one (g ∷ gs) r = (
-  first_only (place_of g) g gs r (at_itself (place_of g)),
-  all_both (λ h. place_cmp (place_of g) (place_of h) ≡ Less)
-      (λ h. those_at (place_of h) gs ≡ h ∷ []) (λ h. those_at (place_of h) (g ∷ gs) ≡ h ∷ [])
-      gs (λ h low only. below_others h g gs low only) r.0 (each_one gs r.1),
-)
+  all_with : (P : InstPlace → Type 0) (gs : List G) (x : X) →
+      AllByRecursion (λ g. P (place g)) gs → P (item_place x) →
+      AllByRecursion (λ g. P (place g)) (with_one gs x)
+  all_with P [] x all p = (subst P (sym (first_stays x)) p, tt)
+  all_with P (g ∷ []) x all p = by_test P g x (is_at (place g) (item_place x)) all.0 p
+  all_with P (g ∷ h ∷ gs) x all p = (all.0, all_with P (h ∷ gs) x all.1 p)
+
+  -- the item isn't of a place below
+  abbrev NotBelow : X → G → Type 0
+  NotBelow x g = is_lt (place_cmp (item_place x) (place g)) ≡ false
+
+  last_rises : (g : G) (x : X) (here : Bool) → is_at (place g) (item_place x) ≡ here →
+      NotBelow x g → Rising place (cond here (join x g ∷ []) (g ∷ first x ∷ []))
+  last_rises g x true e low = (tt, tt)
+  last_rises g x false e low =
+      let up : place_cmp (place g) (place (first x)) ≡ Less =
+      subst (λ l. place_cmp (place g) l ≡ Less) (sym (first_stays x))
+      (is_above (place g) (item_place x) low e) in
+      ((up, tt), (tt, tt))
+
+  rises_with : (gs : List G) (x : X) → Rising place gs → AllByRecursion (NotBelow x) gs →
+      Rising place (with_one gs x)
+  rises_with [] x r low = (tt, tt)
+  rises_with (g ∷ []) x r low = last_rises g x (is_at (place g) (item_place x)) refl low.0
+  rises_with (g ∷ h ∷ gs) x r low = (
+    all_with (λ m. place_cmp (place g) m ≡ Less) (h ∷ gs) x r.0
+        (stays_below (place g) (place h) (item_place x) r.0.0 low.1.0),
+    rises_with (h ∷ gs) x r.1 low.1,
+  )
+
+  rises_fold : (gs : List G) (xs : List X) → Rising place gs →
+      AllByRecursion (λ x. AllByRecursion (NotBelow x) gs) xs → Ups item_place xs →
+      Rising place (fold with_one gs xs)
+  rises_fold gs [] r low up = r
+  rises_fold gs (x ∷ xs) r low up =
+      rises_fold (with_one gs x) xs (rises_with gs x r low.0)
+      (all_both (λ y. AllByRecursion (NotBelow y) gs) (λ y. below item_place y x ≡ false)
+      (λ y. AllByRecursion (NotBelow y) (with_one gs x)) xs
+      (λ y all new. all_with (λ m. is_lt (place_cmp (item_place y) m) ≡ false) gs x all new)
+      low.1 up.0)
+      up.1
+
+  pub joined_rise : (xs : List X) → IsSortedByKey item_place place_cmp xs →
+      Rising place (fold with_one [] xs)
+  joined_rise xs up =
+      rises_fold [] xs tt (all_of (λ x. ⊤) xs (λ x. tt)) (ups_of item_place xs up)
+
+module _ {G : Type 0} (place : G → InstPlace) where
+  -- those of a place
+  abbrev pub those_at : InstPlace → List G → List G
+  those_at k gs = filter (λ g. is_at k (place g)) gs
+
+  pub none_at : (k : InstPlace) (gs : List G) → AllByRecursion (λ g. is_at k (place g) ≡ false) gs →
+      those_at k gs ≡ []
+  none_at k [] all = refl
+  none_at k (g ∷ gs) all =
+      ap (λ t. cond t (g ∷ those_at k gs) (those_at k gs)) all.0 ∙ none_at k gs all.1
+
+  -- it is the only one of that place
+  abbrev pub OneAt : InstPlace → List G → Type 0
+  OneAt k gs = (g : G) × Contains gs g × (place g ≡ k) × (those_at k gs ≡ g ∷ [])
+
+  first_only : (k : InstPlace) (g : G) (gs : List G) → Rising place (g ∷ gs) →
+      is_at k (place g) ≡ true → those_at k (g ∷ gs) ≡ g ∷ []
+  first_only k g gs r e =
+      let same : place g ≡ k = same_place k (place g) e in
+      let others = all_map (λ h. place_cmp (place g) (place h) ≡ Less)
+      (λ h. is_at k (place h) ≡ false) gs
+      (λ h low. not_at_above k (place h)
+      (subst (λ m. place_cmp m (place h) ≡ Less) same low)) r.0 in
+      ap (λ t. cond t (g ∷ those_at k gs) (those_at k gs)) e
+      ∙ ap (λ hs. g ∷ hs) (none_at k gs others)
+
+  later_there : (g : G) (gs : List G) (h : G) → Contains gs h → Contains (g ∷ gs) h
+  later_there g gs h (n, low, e) = (suc n, omega (arith, low), e)
+
+  by_here : (k : InstPlace) (g : G) (gs : List G) (here : Bool) → is_at k (place g) ≡ here →
+      Rising place (g ∷ gs) → (those_at k gs ≡ []) ⊎ OneAt k gs →
+      (those_at k (g ∷ gs) ≡ []) ⊎ OneAt k (g ∷ gs)
+  by_here k g gs true e r rest =
+      inr (g, (0, omega arith, refl), same_place k (place g) e, first_only k g gs r e)
+  by_here k g gs false e r (inl none) =
+      inl (ap (λ t. cond t (g ∷ those_at k gs) (those_at k gs)) e ∙ none)
+  by_here k g gs false e r (inr (h, there, is, only)) =
+      inr (
+        h,
+        later_there g gs h there,
+        is,
+        ap (λ t. cond t (g ∷ those_at k gs) (those_at k gs)) e ∙ only,
+      )
+
+  pub one_at : (k : InstPlace) (gs : List G) → Rising place gs →
+      (those_at k gs ≡ []) ⊎ OneAt k gs
+  one_at k [] r = inl refl
+  one_at k (g ∷ gs) r = by_here k g gs (is_at k (place g)) refl r (one_at k gs r.1)
+
+  -- each is the only one of its place
+  below_others : (h g : G) (gs : List G) → place_cmp (place g) (place h) ≡ Less →
+      those_at (place h) gs ≡ h ∷ [] → those_at (place h) (g ∷ gs) ≡ h ∷ []
+  below_others h g gs low only =
+      let hs = those_at (place h) gs in
+      ap (λ r. cond (is_eq r) (g ∷ hs) hs) low ∙ only
+
+  pub each_one : (gs : List G) → Rising place gs →
+      AllByRecursion (λ g. those_at (place g) gs ≡ g ∷ []) gs
+  each_one [] r = tt
+  each_one (g ∷ gs) r = (
+    first_only (place g) g gs r (at_itself (place g)),
+    all_both (λ h. place_cmp (place g) (place h) ≡ Less)
+        (λ h. those_at (place h) gs ≡ h ∷ []) (λ h. those_at (place h) (g ∷ gs) ≡ h ∷ [])
+        gs (λ h low only. below_others h g gs low only) r.0 (each_one gs r.1),
+  )

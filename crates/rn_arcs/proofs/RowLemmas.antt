@@ -1,10 +1,9 @@
 -- The rows of all places have what is asked of each.
-use Rattle.std.proofs.Common.{◌≡◌, ℕ, zero, suc, ◌+◌, Bool, true, false, cond, List, [], ◌∷◌}
-use Rattle.std.proofs.Common.{◌++◌, map, get_or, refl, sym, ap, ◌∙◌, subst, arith, inl, inr}
-use Rattle.std.specs.Prelude.{⊤, ◌⊎◌, filter}
+use Rattle.std.proofs.Common.{◌≡◌, ℕ, Bool, true, false, cond, List, [], ◌∷◌, ◌++◌, map}
+use Rattle.std.proofs.Common.{refl, sym, ap, ◌∙◌, subst, inl, inr}
+use Rattle.std.specs.Prelude.{◌⊎◌, filter}
 use Rattle.std.specs.List.{flat_map, AllByRecursion}
-use Rattle.std.specs.List.Sorted.{IsSortedByKey}
-use Rattle.std.specs.Ordering.{is_lt, ordering_reverse}
+use Rattle.std.specs.Ordering.{is_lt}
 use Rattle.std.specs.Cmp.{tied_itself}
 use Rattle.std.specs.declared.cmp.Ordering.TheVariants.{Less}
 use Rattle.std.proofs.lemmas.List.{append-nil, map-append}
@@ -13,8 +12,10 @@ use Rattle.rn_value.specs.declared.value.InstRef.{InstRef}
 use Rattle.rn_value.specs.declared.value.Value.{Value}
 use Rattle.rn_model.specs.declared.system.System.{System}
 use Rattle.rn_model.specs.declared.binding.Binding.{Binding}
+use Rattle.rn_model.specs.Demands.{filled_at}
 use Rattle.rn_model.specs.Demands.{taken_at, tested_at, inhibited_at, cleared_at, put_at}
-use Rattle.rn_arcs.specs.Demanded.{HasRows, AreDemandsOf, one_row, row_place, rows_at}
+use Rattle.rn_arcs.specs.Demanded.{HasRows, HasFills, AreDemandsOf, AreTakingsOf, one_row}
+use Rattle.rn_arcs.specs.Demanded.{row_place, rows_at}
 use Rattle.rn_arcs.specs.Groups.{place_of, asked_in, AreAsked, Rises}
 use Rattle.rn_arcs.specs.Places.{InstPlace, place_cmp, is_at}
 use Rattle.rn_arcs.specs.Rows.{row_of, rows_of, taken_rows, tested_rows, inhibited_rows}
@@ -22,30 +23,16 @@ use Rattle.rn_arcs.specs.Rows.{cleared_rows, put_rows}
 use Rattle.rn_arcs.specs.declared.asked.Asked.{Asked}
 use Rattle.rn_arcs.specs.declared.demands.Place2.{Place2}
 use Rattle.rn_arcs.specs.declared.demands.Demands.{Demands}
+use Rattle.rn_arcs.specs.declared.demands.Takings.{Takings}
 use Rattle.rn_arcs.proofs.Gathering.{at_place-append, at_place-one, nil}
 use Rattle.rn_arcs.proofs.PlaceOrder.{place_total}
-use Rattle.rn_arcs.proofs.RisingPlaces.{those_at, one_at, OneAt, all_map}
+use Rattle.rn_arcs.proofs.RisingPlaces.{those_at, one_at, OneAt, all_map, Ups, sorted_of}
+use Rattle.rn_arcs.proofs.RisingPlaces.{not_below}
 
 -- one row of the values that there are
 pub one_row-some : (vs : List Value) → (vs ≡ [] → ⊥) → one_row vs ≡ vs ∷ []
 one_row-some [] some = absurd (some refl)
 one_row-some (v ∷ vs) some = refl
-
--- no later row is of a place below
-abbrev Ups : List Place2 → Type 0
-Ups [] = ⊤
-Ups (r ∷ rs) =
-    AllByRecursion (λ s. is_lt (place_cmp (row_place s) (row_place r)) ≡ false) rs × Ups rs
-
-sorted_of : (rs : List Place2) → Ups rs → IsSortedByKey row_place place_cmp rs
-sorted_of [] up k d low high = absurd (let no : ⊥ = omega (arith, high) in no)
-sorted_of (r ∷ []) up k d low high = absurd (let no : ⊥ = omega (arith, high) in no)
-sorted_of (r ∷ s ∷ rs) up zero d low high = up.0.0
-sorted_of (r ∷ s ∷ rs) up (suc k) d low high =
-    let e : suc k + 1 ≡ suc (k + 1) = omega arith in
-    subst (λ j. is_lt (place_cmp (row_place (get_or (r ∷ s ∷ rs) j d))
-    (row_place (get_or (s ∷ rs) k d))) ≡ false) (sym e)
-    (sorted_of (s ∷ rs) up.1 k d (omega arith) (omega (arith, high)))
 
 module _ (lists : Asked → List (List Value)) where
   abbrev rows : Asked → List Place2
@@ -64,8 +51,8 @@ module _ (lists : Asked → List (List Value)) where
       all_own P (place_of g) (lists g) (flat_map rows gs) all.0 (all_rows P gs all.1)
 
   ups_own : (l : InstPlace) (vss : List (List Value)) (rs : List Place2) →
-      AllByRecursion (λ r. is_lt (place_cmp (row_place r) l) ≡ false) rs → Ups rs →
-      Ups (rows_of l vss ++ rs)
+      AllByRecursion (λ r. is_lt (place_cmp (row_place r) l) ≡ false) rs → Ups row_place rs →
+      Ups row_place (rows_of l vss ++ rs)
   ups_own l [] rs low up = up
   ups_own l (vs ∷ vss) rs low up = (
     all_own (λ m. is_lt (place_cmp m l) ≡ false) l vss rs
@@ -73,11 +60,7 @@ module _ (lists : Asked → List (List Value)) where
     ups_own l vss rs low up,
   )
 
-  not_below : (k l : InstPlace) → place_cmp k l ≡ Less → is_lt (place_cmp l k) ≡ false
-  not_below k l low =
-      ap is_lt (place_total.antisymm l k ∙ ap ordering_reverse low)
-
-  rows_up : (gs : List Asked) → Rises gs → Ups (flat_map rows gs)
+  rows_up : (gs : List Asked) → Rises gs → Ups row_place (flat_map rows gs)
   rows_up [] r = tt
   rows_up (g ∷ gs) r =
       ups_own (place_of g) (lists g) (flat_map rows gs)
@@ -128,15 +111,16 @@ module _ (lists : Asked → List (List Value)) where
   pub has_rows : (gs : List Asked) (wanted : InstRef → ℕ → List (List Value)) → Rises gs →
       ((k : InstPlace) → asked_in lists gs k ≡ wanted k.0 k.1) → HasRows (flat_map rows gs) wanted
   has_rows gs wanted r are = record {
-    ascending = sorted_of (flat_map rows gs) (rows_up gs r);
+    ascending = sorted_of row_place (flat_map rows gs) (rows_up gs r);
     exact = λ inst place. all_values (inst, place) gs ∙ are (inst, place);
   }
 
 -- one row of what is asked of a place
 module _ (select : Asked → List Value) where
-  by_places : (k : InstPlace) (gs : List Asked) → (those_at k gs ≡ []) ⊎ OneAt k gs →
-      flat_map (λ g. one_row (select g)) (those_at k gs)
-      ≡ one_row (flat_map select (those_at k gs))
+  by_places : (k : InstPlace) (gs : List Asked) →
+      (those_at place_of k gs ≡ []) ⊎ OneAt place_of k gs →
+      flat_map (λ g. one_row (select g)) (those_at place_of k gs)
+      ≡ one_row (flat_map select (those_at place_of k gs))
   by_places k gs (inl none) =
       ap (flat_map (λ g. one_row (select g))) none
       ∙ ap (λ hs. one_row (flat_map select hs)) (sym none)
@@ -149,7 +133,7 @@ module _ (select : Asked → List Value) where
       ((k : InstPlace) → asked_in select gs k ≡ wanted k.0 k.1) → (k : InstPlace) →
       asked_in (λ g. one_row (select g)) gs k ≡ one_row (wanted k.0 k.1)
   in_one_row gs wanted r are k =
-      by_places k gs (one_at k gs r) ∙ ap one_row (are k)
+      by_places k gs (one_at place_of k gs r) ∙ ap one_row (are k)
 
   pub has_one_row : (gs : List Asked) (wanted : InstRef → ℕ → List Value) → Rises gs →
       ((k : InstPlace) → asked_in select gs k ≡ wanted k.0 k.1) →
@@ -167,21 +151,42 @@ pub record AreRowsOf (gs : List Asked) (d : Demands) : Type 0 where
   pub cleared : d.cleared ≡ flat_map cleared_rows gs
   pub put : d.put ≡ flat_map put_rows gs
 
+module _ (outputs : Bool) (system : System) (b : Binding) (gs : List Asked)
+    (asked : AreAsked outputs system b gs) where
+  taken_are : (rs : List Place2) → rs ≡ flat_map taken_rows gs →
+      HasRows rs (λ inst place. one_row (taken_at system b inst place))
+  taken_are rs are =
+      subst (λ rs. HasRows rs (λ inst place. one_row (taken_at system b inst place))) (sym are)
+      (has_one_row (λ g. g.taken) gs (taken_at system b) asked.rises asked.taken)
+
+  cleared_are : (rs : List Place2) → rs ≡ flat_map cleared_rows gs →
+      HasRows rs (λ inst place. cleared_at system b inst place)
+  cleared_are rs are =
+      subst (λ rs. HasRows rs (cleared_at system b)) (sym are)
+      (has_rows (λ g. g.cleared) gs (cleared_at system b) asked.rises asked.cleared)
+
+pub takings_are : (system : System) (b : Binding) (gs : List Asked) (t : Takings) →
+    AreAsked false system b gs → t.taken ≡ flat_map taken_rows gs →
+    t.cleared ≡ flat_map cleared_rows gs → AreTakingsOf system b t
+takings_are system b gs t asked taken cleared = record {
+  taken = taken_are false system b gs asked t.taken taken;
+  cleared = cleared_are false system b gs asked t.cleared cleared;
+}
+
 pub demands_are : (system : System) (b : Binding) (gs : List Asked) (d : Demands) →
-    AreAsked true system b gs → AreRowsOf gs d → AreDemandsOf system b d
-demands_are system b gs d asked are = record {
-  taken = subst (λ rs. HasRows rs (λ inst place. one_row (taken_at system b inst place)))
-      (sym are.taken)
-      (has_one_row (λ g. g.taken) gs (taken_at system b) asked.rises asked.taken);
+    AreAsked true system b gs → HasFills d.filled (filled_at system b) → AreRowsOf gs d →
+    AreDemandsOf system b d
+demands_are system b gs d asked fills are = record {
+  taken = taken_are true system b gs asked d.taken are.taken;
   tested = subst (λ rs. HasRows rs (λ inst place. one_row (tested_at system b inst place)))
       (sym are.tested)
       (has_one_row (λ g. g.tested) gs (tested_at system b) asked.rises asked.tested);
   inhibited = subst (λ rs. HasRows rs (λ inst place. one_row (inhibited_at system b inst place)))
       (sym are.inhibited)
       (has_one_row (λ g. g.inhibited) gs (inhibited_at system b) asked.rises asked.inhibited);
-  cleared = subst (λ rs. HasRows rs (cleared_at system b)) (sym are.cleared)
-      (has_rows (λ g. g.cleared) gs (cleared_at system b) asked.rises asked.cleared);
+  cleared = cleared_are true system b gs asked d.cleared are.cleared;
   put = subst (λ rs. HasRows rs (λ inst place. one_row (put_at system b inst place)))
       (sym are.put)
       (has_one_row (λ g. g.put) gs (put_at system b) asked.rises (asked.put refl));
+  filled = fills;
 }

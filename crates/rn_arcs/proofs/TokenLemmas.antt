@@ -16,7 +16,8 @@ got_is [] i v e = refl
 got_is (w ∷ vs) zero v e = cc
 got_is (w ∷ vs) (suc i) v e = got_is vs i v e
 
-within : (vs : List Value) (i : ℕ) (v : Value) → slice_get vs i ≡ Some v → i < length vs
+pub within : {X : Type 0} (vs : List X) (i : ℕ) (v : X) → slice_get vs i ≡ Some v →
+    i < length vs
 within [] i v e = absurd (let no : ⊥ = cc in no)
 within (w ∷ vs) zero v e = omega arith
 within (w ∷ vs) (suc i) v e = let low = within vs i v e in omega (arith, low)

@@ -1,8 +1,6 @@
 -- What is asked of each place. This only connects the code to the demands of bindings.
-use Rattle.std.specs.Prelude.{◌≡◌, Bool, true, List, [], ◌∷◌, ◌++◌, ⊤, filter, fold}
-use Rattle.std.specs.Prelude.{if◌then◌else◌}
-use Rattle.std.specs.List.{flat_map, AllByRecursion}
-use Rattle.std.specs.declared.cmp.Ordering.TheVariants.{Less}
+use Rattle.std.specs.Prelude.{◌≡◌, Bool, true, List, [], ◌++◌, filter, fold}
+use Rattle.std.specs.List.{flat_map}
 use Rattle.rn_value.specs.declared.value.Value.{Value}
 use Rattle.rn_model.specs.declared.system.System.{System}
 use Rattle.rn_model.specs.declared.system.ArcKind.{ArcKind}
@@ -10,7 +8,8 @@ use Rattle.rn_model.specs.declared.binding.Binding.{Binding}
 use Rattle.rn_model.specs.Lists.{ordered_values}
 use Rattle.rn_model.specs.Demands.{takes, puts, tests, inhibits, clears, taken_at, tested_at}
 use Rattle.rn_model.specs.Demands.{inhibited_at, cleared_at, put_at}
-use Rattle.rn_arcs.specs.Places.{InstPlace, place_cmp, is_at}
+use Rattle.rn_arcs.specs.Joining.{Rising, with_item}
+use Rattle.rn_arcs.specs.Places.{InstPlace, is_at}
 use Rattle.rn_arcs.specs.Asks.{place_asked}
 use Rattle.rn_arcs.specs.declared.ask.Ask.{Ask}
 use Rattle.rn_arcs.specs.declared.asked.Asked.{Asked}
@@ -47,14 +46,14 @@ with_arc kind v g = record {
 abbrev pub first_of : Ask → Asked
 first_of a = with_arc a.kind a.value (fresh (place_asked a))
 
+-- what an arc asks, with what is asked of its place before
+abbrev pub joined_ask : Ask → Asked → Asked
+joined_ask a g = with_arc a.kind a.value g
+
 -- What an arc asks joins what is asked of the last place where that is its own, and else stands
 -- after it.
 abbrev pub with_ask : List Asked → Ask → List Asked
-with_ask [] a = first_of a ∷ []
-with_ask (g ∷ []) a =
-    if is_at (place_of g) (place_asked a) then with_arc a.kind a.value g ∷ []
-    else g ∷ first_of a ∷ []
-with_ask (g ∷ h ∷ gs) a = g ∷ with_ask (h ∷ gs) a
+with_ask = with_item place_of place_asked first_of joined_ask
 
 -- what all these ask
 abbrev pub groups_of : List Ask → List Asked
@@ -74,8 +73,7 @@ in_order g = record {
 
 -- each place stands before the later ones
 abbrev pub Rises : List Asked → Type 0
-Rises [] = ⊤
-Rises (g ∷ gs) = AllByRecursion (λ h. place_cmp (place_of g) (place_of h) ≡ Less) gs × Rises gs
+Rises = Rising place_of
 
 -- what is asked of a place, in one way
 abbrev pub asked_in : {A : Type 0} → (Asked → List A) → List Asked → InstPlace → List A

@@ -12,6 +12,7 @@ use crate::asked::Asked;
 use crate::counting::count_among;
 use crate::grouping::asked_of;
 use crate::holding::{bag_at, count_in, has_all_in, is_list_of};
+use crate::room::has_room;
 use rn_bag::Bag;
 use rn_items::NoMemory;
 use rn_model::{Binding, Node, System};
@@ -128,12 +129,14 @@ fn all_fit(table: &Table, places: &[Asked]) -> bool
 }
 
 /// Whether the table meets what the arcs of a binding ask together: its existing instances are
-/// there with their nets; what is taken is there, with repeats; each tested token remains after all that
-/// is taken and cleared; no inhibited token is there; and a cleared place has one clear arc, whose
-/// list is that of all its tokens, with nothing else taken. An instance that the binding makes holds
-/// nothing yet.
+/// there with their nets; what is taken is there, with repeats; each tested token remains after all
+/// that is taken and cleared; no inhibited token is there; and a cleared place has one clear arc,
+/// whose list is that of all its tokens, with nothing else taken. An instance that the binding makes
+/// holds nothing yet. Besides no place of an instance that takes part or is made gets more tokens
+/// than its capacity, where what is taken and cleared goes before anything is put.
 ///
-/// Its work is near linear in the number of arcs, and it copies no bag.
+/// Its work is near linear in the number of arcs, and it copies no bag. Where a net has places with
+/// a capacity, each of these is looked up for each node of that net, and none of its tokens.
 pub fn fits(
     alloc: Global,
     system: &System,
@@ -147,5 +150,9 @@ pub fn fits(
         return Ok(false);
     }
     let places = asked_of(alloc, system, binding, false)?;
-    Ok(all_fit(table, places.as_slice()))
+    let asked = places.as_slice();
+    if !all_fit(table, asked) {
+        return Ok(false);
+    }
+    has_room(alloc, system, table, binding, asked)
 }

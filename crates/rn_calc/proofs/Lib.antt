@@ -1,2 +1,3 @@
 pub mod FittingLemmas
+pub mod MentionLemmas
 pub mod NodeLookups

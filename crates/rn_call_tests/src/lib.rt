@@ -2,6 +2,8 @@
 #![tactic(auto)]
 
 #[cfg(test)]
+mod capacities;
+#[cfg(test)]
 mod desks;
 #[cfg(test)]
 mod lists;

@@ -1,6 +1,7 @@
 -- The variables of an expression in which nothing is broken are declared and may stand there,
--- `step()` stands only where it may, and its tuples don't have too many parts.
-use Rattle.std.proofs.Common.{◌≡◌, ℕ, ℤ, Bool, true, false, ◌&&◌, not, List, [], ◌∷◌}
+-- `step()` stands only where it may, and its tuples don't have too many parts. Where it holds no
+-- name that passes a test, none of its variables has such a name.
+use Rattle.std.proofs.Common.{◌≡◌, ℕ, ℤ, Bool, true, false, ◌&&◌, ◌||◌, not, List, [], ◌∷◌}
 use Rattle.std.proofs.Common.{◌++◌, map}
 use Rattle.std.proofs.Common.{refl, sym, ap, ◌∙◌, subst, length, arith}
 use Rattle.std.specs.Prelude.{flat_map, is_none, nat_le}
@@ -28,6 +29,7 @@ use Rattle.rn_declared.specs.Faults.{broken_if, past_limit}
 use Rattle.rn_rules.specs.Expressions.{Where, Seen, seen_of, seen_form, whole, tuple_of, listed}
 use Rattle.rn_rules.specs.Expressions.{with_element, with_elements, operand_faults, operands_faults}
 use Rattle.rn_rules.specs.Expressions.{apart, misfit}
+use Rattle.rn_rules.specs.Counted.{holds_form, holds_name}
 use Rattle.rn_numbered.specs.Numbered.{expr_of, expr_of_form}
 use Rattle.rn_spelled.specs.WellFormed.{tails_step, tails_follow}
 use Rattle.rn_check.proofs.ExpressionKinds.{Parts, Forms, form_seen, seen-at}
@@ -77,6 +79,16 @@ module _ {A : Type 0} (step : O.Expr-F A → A) where
 abbrev form_tails : PForm → Bool
 form_tails = fold-PForm Bool Bool tails_step (λ e. e.form)
 
+abbrev Held : Type 0
+Held = (List ℕ → Bool) → Bool
+
+abbrev form_holds : PForm → Held
+form_holds = fold-PForm Held Held holds_form (λ e. e.form)
+
+neither_true : (a b : Bool) → (a || b) ≡ false → (a ≡ false) × (b ≡ false)
+neither_true true b e = absurd (let no : ⊥ = cc in no)
+neither_true false b e = (refl, e)
+
 module _ (at : Where) (var : List ℕ → ℕ) where
   -- the number is that of a name that is declared and may stand there
   pub record Stands (x : ℕ) : Type 0 where
@@ -85,16 +97,26 @@ module _ (at : Where) (var : List ℕ → ℕ) where
     pub known : is_none (at.pattern_of_var name) ≡ false
     pub may : at.may_stand name ≡ true
 
-  record IsSound (faults : List Fault) (tails : Bool) (e : Expr) : Type 0 where
+  -- the number is that of a name that is declared and doesn't pass a test
+  pub record StandsFree (test : List ℕ → Bool) (x : ℕ) : Type 0 where
+    pub name : List ℕ
+    pub number : x ≡ var name
+    pub known : is_none (at.pattern_of_var name) ≡ false
+    pub free : test name ≡ false
+
+  record IsSound (faults : List Fault) (tails : Bool) (held : Held) (e : Expr) : Type 0 where
     narrow : faults ≡ [] → tails ≡ true → expr_narrow e ≡ true
     vars : faults ≡ [] → AllByRecursion Stands (vars_in e)
     steps : faults ≡ [] → at.step_may ≡ false → holds_step e ≡ false
+    free : (test : List ℕ → Bool) → faults ≡ [] → held test ≡ false →
+        AllByRecursion (StandsFree test) (vars_in e)
 
   abbrev Sound : PExpr → Type 0
-  Sound e = IsSound (seen_of e at).faults (tails_follow e) (expr_of e var)
+  Sound e = IsSound (seen_of e at).faults (tails_follow e) (holds_name e) (expr_of e var)
 
   abbrev FormSound : PForm → Type 0
-  FormSound f = (s : Spot) → IsSound (form_seen f s at).faults (form_tails f) (form_expr f var)
+  FormSound f = (s : Spot) →
+      IsSound (form_seen f s at).faults (form_tails f) (form_holds f) (form_expr f var)
 
   abbrev Part : Type 0
   Part = (e : PExpr) × Sound e
@@ -153,6 +175,17 @@ module _ (at : Where) (var : List ℕ → ℕ) where
       each_append Stands (vars_in (expr_of part.0 var)) (concat (map vars_in (exprs parts)))
       (part.1.vars none.0) (all_vars parts none.1)
 
+  all_free : (test : List ℕ → Bool) (parts : List Part) → Faultless parts →
+      list_any (λ held. held test) (map holds_name (bare parts)) ≡ false →
+      AllByRecursion (StandsFree test) (concat (map vars_in (exprs parts)))
+  all_free test [] none e = tt
+  all_free test (part ∷ parts) none e =
+      let both = neither_true (holds_name part.0 test)
+      (list_any (λ held. held test) (map holds_name (bare parts))) e in
+      each_append (StandsFree test) (vars_in (expr_of part.0 var))
+      (concat (map vars_in (exprs parts)))
+      (part.1.free test none.0 both.0) (all_free test parts none.1 both.1)
+
   no_steps : (parts : List Part) → Faultless parts → at.step_may ≡ false →
       list_any (λ h. h) (map holds_step (exprs parts)) ≡ false
   no_steps [] none e = refl
@@ -162,6 +195,7 @@ module _ (at : Where) (var : List ℕ → ℕ) where
   OpenSound y s = IsSound
       (seen_form (map-PForm PForm PExpr Forms Parts form_seen seen_of (heads y)) s at).faults
       (tails_step (map-PForm PForm PExpr Bool Bool form_tails tails_follow (heads y)))
+      (holds_form (map-PForm PForm PExpr Held Held form_holds holds_name (heads y)))
       (expr_of_form (map-PForm PForm PExpr Numbered Numbered form_expr expr_of (heads y)) var)
 
   operand_faultless : (a : Seen) → operand_faults a ≡ [] → a.faults ≡ []
@@ -174,11 +208,13 @@ module _ (at : Where) (var : List ℕ → ℕ) where
     narrow = λ e t. at-Int expr_narrow_step n;
     vars = λ e. subst (AllByRecursion Stands) (sym (at-Int vars_step n)) tt;
     steps = λ e m. at-Int step_in_step n;
+    free = λ test e h. subst (AllByRecursion (StandsFree test)) (sym (at-Int vars_step n)) tt;
   }
   open_sound (F.Text t) s = record {
     narrow = λ e f. at-Text expr_narrow_step t;
     vars = λ e. subst (AllByRecursion Stands) (sym (at-Text vars_step t)) tt;
     steps = λ e m. at-Text step_in_step t;
+    free = λ test e h. subst (AllByRecursion (StandsFree test)) (sym (at-Text vars_step t)) tt;
   }
   open_sound (F.Name name) s = record {
     narrow = λ e t. at-Var expr_narrow_step (var name);
@@ -196,11 +232,25 @@ module _ (at : Where) (var : List ℕ → ℕ) where
           tt,
         );
     steps = λ e m. at-Var step_in_step (var name);
+    free = λ test e h.
+        let known = broken_if (is_none (at.pattern_of_var name)) Rule.Known s in
+        let may = broken_if (not (at.may_stand name)) Rule.Actions s in
+        let none = both_nil known may e in
+        subst (AllByRecursion (StandsFree test)) (sym (at-Var vars_step (var name))) (
+          record {
+            name = name;
+            number = refl;
+            known = unbroken (is_none (at.pattern_of_var name)) Rule.Known s none.0;
+            free = h;
+          },
+          tt,
+        );
   }
   open_sound F.This s = record {
     narrow = λ e t. at-This expr_narrow_step;
     vars = λ e. subst (AllByRecursion Stands) (sym (at-This vars_step)) tt;
     steps = λ e m. at-This step_in_step;
+    free = λ test e h. subst (AllByRecursion (StandsFree test)) (sym (at-This vars_step)) tt;
   }
   open_sound F.Step s = record {
     narrow = λ e t. at-Step expr_narrow_step;
@@ -208,6 +258,7 @@ module _ (at : Where) (var : List ℕ → ℕ) where
     steps = λ e m.
         let may = holds at.step_may Rule.Actions s e in
         absurd (let no : true ≡ false = sym may ∙ m in let no : ⊥ = cc in no);
+    free = λ test e h. subst (AllByRecursion (StandsFree test)) (sym (at-Step vars_step)) tt;
   }
   open_sound (F.Tuple parts) s =
       let es = exprs parts in
@@ -236,6 +287,10 @@ module _ (at : Where) (var : List ℕ → ℕ) where
         steps = λ e m.
             let none = both_nil told limit e in
             at-Tuple step_in_step es ∙ no_steps parts (tuple_faultless parts none.0) m;
+        free = λ test e h.
+            let none = both_nil told limit e in
+            subst (AllByRecursion (StandsFree test)) (sym (at-Tuple vars_step es))
+            (all_free test parts (tuple_faultless parts none.0) h);
       }
   open_sound (F.List parts) s =
       let es = exprs parts in
@@ -246,6 +301,8 @@ module _ (at : Where) (var : List ℕ → ℕ) where
         vars = λ e. subst (AllByRecursion Stands) (sym (at-List vars_step es))
             (all_vars parts (list_faultless parts start e).1);
         steps = λ e m. at-List step_in_step es ∙ no_steps parts (list_faultless parts start e).1 m;
+        free = λ test e h. subst (AllByRecursion (StandsFree test)) (sym (at-List vars_step es))
+            (all_free test parts (list_faultless parts start e).1 h);
       }
   open_sound (F.Cons parts tail) s =
       let es = exprs parts in
@@ -287,6 +344,16 @@ module _ (at : Where) (var : List ℕ → ℕ) where
             let here = both_nil t.faults fits none.1 in
             at-Cons step_in_step es last
             ∙ rw (no_steps parts (list_faultless parts start none.0).1 m) (tail.1.steps here.0 m);
+        free = λ test e h.
+            let none = both_nil elements.faults (t.faults ++ fits) e in
+            let here = both_nil t.faults fits none.1 in
+            let held = neither_true
+            (list_any (λ held. held test) (map holds_name (bare parts)))
+            (holds_name tail.0 test) h in
+            subst (AllByRecursion (StandsFree test)) (sym (at-Cons vars_step es last))
+            (each_append (StandsFree test) (concat (map vars_in es)) (vars_in last)
+            (all_free test parts (list_faultless parts start none.0).1 held.0)
+            (tail.1.free test here.0 held.1));
       }
   open_sound (F.Neg a) s =
       let v = expr_of a.0 var in
@@ -297,6 +364,8 @@ module _ (at : Where) (var : List ℕ → ℕ) where
             (a.1.vars (operand_faultless (seen_of a.0 at) e));
         steps = λ e m.
             at-Neg step_in_step v ∙ a.1.steps (operand_faultless (seen_of a.0 at) e) m;
+        free = λ test e h. subst (AllByRecursion (StandsFree test)) (sym (at-Neg vars_step v))
+            (a.1.free test (operand_faultless (seen_of a.0 at) e) h);
       }
   open_sound (F.Op op a b) s =
       let v = expr_of a.0 var in
@@ -322,24 +391,34 @@ module _ (at : Where) (var : List ℕ → ℕ) where
             at-Op step_in_step op v w
             ∙ rw (a.1.steps (operand_faultless (seen_of a.0 at) none.0) m)
             (b.1.steps (operand_faultless (seen_of b.0 at) none.1) m);
+        free = λ test e h.
+            let none = both_nil left right e in
+            let held = neither_true (holds_name a.0 test) (holds_name b.0 test) h in
+            subst (AllByRecursion (StandsFree test)) (sym (at-Op vars_step op v w))
+            (each_append (StandsFree test) (vars_in v) (vars_in w)
+            (a.1.free test (operand_faultless (seen_of a.0 at) none.0) held.0)
+            (b.1.free test (operand_faultless (seen_of b.0 at) none.1) held.1));
       }
 
-  moved : {fs gs : List Fault} {s t : Bool} {v w : Expr} → fs ≡ gs → s ≡ t → v ≡ w →
-      IsSound gs t w → IsSound fs s v
-  moved {fs} {gs} {s} {t} {v} {w} a b c sound =
-      subst (λ fs. IsSound fs s v) (sym a)
-      (subst (λ s. IsSound gs s v) (sym b) (subst (IsSound gs t) (sym c) sound))
+  moved : {fs gs : List Fault} {s t : Bool} {h k : Held} {v w : Expr} → fs ≡ gs → s ≡ t → h ≡ k →
+      v ≡ w → IsSound gs t k w → IsSound fs s h v
+  moved {fs} {gs} {s} {t} {h} {k} {v} {w} a b c d sound =
+      subst (λ fs. IsSound fs s h v) (sym a)
+      (subst (λ s. IsSound gs s h v) (sym b)
+      (subst (λ h. IsSound gs t h v) (sym c) (subst (IsSound gs t k) (sym d) sound)))
 
   form_layer : (y : F.PForm-F FormPart Part) → FormSound (roll-PForm (heads y))
   form_layer y s =
       moved (ap (λ f. (f s at).faults) (seen-roll (heads y)))
       (fold-roll-PForm Bool Bool tails_step (λ e. e.form) (heads y))
+      (fold-roll-PForm Held Held holds_form (λ e. e.form) (heads y))
       (ap (λ f. f var) (expr-roll (heads y))) (open_sound y s)
 
   expr_layer : (s : Spot) (f : PForm) → FormSound f → Sound (at_spot s f)
   expr_layer s f sound =
       moved (ap (λ v. (v at).faults) (seen-at s f))
       (fold-roll-PExpr Bool Bool tails_step (λ e. e.form) (record { form = f; spot = s }))
+      (fold-roll-PExpr Held Held holds_form (λ e. e.form) (record { form = f; spot = s }))
       (ap (λ f. f var) (expr-at s f)) (sound s)
 
   sound : (e : PExpr) → Sound e
@@ -355,6 +434,10 @@ module _ (at : Where) (var : List ℕ → ℕ) where
   pub vars_stand : (e : PExpr) → (seen_of e at).faults ≡ [] →
       AllByRecursion Stands (vars_in (expr_of e var))
   vars_stand e none = (sound e).vars none
+
+  pub vars_stand_free : (test : List ℕ → Bool) (e : PExpr) → (seen_of e at).faults ≡ [] →
+      holds_name e test ≡ false → AllByRecursion (StandsFree test) (vars_in (expr_of e var))
+  vars_stand_free test e none held = (sound e).free test none held
 
   pub without_step : (e : PExpr) → (seen_of e at).faults ≡ [] → at.step_may ≡ false →
       holds_step (expr_of e var) ≡ false

@@ -2,7 +2,10 @@
 use Rattle.std.proofs.Common.{◌≡◌, ℕ, ◌+◌, ◌≤◌, Bool, true, false, ◌||◌, cond, not, List}
 use Rattle.std.proofs.Common.{[], ◌∷◌}
 use Rattle.std.proofs.Common.{◌++◌, map, refl, sym, ap, ◌∙◌, subst, length, arith, inl, inr}
-use Rattle.std.specs.Prelude.{nat_eq, nat_le, flat_map, AllPairs, codes, count_by}
+use Rattle.std.specs.Prelude.{nat_eq, nat_le, flat_map, AllPairs, codes, count_by, min, nat_abs}
+use Rattle.std.specs.Prelude.{Option, Some, None}
+use Rattle.std.proofs.lemmas.Option.{same_Some}
+use Rattle.std.proofs.Math.Nat.{min-eq_left}
 use Rattle.std.specs.Cmp.Lexicographic.{pointwise}
 use Rattle.std.specs.List.{AllByRecursion, list_any}
 use Rattle.std.proofs.lemmas.Bool.{eq-eqb}
@@ -16,30 +19,33 @@ use Rattle.rn_model.specs.declared.system.Net.{Net}
 use Rattle.rn_inscript.specs.declared.inscriptions.PName.{PName}
 use Rattle.rn_model.specs.Limits.{longest_name, most_nested, most_parts, most_initial, most_nets}
 use Rattle.rn_model.specs.Limits.{most_channels, most_vars, most_places, most_transitions}
+use Rattle.rn_model.specs.Limits.{greatest_capacity}
 use Rattle.rn_model.specs.Kinds.{value_depth}
 use Rattle.rn_model.specs.Good.{Good, IsGoodNet, IsGoodPlace, IsGoodKind, IsGoodToken}
 use Rattle.rn_model.specs.Good.{IsGoodChannel, IsGoodTransition, AreDistinctChannels}
 use Rattle.rn_model.specs.Names.{IsGoodName}
 use Rattle.rn_model.proofs.EachElement.{each_map, each_weaker}
+use Rattle.rn_notation.specs.declared.token.Spot.{Spot}
 use Rattle.rn_net.specs.declared.kinds.PKind.{PKind}
 use Rattle.rn_net.specs.declared.constants.PConst.{PConst}
 use Rattle.rn_net.specs.declared.plain.Plain.{Plain}
 use Rattle.rn_net.specs.declared.plain.PChannel.{PChannel}
 use Rattle.rn_net.specs.declared.plain.PVar.{PVar}
 use Rattle.rn_net.specs.declared.plain.PPlace.{PPlace}
+use Rattle.rn_net.specs.declared.plain.PMax.{PMax}
 use Rattle.rn_net.specs.declared.plain.PTransition.{PTransition}
 use Rattle.rn_net.specs.declared.plain.PNet.{PNet}
 use Rattle.rn_declared.specs.declared.fault.Rule.TheVariants as Rule
-use Rattle.rn_declared.specs.Faults.{broken_if, past_limit}
+use Rattle.rn_declared.specs.Faults.{broken_if, past, past_limit}
 use Rattle.rn_declared.specs.Patterns.{pattern_of}
 use Rattle.rn_declared.specs.Names.{same_name, name_faults, names_faults, declared_faults}
 use Rattle.rn_declared.specs.Declarations.{Part, kind_part, kind_faults, parts_faults, const_part}
-use Rattle.rn_declared.specs.Declarations.{fits, token_faults, place_faults}
+use Rattle.rn_declared.specs.Declarations.{fits, token_faults, place_faults, capacity_faults}
 use Rattle.rn_rules.specs.Transitions.{transition_faults}
 use Rattle.rn_declared.specs.Channels.{same_channel, channel_faults, channels_faults}
 use Rattle.rn_rules.specs.Systems.{scope_of}
 use Rattle.rn_rules.specs.Systems.{net_faults, system_faults, text_start}
-use Rattle.rn_numbered.specs.Numbered.{kind_of, value_of}
+use Rattle.rn_numbered.specs.Numbered.{kind_of, value_of, capacity_of}
 use Rattle.rn_numbering.specs.Numbering.{transition_of, net_of, system_of}
 use Rattle.rn_spelled.specs.WellFormed.{IsShallowKind, IsWellFormed, IsWellFormedChannel}
 use Rattle.rn_spelled.specs.WellFormed.{IsWellFormedNet, IsWellFormedVar, IsWellFormedPlace}
@@ -47,6 +53,7 @@ use Rattle.rn_spelled.specs.WellFormed.{IsWellFormedTransition}
 use Rattle.rn_check.specs.Laws.{CheckedSystemsAreGood, CheckedTextsAreGood}
 use Rattle.rn_spelled.proofs.SpelledTexts.{spelled_forms_are_well_formed}
 use Rattle.rn_declared.proofs.Faultless.{both_nil, each_nil, unbroken, holds, within_limit}
+use Rattle.rn_declared.proofs.Faultless.{none_past}
 use Rattle.rn_check.proofs.DeclaredKinds.{gives_itself, same_as_itself}
 use Rattle.rn_declared.proofs.DeclaredNames.{nat_le_holds, any_left, any_last, IsIn, short_and_new}
 use Rattle.rn_declared.proofs.DeclaredNames.{declared_apart, declared_short, declared_few}
@@ -97,13 +104,31 @@ tokens_good kind (token ∷ tokens) none deep =
     (flat_map (token_faults (pattern_of kind)) tokens) none in
     (token_good kind token both.0 deep.0, tokens_good kind tokens both.1 deep.1)
 
+-- a capacity in which nothing is broken isn't too great, and there aren't more tokens
+capacity_good : (max : Option PMax) (spots : List Spot) (most : ℕ) →
+    capacity_faults max spots ≡ [] → capacity_of max ≡ Some most →
+    (most ≤ greatest_capacity) × (length spots ≤ most)
+capacity_good None spots most none is = absurd (let no : ⊥ = cc in no)
+capacity_good (Some max) spots most none is =
+    let number = nat_abs max.number in
+    let both = both_nil (broken_if (not (nat_le number greatest_capacity)) Rule.Limit max.spot)
+    (past Rule.Capacity number spots) none in
+    let low = nat_le_holds number greatest_capacity
+    (holds (nat_le number greatest_capacity) Rule.Limit max.spot both.0) in
+    let few = none_past Rule.Capacity number spots both.1 in
+    let same : number ≡ most =
+    sym (min-eq_left low) ∙ same_Some (min number greatest_capacity) most is in
+    (omega (arith, low, same), omega (arith, few, same))
+
 place_good : (place : PPlace) → place_faults place ≡ [] → IsWellFormedPlace place →
     length place.name.text ≤ longest_name → IsGoodPlace (place_of place)
 place_good place none good short =
     let kind = kind_faults place.kind in
     let tokens = flat_map (token_faults (pattern_of place.kind)) place.initial in
-    let limit = past_limit most_initial (map (λ token. (const_part token).spot) place.initial) in
-    let both = both_nil (kind ++ tokens) limit none in
+    let starts = map (λ token. (const_part token).spot) place.initial in
+    let limit = past_limit most_initial starts in
+    let all = both_nil (kind ++ tokens ++ limit) (capacity_faults place.max starts) none in
+    let both = both_nil (kind ++ tokens) limit all.0 in
     let first = both_nil kind tokens both.0 in
     let few = within_limit most_initial (map (λ token. (const_part token).spot) place.initial)
     both.1 in
@@ -116,6 +141,10 @@ place_good place none good short =
           (tokens_good place.kind place.initial first.1
           (recursion_from_All _ place.initial good.initial));
       many = omega (arith, few, spots, values);
+      max = λ most is.
+          let within = capacity_good place.max starts most all.1 is in
+          let fewer = within.1 in
+          (within.0, omega (arith, fewer, spots, values));
     }
 
 -- one channel, that is new after those before it

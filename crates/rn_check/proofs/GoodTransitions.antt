@@ -18,7 +18,7 @@ use Rattle.rn_model.specs.declared.system.Uplink.{Uplink}
 use Rattle.rn_model.specs.Limits.{most_nested, most_inscriptions, longest_name}
 use Rattle.rn_model.specs.Kinds.{expr_narrow, expr_depth, holds_step}
 use Rattle.rn_model.specs.Systems.{vars_in, is_output, holds_action_var}
-use Rattle.rn_model.specs.Good.{IsGoodTransition, UsesActions, occurring}
+use Rattle.rn_model.specs.Good.{IsGoodTransition, IsCounted, UsesActions, occurring}
 use Rattle.rn_model.specs.Good.{all_exprs, searched_exprs, output_exprs, action_expr, set_var}
 use Rattle.rn_model.specs.Good.{guard_exprs, cond_depth, inscription_count}
 use Rattle.rn_model.proofs.EachElement.{each_append, each_map, each_flat_map, each_weaker}
@@ -284,6 +284,20 @@ module _ (plain : Plain) (net : PNet) (t : PTransition) where
           base.creations creations);
     }
 
+    counted : AllByRecursion (IsCounted (net_of plain net) made) base.arcs
+    counted =
+        each_weaker (Facts.Counted plain net sets declared) (IsCounted (net_of plain net) made)
+        (λ arc has kind held. elim (has kind) [
+          | inl none ↦ none
+          | inr free ↦
+              let no : true ≡ false =
+              sym held ∙ none_held made.action_vars (vars_in arc.inscription) acting free in
+              absurd (let no : ⊥ = cc in no)
+        ])
+        base.arcs
+        (Facts.given plain net sets declared _ (arc_of (numbers_of plain net))
+        (Facts.counted_given plain net sets declared) is fine)
+
     few : inscription_count made ≤ most_inscriptions
     few =
         let limit = within_limit most_inscriptions (map (λ i. i.spot) is)
@@ -316,4 +330,5 @@ module _ (plain : Plain) (net : PNet) (t : PTransition) where
           (each_weaker Fine (λ e. IsTrue (expr_narrow e)) (λ e f. f.narrow) (all_exprs base)
           all_fine);
       many = few;
+      counted = All-from_recursion (IsCounted (net_of plain net) made) made.arcs counted;
     }

@@ -23,6 +23,8 @@ fault_of (C.C8 spot) = broken R.Channel spot
 fault_of (C.C9 spot) = broken R.Limit spot
 fault_of (C.C10 spot) = broken R.Creation spot
 fault_of (C.C11 spot) = broken R.Comparison spot
+fault_of (C.C12 spot) = broken R.Capacity spot
+fault_of (C.C13 spot) = broken R.Counted spot
 fault_of C.NoMemory = broken R.Known (record { line = 1; column = 1 })
 
 report_back : (rule : Rule) (spot : Spot) → fault_of (report_of rule spot) ≡ broken rule spot
@@ -38,6 +40,8 @@ report_back R.Channel spot = refl
 report_back R.Limit spot = refl
 report_back R.Creation spot = refl
 report_back R.Comparison spot = refl
+report_back R.Capacity spot = refl
+report_back R.Counted spot = refl
 
 itself : (rule : Rule) (spot : Spot) →
     Answers (Err (report_of rule spot)) (Err (report_of rule spot))
@@ -52,6 +56,8 @@ itself R.Channel spot = refl
 itself R.Limit spot = refl
 itself R.Creation spot = refl
 itself R.Comparison spot = refl
+itself R.Capacity spot = refl
+itself R.Counted spot = refl
 
 -- where a fault was reported so, it is this rule at this spot
 pub one_report : (r : CheckFault) (fault : Fault) (rule : Rule) (spot : Spot) →

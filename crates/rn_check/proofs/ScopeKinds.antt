@@ -15,7 +15,8 @@ use Rattle.rn_model.specs.declared.system.Var.{Var}
 use Rattle.rn_model.specs.declared.system.Place.{Place}
 use Rattle.rn_model.specs.declared.system.Channel.{Channel}
 use Rattle.rn_model.specs.Kinds.{same_kind}
-use Rattle.rn_model.specs.Systems.{var_kind_in, place_kind_in, channel_kinds, unkinded}
+use Rattle.rn_model.specs.Systems.{var_kind_in, place_kind_in, capacity_in, channel_kinds}
+use Rattle.rn_model.specs.Systems.{unkinded}
 use Rattle.rn_net.specs.declared.plain.Plain.{Plain}
 use Rattle.rn_net.specs.declared.plain.PNet.{PNet}
 use Rattle.rn_net.specs.declared.plain.PVar.{PVar}
@@ -26,7 +27,7 @@ use Rattle.rn_declared.specs.Patterns.{gives_kind, pattern_of}
 use Rattle.rn_declared.specs.Names.{same_name, number_from, number_among}
 use Rattle.rn_rules.specs.Systems.{scope_of}
 use Rattle.rn_declared.specs.Channels.{channel_from, same_channel}
-use Rattle.rn_numbered.specs.Numbered.{kind_of, value_of}
+use Rattle.rn_numbered.specs.Numbered.{kind_of, value_of, capacity_of}
 use Rattle.rn_numbering.specs.Numbering.{net_of, system_of, numbers_of}
 use Rattle.rn_numbered.proofs.NumberLemmas.{number_below}
 use Rattle.rn_check.proofs.DeclaredKinds.{gives_itself}
@@ -107,8 +108,16 @@ abbrev pub var_of : PVar → Var
 var_of v = record { name = v.name.text; kind = kind_of v.kind }
 
 abbrev pub place_of : PPlace → Place
-place_of p =
-    record { name = p.name.text; kind = kind_of p.kind; initial = map value_of p.initial }
+place_of p = record {
+  name = p.name.text;
+  kind = kind_of p.kind;
+  initial = map value_of p.initial;
+  max = capacity_of p.max;
+}
+
+none_there : {A : Type 0} (o : Option A) → is_some o ≡ false → o ≡ None
+none_there None e = refl
+none_there (Some x) e = absurd (let no : ⊥ = cc in no)
 
 abbrev pub channel_of : PChannel → Channel
 channel_of c = record { name = c.name.text; kinds = map kind_of c.kinds }
@@ -145,6 +154,26 @@ module _ (plain : Plain) (net : PNet) where
         subst (λ o. unwrap_or o 0 < length net.places) (sym found.2)
             (slice_get_within net.places found.0 found.1 found.3),
       )
+
+  -- a place that is declared without a capacity
+  pub no_capacity : (name : List ℕ) (p : Pattern) →
+      (scope_of plain net).pattern_of_place name ≡ Some p →
+      (scope_of plain net).has_capacity name ≡ false →
+      capacity_in (net_of plain net) ((numbers_of plain net).place name) ≡ None
+  no_capacity name p e none =
+      let found = found_at (λ v. pattern_of v.kind) net.places
+      (number_among (map (λ v. v.name.text) net.places) name) p e in
+      let is_capped : PPlace → Bool = λ place. is_some place.max in
+      let capped : is_some found.1.max ≡ false =
+      sym
+      (ap (λ o. unwrap_or (option_and_then (slice_get (map is_capped net.places)) o) false) found.2
+      ∙ ap (λ o. unwrap_or o false)
+      (slice_get-map is_capped net.places found.0 ∙ ap (option_map is_capped) found.3))
+      ∙ none in
+      ap (λ o. capacity_in (net_of plain net) (unwrap_or o 0)) found.2
+      ∙ ap (option_and_then (λ (place : Place). place.max))
+      (slice_get-map place_of net.places found.0 ∙ ap (option_map place_of) found.3)
+      ∙ ap capacity_of (none_there found.1.max capped)
 
   pub vars_are_known : (name : List ℕ) (p : Pattern) (k : Kind) →
       (scope_of plain net).pattern_of_var name ≡ Some p → gives_kind p k ≡ true →

@@ -3,7 +3,7 @@ use Rattle.std.proofs.Common.{◌≡◌, ℕ, ◌<◌, ◌≤◌, Bool, true, fa
 use Rattle.std.proofs.Common.{[]}
 use Rattle.std.proofs.Common.{◌∷◌, ◌++◌, map, refl, sym, ap, ◌∙◌, subst, length, arith, inl, inr}
 use Rattle.std.proofs.Common.{append-nil}
-use Rattle.std.specs.Prelude.{Option, Some, None, is_none, nat_lt, nat_eq, flat_map}
+use Rattle.std.specs.Prelude.{Option, Some, None, is_none, is_some, nat_lt, nat_eq, flat_map}
 use Rattle.std.specs.Prelude.{IsTrue}
 use Rattle.std.specs.Prelude.{if◌then◌else◌, ◌⊎◌}
 use Rattle.std.specs.Option.{option_map_or}
@@ -18,10 +18,12 @@ use Rattle.rn_model.specs.declared.expr.Cond.{Cond}
 use Rattle.rn_model.specs.declared.expr.CompareKind.{CompareKind}
 use Rattle.rn_model.specs.declared.expr.CompareKind.TheVariants.{Same, Differs}
 use Rattle.rn_model.specs.declared.system.ArcKind.{ArcKind}
+use Rattle.rn_model.specs.declared.system.ArcKind.TheVariants.{FlexOutput}
+use Rattle.rn_model.specs.declared.system.NetArc.{NetArc}
 use Rattle.rn_model.specs.declared.system.Action.{Action}
 use Rattle.rn_model.specs.Limits.{most_nested}
 use Rattle.rn_model.specs.Kinds.{expr_narrow, expr_depth, holds_step}
-use Rattle.rn_model.specs.Systems.{vars_in, is_output}
+use Rattle.rn_model.specs.Systems.{vars_in, is_output, capacity_in}
 use Rattle.rn_model.specs.Good.{comparisons_in, guard_exprs, cond_depth, action_expr}
 use Rattle.rn_model.specs.Good.{set_var}
 use Rattle.rn_model.proofs.EachElement.{each_map, each_flat_map, each_weaker}
@@ -40,6 +42,7 @@ use Rattle.rn_rules.specs.Expressions.{Where, Seen, seen_of, apart, misfit, oper
 use Rattle.rn_rules.specs.Expressions.{operands_faults, variable_faults}
 use Rattle.rn_rules.specs.Conditions.{compared_faults, sides_faults, condition_faults}
 use Rattle.rn_rules.specs.Arcs.{asked_of, is_clear, is_variable, inscribed_faults, arc_faults}
+use Rattle.rn_rules.specs.Counted.{holds_name, counted_faults}
 use Rattle.rn_rules.specs.Calls.{channel_call_faults, call_faults, target_faults, is_no_net}
 use Rattle.rn_rules.specs.Actions.{is_set_by, value_faults}
 use Rattle.rn_rules.specs.Transitions.{Progress, Scope, inscription_faults, inscriptions_faults}
@@ -47,7 +50,7 @@ use Rattle.rn_rules.specs.Transitions.{after, in_action, in_output, elsewhere}
 use Rattle.rn_declared.specs.Names.{same_name, number_among}
 use Rattle.rn_rules.specs.Systems.{scope_of}
 use Rattle.rn_numbered.specs.Numbered.{Numbers, expr_of, cond_of, equality_of, guard_of}
-use Rattle.rn_numbering.specs.Numbering.{numbers_of}
+use Rattle.rn_numbering.specs.Numbering.{numbers_of, net_of}
 use Rattle.rn_numbered.specs.Numbered.{action_of, creation_of, uplink_of, downlink_of, arc_of}
 use Rattle.rn_numbered.specs.Numbered.{inscription_of}
 use Rattle.rn_occurring.specs.TransitionVars.{is_among}
@@ -55,8 +58,9 @@ use Rattle.rn_spelled.specs.WellFormed.{IsWellFormedExpr, IsShallowCond, IsWellF
 use Rattle.rn_spelled.specs.WellFormed.{exprs_of, conds_of, exprs_in}
 use Rattle.rn_declared.proofs.Faultless.{both_nil, unbroken, holds}
 use Rattle.rn_check.proofs.InscriptionParts.{set_parts, uplink_part, downlink_parts}
-use Rattle.rn_check.proofs.ScopeKinds.{same_texts}
+use Rattle.rn_check.proofs.ScopeKinds.{same_texts, no_capacity}
 use Rattle.rn_check.proofs.ExpressionFacts.{Stands, is_narrow, vars_stand, without_step}
+use Rattle.rn_check.proofs.ExpressionFacts.{StandsFree, vars_stand_free}
 use Rattle.rn_check.proofs.ConditionParts.{comparisons_have}
 use Rattle.rn_check.proofs.ActionVars.{IsIn, IsDeclared, declared_below, names_same}
 use Rattle.rn_check.proofs.ActionVars.{found_early, early_found}
@@ -321,13 +325,102 @@ module _ (plain : Plain) (net : PNet) where
     arc_has kind p setter false o name (Some e) none good =
         searched p setter e (inscribed_none kind o name e (elsewhere scope p) none) good.0
 
+    arc_parts : (p : Progress) (kind : ArcKind) (name : PName) (e : Option PExpr) →
+        arc_faults kind (scope.pattern_of_place name.text) name e
+        (if is_output kind then in_output scope p else elsewhere scope p)
+        ++ counted_faults kind (scope.has_capacity name.text) e (λ name. is_some (p.setter name))
+        ≡ [] →
+        (arc_faults kind (scope.pattern_of_place name.text) name e
+        (if is_output kind then in_output scope p else elsewhere scope p) ≡ [])
+        × (counted_faults kind (scope.has_capacity name.text) e (λ name. is_some (p.setter name))
+        ≡ [])
+    arc_parts p kind name e none =
+        both_nil
+        (arc_faults kind (scope.pattern_of_place name.text) name e
+        (if is_output kind then in_output scope p else elsewhere scope p))
+        (counted_faults kind (scope.has_capacity name.text) e (λ name. is_some (p.setter name)))
+        none
+
     pub arc_given : Gives (λ arc. ArcHas (is_output arc.kind) arc.inscription) (arc_of to)
     arc_given i p (I.Arc kind place e) setter none good conds = (
-      arc_has kind p setter (is_output kind) (scope.pattern_of_place place.text) place e none
-          good,
+      arc_has kind p setter (is_output kind) (scope.pattern_of_place place.text) place e
+          (arc_parts p kind place e none).0 good,
       tt,
     )
     arc_given i p _ setter none good conds = tt
+
+    -- An action doesn't give the list whose elements an arc puts to a place with a capacity.
+    abbrev pub Counted : NetArc → Type 0
+    Counted arc = arc.kind ≡ FlexOutput →
+        (capacity_in (net_of plain net) arc.place ≡ None)
+        ⊎ AllByRecursion NotActed (vars_in arc.inscription)
+
+    never_set : (p : Progress) → p.setter ≡ number_among sets → (name : List ℕ) →
+        IsDeclared plain net name → is_some (p.setter name) ≡ false → NotActed (to.var name)
+    never_set p setter name known none there =
+        let found = named_in sets declared (to.var name) there in
+        let same = names_same plain net found.0 name found.2 known found.3 in
+        let number = found_early 0 sets [] name (subst (IsIn sets) same found.1) in
+        let is : number_among sets name ≡ Some number.0 =
+        ap (λ xs. number_among xs name) (sym (append-nil sets)) ∙ number.1 in
+        let no : true ≡ false = sym (ap is_some (ap (λ f. f name) setter ∙ is)) ∙ none in
+        let no : ⊥ = cc in no
+
+    none_acted : (p : Progress) → p.setter ≡ number_among sets → (at : Where) →
+        at.pattern_of_var ≡ scope.pattern_of_var → (e : PExpr) → (seen_of e at).faults ≡ [] →
+        holds_name e (λ name. is_some (p.setter name)) ≡ false →
+        AllByRecursion NotActed (vars_in (expr_of e to.var))
+    none_acted p setter at same e none held =
+        let acts : List ℕ → Bool = λ name. is_some (p.setter name) in
+        each_weaker (StandsFree at to.var acts) NotActed
+        (λ x s. subst NotActed (sym s.number)
+        (never_set p setter s.name (known_there at same s.name s.known) s.free))
+        (vars_in (expr_of e to.var)) (vars_stand_free at to.var acts e none held)
+
+    counted : (p : Progress) → p.setter ≡ number_among sets → (name : PName) (e : PExpr)
+        (o : Option Pattern) → scope.pattern_of_place name.text ≡ o → (capped : Bool) →
+        scope.has_capacity name.text ≡ capped →
+        arc_faults FlexOutput o name (Some e) (in_output scope p) ≡ [] →
+        counted_faults FlexOutput capped (Some e) (λ name. is_some (p.setter name)) ≡ [] →
+        (capacity_in (net_of plain net) (to.place name.text) ≡ None)
+        ⊎ AllByRecursion NotActed (vars_in (expr_of e to.var))
+    counted p setter name e None known capped has none free =
+        absurd (let no : ⊥ = cc in no)
+    counted p setter name e (Some pattern) known false has none free =
+        inl (no_capacity plain net name.text pattern known has)
+    counted p setter name e (Some pattern) known true has none free =
+        inr (none_acted p setter (in_output scope p) refl e
+        (inscribed_none FlexOutput (Some pattern) name e (in_output scope p) none)
+        (unbroken (holds_name e (λ name. is_some (p.setter name))) Rule.Counted e.spot free))
+
+    abbrev arc_stands : Progress → ArcKind → Where
+    arc_stands p kind = if is_output kind then in_output scope p else elsewhere scope p
+
+    arc_counted : (p : Progress) → p.setter ≡ number_among sets → (kind : ArcKind) (name : PName)
+        (e : Option PExpr) →
+        arc_faults kind (scope.pattern_of_place name.text) name e (arc_stands p kind) ≡ [] →
+        counted_faults kind (scope.has_capacity name.text) e (λ name. is_some (p.setter name))
+        ≡ [] → kind ≡ FlexOutput →
+        (capacity_in (net_of plain net) (to.place name.text) ≡ None)
+        ⊎ AllByRecursion NotActed (vars_in (inscription_of to e))
+    arc_counted p setter kind name None none free flexible =
+        let both = both_nil
+        (broken_if (is_none (scope.pattern_of_place name.text)) Rule.Known name.spot)
+        (broken Rule.Inscription name.spot ∷ []) none in
+        absurd (let h = both.1 in let no : ⊥ = cc in no)
+    arc_counted p setter kind name (Some e) none free flexible =
+        let o = scope.pattern_of_place name.text in
+        let capped = scope.has_capacity name.text in
+        counted p setter name e o refl capped refl
+        (subst (λ k. arc_faults k o name (Some e) (arc_stands p k) ≡ []) flexible none)
+        (subst (λ k. counted_faults k capped (Some e) (λ name. is_some (p.setter name)) ≡ [])
+        flexible free)
+
+    pub counted_given : Gives Counted (arc_of to)
+    counted_given i p (I.Arc kind place e) setter none good conds =
+        let parts = arc_parts p kind place e none in
+        (arc_counted p setter kind place e parts.0 parts.1, tt)
+    counted_given i p _ setter none good conds = tt
 
     abbrev pub ActionHas : Action → Type 0
     ActionHas a = IsFineExpr (action_expr a) × AllByRecursion (λ x. x < length net.vars) (set_var a)

@@ -2,7 +2,7 @@
 use Rattle.std.proofs.Common.{◌≡◌, ℕ, ◌<◌, Bool, true, false, ◌&&◌, List, [], ◌∷◌, ◌++◌}
 use Rattle.std.proofs.Common.{map}
 use Rattle.std.proofs.Common.{refl, sym, ap, ◌∙◌, subst, length, not, arith}
-use Rattle.std.specs.Prelude.{Option, Some, None, is_none, slice_get, flat_map, nat_lt}
+use Rattle.std.specs.Prelude.{Option, Some, None, is_none, is_some, slice_get, flat_map, nat_lt}
 use Rattle.std.specs.Prelude.{if◌then◌else◌}
 use Rattle.std.specs.Option.{option_map_or}
 use Rattle.std.specs.List.{AllByRecursion, AllZip}
@@ -49,6 +49,7 @@ use Rattle.rn_declared.specs.Patterns.{gives_kind, gives_step, share, pattern_of
 use Rattle.rn_rules.specs.Expressions.{Where, Seen, seen_of, apart, misfit, operand_faults}
 use Rattle.rn_rules.specs.Expressions.{operands_faults, variable_faults}
 use Rattle.rn_rules.specs.Conditions.{compared_faults, sides_faults, condition_faults}
+use Rattle.rn_rules.specs.Counted.{counted_faults}
 use Rattle.rn_rules.specs.Arcs.{asked_of, is_clear, is_name, is_variable, inscribed_faults}
 use Rattle.rn_rules.specs.Arcs.{arc_faults}
 use Rattle.rn_rules.specs.Calls.{misfits, channel_call_faults, call_faults, target_faults}
@@ -415,11 +416,12 @@ module _ (plain : Plain) (net : PNet) where
 
   arc_given : Gives (IsGoodArc (net_of plain net) kinds) (arc_of to)
   arc_given i p (I.Arc kind place e) none =
-      let at = if is_output kind then in_output scope p else elsewhere scope p in (
-        arc_good kind at (stands kind p (is_output kind)) place
-            (scope.pattern_of_place place.text) refl e none,
-        tt,
-      )
+      let at = if is_output kind then in_output scope p else elsewhere scope p in
+      let o = scope.pattern_of_place place.text in
+      let parts = both_nil (arc_faults kind o place e at)
+      (counted_faults kind (scope.has_capacity place.text) e (λ name. is_some (p.setter name)))
+      none in
+      (arc_good kind at (stands kind p (is_output kind)) place o refl e parts.0, tt)
   arc_given i p _ e = tt
 
   -- and so of those that all inscriptions give

@@ -6,7 +6,8 @@ use Rattle.std.specs.List.{AllByRecursion}
 use Rattle.std.proofs.lemmas.Option.{slice_get_cases}
 use Rattle.rn_notation.specs.declared.token.Spot.{Spot}
 use Rattle.rn_declared.specs.declared.fault.Rule.{Rule}
-use Rattle.rn_declared.specs.Faults.{broken_if, past_limit}
+use Rattle.rn_declared.specs.declared.fault.Rule.TheVariants as R
+use Rattle.rn_declared.specs.Faults.{broken_if, past, past_limit}
 
 -- where two lists together are empty, both are
 pub both_nil : {A : Type 0} (xs ys : List A) → xs ++ ys ≡ [] → (xs ≡ []) × (ys ≡ [])
@@ -29,10 +30,15 @@ pub holds : (b : Bool) (rule : Rule) (spot : Spot) → broken_if (not b) rule sp
 holds true rule spot e = refl
 holds false rule spot e = absurd (let no : ⊥ = cc in no)
 
-pub within_limit : (most : ℕ) (spots : List Spot) → past_limit most spots ≡ [] →
+-- where a rule isn't broken past so many, there aren't more
+pub none_past : (rule : Rule) (most : ℕ) (spots : List Spot) → past rule most spots ≡ [] →
     length spots ≤ most
-within_limit most spots e =
+none_past rule most spots e =
     elim (slice_get_cases spots most).1 [
       | inl (s, more, is, at) ↦ absurd (let no : ⊥ = cc in no)
       | inr (few, none) ↦ few
     ]
+
+pub within_limit : (most : ℕ) (spots : List Spot) → past_limit most spots ≡ [] →
+    length spots ≤ most
+within_limit most spots e = none_past R.Limit most spots e

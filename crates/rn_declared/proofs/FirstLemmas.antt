@@ -51,7 +51,7 @@ rule_of : ℕ → Rule
 rule_of n =
     get_or
     (R.Known ∷ R.Known ∷ R.Once ∷ R.Main ∷ R.Kinds ∷ R.Uplink ∷ R.Actions ∷ R.Inscription ∷ R.Channel ∷ R.Limit
-    ∷ R.Creation ∷ R.Comparison ∷ [])
+    ∷ R.Creation ∷ R.Comparison ∷ R.Capacity ∷ R.Counted ∷ [])
     n R.Known
 
 rule_is : (r : Rule) → rule_of (number_of r) ≡ r
@@ -67,6 +67,8 @@ rule_is R.Channel = refl
 rule_is R.Limit = refl
 rule_is R.Creation = refl
 rule_is R.Comparison = refl
+rule_is R.Capacity = refl
+rule_is R.Counted = refl
 
 -- two faults of which none counts before the other are the same
 same_fault : (f g : Fault) → counts_before f g ≡ false → counts_before g f ≡ false → f ≡ g

@@ -1,6 +1,6 @@
 -- What is declared with a kind, and what is told of places.
 use Rattle.std.proofs.Common.{◌≡◌, ℕ, ◌+◌, ◌-◌, length-append, List, [], ◌∷◌, ◌++◌, length, map, refl, sym, ap, ◌∙◌, arith, Option, Some}
-use Rattle.std.specs.Prelude.{flat_map, slice_get, not}
+use Rattle.std.specs.Prelude.{flat_map, slice_get, not, Bool, false, is_some, unwrap_or}
 use Rattle.std.specs.Option.{option_and_then}
 use Rattle.std.proofs.lemmas.Simd.{map-map}
 use Rattle.rn_notation.specs.declared.token.Spot.{Spot}
@@ -16,21 +16,40 @@ use Rattle.rn_declared.specs.Faults.{first_from, past_limit, broken_if}
 use Rattle.rn_declared.specs.Patterns.{pattern_of}
 use Rattle.rn_declared.specs.Names.{number_among}
 use Rattle.rn_declared.specs.Declarations.{kind_faults, place_faults, token_faults, const_part, fits}
+use Rattle.rn_declared.specs.Declarations.{capacity_faults, has_capacity}
+use Rattle.rn_declared.specs.Tables.{capped_by}
 use Rattle.rn_declared.proofs.ToldLemmas.{told_of_three}
 use Rattle.rn_declared.proofs.ToldLemmas.{first_from-append}
 use Rattle.rn_declared.proofs.ToldLemmas.{const_spot}
 
--- a name finds the pattern of the kind with which it is declared first
+-- a name finds what is kept of its first declaration
+pub kept_found : {X Y : Type 0} (name_of : X → PName) (kept_of : X → Y) (xs : List X) (kept : List Y)
+    (found : List ℕ → Option ℕ) → kept ≡ map kept_of xs →
+    ((name : List ℕ) → found name ≡ number_among (map (λ n. n.text) (map name_of xs)) name) →
+    (name : List ℕ) → option_and_then (slice_get kept) (found name)
+    ≡ option_and_then (slice_get (map kept_of xs)) (number_among (map (λ x. (name_of x).text) xs) name)
+kept_found name_of kept_of xs kept found are finds name =
+    ap (λ ys. option_and_then (slice_get ys) (found name)) are
+    ∙ ap (option_and_then (slice_get (map kept_of xs)))
+    (finds name ∙ ap (λ names. number_among names name) (map-map (λ n. n.text) name_of xs))
+
+-- and so the pattern of the kind with which it is declared first
 pub pattern_found : {X : Type 0} (name_of : X → PName) (kind : X → PKind) (xs : List X)
     (patterns : List Pattern) (found : List ℕ → Option ℕ) → patterns ≡ map (λ x. pattern_of (kind x)) xs →
     ((name : List ℕ) → found name ≡ number_among (map (λ n. n.text) (map name_of xs)) name) →
     (name : List ℕ) → option_and_then (slice_get patterns) (found name)
     ≡ option_and_then (slice_get (map (λ x. pattern_of (kind x)) xs))
     (number_among (map (λ x. (name_of x).text) xs) name)
-pattern_found name_of kind xs patterns found are finds name =
-    ap (λ ps. option_and_then (slice_get ps) (found name)) are
-    ∙ ap (option_and_then (slice_get (map (λ x. pattern_of (kind x)) xs)))
-    (finds name ∙ ap (λ names. number_among names name) (map-map (λ n. n.text) name_of xs))
+pattern_found name_of kind = kept_found name_of (λ x. pattern_of (kind x))
+
+-- and whether it is declared first with a capacity
+pub capacity_found : (places : List PPlace) (capped : List Bool) (found : List ℕ → Option ℕ) →
+    capped ≡ map (λ p. is_some p.max) places →
+    ((name : List ℕ) → found name ≡ number_among (map (λ n. n.text) (map (λ p. p.name) places)) name) →
+    (name : List ℕ) → capped_by capped (found name) ≡ has_capacity places name
+capacity_found places capped found are finds name =
+    ap (λ o. unwrap_or o false)
+    (kept_found (λ (p : PPlace). p.name) (λ (p : PPlace). is_some p.max) places capped found are finds name)
 
 -- what is told of an initial token
 pub token_told : (token : PConst) (pattern : Pattern) (spot : Spot) (known : Option Fault) →
@@ -56,15 +75,22 @@ token_spots (token ∷ tokens) =
 -- what is told of a place
 pub place_told : (place : PPlace) (pattern : Pattern) (known : Option Fault) →
     pattern ≡ pattern_of place.kind →
-    first_from (first_from known (kind_faults place.kind))
+    first_from
+    (first_from (first_from known (kind_faults place.kind))
     (flat_map (token_faults pattern) place.initial
-    ++ past_limit most_initial (map (λ token. (const_part token).spot) place.initial))
+    ++ past_limit most_initial (map (λ token. (const_part token).spot) place.initial)))
+    (capacity_faults place.max (map (λ token. (const_part token).spot) place.initial))
     ≡ first_from known (place_faults place)
 place_told place pattern known is =
-    let past : List Fault = past_limit most_initial (map (λ token. (const_part token).spot) place.initial) in
-    ap (λ p. first_from (first_from known (kind_faults place.kind)) (flat_map (token_faults p) place.initial ++ past)) is
-    ∙ first_from-append (flat_map (token_faults (pattern_of place.kind)) place.initial) past (first_from known (kind_faults place.kind))
-    ∙ told_of_three (kind_faults place.kind) (flat_map (token_faults (pattern_of place.kind)) place.initial) past known
+    let spots : List Spot = map (λ token. (const_part token).spot) place.initial in
+    let kind : List Fault = kind_faults place.kind in
+    let tokens : List Fault = flat_map (token_faults (pattern_of place.kind)) place.initial in
+    let past : List Fault = past_limit most_initial spots in
+    let capacity : List Fault = capacity_faults place.max spots in
+    ap (λ p. first_from (first_from (first_from known kind) (flat_map (token_faults p) place.initial ++ past)) capacity) is
+    ∙ ap (λ k. first_from k capacity)
+    (first_from-append tokens past (first_from known kind) ∙ told_of_three kind tokens past known)
+    ∙ sym (first_from-append (kind ++ tokens ++ past) capacity known)
 
 last_at : (before : List Pattern) (p : Pattern) → slice_get (before ++ p ∷ []) (length before) ≡ Some p
 last_at [] p = refl

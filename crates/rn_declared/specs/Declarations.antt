@@ -1,5 +1,7 @@
 -- Kinds and initial tokens: what is broken where places, variables and channels are declared.
-use Rattle.std.specs.Prelude.{Bool, true, false, ◌&&◌, not, List, [], ◌∷◌, ◌++◌, map, flat_map}
+use Rattle.std.specs.Prelude.{ℕ, Bool, true, false, ◌&&◌, not, List, [], ◌∷◌, ◌++◌, map, flat_map}
+use Rattle.std.specs.Prelude.{Option, Some, None, is_some, unwrap_or, slice_get, nat_le, nat_abs}
+use Rattle.std.specs.Option.{option_and_then}
 use Rattle.std.specs.List.{list_all}
 use Rattle.rn_notation.specs.declared.token.Spot.{Spot}
 use Rattle.rn_net.specs.declared.kinds.PKind.{PKind, fold-PKind}
@@ -7,13 +9,15 @@ use Rattle.rn_net.specs.declared.kinds.PKindForm.TheOpen as K
 use Rattle.rn_net.specs.declared.constants.PConst.{PConst, fold-PConst}
 use Rattle.rn_net.specs.declared.constants.PConstForm.TheOpen as C
 use Rattle.rn_net.specs.declared.plain.PPlace.{PPlace}
-use Rattle.rn_model.specs.Limits.{most_parts, most_initial}
+use Rattle.rn_net.specs.declared.plain.PMax.{PMax}
+use Rattle.rn_model.specs.Limits.{most_parts, most_initial, greatest_capacity}
 use Rattle.rn_declared.specs.declared.fault.Rule.TheVariants as Rule
 use Rattle.rn_declared.specs.declared.fault.Fault.{Fault}
 use Rattle.rn_declared.specs.declared.pattern.Pattern.{Pattern, out-Pattern}
 use Rattle.rn_declared.specs.declared.pattern.Pattern.TheOpen as P
-use Rattle.rn_declared.specs.Faults.{broken_if, past_limit}
+use Rattle.rn_declared.specs.Faults.{broken_if, past, past_limit}
 use Rattle.rn_declared.specs.Patterns.{pattern_of}
+use Rattle.rn_declared.specs.Names.{number_among}
 
 -- a part of a kind or of a constant as the rules see it: its spot and what is broken in it
 pub record Part : Type 0 where
@@ -79,9 +83,27 @@ token_faults pattern token =
     (const_part token).faults
     ++ broken_if (not (fits token pattern)) Rule.Kinds (const_part token).spot
 
--- what is broken in the kind and the initial tokens of a place, of which there aren't too many
+-- What is broken in the capacity of a place whose initial tokens stand at these spots: it isn't too
+-- great, and there aren't more tokens. A number in a text has no sign.
+abbrev pub capacity_faults : Option PMax → List Spot → List Fault
+capacity_faults None spots = []
+capacity_faults (Some max) spots =
+    broken_if (not (nat_le (nat_abs max.number) greatest_capacity)) Rule.Limit max.spot
+    ++ past Rule.Capacity (nat_abs max.number) spots
+
+-- what is broken in the kind, the initial tokens, of which there aren't too many, and the capacity
+-- of a place
 abbrev pub place_faults : PPlace → List Fault
 place_faults place =
     kind_faults place.kind
     ++ flat_map (token_faults (pattern_of place.kind)) place.initial
     ++ past_limit most_initial (map (λ token. (const_part token).spot) place.initial)
+    ++ capacity_faults place.max (map (λ token. (const_part token).spot) place.initial)
+
+-- whether the place that a name declares first has a capacity
+abbrev pub has_capacity : List PPlace → List ℕ → Bool
+has_capacity places name =
+    unwrap_or
+    (option_and_then (slice_get (map (λ p. is_some p.max) places))
+    (number_among (map (λ p. p.name.text) places) name))
+    false

@@ -21,6 +21,8 @@ number_of Rule.Channel = 8
 number_of Rule.Limit = 9
 number_of Rule.Creation = 10
 number_of Rule.Comparison = 11
+number_of Rule.Capacity = 12
+number_of Rule.Counted = 13
 
 -- how the checker reports a broken rule
 abbrev pub report_of : Rule → Spot → CheckFault
@@ -35,6 +37,8 @@ report_of Rule.Channel spot = C.C8 spot
 report_of Rule.Limit spot = C.C9 spot
 report_of Rule.Creation spot = C.C10 spot
 report_of Rule.Comparison spot = C.C11 spot
+report_of Rule.Capacity spot = C.C12 spot
+report_of Rule.Counted spot = C.C13 spot
 
 -- this rule, broken at this spot
 abbrev pub broken : Rule → Spot → Fault
@@ -73,7 +77,10 @@ abbrev pub first_from : Option Fault → List Fault → Option Fault
 first_from known [] = known
 first_from known (fault ∷ faults) = first_from (first_with known fault) faults
 
+-- where there are more than so many, this rule is broken at the first one past them
+abbrev pub past : Rule → ℕ → List Spot → List Fault
+past rule most spots = option_map_or (λ spot. broken rule spot ∷ []) (slice_get spots most) []
+
 -- where there are more than so many, the limit is passed at the first one past it
 abbrev pub past_limit : ℕ → List Spot → List Fault
-past_limit most spots =
-    option_map_or (λ spot. broken Rule.Limit spot ∷ []) (slice_get spots most) []
+past_limit most spots = past Rule.Limit most spots

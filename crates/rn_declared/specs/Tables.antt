@@ -6,7 +6,7 @@ use Rattle.rn_declared.specs.declared.fault.Rule.TheVariants as Rule
 use Rattle.rn_declared.specs.declared.fault.Fault.{Fault}
 use Rattle.rn_declared.specs.Faults.{broken_if}
 use Rattle.std.specs.Prelude.{ℕ, Bool, not, nat_le, length, map, ◌++◌, List, Option, Some, None, if◌then◌else◌}
-use Rattle.std.specs.Prelude.{slice_get}
+use Rattle.std.specs.Prelude.{false, slice_get, unwrap_or}
 use Rattle.std.specs.Option.{option_and_then}
 use Rattle.std.specs.Ordering.{nat_cmp}
 use Rattle.std.specs.Cmp.Lexicographic.{slice_cmp}
@@ -14,6 +14,7 @@ use Rattle.std.specs.BTreeMap.{BTreeMap, get}
 use Rattle.rn_declared.specs.declared.pattern.Pattern.{Pattern}
 use Rattle.rn_declared.specs.declared.table.Table.{Table}
 use Rattle.rn_declared.specs.declared.table.Declared.{Declared}
+use Rattle.rn_declared.specs.declared.table.DeclaredPlaces.{DeclaredPlaces}
 use Rattle.rn_declared.specs.declared.channels.Channels.{Channels}
 use Rattle.rn_declared.specs.Declarations.{kind_part, parts_faults}
 use Rattle.rn_declared.specs.Names.{same_name}
@@ -40,6 +41,14 @@ name_told again name =
 -- the pattern that is found for a name
 abbrev pub pattern_in : Declared → List ℕ → Option Pattern
 pattern_in declared name = option_and_then (slice_get declared.patterns) (found_in declared.table name)
+
+-- whether the place that was found has a capacity, where each has one or not
+abbrev pub capped_by : List Bool → Option ℕ → Bool
+capped_by capped found = unwrap_or (option_and_then (slice_get capped) found) false
+
+-- whether the place that is found for a name has a capacity
+abbrev pub capped_in : DeclaredPlaces → List ℕ → Bool
+capped_in places name = capped_by places.capped (found_in places.declared.table name)
 
 -- the number that the tables find for a channel of a name with so many arguments
 abbrev pub number_in_tables : BTreeMap ℕ Table → List ℕ → ℕ → Option ℕ

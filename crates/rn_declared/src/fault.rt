@@ -40,6 +40,12 @@ pub enum Rule {
 
     /// Guards are made of comparisons.
     Comparison,
+
+    /// A place doesn't begin with more tokens than its capacity.
+    Capacity,
+
+    /// A `flexout` arc to a place with a capacity holds no action variable.
+    Counted,
 }
 
 /// A broken rule and where it is broken.
@@ -84,6 +90,12 @@ pub enum CheckFault {
 
     /// A guard holds an expression without comparison.
     C11(Spot),
+
+    /// A place begins with more tokens than its capacity.
+    C12(Spot),
+
+    /// A `flexout` arc to a place with a capacity holds an action variable.
+    C13(Spot),
 
     NoMemory,
 }

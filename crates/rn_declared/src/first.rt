@@ -23,6 +23,8 @@ impl Rule {
             Rule::Limit => 9,
             Rule::Creation => 10,
             Rule::Comparison => 11,
+            Rule::Capacity => 12,
+            Rule::Counted => 13,
         }
     }
 }
@@ -44,6 +46,8 @@ impl Fault {
             Rule::Limit => CheckFault::C9(self.spot),
             Rule::Creation => CheckFault::C10(self.spot),
             Rule::Comparison => CheckFault::C11(self.spot),
+            Rule::Capacity => CheckFault::C12(self.spot),
+            Rule::Counted => CheckFault::C13(self.spot),
         }
     }
 

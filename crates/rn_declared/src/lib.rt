@@ -24,4 +24,4 @@ pub use names::{Named, declare_all};
 pub use numbered::{Numbered, Numbers};
 pub use pattern::{Pattern, Patterns};
 pub use places::{declare_places, declare_vars};
-pub use table::{Declared, Table};
+pub use table::{Declared, DeclaredPlaces, Table};

@@ -1,6 +1,6 @@
 //! Parts of a text that stand at a spot, and limits on how many there are.
 ghost use Rattle.std.specs.Prelude.{◌≡◌, map};
-ghost use Rattle.rn_declared.specs.Faults.{first_from, past_limit};
+ghost use Rattle.rn_declared.specs.Faults.{first_from, past, past_limit};
 
 use crate::fault::Rule;
 use crate::first::First;
@@ -50,11 +50,19 @@ impl Located for PInscription {
     }
 }
 
+/// Tells that a rule is broken at the first one past so many, where there are more.
+pub(crate) fn tell_past_by<T: Located>(rule: Rule, items: &[T], most: usize, first: &mut First)
+    ensures { first.new.fault ≡ first_from first.old.fault
+        (past rule most (map T.spot_of items.now)) }
+{
+    if most < items.len() {
+        first.tell(rule, items[most].spot());
+    }
+}
+
 /// Tells the first one past a limit, where there are more.
 pub fn tell_past<T: Located>(items: &[T], most: usize, first: &mut First)
     ensures { first.new.fault ≡ first_from first.old.fault (past_limit most (map T.spot_of items.now)) }
 {
-    if most < items.len() {
-        first.tell(Rule::Limit, items[most].spot());
-    }
+    tell_past_by(Rule::Limit, items, most, first);
 }

@@ -1,25 +1,28 @@
 //! Variables and places: what is broken in their declarations is told.
 ghost use Rattle.std.specs.Prelude.{◌≡◌, ◌-◌, ◌++◌, ℕ, List, Some, OnOk, IfOk, IfSome, map, flat_map};
 ghost use Rattle.std.specs.Option.{option_and_then};
-ghost use Rattle.std.specs.Prelude.{slice_get, length, option_copied, option_map};
-ghost use Rattle.rn_model.specs.Limits.{most_vars, most_places, most_initial};
-ghost use Rattle.rn_declared.specs.Faults.{first_from, past_limit};
+ghost use Rattle.std.specs.Prelude.{slice_get, length, option_copied, option_map, is_some};
+ghost use Rattle.std.specs.Prelude.{not, nat_le, nat_abs};
+ghost use Rattle.rn_model.specs.Limits.{most_vars, most_places, most_initial, greatest_capacity};
+ghost use Rattle.rn_declared.specs.declared.fault.Rule.TheVariants as Rules;
+ghost use Rattle.rn_declared.specs.Faults.{first_from, broken_if, past, past_limit};
 ghost use Rattle.rn_declared.specs.Patterns.{pattern_of};
 ghost use Rattle.rn_declared.specs.Names.{number_among, declared_faults};
 ghost use Rattle.rn_declared.specs.Declarations.{kind_faults, place_faults, token_faults, const_part};
+ghost use Rattle.rn_declared.specs.Declarations.{capacity_faults, has_capacity};
 ghost use Rattle.rn_declared.specs.SeenBefore.{WasSeen};
-ghost use Rattle.rn_declared.specs.Tables.{pattern_in};
+ghost use Rattle.rn_declared.specs.Tables.{pattern_in, capped_in};
 
 use crate::fault::Rule;
 use crate::first::First;
 use crate::kinds::{fits, same, see_const, see_kind};
-use crate::located::{Located, tell_past};
+use crate::located::{Located, tell_past, tell_past_by};
 use crate::names::declare_all;
 use crate::pattern::{Pattern, copy, once, pattern_of};
-use crate::table::Declared;
+use crate::table::{Declared, DeclaredPlaces};
 use rn_items::Items;
-use rn_model::limits::{MOST_INITIAL, MOST_PLACES, MOST_VARS};
-use rn_net::{PConst, PKind, PPlace, PVar};
+use rn_model::limits::{GREATEST_CAPACITY, MOST_INITIAL, MOST_PLACES, MOST_VARS};
+use rn_net::{PConst, PKind, PMax, PPlace, PVar};
 use rn_value::NoMemory;
 use std::alloc::Global;
 
@@ -121,38 +124,86 @@ fn see_tokens(tokens: &[PConst], pattern: &Pattern, first: &mut First)
     tell_past(tokens, MOST_INITIAL, first);
 }
 
-/// Tells what is broken in the kind, which has this pattern, and the initial tokens of a place.
+/// The number of a capacity, without its sign, which none in a text has.
+fn most_of(max: &PMax) -> usize
+    ensures { result ≡ nat_abs max.now.number }
+{
+    max.number.unsigned_abs() as usize
+}
+
+/// Tells a capacity that is too great.
+fn tell_great(max: &PMax, first: &mut First)
+    ensures { first.new.fault ≡ first_from first.old.fault
+        (broken_if (not (nat_le (nat_abs max.now.number) greatest_capacity)) Rules.Limit max.now.spot) }
+{
+    let most = most_of(max);
+    first.tell_if(most > GREATEST_CAPACITY as usize, Rule::Limit, max.spot);
+}
+
+/// Tells the first token past a capacity, where there are more.
+fn tell_more(max: &PMax, tokens: &[PConst], first: &mut First)
+    ensures { first.new.fault ≡ first_from first.old.fault
+        (past Rules.Capacity (nat_abs max.now.number)
+        (map (λ token. (const_part token).spot) tokens.now)) }
+{
+    let most = most_of(max);
+    tell_past_by(Rule::Capacity, tokens, most, first);
+}
+
+/// Tells what is broken in the capacity of a place that begins with these tokens.
+fn see_capacity(place: &PPlace, tokens: &[PConst], first: &mut First)
+    ensures { first.new.fault ≡ first_from first.old.fault
+        (capacity_faults place.now.max (map (λ token. (const_part token).spot) tokens.now)) }
+{
+    match &place.max {
+        Some(max) => {
+            tell_great(max, first);
+            tell_more(max, tokens, first);
+        }
+        None => {}
+    }
+}
+
+/// Tells what is broken in the kind, which has this pattern, the initial tokens and the capacity of
+/// a place.
 fn see_place(place: &PPlace, pattern: &Pattern, first: &mut First)
     ensures { pattern.now ≡ pattern_of place.now.kind →
         first.new.fault ≡ first_from first.old.fault (place_faults place.now) }
 {
+    let tokens = place.initial.as_slice();
     see_kind(&place.kind, first);
-    see_tokens(place.initial.as_slice(), pattern, first);
+    see_tokens(tokens, pattern, first);
+    see_capacity(place, tokens, first);
 }
 
-/// The places of a net by their names, with the patterns of their kinds. What is broken in their
-/// declarations is told.
+/// The places of a net by their names, with the patterns of their kinds and whether they have a
+/// capacity. What is broken in their declarations is told.
 pub fn declare_places(
     alloc: Global,
     places: &[PPlace],
     first: &mut First,
-) -> Result<Declared, NoMemory>
+) -> Result<DeclaredPlaces, NoMemory>
     ensures told { OnOk result (first.new.fault ≡ first_from first.old.fault
         (declared_faults most_places (map (λ p. p.name) places.now)
         ++ flat_map place_faults places.now)) }
-    ensures found { IfOk result (λ declared. (name : List ℕ) → pattern_in declared name
+    ensures found { IfOk result (λ made. (name : List ℕ) → pattern_in made.declared name
         ≡ option_and_then (slice_get (map (λ p. pattern_of p.kind) places.now))
         (number_among (map (λ p. p.name.text) places.now) name)) }
+    ensures capped { IfOk result (λ made. (name : List ℕ) →
+        capped_in made name ≡ has_capacity places.now name) }
 {
     let table = declare_all(alloc, places, MOST_PLACES, first)?;
     let mut patterns = Vec::with_capacity(alloc, places.len())?;
+    let mut capped = Vec::with_capacity(alloc, places.len())?;
     for place in places {
         let pattern = pattern_of(alloc, &place.kind)?;
         see_place(place, &pattern, first);
         patterns.push(pattern)?;
+        capped.push(place.max.is_some())?;
     }
-    Ok(Declared {
-        table,
-        patterns: Items::from_vec(patterns),
+    let patterns = Items::from_vec(patterns);
+    Ok(DeclaredPlaces {
+        declared: Declared { table, patterns },
+        capped: Items::from_vec(capped),
     })
 }

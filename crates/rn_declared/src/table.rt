@@ -3,6 +3,7 @@ ghost use Rattle.std.specs.Prelude.{◌≡◌, ◌+◌, ◌<◌, ◌^◌, ◌↔
 ghost use Rattle.rn_declared.specs.Tables.{found_in, with_name};
 
 use crate::pattern::{Pattern, Patterns};
+use rn_items::Items;
 use rn_value::{NoMemory, Str, copy_text};
 use std::alloc::Global;
 use std::collections::BTreeMap;
@@ -49,4 +50,11 @@ impl Table {
 pub struct Declared {
     pub table: Table,
     pub patterns: Patterns,
+}
+
+/// Places that were declared, and whether each of them has a capacity.
+#[derive(Drop)]
+pub struct DeclaredPlaces {
+    pub declared: Declared,
+    pub capped: Items<bool>,
 }

@@ -1,9 +1,11 @@
 -- Where a firing may start by a transition of a kept instance.
-use Rattle.std.proofs.Common.{◌≡◌, ℕ, ◌<◌, suc, Bool, true, false, List, [], ◌∷◌, length}
-use Rattle.std.proofs.Common.{refl, sym, ap, subst, arith}
-use Rattle.std.specs.Prelude.{Some, None, Contains, nat_eq, ◌&&◌}
+use Rattle.std.proofs.Common.{◌≡◌, ℕ, suc, ◌<◌, ◌≤◌, ◌+◌, Bool, true, false, List, [], ◌∷◌}
+use Rattle.std.proofs.Common.{length, refl, sym, ap, subst, arith}
+use Rattle.std.specs.Prelude.{Option, Some, None, Contains, nat_eq, nat_lt, ◌&&◌}
 use Rattle.std.specs.Prelude.{option_map, option_and_then, slice_get, unwrap_or}
 use Rattle.std.specs.List.{list_any}
+use Rattle.std.specs.Option.{option_map_or}
+use Rattle.std.proofs.lemmas.Bool.{le-ltb, ne_eqb}
 use Rattle.std.proofs.lemmas.Bool.Decides.{nat_tests}
 use Rattle.rn_model.specs.declared.system.System.{System}
 use Rattle.rn_model.specs.declared.system.NetArc.{NetArc}
@@ -11,12 +13,14 @@ use Rattle.rn_model.specs.declared.binding.Binding.{Binding}
 use Rattle.rn_model.specs.Derivation.{finds_token}
 use Rattle.rn_model.specs.Enabling.{Enabled}
 use Rattle.rn_model.specs.Markings.{Marking, Instance, instance_at, net_of}
-use Rattle.rn_model.specs.Systems.{net_at, transition_at}
+use Rattle.rn_model.specs.RoomLaws.{takers_at, putters_at, is_plain_at, puts_one}
+use Rattle.rn_model.specs.Systems.{net_at, transition_at, capacity}
 use Rattle.rn_model.proofs.AfterFiring.{found_number}
 use Rattle.rn_search.specs.Missing.{MayStart}
 use Rattle.rn_search.specs.Sought.{StartsAt}
-use Rattle.rn_search.proofs.Needed.{starts_find_tokens}
+use Rattle.rn_search.proofs.Needed.{starts_find_tokens, starts_find_room}
 use Rattle.rn_found.specs.Starting.{IsKept, IsNoStart, is_starved, lacks_token, start_of}
+use Rattle.rn_found.specs.Starting.{overfills, lacks_room}
 use Rattle.rn_found.proofs.StartingBindings.{may_start_of, may_start_there}
 
 -- what is found by a number is kept
@@ -57,6 +61,41 @@ none_lacks system m depth i t b kept enabled starts =
     (λ (j : Instance). slice_get j.places x.place) o) [])) kept
     (starts_find_tokens system m b depth (start_of i.number i.net t) x enabled starts there finds)))
 
+-- an arc whose place has room for what is put doesn't overfill it
+has_room : (puts plain : Bool) (capacity : Option ℕ) (takes held : ℕ) →
+    ((most : ℕ) → capacity ≡ Some most → plain ≡ true → held ≤ most + takes) →
+    (puts && option_map_or (λ most. plain && nat_lt (most + takes) held) capacity false) ≡ false
+has_room false plain capacity takes held room = refl
+has_room true plain None takes held room = refl
+has_room true false (Some most) takes held room = refl
+has_room true true (Some most) takes held room =
+    le-ltb (most + takes) held (room most refl refl)
+
+calls_or_not : {X : Type 0} (calls : List X) (overfilled : Bool) →
+    (calls ≡ [] → overfilled ≡ false) → (nat_eq (length calls) 0 && overfilled) ≡ false
+calls_or_not [] overfilled none = none refl
+calls_or_not (call ∷ calls) overfilled none =
+    let some : nat_eq (length (call ∷ calls)) 0 ≡ false =
+    ne_eqb (length (call ∷ calls)) 0 (λ e. omega arith) in
+    rw some refl
+
+-- where a binding is enabled that starts with a kept instance, none of its arcs alone lacks room
+none_overfills : (system : System) (m : Marking) (depth : ℕ) (i : Instance) (t : ℕ) (b : Binding) →
+    IsKept m i → Enabled system m b depth → StartsAt b (start_of i.number i.net t) →
+    lacks_room system i (transition_at system i.net t) ≡ false
+none_overfills system m depth i t b kept enabled starts =
+    let own = transition_at system i.net t in
+    calls_or_not own.downlinks (list_any (overfills system i own) own.arcs) (λ calls.
+    none_any (overfills system i own) own.arcs (λ x there.
+    has_room (puts_one x.kind) (is_plain_at own x.place) (capacity system i.net x.place)
+    (takers_at own x.place)
+    (length (unwrap_or (slice_get i.places x.place) []) + putters_at own x.place)
+    (λ most has plain. subst (λ o. length (unwrap_or (option_and_then
+    (λ (j : Instance). slice_get j.places x.place) o) []) + putters_at own x.place
+    ≤ most + takers_at own x.place) kept
+    (starts_find_room system m b depth (start_of i.number i.net t) i.number x.place most enabled
+    starts refl calls plain has))))
+
 -- a start without uplink that is asked for may start a firing
 pub kept_may_start : (system : System) (m : Marking) (i : Instance) (t : ℕ) → IsKept m i →
     t < length (net_at system i.net).transitions →
@@ -64,14 +103,16 @@ pub kept_may_start : (system : System) (m : Marking) (i : Instance) (t : ℕ) �
 kept_may_start system m i t kept there uplink =
     may_start_of system m i.number i.net t (kept_net m i kept) there uplink
 
--- No enabled binding starts by a transition with an uplink, nor by one that lacks a token.
+-- No enabled binding starts by a transition with an uplink, nor by one that lacks a token or room.
 pub none_unless_may : (system : System) (m : Marking) (depth : ℕ) (i : Instance) (t : ℕ) →
     IsKept m i →
     ¬ (((transition_at system i.net t).uplink ≡ None)
-    × (lacks_token i (transition_at system i.net t) ≡ false)) →
+    × (lacks_token i (transition_at system i.net t) ≡ false)
+    × (lacks_room system i (transition_at system i.net t) ≡ false)) →
     IsNoStart system m depth (start_of i.number i.net t)
 none_unless_may system m depth i t kept may_not b enabled starts =
     may_not (
       (may_start_there system m depth b (start_of i.number i.net t) enabled starts).uplink,
       none_lacks system m depth i t b kept enabled starts,
+      none_overfills system m depth i t b kept enabled starts,
     )

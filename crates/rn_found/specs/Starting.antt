@@ -1,8 +1,10 @@
 -- Bindings by where they start.
 use Rattle.std.specs.Prelude.{ℕ, ◌≡◌, ◌<◌, ◌≢◌, List, [], ◌++◌, Contains, AllPairs, All, map}
-use Rattle.std.specs.Prelude.{Bool, ◌&&◌, Some, length, nat_eq, slice_get, unwrap_or}
+use Rattle.std.specs.Prelude.{Bool, false, ◌&&◌, ◌+◌, Some, length, nat_eq, nat_lt, slice_get}
+use Rattle.std.specs.Prelude.{unwrap_or}
 use Rattle.std.specs.List.{list_any}
 use Rattle.std.specs.List.Sorted.{IsStrictlyIncreasing}
+use Rattle.std.specs.Option.{option_map_or}
 use Rattle.rn_value.specs.declared.value.InstRef.TheVariants.{Old}
 use Rattle.rn_model.specs.declared.system.System.{System}
 use Rattle.rn_model.specs.declared.system.NetArc.{NetArc}
@@ -12,6 +14,8 @@ use Rattle.rn_model.specs.Derivation.{finds_token}
 use Rattle.rn_model.specs.Enabling.{Enabled}
 use Rattle.rn_model.specs.Good.{Good}
 use Rattle.rn_model.specs.Markings.{Marking, Instance, instance_at}
+use Rattle.rn_model.specs.RoomLaws.{puts_one, takers_at, putters_at, is_plain_at}
+use Rattle.rn_model.specs.Systems.{capacity}
 use Rattle.rn_search.specs.Problems.{HasFitTokens}
 use Rattle.rn_channel.specs.declared.uplinks.Uplinks.{Uplinks}
 use Rattle.rn_channel.specs.Uplinks.{AreUplinksOf}
@@ -45,6 +49,20 @@ is_starved i x =
 -- some arc of a transition
 abbrev pub lacks_token : Instance → Transition → Bool
 lacks_token i t = list_any (is_starved i) t.arcs
+
+-- An arc puts a token into a place that has no room for it at an instance: no arc of its transition
+-- there is flexible or clears it, and the place's tokens and all that such arcs put are more than
+-- its capacity and all that is taken.
+abbrev pub overfills : System → Instance → Transition → NetArc → Bool
+overfills system i t x =
+    puts_one x.kind && option_map_or (λ most. is_plain_at t x.place
+    && nat_lt (most + takers_at t x.place)
+    (length (unwrap_or (slice_get i.places x.place) []) + putters_at t x.place))
+    (capacity system i.net x.place) false
+
+-- a transition calls nothing, and some arc of it has no room
+abbrev pub lacks_room : System → Instance → Transition → Bool
+lacks_room system i t = nat_eq (length t.downlinks) 0 && list_any (overfills system i t) t.arcs
 
 -- no enabled binding starts at a node
 abbrev pub IsNoStart : System → Marking → ℕ → Head → Type 0

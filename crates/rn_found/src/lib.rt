@@ -1,6 +1,7 @@
 //! Finding the bindings that are enabled at a marking.
 #![tactic(auto)]
 
+mod capacities;
 mod drawing;
 mod every;
 mod explorer;

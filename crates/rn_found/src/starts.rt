@@ -4,8 +4,9 @@ ghost use Rattle.std.specs.List.{list_any};
 ghost use Rattle.rn_model.specs.Derivation.{finds_token};
 ghost use Rattle.rn_model.specs.Good.{Good};
 ghost use Rattle.rn_model.specs.Systems.{net_at, transition_at};
-ghost use Rattle.rn_found.specs.Starting.{is_starved, lacks_token, start_of};
+ghost use Rattle.rn_found.specs.Starting.{is_starved, lacks_room, lacks_token, start_of};
 
+use crate::capacities::lacks_room;
 use rn_growing::Head;
 use rn_items::Items;
 use rn_model::{ArcKind, NetArc, System, Transition};
@@ -64,16 +65,21 @@ fn lacks_token(inst: &Inst, arcs: &[NetArc]) -> bool
     false
 }
 
-/// Whether a firing may start by a transition of an instance: the transition has no uplink, and each
-/// of its arcs that finds a token has one in its place. It takes no memory.
+/// Whether a firing may start by a transition of an instance: the transition has no uplink, each of
+/// its arcs that finds a token has one in its place, and no place is too full for what its arcs
+/// alone put there. It takes no memory.
 pub(crate) fn may_start(system: &System, inst: &Inst, transition: u32) -> bool
     requires { transition < length (net_at system.now inst.now.net).transitions }
     ensures { IsTrue result
         ↔ (((transition_at system.now inst.now.net transition).uplink ≡ None)
-        × (lacks_token inst.now (transition_at system.now inst.now.net transition) ≡ false)) }
+        × (lacks_token inst.now (transition_at system.now inst.now.net transition) ≡ false)
+        × (lacks_room system.now inst.now (transition_at system.now inst.now.net transition)
+        ≡ false)) }
 {
     let transition = &transitions_of(system, inst.net())[transition as usize];
-    transition.uplink.is_none() && !lacks_token(inst, transition.arcs.as_slice())
+    transition.uplink.is_none()
+        && !lacks_token(inst, transition.arcs.as_slice())
+        && !lacks_room(system, inst, transition)
 }
 
 /// What a search from a start by a transition of an instance costs before its first step: the more,

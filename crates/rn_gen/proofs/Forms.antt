@@ -1,7 +1,7 @@
 -- The kinds of the tokens of the workload text, and the plain form that it spells. Of each part the
 -- kinds stand before those that follow it, and the form is that of a stream of tokens, the first of
 -- which begins the part: it has their spots.
-use Rattle.std.proofs.Common.{ℕ, ℤ, pos, List, [], ◌∷◌, codes, Some}
+use Rattle.std.proofs.Common.{ℕ, ℤ, pos, List, [], ◌∷◌, codes, Some, None}
 use Rattle.rn_notation.specs.declared.token.Token.{Token}
 use Rattle.rn_notation.specs.declared.token.TokenKind.{TokenKind}
 use Rattle.rn_notation.specs.declared.token.TokenKind.TheVariants.{Name, Word, Number, Sign}
@@ -103,14 +103,14 @@ int_place_kinds p z more =
 abbrev pub int_place : List ℕ → ℤ → Stream → PPlace
 int_place p z at =
     place_of (named_at (at 1) p) (kind_at (at 3).spot K.Int)
-    (constant_at (at 5).spot (C.Int z) ∷ [])
+    (constant_at (at 5).spot (C.Int z) ∷ []) None
 
 -- `place p: net;`
 abbrev pub net_place_kinds : List ℕ → Kinds → Kinds
 net_place_kinds p more = place_word ∷ Name p ∷ colon ∷ net_word ∷ semicolon ∷ more
 
 abbrev pub net_place : List ℕ → Stream → PPlace
-net_place p at = place_of (named_at (at 1) p) (kind_at (at 3).spot K.Net) []
+net_place p at = place_of (named_at (at 1) p) (kind_at (at 3).spot K.Net) [] None
 
 -- `in p: x;`
 abbrev pub in_kinds : List ℕ → List ℕ → Kinds → Kinds

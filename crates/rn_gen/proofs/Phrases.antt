@@ -10,7 +10,7 @@ use Rattle.rn_inscript.specs.Signs.{open_paren, close_paren, close_brace}
 use Rattle.rn_net.specs.declared.kinds.PKindForm.TheVariants as K
 use Rattle.rn_net.specs.Kinds.{IsKind, AreListed, AreKinds, AreMoreKinds, kind_at}
 use Rattle.rn_net.specs.Constants.{IsConstant, AreConstants, AreMoreConstants}
-use Rattle.rn_net.specs.Nets.{IsChannel, AreMoreNames, AreVars, IsKindOfPlace, AreInitial, IsPlace, AreInscriptions, IsTransition, AreParts, IsNet, AreItems, IsSystem}
+use Rattle.rn_net.specs.Nets.{IsChannel, AreMoreNames, AreVars, IsKindOfPlace, IsCapacity, AreInitial, IsPlace, AreInscriptions, IsTransition, AreParts, IsNet, AreItems, IsSystem}
 use Rattle.rn_gen.proofs.Streams.{with_kinds, past}
 use Rattle.rn_gen.proofs.Forms.{Kinds, Stream, go_kinds, go_channel, done_kinds, done_channel, int_var_kinds, int_var, net_var_kinds, net_var, int_place_kinds, int_place, net_place_kinds, net_place, make_kinds, make, step_kinds, step, finish_kinds, finish, go_on_kinds, go_on, be_done_kinds, be_done, main_kinds, main, worker_kinds, worker, workload_kinds, workload_form}
 
@@ -70,7 +70,7 @@ int_place_reads : (p : List ℕ) (z : ℤ) (at : Stream) (more : Kinds) →
     IsPlace (with_kinds at (int_place_kinds p z more)) (int_place p z at)
     (with_kinds (past 7 at) more)
 int_place_reads p z at more =
-    IsPlace.place refl refl (IsKindOfPlace.given refl (IsKind.int refl))
+    IsPlace.place refl refl (IsKindOfPlace.given refl (IsKind.int refl)) IsCapacity.none
     (AreInitial.some refl
     (AreConstants.constants (IsConstant.number refl) AreMoreConstants.no_more_constants))
     refl
@@ -78,7 +78,8 @@ int_place_reads p z at more =
 net_place_reads : (p : List ℕ) (at : Stream) (more : Kinds) →
     IsPlace (with_kinds at (net_place_kinds p more)) (net_place p at) (with_kinds (past 5 at) more)
 net_place_reads p at more =
-    IsPlace.place refl refl (IsKindOfPlace.given refl (IsKind.net refl)) AreInitial.none refl
+    IsPlace.place refl refl (IsKindOfPlace.given refl (IsKind.net refl)) IsCapacity.none
+    AreInitial.none refl
 
 make_reads : (at : Stream) (more : Kinds) →
     IsTransition (with_kinds at (make_kinds more)) (make at) (with_kinds (past 31 at) more)

@@ -123,16 +123,20 @@ pub int_place_fine : (p : List ℕ) (z : ℤ) (at : Stream) → place_faults (in
 int_place_fine p z at =
     let kind = kind_at (at 3).spot K.Int in
     let tokens = token_faults (pattern_of kind) (constant_at (at 5).spot (C.Int z)) ++ [] in
-    none_both (kind_faults kind ++ tokens) []
+    none_both (kind_faults kind ++ tokens ++ []) []
+    (none_both (kind_faults kind ++ tokens) []
     (none_both (kind_faults kind) tokens (no_int_faults (at 3).spot)
     (none_both (token_faults (pattern_of kind) (constant_at (at 5).spot (C.Int z))) []
     (token_fine (at 3).spot (at 5).spot z) refl))
+    refl)
     refl
 
 pub net_place_fine : (p : List ℕ) (at : Stream) → place_faults (net_place p at) ≡ []
 net_place_fine p at =
-    none_both (kind_faults (kind_at (at 3).spot K.Net) ++ []) []
-    (none_both (kind_faults (kind_at (at 3).spot K.Net)) [] (no_net_faults (at 3).spot) refl) refl
+    none_both (kind_faults (kind_at (at 3).spot K.Net) ++ [] ++ []) []
+    (none_both (kind_faults (kind_at (at 3).spot K.Net) ++ []) []
+    (none_both (kind_faults (kind_at (at 3).spot K.Net)) [] (no_net_faults (at 3).spot) refl) refl)
+    refl
 
 -- expressions, where no name is one that an action sets
 share_int : share Pattern.Int Pattern.Int ≡ true

@@ -68,13 +68,14 @@ net_var_text x at = rw (net_kind (at 3)) refl
 
 int_place_text : (p : List ℕ) (z : ℤ) (digits : List ℕ) (at : Stream) → whole_number z ≡ digits →
     place_text (int_place p z at)
-    ≡ codes "  place " ++ p ++ codes ": " ++ codes "int" ++ (codes " = " ++ digits) ++ codes ";\n"
+    ≡ codes "  place " ++ p ++ codes ": " ++ codes "int" ++ [] ++ (codes " = " ++ digits)
+    ++ codes ";\n"
 int_place_text p z digits at e =
     rw (int_kind (at 3), int_constant (at 5) z, append-nil (whole_number z), e) refl
 
 net_place_text : (p : List ℕ) (at : Stream) →
     place_text (net_place p at)
-    ≡ codes "  place " ++ p ++ codes ": " ++ codes "net" ++ [] ++ codes ";\n"
+    ≡ codes "  place " ++ p ++ codes ": " ++ codes "net" ++ [] ++ [] ++ codes ";\n"
 net_place_text p at = rw (net_kind (at 3)) refl
 
 -- transitions

@@ -9,6 +9,7 @@ pub mod EqualitiesAreSolved
 pub mod ExampleSystems
 pub mod ExpressionExamples
 pub mod FiresOnce
+pub mod FullPlaces
 pub mod GoodSystem
 pub mod ItemsInTurn
 pub mod LiveInstances

@@ -2,6 +2,7 @@ pub mod AfterFiring
 pub mod AgreeingValues
 pub mod AskedValues
 pub mod BindingOrder
+pub mod CapacitiesOfRuns
 pub mod ConditionsByComparisons
 pub mod CountsAfterFiring
 pub mod CreationKeys
@@ -14,6 +15,7 @@ pub mod EachElement
 pub mod EnablingLemmas
 pub mod EvaluationLemmas
 pub mod Examples
+pub mod FilledPlaces
 pub mod ForcedValues
 pub mod FormsAtWays
 pub mod FormsOfExpressions
@@ -23,6 +25,7 @@ pub mod InitialTokens
 pub mod ItemsOfNodes
 pub mod KindRules
 pub mod KindsOfValues
+pub mod LengthsByCounts
 pub mod ListsWithoutRepeats
 pub mod LiveBindings
 pub mod LiveByRounds
@@ -43,16 +46,20 @@ pub mod OwnValues
 pub mod PassingInstances
 pub mod PlacesOfArcs
 pub mod PutValues
+pub mod PutsOfArcs
+pub mod ReadAfterActions
 pub mod ReadConditions
 pub mod ReadingLemmas
 pub mod RenamedReadings
 pub mod ReplacedReadings
 pub mod ReplacedValues
+pub mod RoomOfStarts
 pub mod Rounds
 pub mod RunLemmas
 pub mod SingleNodes
 pub mod SoundAfter
 pub mod SoundRuns
+pub mod StandingNodes
 pub mod StandingTables
 pub mod ThreadSafety
 pub mod TruthLemmas

@@ -1,5 +1,5 @@
 -- Whether a binding is enabled depends on the instances alone that its nodes stand on.
-use Rattle.std.proofs.Common.{◌≡◌, ℕ, ◌⊎◌, suc, true, false, List, [], ◌∷◌, map, refl, sym, ap, ◌∙◌, subst, inl, inr, arith}
+use Rattle.std.proofs.Common.{◌≡◌, ℕ, ◌+◌, ◌-◌, ◌≤◌, ◌⊎◌, suc, true, false, List, [], ◌∷◌, map, length, refl, sym, ap, ◌∙◌, subst, inl, inr, arith}
 use Rattle.std.specs.Prelude.{Some, option_map, option_and_then, unwrap_or, slice_get, All, Contains, flat_map}
 use Rattle.std.specs.List.{AllByRecursion}
 use Rattle.std.specs.Ordering.{is_eq}
@@ -16,8 +16,8 @@ use Rattle.rn_model.specs.declared.binding.Binding.{Binding}
 use Rattle.rn_model.specs.Lists.{ordered_values, IsWithin}
 use Rattle.rn_model.specs.Markings.{Marking, instance_at, net_of, tokens}
 use Rattle.rn_model.specs.Bindings.{env_of}
-use Rattle.rn_model.specs.Demands.{takes, tests, inhibits, clears, asked_by_node, taken_at, cleared_at, rest_at}
-use Rattle.rn_model.specs.Enabling.{PlaceFits}
+use Rattle.rn_model.specs.Demands.{takes, tests, inhibits, clears, asked_by_node, taken_at, cleared_at, rest_at, filled_at}
+use Rattle.rn_model.specs.Enabling.{PlaceFits, HasRoom}
 use Rattle.rn_model.specs.Laws.{LooksAtItsOwn}
 use Rattle.rn_model.proofs.EachElement.{each_weaker}
 use Rattle.rn_model.proofs.EnablingLemmas.{idle}
@@ -77,6 +77,29 @@ all_there system m table b same there =
     (each_weaker (λ node. Contains b.nodes node) (IsThereWithItsNet table) (λ node contained n is. ap (option_map (λ i. i.net)) (same node n contained is) ∙ All-contains (IsThereWithItsNet m) b.nodes node there contained n is)
     b.nodes (recursion_from_All (Contains b.nodes) b.nodes (All-contains_itself b.nodes)))
 
+-- the tokens after the firing, by those before it
+abbrev HoldsAfter : System → Binding → ℕ → ℕ → ℕ → List Value → Type 0
+HoldsAfter system b n place most vs =
+    (length vs - (length (taken_at system b (Old n) place)
+    + length (flat_map (λ vs. vs) (cleared_at system b (Old n) place))))
+    + filled_at system b (Old n) place ≤ most
+
+node_room : (system : System) (m table : Marking) (b : Binding) → SameInstances b m table →
+    All (HasRoom system m b) b.nodes → (node : Node) → Contains b.nodes node →
+    HasRoom system table b node
+node_room system m table b same room node contained n place most is has =
+    let instance = λ (k : ℕ) (e : Old n ≡ Old k). same node k contained (is ∙ e) in
+    subst (HoldsAfter system b n place most) (same_tokens m table (Old n) place instance)
+    (All-contains (HasRoom system m b) b.nodes node room contained n place most is has)
+
+all_room : (system : System) (m table : Marking) (b : Binding) → SameInstances b m table →
+    All (HasRoom system m b) b.nodes → All (HasRoom system table b) b.nodes
+all_room system m table b same room =
+    All-from_recursion (HasRoom system table b) b.nodes
+    (each_weaker (Contains b.nodes) (HasRoom system table b)
+    (node_room system m table b same room) b.nodes
+    (recursion_from_All (Contains b.nodes) b.nodes (All-contains_itself b.nodes)))
+
 pub looks_at_its_own : LooksAtItsOwn
 looks_at_its_own system m table b depth same e = record {
   shape = e.shape;
@@ -85,5 +108,7 @@ looks_at_its_own system m table b depth same e = record {
   fits = record {
     there = all_there system m table b same e.fits.there;
     places = λ inst place. place_fits system m table b inst place same (e.fits.places inst place) (here_or_not inst b.nodes);
+    room = all_room system m table b same e.fits.room;
+    made = e.fits.made;
   };
 }

@@ -1,6 +1,7 @@
 pub mod Agreement
 pub mod AgreementLaws
 pub mod Bindings
+pub mod CapacityLaws
 pub mod Demands
 pub mod Derivation
 pub mod DerivationLaws
@@ -27,6 +28,7 @@ pub mod NodeText
 pub mod Numbers
 pub mod Order
 pub mod OrderLaws
+pub mod RoomLaws
 pub mod RoundLaws
 pub mod Runs
 pub mod SoundTokens

@@ -21,6 +21,10 @@ most_inscriptions = 200
 abbrev pub most_initial : ℕ
 most_initial = 10000
 
+-- the greatest capacity of a place
+abbrev pub greatest_capacity : ℕ
+greatest_capacity = 1000000
+
 -- how many variables a net has at most
 abbrev pub most_vars : ℕ
 most_vars = 200

@@ -3,6 +3,8 @@ ghost use Rattle.rn_model.specs.FiringLaws.{NextAfterFiring, InstancesAfterFirin
 ghost use Rattle.rn_model.specs.FiringLaws.{OldTokensAfterFiring, NewTokensAfterFiring};
 ghost use Rattle.rn_model.specs.FiringLaws.{NumberingKeepsDemands, FiringsMoveTokens};
 ghost use Rattle.rn_model.specs.FiringLaws.{EachNumberIsThere};
+ghost use Rattle.rn_model.specs.CapacityLaws.{InitialKeepsCapacities, FiringsKeepCapacities};
+ghost use Rattle.rn_model.specs.CapacityLaws.{RunsKeepCapacities};
 
 /// A firing gives the next numbers to the creations of its binding: after it those instances are
 /// there that were, and one of the net of each creation.
@@ -29,4 +31,12 @@ pub fn firings_move_tokens()
 /// least 1 and below the next one.
 pub fn each_number_is_there()
     ensures { EachNumberIsThere }
+{}
+
+/// No place holds more tokens than its capacity: at the initial marking of a good system, after the
+/// firing of an enabled binding, and at the end of each run.
+pub fn runs_keep_capacities()
+    ensures initial { InitialKeepsCapacities }
+    ensures kept { FiringsKeepCapacities }
+    ensures ends { RunsKeepCapacities }
 {}

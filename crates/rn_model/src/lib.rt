@@ -24,7 +24,7 @@ pub use expression_laws::{
     agreeing_values_have_kinds, expressions_are_renamed, expressions_look_up, kinds_are_kept,
 };
 pub use firing_laws::{
-    each_number_is_there, firings_give_numbers, firings_move_tokens,
+    each_number_is_there, firings_give_numbers, firings_move_tokens, runs_keep_capacities,
     tokens_after_firing_are_counted,
 };
 pub use laws::{
@@ -33,7 +33,7 @@ pub use laws::{
     logs_end_once, next_number_is_free, own_values_satisfy, prefixes_are_logs, prefixes_are_runs,
     runs_end_in_markings, runs_grow, tables_stand, tokens_stay_sound,
 };
-pub use live_laws::{live_part_is_unique, places_fit_by_arcs};
+pub use live_laws::{live_part_is_unique, places_fit_by_arcs, starts_find_room};
 pub use log::{Entries, Entry, FaultKind, MarkLine, MarkLines, Options, Reason, Told};
 pub use node_text::{write_instance, write_nodes};
 pub use numbers::named;

@@ -1,7 +1,7 @@
 //! The limits of systems, of bindings and of runs, as constants.
 ghost use Rattle.std.specs.Prelude.{◌≡◌};
 ghost use Rattle.rn_model.specs.Limits.{longest_name, most_nested, most_parts};
-ghost use Rattle.rn_model.specs.Limits.{most_inscriptions, most_initial};
+ghost use Rattle.rn_model.specs.Limits.{most_inscriptions, most_initial, greatest_capacity};
 ghost use Rattle.rn_model.specs.Limits.{most_vars, most_places, most_transitions, most_nets};
 ghost use Rattle.rn_model.specs.Limits.{most_channels, most_nodes, greatest_instance};
 ghost use Rattle.rn_model.specs.Limits.{most_workers, most_steps, greatest_step};
@@ -17,6 +17,8 @@ pub const MOST_PARTS: usize = 16;
 pub const MOST_INSCRIPTIONS: usize = 200;
 /// Tokens with which a place begins.
 pub const MOST_INITIAL: usize = 10_000;
+/// The greatest capacity of a place.
+pub const GREATEST_CAPACITY: u32 = 1_000_000;
 /// Variables of a net.
 pub const MOST_VARS: usize = 200;
 /// Places of a net.
@@ -49,6 +51,7 @@ pub fn limits_are_as_stated()
     ensures parts { MOST_PARTS ≡ most_parts }
     ensures inscriptions { MOST_INSCRIPTIONS ≡ most_inscriptions }
     ensures initial { MOST_INITIAL ≡ most_initial }
+    ensures capacity { GREATEST_CAPACITY ≡ greatest_capacity }
     ensures vars { MOST_VARS ≡ most_vars }
     ensures places { MOST_PLACES ≡ most_places }
     ensures transitions { MOST_TRANSITIONS ≡ most_transitions }

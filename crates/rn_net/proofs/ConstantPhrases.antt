@@ -51,7 +51,7 @@ abbrev pub leaf : TokenKind → PConstForm → Sort PConst
 leaf kind form = kind_then kind (λ spot. done (constant_at spot form))
 
 abbrev pub negative_end : Spot → Sort PConst
-negative_end spot = number_then (λ n. done (constant_at spot (C.Int (neg_ℤ n))))
+negative_end spot = number_then (λ place n. done (constant_at spot (C.Int (neg_ℤ n))))
 
 abbrev pub negative : Sort PConst
 negative = kind_then minus negative_end

@@ -1,6 +1,6 @@
 -- The productions of declarations, one token after another.
 use Rattle.std.proofs.Common.{◌≡◌, ℕ, ◌+◌, ◌<◌, ◌≤◌, ◌⊎◌, inl, inr, true, false, List, [], ◌∷◌, ◌++◌, length, drop, refl, sym, ◌∙◌, ap, subst, append_assoc, arith}
-use Rattle.std.specs.Prelude.{map, Result, Ok, Err, MatchResult}
+use Rattle.std.specs.Prelude.{map, ℤ, Option, Some, None, Result, Ok, Err, MatchResult}
 use Rattle.rn_notation.specs.declared.token.Spot.{Spot}
 use Rattle.rn_notation.specs.declared.token.Token.{Token}
 use Rattle.rn_notation.specs.declared.token.TokenKind.{TokenKind}
@@ -19,17 +19,19 @@ use Rattle.rn_net.specs.declared.constants.PConst.{PConst}
 use Rattle.rn_net.specs.declared.plain.PChannel.{PChannel}
 use Rattle.rn_net.specs.declared.plain.PVar.{PVar}
 use Rattle.rn_net.specs.declared.plain.PPlace.{PPlace}
-use Rattle.rn_net.specs.Words.{semicolon, channel_word, var_word, place_word}
+use Rattle.rn_net.specs.declared.plain.PMax.{PMax}
+use Rattle.rn_net.specs.declared.part.PlaceEnd.{PlaceEnd}
+use Rattle.rn_net.specs.Words.{semicolon, channel_word, var_word, place_word, max_name}
 use Rattle.rn_net.specs.Kinds.{IsKind, AreListed, kind_at}
 use Rattle.rn_net.specs.Constants.{AreConstants}
 use Rattle.rn_net.specs.Lists.{AreConstantsUpTo}
-use Rattle.rn_net.specs.Nets.{IsChannel, AreVars, AreMoreNames, IsKindOfPlace, AreInitial, IsPlace, channel_of, var_of, place_of}
-use Rattle.rn_net.specs.Parts.{IsPName, AreNames, AreNamesUpTo, IsInitialUpTo}
+use Rattle.rn_net.specs.Nets.{IsChannel, AreVars, AreMoreNames, IsKindOfPlace, IsCapacity, AreInitial, IsPlace, channel_of, var_of, max_of, place_of}
+use Rattle.rn_net.specs.Parts.{IsPName, AreNames, AreNamesUpTo, IsInitialUpTo, IsPlaceEnd, end_of}
 use Rattle.rn_net.specs.Levels.{Region, is_too_deep, after}
 use Rattle.rn_net.specs.Levels.Region.{between, declaring}
-use Rattle.rn_net.specs.Progress.{Sort, Stage, Fails, Reads, Moves, done, HasNext}
+use Rattle.rn_net.specs.Progress.{Sort, Stage, Fails, Reads, Moves, done, HasNext, IsNoNumber}
 use Rattle.rn_net.proofs.Steps.{alike-cons, begin, change, stuck}
-use Rattle.rn_net.proofs.Sorts.{any, WithKind, kind_then, name_then, then, kind_read, kind_stuck, name_read, name_fails, then_read, then_fails, from_done, next_is, tell_apart}
+use Rattle.rn_net.proofs.Sorts.{any, WithKind, kind_then, name_then, number_then, then, kind_read, kind_stuck, name_read, name_fails, number_read, number_stuck, then_read, then_fails, from_done, next_is, tell_apart}
 use Rattle.rn_net.proofs.Rows.{Row, row_up_to}
 use Rattle.rn_net.proofs.KindPhrases as KP
 use Rattle.rn_net.proofs.ConstantPhrases.{constant_row}
@@ -164,12 +166,64 @@ initial-some tokens at other = begin (kind_then equals (λ spot. row_up_to const
 pub initial_stuck : (tokens : List Token) (at : ℕ) → at ≤ length tokens → IsNotNextKind tokens at semicolon → IsNotNextKind tokens at equals → Fails IsInitialUpTo (drop at tokens) (declaring 0) (length tokens) (Fault.P2 at)
 initial_stuck tokens at inside a b = kind_stuck (λ spot. row_up_to constant_row semicolon) tokens at (initial-some tokens at a) inside b
 
+initial-first : {k : TokenKind} {spot : Spot} (tokens : List Token) (at : ℕ) {ts rest : List Token} {es : List PConst} → HasNext tokens at k spot → BeginAlike (drop at tokens) ts → IsInitialUpTo ts es rest → (k ≡ semicolon) ⊎ (k ≡ equals)
+initial-first tokens at {ts = ts} {rest = rest} {es = es} here alike x = elim (initial-split {ts = ts} {rest = rest} {es = es} x) [ inl y ↦ inl (sym (next_is tokens at y.0 y.1 here alike y.2) ∙ y.3) | inr y ↦ inr (sym (next_is tokens at y.0 y.1 here alike y.2) ∙ y.3) ]
+
 pub initial_open : {spot : Spot} (tokens : List Token) (at next : ℕ) → IsNotNextKind tokens at semicolon → HasNext tokens at equals spot → next ≡ at + 1 → Stage IsInitialUpTo (drop at tokens) (declaring 0) (row_up_to constant_row semicolon) (drop next tokens) (declaring 0)
 initial_open tokens at next a here there = kind_read (λ spot. row_up_to constant_row semicolon) tokens at next (declaring 0) (initial-some tokens at a) here there refl refl
 
--- `place p: int = 1, 2;`
+-- the end of a place, with `max` or without
+abbrev pub rest_with : Option PMax → Sort PlaceEnd
+rest_with max = then initials (λ initial. done (end_of max initial))
+
+abbrev pub max_number : Sort PlaceEnd
+max_number = number_then (λ spot number. rest_with (Some (max_of number spot)))
+
+abbrev pub EndForms : Phrases PlaceEnd
+EndForms ts e rest = WithKind max_name (λ spot. max_number.is) ts e rest ⊎ (rest_with None).is ts e rest
+
+pub end-split : {ts rest : List Token} {e : PlaceEnd} → IsPlaceEnd ts e rest → EndForms ts e rest
+end-split x = by x.2 x.3
+  where
+    by : {ts mid rest : List Token} {e : PlaceEnd} {max : Option PMax} → IsCapacity ts max mid → (rest_with max).is mid e rest → EndForms ts e rest
+    by (IsCapacity.none) y = inr y
+    by (IsCapacity.some m n) y = inl (_, _, refl, m, (_, _, _, refl, n, y))
+
+abbrev pub ends : Sort PlaceEnd
+ends = record { is = IsPlaceEnd; ends = let y = (rest_with None).ends in (y.0, y.1, λ rest. (None, y.0 ++ rest, IsCapacity.none, y.2 rest)) }
+
+max-on : (ts : List Token) (e : PlaceEnd) (rest : List Token) → WithKind max_name (λ spot. max_number.is) ts e rest → IsPlaceEnd ts e rest
+max-on ts e rest x = let n = x.4 in
+    subst (λ us. IsPlaceEnd us e rest) (sym (x.2 ∙ ap (λ us. x.0 ∷ us) n.3)) (Some (max_of n.2 n.0.spot), n.1, IsCapacity.some x.3 n.4, n.5)
+
+max-some : {spot : Spot} (tokens : List Token) (at : ℕ) → HasNext tokens at max_name spot → Stage IsPlaceEnd (drop at tokens) (declaring 0) (kind_then max_name (λ spot. max_number)) (drop at tokens) (declaring 0)
+max-some tokens at here = begin (kind_then max_name (λ spot. max_number)) (drop at tokens) (declaring 0) max-on
+    (λ ts e rest alike x. elim (end-split {ts = ts} {rest = rest} {e = e} x) as (λ w. WithKind max_name (λ spot. max_number.is) ts e rest) [
+      | inl y ↦ y
+      | inr y ↦ absurd (elim (initial-first tokens at here alike y.2) as (λ w. ⊥) [ inl h ↦ tell_apart max_name semicolon h (λ d. omega (arith, d)) | inr h ↦ tell_apart max_name equals h (λ d. omega (arith, d)) ])
+    ])
+
+pub max_begun : {spot : Spot} (tokens : List Token) (at next : ℕ) → HasNext tokens at max_name spot → next ≡ at + 1 → Stage IsPlaceEnd (drop at tokens) (declaring 0) max_number (drop next tokens) (declaring 0)
+max_begun tokens at next here there = kind_read (λ spot. max_number) tokens at next (declaring 0) (max-some tokens at here) here there refl refl
+
+pub max_given : {spot number_spot : Spot} {number : ℤ} (tokens : List Token) (at next last : ℕ) → HasNext tokens at max_name spot → next ≡ at + 1 → HasNext tokens next (Number number) number_spot → last ≡ next + 1 →
+    Stage IsPlaceEnd (drop at tokens) (declaring 0) (rest_with (Some (max_of number number_spot))) (drop last tokens) (declaring 0)
+max_given tokens at next last here there number then_at = number_read (λ spot number. rest_with (Some (max_of number spot))) tokens next last (declaring 0) (max_begun tokens at next here there) number then_at refl refl
+
+pub max_stuck : {spot : Spot} (tokens : List Token) (at next : ℕ) → HasNext tokens at max_name spot → next ≡ at + 1 → IsNoNumber tokens next → Fails IsPlaceEnd (drop at tokens) (declaring 0) (length tokens) (Fault.P2 next)
+max_stuck tokens at next here there none = number_stuck (λ spot number. rest_with (Some (max_of number spot))) tokens next (max_begun tokens at next here there) (omega (arith, there, here.1.1)) none
+
+pub max_none : (tokens : List Token) (at : ℕ) → IsNotNextKind tokens at max_name → Stage IsPlaceEnd (drop at tokens) (declaring 0) (rest_with None) (drop at tokens) (declaring 0)
+max_none tokens at other = begin (rest_with None) (drop at tokens) (declaring 0)
+    (λ ts e rest x. (None, ts, IsCapacity.none, x))
+    (λ ts e rest alike x. elim (end-split {ts = ts} {rest = rest} {e = e} x) as (λ w. (rest_with None).is ts e rest) [
+      | inl y ↦ absurd (let next = alike-cons (drop at tokens) y.0 y.1 (subst (λ us. BeginAlike (drop at tokens) us) y.2 alike) in other y.0 next.0 next.1 y.3)
+      | inr y ↦ y
+    ])
+
+-- `place p: int max 5 = 1, 2;`
 abbrev pub place_end : PName → PKind → Sort PPlace
-place_end name kind = then initials (λ initial. done (place_of name kind initial))
+place_end name kind = then ends (λ end. done (place_of name kind end.initial end.max))
 
 abbrev pub place_kind : PName → Sort PPlace
 place_kind name = then KP.kinds (place_end name)
@@ -185,8 +239,13 @@ abbrev pub place_sort : Sort PPlace
 place_sort = kind_then place_word (λ w. name_then place_on)
 
 place-built : {t u : Token} {ts mid rest : List Token} {s : List ℕ} {kind : PKind} {e : PPlace} → t.kind ≡ place_word → u.kind ≡ Name s → IsKindOfPlace u.spot ts kind mid → (place_end (name_at u.spot s) kind).is mid e rest → IsPlace (t ∷ u ∷ ts) e rest
-place-built {t = t} {u = u} {ts = ts} {kind = kind} a b k x = from_done (λ c r. IsPlace (t ∷ u ∷ ts) c r) x.3
-    (subst (λ is. IsPlace (t ∷ u ∷ ts) (place_of (name_at u.spot _) kind is) x.1) (sym x.2.3.3) (IsPlace.place a b k (subst (λ us. AreInitial _ x.2.0 us) x.2.3.1 x.2.2) x.2.3.2))
+place-built {t = t} {u = u} {ts = ts} {s = s} {kind = kind} a b k x =
+    let c = x.2 in let i = c.3 in let y = i.2 in
+    from_done (λ c r. IsPlace (t ∷ u ∷ ts) c r) x.3
+    (subst (λ end. IsPlace (t ∷ u ∷ ts) (place_of (name_at u.spot s) kind end.initial end.max) x.1) (sym i.3.0)
+    (subst (λ r. IsPlace (t ∷ u ∷ ts) (place_of (name_at u.spot s) kind i.0 c.0) r) (sym i.3.1)
+    (subst (λ is. IsPlace (t ∷ u ∷ ts) (place_of (name_at u.spot s) kind is c.0) i.1) (sym y.3.3)
+    (IsPlace.place a b k c.2 (subst (λ us. AreInitial c.1 y.0 us) y.3.1 y.2) y.3.2))))
 
 pub place-on : (ts : List Token) (e : PPlace) (rest : List Token) → place_sort.is ts e rest → IsPlace ts e rest
 place-on ts e rest x = let n = x.4 in
@@ -198,15 +257,15 @@ place-on ts e rest x = let n = x.4 in
 pub place-only : (ts : List Token) (e : PPlace) (rest : List Token) → IsPlace ts e rest → place_sort.is ts e rest
 place-only ts e rest x = by x
   where
-    end-of : {mid rest : List Token} {v : Token} {name : PName} {kind : PKind} {initial : List PConst} → AreInitial mid initial (v ∷ rest) → v.kind ≡ semicolon → (place_end name kind).is mid (place_of name kind initial) rest
-    end-of i s = (_, _, (_, _, i, (_, refl, s, refl)), (refl, refl))
+    end-of : {mid us rest : List Token} {v : Token} {name : PName} {kind : PKind} {max : Option PMax} {initial : List PConst} → IsCapacity mid max us → AreInitial us initial (v ∷ rest) → v.kind ≡ semicolon → (place_end name kind).is mid (place_of name kind initial max) rest
+    end-of m i s = (_, _, (_, _, m, (_, _, (_, _, i, (_, refl, s, refl)), (refl, refl))), (refl, refl))
 
-    on-of : {spot : Spot} {s : List ℕ} {ts mid rest : List Token} {v : Token} {kind : PKind} {initial : List PConst} → IsKindOfPlace spot ts kind mid → AreInitial mid initial (v ∷ rest) → v.kind ≡ semicolon → PlaceOn (name_at spot s) ts (place_of (name_at spot s) kind initial) rest
-    on-of (IsKindOfPlace.absent) i s = inr (end-of i s)
-    on-of (IsKindOfPlace.given c k) i s = inl (_, _, refl, c, (_, _, k, end-of i s))
+    on-of : {spot : Spot} {s : List ℕ} {ts mid us rest : List Token} {v : Token} {kind : PKind} {max : Option PMax} {initial : List PConst} → IsKindOfPlace spot ts kind mid → IsCapacity mid max us → AreInitial us initial (v ∷ rest) → v.kind ≡ semicolon → PlaceOn (name_at spot s) ts (place_of (name_at spot s) kind initial max) rest
+    on-of (IsKindOfPlace.absent) m i s = inr (end-of m i s)
+    on-of (IsKindOfPlace.given c k) m i s = inl (_, _, refl, c, (_, _, k, end-of m i s))
 
     by : {ts rest : List Token} {e : PPlace} → IsPlace ts e rest → place_sort.is ts e rest
-    by (IsPlace.place a b k i s) = (_, _, refl, a, (_, _, _, refl, b, on-of k i s))
+    by (IsPlace.place a b k m i s) = (_, _, refl, a, (_, _, _, refl, b, on-of k m i s))
 
 pub place_begun : (tokens : List Token) (at start : ℕ) → IsNextKind tokens at place_word → start ≡ at + 1 → Stage IsPlace (drop at tokens) between (name_then place_on) (drop start tokens) (declaring 0)
 place_begun tokens at start next there = kind_read (λ w. name_then place_on) tokens at start (declaring 0) (begin place_sort (drop at tokens) between place-on (λ ts e rest alike x. place-only ts e rest x)) (has_next tokens at next) there refl refl
@@ -215,15 +274,18 @@ pub place_named : (tokens : List Token) (at start after_name : ℕ) (name : PNam
 place_named tokens at start after_name name next begun named there = name_read place_on tokens start after_name (declaring 0) name (place_begun tokens at start next begun) named there (λ s. refl) (λ s. refl)
 
 -- a colon is next, or none
-initial-first : {k : TokenKind} {spot : Spot} (tokens : List Token) (at : ℕ) {ts rest : List Token} {es : List PConst} → HasNext tokens at k spot → BeginAlike (drop at tokens) ts → IsInitialUpTo ts es rest → (k ≡ semicolon) ⊎ (k ≡ equals)
-initial-first tokens at {ts = ts} {rest = rest} {es = es} here alike x = elim (initial-split {ts = ts} {rest = rest} {es = es} x) [ inl y ↦ inl (sym (next_is tokens at y.0 y.1 here alike y.2) ∙ y.3) | inr y ↦ inr (sym (next_is tokens at y.0 y.1 here alike y.2) ∙ y.3) ]
+end-first : {k : TokenKind} {spot : Spot} (tokens : List Token) (at : ℕ) {ts rest : List Token} {e : PlaceEnd} → HasNext tokens at k spot → BeginAlike (drop at tokens) ts → IsPlaceEnd ts e rest → (k ≡ max_name) ⊎ ((k ≡ semicolon) ⊎ (k ≡ equals))
+end-first tokens at {ts = ts} {rest = rest} {e = e} here alike x = elim (end-split {ts = ts} {rest = rest} {e = e} x) [ inl y ↦ inl (sym (next_is tokens at y.0 y.1 here alike y.2) ∙ y.3) | inr y ↦ inr (initial-first tokens at here alike y.2) ]
 
 pub place_colon : {spot : Spot} {start : List Token} {first : Region} (tokens : List Token) (at next : ℕ) (name : PName) → Stage IsPlace start first (place_on name) (drop at tokens) (declaring 0) → HasNext tokens at colon spot → next ≡ at + 1 →
     Stage IsPlace start first (place_kind name) (drop next tokens) (declaring 0)
 place_colon tokens at next name s here there = kind_read (λ c. place_kind name) tokens at next (declaring 0)
     (change (kind_then colon (λ c. place_kind name)) s (λ ts e rest x. inl x) (λ ts e rest alike x. elim x as (λ w. WithKind colon (λ c. (place_kind name).is) ts e rest) [
       | inl y ↦ y
-      | inr y ↦ absurd (elim (initial-first tokens at here alike y.2) as (λ w. ⊥) [ inl e ↦ tell_apart colon semicolon e (λ h. omega (arith, h)) | inr e ↦ tell_apart colon equals e (λ h. omega (arith, h)) ])
+      | inr y ↦ absurd (elim (end-first tokens at here alike y.2) as (λ w. ⊥) [
+        | inl e ↦ tell_apart colon max_name e (λ h. omega (arith, h))
+        | inr f ↦ elim f as (λ w. ⊥) [ inl e ↦ tell_apart colon semicolon e (λ h. omega (arith, h)) | inr e ↦ tell_apart colon equals e (λ h. omega (arith, h)) ]
+      ])
     ]))
     here there refl refl
 

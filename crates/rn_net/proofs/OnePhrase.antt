@@ -18,7 +18,7 @@ use Rattle.rn_net.specs.declared.constants.PConst.{PConst}
 use Rattle.rn_net.specs.declared.constants.PConstForm.TheVariants as C
 use Rattle.rn_net.specs.Kinds.{IsKind, AreListed, AreKinds, AreMoreKinds, kind_at}
 use Rattle.rn_net.specs.Constants.{IsConstant, AreItems, AreConstants, AreMoreConstants, constant_at}
-use Rattle.rn_net.proofs.Sorts.{WithKind, WithName, tell}
+use Rattle.rn_net.proofs.Sorts.{WithKind, WithName, WithNumber, tell}
 
 -- both phrases are one, and the same comes after them
 abbrev pub Same : {A : Type 0} → A → A → List Token → List Token → Type 0
@@ -53,6 +53,14 @@ one_name_then Y one ts r q a b x y =
     let name : y.2 ≡ x.2 = let e = x.4 in let f = y.4 in cc in
     one (name_at x.0.spot x.2) x.1 r q a b x.5
     (subst (λ t. Y (name_at t.spot x.2) x.1 b q) first (subst (λ us. Y (name_at y.0.spot x.2) us b q) others (subst (λ s. Y (name_at y.0.spot s) y.1 b q) name y.5)))
+
+pub one_number_then : {A : Type 0} (Y : Spot → ℤ → Phrases A) → ((s : Spot) (n : ℤ) → One (Y s n)) → One (WithNumber Y)
+one_number_then Y one ts r q a b x y =
+    let first : y.0 ≡ x.0 = let e = x.3 in let f = y.3 in cc in
+    let others : y.1 ≡ x.1 = let e = x.3 in let f = y.3 in cc in
+    let number : y.2 ≡ x.2 = let e = x.4 in let f = y.4 in cc in
+    one x.0.spot x.2 x.1 r q a b x.5
+    (subst (λ t. Y t.spot x.2 x.1 b q) first (subst (λ us. Y y.0.spot x.2 us b q) others (subst (λ n. Y y.0.spot n y.1 b q) number y.5)))
 
 pub one_then : {A B : Type 0} (X : Phrases A) (Y : A → Phrases B) → One X → ((a : A) → One (Y a)) → One (Then X Y)
 one_then X Y one more ts r q a b x y =

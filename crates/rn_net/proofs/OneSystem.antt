@@ -1,10 +1,11 @@
 -- Tokens are one system at most, and a text spells one at most.
 use Rattle.std.proofs.Common.{◌≡◌, inl, inr, List, [], ◌∷◌, ◌++◌, refl, sym, ◌∙◌, ap, subst, arith}
+use Rattle.std.specs.Prelude.{Option, Some, None}
 use Rattle.rn_notation.specs.declared.token.Token.{Token}
 use Rattle.rn_notation.specs.declared.token.TokenKind.{TokenKind}
 use Rattle.rn_notation.specs.Laws.{OneReading}
 use Rattle.rn_inscript.specs.Laws.{OneInscription}
-use Rattle.rn_inscript.specs.Signs.{close_brace, open_brace, open_paren, close_paren, colon}
+use Rattle.rn_inscript.specs.Signs.{close_brace, open_brace, open_paren, close_paren, colon, equals}
 use Rattle.rn_inscript.specs.Inscriptions.{name_at}
 use Rattle.rn_inscript.specs.declared.inscriptions.PName.{PName}
 use Rattle.rn_inscript.specs.declared.inscriptions.PInscription.{PInscription}
@@ -15,19 +16,21 @@ use Rattle.rn_net.specs.declared.plain.Plain.{Plain}
 use Rattle.rn_net.specs.declared.plain.PNet.{PNet}
 use Rattle.rn_net.specs.declared.part.Part.{Part}
 use Rattle.rn_net.specs.declared.part.Item.{Item}
-use Rattle.rn_net.specs.Words.{semicolon, net_word, trans_word, var_word, place_word, channel_word}
+use Rattle.rn_net.specs.declared.part.PlaceEnd.{PlaceEnd}
+use Rattle.rn_net.specs.declared.plain.PMax.{PMax}
+use Rattle.rn_net.specs.Words.{semicolon, net_word, trans_word, var_word, place_word, channel_word, max_name}
 use Rattle.rn_net.specs.Kinds.{IsKind, AreListed, kind_at}
-use Rattle.rn_net.specs.Nets.{IsChannel, AreMoreNames, AreVars, AreInitial, IsPlace, AreInscriptions, AreParts, AreItems, IsSystem}
+use Rattle.rn_net.specs.Nets.{IsChannel, AreMoreNames, AreVars, AreInitial, IsPlace, AreInscriptions, AreParts, AreItems, IsSystem, max_of}
 use Rattle.rn_net.specs.Lists.{IsInscriptionUpTo}
-use Rattle.rn_net.specs.Parts.{IsNetPart, IsItem, IsInitialUpTo, AreNames, with_part, with_item}
+use Rattle.rn_net.specs.Parts.{IsNetPart, IsItem, IsInitialUpTo, IsPlaceEnd, AreNames, with_part, with_item}
 use Rattle.rn_net.specs.Laws.{OneSystem, OneSpelled}
 use Rattle.rn_net.proofs.Sorts.{tell}
 use Rattle.rn_net.proofs.Rows.{row_up_to}
-use Rattle.rn_net.proofs.DeclarationPhrases.{channel_sort, channel_open, channel_kinds, channel_end, channel-only, name_row, vars_sort, vars_names, vars_kind, vars_end, vars-only, PlaceOn, place_on, place_kind, place_end, place_sort, place-only}
+use Rattle.rn_net.proofs.DeclarationPhrases.{channel_sort, channel_open, channel_kinds, channel_end, channel-only, name_row, vars_sort, vars_names, vars_kind, vars_end, vars-only, rest_with, max_number, EndForms, end-split, PlaceOn, place_on, place_kind, place_end, place_sort, place-only}
 use Rattle.rn_net.proofs.NetPhrases.{inscriptions-apart, inscriptions_sort, transition_inside, transition_open, transition_sort, transition-only, parts-split, parts-apart, net_inside, net_open, net_sort, net-only, item-begins}
 use Rattle.rn_net.proofs.Systems.{items-split}
 use Rattle.rn_net.proofs.InscriptionReading.{one_up_to_semicolon}
-use Rattle.rn_net.proofs.OnePhrase.{Same, One, differ, NoComma, OneRow, one_done, one_kind_then, one_name_then, one_then, one_up_to, one_kind, one_listed, one-constants}
+use Rattle.rn_net.proofs.OnePhrase.{Same, One, differ, NoComma, OneRow, one_done, one_kind_then, one_name_then, one_number_then, one_then, one_up_to, one_kind, one_listed, one-constants}
 
 -- tokens don't begin with two words
 two_words : {ts us vs : List Token} {j k : TokenKind} {t u : Token} → ts ≡ t ∷ us → ts ≡ u ∷ vs → t.kind ≡ j → u.kind ≡ k → (tell j ≡ tell k → ⊥) → ⊥
@@ -82,19 +85,40 @@ one_initial ts r q a b x y =
     let s = one-initial x.2 y.2 x.3.1 y.3.1 x.3.2 y.3.2 in
     (x.3.3 ∙ s.0 ∙ sym y.3.3, let d = s.1 in let e = x.3.1 in let f = y.3.1 in cc)
 
-one_place_end : (n : PName) (k : PKind) → One (place_end n k).is
-one_place_end n k = one_then IsInitialUpTo (λ is. _) one_initial (λ is. one_done _)
+-- initial tokens and the semicolon begin with `;` or `=`
+no_initial : {kind : TokenKind} {ts mid rest : List Token} {is : List PConst} {t u : Token} {us : List Token} → AreInitial ts is mid → mid ≡ u ∷ rest → u.kind ≡ semicolon → ts ≡ t ∷ us → t.kind ≡ kind →
+    (tell kind ≡ tell semicolon → ⊥) → (tell kind ≡ tell equals → ⊥) → ⊥
+no_initial {t = t} {u = u} AreInitial.none e h f k a b = differ k (let same : t ≡ u = cc in ap (λ w. w.kind) same ∙ h) a
+no_initial {t = t} (AreInitial.some {t = v} i x) e h f k a b = differ k (let same : t ≡ v = cc in ap (λ w. w.kind) same ∙ i) b
 
--- initial tokens and the semicolon don't begin with a colon
-no_colon : {ts mid rest : List Token} {is : List PConst} {t u : Token} {us : List Token} → AreInitial ts is mid → mid ≡ u ∷ rest → u.kind ≡ semicolon → ts ≡ t ∷ us → t.kind ≡ colon → ⊥
-no_colon {t = t} {u = u} AreInitial.none e h f k = let same : t ≡ u = cc in let g : t.kind ≡ semicolon = ap (λ w. w.kind) same ∙ h in cc
-no_colon {t = t} (AreInitial.some {t = v} i x) e h f k = let same : v ≡ t = cc in let g : v.kind ≡ colon = ap (λ w. w.kind) same ∙ k in cc
+one_rest : (max : Option PMax) → One (rest_with max).is
+one_rest max = one_then IsInitialUpTo (λ is. _) one_initial (λ is. one_done _)
+
+one_end_forms : One EndForms
+one_end_forms ts r q a b (inl x) (inl y) =
+    one_kind_then max_name (λ s. max_number.is) (λ s. one_number_then (λ spot n. (rest_with (Some (max_of n spot))).is) (λ spot n. one_rest (Some (max_of n spot)))) ts r q a b x y
+one_end_forms ts r q a b (inl x) (inr y) = let z = y.2 in absurd (no_initial z.2 z.3.1 z.3.2 x.2 x.3 (λ e. omega (arith, e)) (λ e. omega (arith, e)))
+one_end_forms ts r q a b (inr x) (inl y) = let z = x.2 in absurd (no_initial z.2 z.3.1 z.3.2 y.2 y.3 (λ e. omega (arith, e)) (λ e. omega (arith, e)))
+one_end_forms ts r q a b (inr x) (inr y) = one_rest None ts r q a b x y
+
+one_end : One IsPlaceEnd
+one_end ts r q a b x y = one_end_forms ts r q a b (end-split {ts = ts} {rest = r} {e = a} x) (end-split {ts = ts} {rest = q} {e = b} y)
+
+one_place_end : (n : PName) (k : PKind) → One (place_end n k).is
+one_place_end n k = one_then IsPlaceEnd (λ end. _) one_end (λ end. one_done _)
+
+-- what follows the kind of a place doesn't begin with a colon
+no_colon : {ts rest : List Token} {e : PlaceEnd} {t : Token} {us : List Token} → IsPlaceEnd ts e rest → ts ≡ t ∷ us → t.kind ≡ colon → ⊥
+no_colon {ts = ts} {rest = rest} {e = e} x f k = elim (end-split {ts = ts} {rest = rest} {e = e} x) as (λ w. ⊥) [
+  | inl y ↦ two_words f y.2 k y.3 (λ d. omega (arith, d))
+  | inr y ↦ let z = y.2 in no_initial z.2 z.3.1 z.3.2 f k (λ d. omega (arith, d)) (λ d. omega (arith, d))
+]
 
 one_place_on : (n : PName) → One (PlaceOn n)
 one_place_on n ts r q a b (inl x) (inl y) =
     one_kind_then colon (λ c. (place_kind n).is) (λ c. one_then IsKind (λ k. (place_end n k).is) one_kind (λ k. one_place_end n k)) ts r q a b x y
-one_place_on n ts r q a b (inl x) (inr y) = let z = y.2 in absurd (no_colon z.2 z.3.1 z.3.2 x.2 x.3)
-one_place_on n ts r q a b (inr x) (inl y) = let z = x.2 in absurd (no_colon z.2 z.3.1 z.3.2 y.2 y.3)
+one_place_on n ts r q a b (inl x) (inr y) = absurd (no_colon {ts = ts} {rest = y.1} {e = y.0} y.2 x.2 x.3)
+one_place_on n ts r q a b (inr x) (inl y) = absurd (no_colon {ts = ts} {rest = x.1} {e = x.0} x.2 y.2 y.3)
 one_place_on n ts r q a b (inr x) (inr y) = one_place_end n (kind_at n.spot (K.Tuple [])) ts r q a b x y
 
 one-place : One place_sort.is

@@ -123,25 +123,25 @@ tell (Name s) = 3000
 pub tell_apart : (j k : TokenKind) → j ≡ k → (tell j ≡ tell k → ⊥) → ⊥
 tell_apart j k same differ = differ (ap tell same)
 
--- a number, and then a phrase that may depend on it
-abbrev pub WithNumber : {A : Type 0} → (ℤ → Phrases A) → Phrases A
-WithNumber Y ts e rest = (t : Token) × (us : List Token) × (n : ℤ) × (ts ≡ t ∷ us) × (t.kind ≡ Number n) × Y n us e rest
+-- a number, and then a phrase that may depend on it and on its spot
+abbrev pub WithNumber : {A : Type 0} → (Spot → ℤ → Phrases A) → Phrases A
+WithNumber Y ts e rest = (t : Token) × (us : List Token) × (n : ℤ) × (ts ≡ t ∷ us) × (t.kind ≡ Number n) × Y t.spot n us e rest
 
-abbrev pub number_then : {A : Type 0} → (ℤ → Sort A) → Sort A
-number_then Y = let y = (Y (pos 0)).ends in
-    record { is = WithNumber (λ n. (Y n).is); ends = (any (Number (pos 0)) ∷ y.0, y.1, λ rest. (any (Number (pos 0)), y.0 ++ rest, pos 0, refl, refl, y.2 rest)) }
+abbrev pub number_then : {A : Type 0} → (Spot → ℤ → Sort A) → Sort A
+number_then Y = let y = (Y (any (Number (pos 0))).spot (pos 0)).ends in
+    record { is = WithNumber (λ spot n. (Y spot n).is); ends = (any (Number (pos 0)) ∷ y.0, y.1, λ rest. (any (Number (pos 0)), y.0 ++ rest, pos 0, refl, refl, y.2 rest)) }
 
-pub number_read : {A : Type 0} {X : Phrases A} {start : List Token} {first now : Region} {spot : Spot} {n : ℤ} (Y : ℤ → Sort A) (tokens : List Token) (at next : ℕ) (last : Region) →
+pub number_read : {A : Type 0} {X : Phrases A} {start : List Token} {first now : Region} {spot : Spot} {n : ℤ} (Y : Spot → ℤ → Sort A) (tokens : List Token) (at next : ℕ) (last : Region) →
     Stage X start first (number_then Y) (drop at tokens) now → HasNext tokens at (Number n) spot → next ≡ at + 1 →
     is_too_deep now (Number n) ≡ false → after now (Number n) ≡ last →
-    Stage X start first (Y n) (drop next tokens) last
-number_read {n = n} Y tokens at next last s here there small there_now = kind_read (λ spot. Y n) tokens at next last
-    (change (kind_then (Number n) (λ spot. Y n)) s
+    Stage X start first (Y spot n) (drop next tokens) last
+number_read {n = n} Y tokens at next last s here there small there_now = kind_read (λ spot. Y spot n) tokens at next last
+    (change (kind_then (Number n) (λ spot. Y spot n)) s
     (λ ts e rest x. (x.0, x.1, n, x.2, x.3, x.4))
-    (λ ts e rest alike x. (x.0, x.1, x.3, next_is tokens at x.0 x.1 here alike x.3, subst (λ m. (Y m).is x.1 e rest) (let h : x.2 ≡ n = let f : x.0.kind ≡ Number n = next_is tokens at x.0 x.1 here alike x.3 in let g = x.4 in cc in h) x.5)))
+    (λ ts e rest alike x. (x.0, x.1, x.3, next_is tokens at x.0 x.1 here alike x.3, subst (λ m. (Y x.0.spot m).is x.1 e rest) (let h : x.2 ≡ n = let f : x.0.kind ≡ Number n = next_is tokens at x.0 x.1 here alike x.3 in let g = x.4 in cc in h) x.5)))
     here there small there_now
 
-pub number_stuck : {A : Type 0} {X : Phrases A} {start : List Token} {first now : Region} (Y : ℤ → Sort A) (tokens : List Token) (at : ℕ) →
+pub number_stuck : {A : Type 0} {X : Phrases A} {start : List Token} {first now : Region} (Y : Spot → ℤ → Sort A) (tokens : List Token) (at : ℕ) →
     Stage X start first (number_then Y) (drop at tokens) now → at ≤ length tokens → IsNoNumber tokens at →
     Fails X start first (length tokens) (Fault.P2 at)
 number_stuck Y tokens at s inside other = stuck tokens at s inside (λ ts e rest alike x.

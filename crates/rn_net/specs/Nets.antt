@@ -1,8 +1,8 @@
 -- Whole net texts. Each fact is about the tokens from somewhere on, as with kinds.
-use Rattle.std.specs.Prelude.{◌≡◌, ℕ, List, [], ◌∷◌, ◌++◌, map}
+use Rattle.std.specs.Prelude.{◌≡◌, ℕ, ℤ, List, [], ◌∷◌, ◌++◌, map, Option, Some, None}
 use Rattle.rn_notation.specs.declared.token.Token.{Token}
 use Rattle.rn_notation.specs.declared.token.Spot.{Spot}
-use Rattle.rn_notation.specs.declared.token.TokenKind.TheVariants.{Name}
+use Rattle.rn_notation.specs.declared.token.TokenKind.TheVariants.{Name, Number}
 use Rattle.rn_inscript.specs.declared.inscriptions.PName.{PName}
 use Rattle.rn_inscript.specs.declared.inscriptions.PInscribed.{PInscribed}
 use Rattle.rn_inscript.specs.declared.inscriptions.PInscription.{PInscription}
@@ -17,21 +17,27 @@ use Rattle.rn_net.specs.declared.plain.PChannel.{PChannel}
 use Rattle.rn_net.specs.declared.plain.PNet.{PNet}
 use Rattle.rn_net.specs.declared.plain.PVar.{PVar}
 use Rattle.rn_net.specs.declared.plain.PPlace.{PPlace}
+use Rattle.rn_net.specs.declared.plain.PMax.{PMax}
 use Rattle.rn_net.specs.declared.plain.PTransition.{PTransition}
 use Rattle.rn_net.specs.Words.{semicolon, net_word, place_word, trans_word, channel_word, var_word}
+use Rattle.rn_net.specs.Words.{max_name}
 use Rattle.rn_net.specs.Kinds.{IsKind, kind_at}
 use Rattle.rn_net.specs.Kinds as Kinds
 use Rattle.rn_net.specs.Constants.{AreConstants}
 
--- the channel, net, variable, place and transition made of these parts
+-- the channel, variable, capacity, place, transition, net and system made of these parts
 abbrev pub channel_of : PName → List PKind → PChannel
 channel_of name kinds = record { name = name; kinds = kinds }
 
 abbrev pub var_of : PKind → PName → PVar
 var_of kind name = record { name = name; kind = kind }
 
-abbrev pub place_of : PName → PKind → List PConst → PPlace
-place_of name kind initial = record { name = name; kind = kind; initial = initial }
+abbrev pub max_of : ℤ → Spot → PMax
+max_of number spot = record { number = number; spot = spot }
+
+abbrev pub place_of : PName → PKind → List PConst → Option PMax → PPlace
+place_of name kind initial max =
+    record { name = name; kind = kind; initial = initial; max = max }
 
 abbrev pub transition_of : PName → List PInscription → PTransition
 transition_of name inscriptions = record { name = name; inscriptions = inscriptions }
@@ -74,19 +80,27 @@ pub data IsKindOfPlace : Spot → List Token → PKind → List Token → Type 0
   given : {spot : Spot} {t : Token} {ts rest : List Token} {kind : PKind} →
       t.kind ≡ colon → IsKind ts kind rest → IsKindOfPlace spot (t ∷ ts) kind rest
 
+-- The capacity of a place, after `max`, or none. As `max` is a name, it begins a capacity only
+-- where the name or the kind of a place has ended.
+pub data IsCapacity : List Token → Option PMax → List Token → Type 0 where
+  none : {rest : List Token} → IsCapacity rest None rest
+  some : {t u : Token} {rest : List Token} {number : ℤ} →
+      t.kind ≡ max_name → u.kind ≡ Number number →
+      IsCapacity (t ∷ u ∷ rest) (Some (max_of number u.spot)) rest
+
 -- the initial tokens of a place, after `=`, or none
 pub data AreInitial : List Token → List PConst → List Token → Type 0 where
   none : {rest : List Token} → AreInitial rest [] rest
   some : {t : Token} {ts rest : List Token} {items : List PConst} →
       t.kind ≡ equals → AreConstants ts items rest → AreInitial (t ∷ ts) items rest
 
--- `place p: int = 1, 2;`
+-- `place p: int max 5 = 1, 2;`
 pub data IsPlace : List Token → PPlace → List Token → Type 0 where
-  place : {t u v : Token} {ts mid rest : List Token} {name : List ℕ} {kind : PKind}
-      {initial : List PConst} →
+  place : {t u v : Token} {ts mid us rest : List Token} {name : List ℕ} {kind : PKind}
+      {max : Option PMax} {initial : List PConst} →
       t.kind ≡ place_word → u.kind ≡ Name name → IsKindOfPlace u.spot ts kind mid →
-      AreInitial mid initial (v ∷ rest) → v.kind ≡ semicolon →
-      IsPlace (t ∷ u ∷ ts) (place_of (name_at u.spot name) kind initial) rest
+      IsCapacity mid max us → AreInitial us initial (v ∷ rest) → v.kind ≡ semicolon →
+      IsPlace (t ∷ u ∷ ts) (place_of (name_at u.spot name) kind initial max) rest
 
 -- inscriptions after those so far, each with a semicolon after it
 pub data AreInscriptions :

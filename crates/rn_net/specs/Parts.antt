@@ -1,22 +1,25 @@
 -- One part of a net, and one item of a text. This only connects the readers to the grammar.
-use Rattle.std.specs.Prelude.{◌≡◌, ℕ, List, [], ◌∷◌, ◌++◌, map}
+use Rattle.std.specs.Prelude.{◌≡◌, ℕ, List, [], ◌∷◌, ◌++◌, map, Option}
 use Rattle.rn_notation.specs.declared.token.Token.{Token}
 use Rattle.rn_notation.specs.declared.token.TokenKind.TheVariants.{Name}
 use Rattle.rn_inscript.specs.Inscriptions.{name_at}
-use Rattle.rn_inscript.specs.Stages.{Phrases, Then, Takes}
+use Rattle.rn_inscript.specs.Stages.{Phrases, Then, Done, Takes}
 use Rattle.rn_inscript.specs.Signs.{close_brace, colon, comma}
 use Rattle.rn_inscript.specs.declared.inscriptions.PName.{PName}
 use Rattle.rn_inscript.specs.declared.inscriptions.PInscription.{PInscription}
 use Rattle.rn_net.specs.Words.{semicolon}
 use Rattle.rn_net.specs.declared.part.Part.{Part}
 use Rattle.rn_net.specs.declared.part.Item.{Item}
+use Rattle.rn_net.specs.declared.part.PlaceEnd.{PlaceEnd}
 use Rattle.rn_net.specs.declared.kinds.PKind.{PKind}
 use Rattle.rn_net.specs.declared.constants.PConst.{PConst}
 use Rattle.rn_net.specs.declared.plain.Plain.{Plain}
 use Rattle.rn_net.specs.declared.plain.PNet.{PNet}
 use Rattle.rn_net.specs.declared.plain.PVar.{PVar}
 use Rattle.rn_net.specs.declared.plain.PPlace.{PPlace}
-use Rattle.rn_net.specs.Nets.{AreMoreNames, AreVars, AreInitial, IsPlace, IsTransition, AreInscriptions}
+use Rattle.rn_net.specs.declared.plain.PMax.{PMax}
+use Rattle.rn_net.specs.Nets.{AreMoreNames, AreVars, IsCapacity, AreInitial, IsPlace}
+use Rattle.rn_net.specs.Nets.{IsTransition, AreInscriptions}
 use Rattle.rn_net.specs.Nets.{AreParts, IsChannel, IsNet, net_of, plain_of, place_of, var_of}
 
 -- a part, and the net with it
@@ -55,6 +58,13 @@ AreNamesUpTo = Then AreNames (λ names. Takes colon names)
 -- the initial tokens of a place, and the semicolon after them
 abbrev pub IsInitialUpTo : Phrases (List PConst)
 IsInitialUpTo = Then AreInitial (λ items. Takes semicolon items)
+
+-- what follows the kind of a place: its capacity, its initial tokens, and the semicolon after them
+abbrev pub end_of : Option PMax → List PConst → PlaceEnd
+end_of max initial = record { max = max; initial = initial }
+
+abbrev pub IsPlaceEnd : Phrases PlaceEnd
+IsPlaceEnd = Then IsCapacity (λ max. Then IsInitialUpTo (λ initial. Done (end_of max initial)))
 
 -- inscriptions, and the brace after them; the parts of a net, and the brace after them
 abbrev pub AreInscriptionsUpTo : Phrases (List PInscription)

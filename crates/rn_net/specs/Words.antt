@@ -1,11 +1,16 @@
--- The reserved words and the sign of declarations, by their meaning.
+-- The reserved words, the sign and the name of declarations, by their meaning.
+use Rattle.std.specs.Prelude.{codes}
 use Rattle.rn_notation.specs.declared.sign.TheConstants as sign
 use Rattle.rn_notation.specs.declared.word.TheConstants as word
 use Rattle.rn_notation.specs.declared.token.TokenKind.{TokenKind}
-use Rattle.rn_notation.specs.declared.token.TokenKind.TheVariants.{Word, Sign}
+use Rattle.rn_notation.specs.declared.token.TokenKind.TheVariants.{Name, Word, Sign}
 
 abbrev pub semicolon : TokenKind
 semicolon = Sign sign.SEMICOLON
+
+-- `max`, which is no reserved word
+abbrev pub max_name : TokenKind
+max_name = Name (codes "max")
 
 abbrev pub net_word : TokenKind
 net_word = Word word.NET

@@ -1,5 +1,6 @@
 //! Steps from token to token.
-ghost use Rattle.std.specs.Prelude.{◌≡◌, ◌+◌, ◌<◌, ◌≤◌, ◌^◌, MatchOption, MatchResult, OnSome};
+ghost use Rattle.std.specs.Prelude.{◌≡◌, ◌+◌, ◌<◌, ◌≤◌, ◌^◌, ◌↔◌, IsTrue};
+ghost use Rattle.std.specs.Prelude.{MatchOption, MatchResult, OnSome};
 ghost use Rattle.rn_notation.specs.declared.token.TokenKind.TheVariants as Kind;
 ghost use Rattle.rn_notation.specs.StoredTokens.{lent};
 ghost use Rattle.rn_inscript.specs.Stages.{IsNext, HasNoNext};
@@ -81,6 +82,33 @@ pub(crate) fn expect_sign(
     }
 }
 
+fn is_text(name: &Str, wanted: &str) -> bool
+    ensures { IsTrue result ↔ (name.now ≡ wanted.now) }
+{
+    name.as_str() == wanted
+}
+
+/// The spot of this name, where it is next, and the index past it.
+pub(crate) fn past_name(tokens: &Tokens, at: usize, wanted: &str) -> Option<(Spot, usize)>
+    ensures { MatchOption result
+        (IsNotNextKind tokens.now at (Kind.Name wanted.now))
+        (λ found. HasNext tokens.now at (Kind.Name wanted.now) found.0 × (found.1 ≡ at + 1)) }
+{
+    match next(tokens, at) {
+        Some(token) => match token.kind {
+            TokenKind::Name(name) => {
+                if is_text(name, wanted) {
+                    Some((token.spot, at + 1))
+                } else {
+                    None
+                }
+            }
+            _ => None,
+        },
+        None => None,
+    }
+}
+
 /// A name, which has to be next, and the index past it.
 pub(crate) fn expect_name(
     alloc: Global,
@@ -121,6 +149,18 @@ pub(crate) fn past_number(tokens: &Tokens, at: usize) -> Option<(Spot, i64, usiz
             _ => None,
         },
         None => None,
+    }
+}
+
+/// The spot of a number, which has to be next, the number, and the index past it.
+pub(crate) fn expect_number(tokens: &Tokens, at: usize) -> Result<(Spot, i64, usize), InscriptFault>
+    ensures { MatchResult result
+        (λ found. HasNext tokens.now at (Kind.Number found.1) found.0 × (found.2 ≡ at + 1))
+        (λ fault. IsNoNumber tokens.now at × (fault ≡ InscriptFault.P2 at)) }
+{
+    match past_number(tokens, at) {
+        Some(found) => Ok(found),
+        None => Err(InscriptFault::P2(at)),
     }
 }
 

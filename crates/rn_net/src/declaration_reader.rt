@@ -3,16 +3,17 @@ ghost use Rattle.std.specs.Prelude.{◌≡◌, ℕ, ◌+◌, ◌≤◌, List, le
 ghost use Rattle.rn_inscript.specs.Stages.{IsNextKind};
 ghost use Rattle.rn_net.specs.Levels.Region.{between, declaring};
 ghost use Rattle.rn_net.specs.Nets.{IsChannel, AreVars, IsPlace, var_of};
-ghost use Rattle.rn_net.specs.Parts.{IsPName, AreNamesUpTo, IsInitialUpTo};
+ghost use Rattle.rn_net.specs.Parts.{IsPName, AreNamesUpTo, IsInitialUpTo, IsPlaceEnd};
 ghost use Rattle.rn_net.specs.Progress.{Reads, Moves, HaveNaturals};
 ghost use Rattle.rn_net.specs.Words.{channel_word, var_word, place_word};
 
 use crate::constant_reader::constants_up_to;
 use crate::constants::PConsts;
-use crate::cursor::{MOST_LEVELS, expect_name, expect_sign, past_sign};
+use crate::cursor::{MOST_LEVELS, expect_name, expect_number, expect_sign, past_name, past_sign};
 use crate::kind_reader::{kind, kinds_listed};
 use crate::kinds::{PKind, PKindForm};
-use crate::plain::{PChannel, PPlace, PVar, PVars};
+use crate::part::PlaceEnd;
+use crate::plain::{PChannel, PMax, PPlace, PVar, PVars};
 use rn_inscript::{InscriptFault, PName};
 use rn_items::Items;
 use rn_notation::{Tokens, sign};
@@ -137,7 +138,24 @@ fn initial_up_to(
     constants_up_to(alloc, tokens, start, MOST_LEVELS, sign::SEMICOLON)
 }
 
-/// `place p: int = 1, 2;`, of which the word is next.
+/// The capacity and the initial tokens of a place, up to and past the semicolon after them.
+fn place_end(alloc: Global, tokens: &Tokens, at: usize) -> Result<(PlaceEnd, usize), InscriptFault>
+    requires inside { at ≤ length tokens.now }
+    requires naturals { HaveNaturals tokens.now }
+    ensures moved { Moves tokens.now at result }
+    ensures reads { Reads IsPlaceEnd tokens.now at (declaring 0) between result }
+{
+    if let Some((_, after_word)) = past_name(tokens, at, "max") {
+        let (spot, number, after_number) = expect_number(tokens, after_word)?;
+        let (initial, end) = initial_up_to(alloc, tokens, after_number)?;
+        let max = Some(PMax { number, spot });
+        return Ok((PlaceEnd { max, initial }, end));
+    }
+    let (initial, end) = initial_up_to(alloc, tokens, at)?;
+    Ok((PlaceEnd { max: None, initial }, end))
+}
+
+/// `place p: int max 5 = 1, 2;`, of which the word is next.
 pub(crate) fn place(
     alloc: Global,
     tokens: &Tokens,
@@ -153,15 +171,16 @@ pub(crate) fn place(
     let (name, after_name) = expect_name(alloc, tokens, start)?;
     if let Some((_, after_colon)) = past_sign(tokens, after_name, sign::COLON) {
         let (kind, after_kind) = kind(alloc, tokens, after_colon, MOST_LEVELS)?;
-        let (initial, end) = initial_up_to(alloc, tokens, after_kind)?;
+        let (PlaceEnd { max, initial }, end) = place_end(alloc, tokens, after_kind)?;
         let place = PPlace {
             name,
             kind,
             initial,
+            max,
         };
         return Ok((place, end));
     }
-    let (initial, end) = initial_up_to(alloc, tokens, after_name)?;
+    let (PlaceEnd { max, initial }, end) = place_end(alloc, tokens, after_name)?;
     let kind = PKind {
         form: PKindForm::Tuple(Items::new(alloc)),
         spot: name.spot,
@@ -170,6 +189,7 @@ pub(crate) fn place(
         name,
         kind,
         initial,
+        max,
     };
     Ok((place, end))
 }

@@ -19,8 +19,8 @@ pub use constants::{PConst, PConstForm, PConsts};
 pub use kinds::{PKind, PKindForm, PKinds};
 pub use laws::net_laws;
 pub use plain::{
-    PChannel, PChannels, PInscriptions, PNet, PNets, PPlace, PPlaces, PTransition, PTransitions,
-    PVar, PVars, Plain,
+    PChannel, PChannels, PInscriptions, PMax, PNet, PNets, PPlace, PPlaces, PTransition,
+    PTransitions, PVar, PVars, Plain,
 };
 pub use reading::read_system;
 pub use refusal::Refusal;

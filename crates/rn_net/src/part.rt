@@ -1,5 +1,6 @@
-//! One part of a net, and one item of a text.
-use crate::plain::{PChannel, PNet, PPlace, PTransition, PVars};
+//! One part of a net, the end of a place, and one item of a text.
+use crate::constants::PConsts;
+use crate::plain::{PChannel, PMax, PNet, PPlace, PTransition, PVars};
 
 /// What one declaration of a net adds to it.
 #[derive(Debug, Drop)]
@@ -7,6 +8,13 @@ pub(crate) enum Part {
     Vars(PVars),
     Place(PPlace),
     Transition(PTransition),
+}
+
+/// What follows the name and the kind of a place.
+#[derive(Debug, Drop)]
+pub(crate) struct PlaceEnd {
+    pub max: Option<PMax>,
+    pub initial: PConsts,
 }
 
 /// What stands outside of nets, and nets.

@@ -3,6 +3,7 @@ use crate::constants::PConsts;
 use crate::kinds::{PKind, PKinds};
 use rn_inscript::{PInscription, PName};
 use rn_items::Items;
+use rn_notation::Spot;
 use rn_shared::Shared;
 
 pub type PChannels = Items<PChannel>;
@@ -44,13 +45,21 @@ pub struct PVar {
     pub kind: Shared<PKind>,
 }
 
-/// A place with its initial tokens. Where the text has no kind, the kind is `[]` with the spot of
-/// the place's name.
+/// A place with its initial tokens and its capacity. Where the text has no kind, the kind is `[]`
+/// with the spot of the place's name.
 #[derive(Debug, Drop)]
 pub struct PPlace {
     pub name: PName,
     pub kind: PKind,
     pub initial: PConsts,
+    pub max: Option<PMax>,
+}
+
+/// The capacity of a place, the greatest number of its tokens, with the number's spot.
+#[derive(Clone, Copy, Debug, PartialEq, Eq)]
+pub struct PMax {
+    pub number: i64,
+    pub spot: Spot,
 }
 
 pub type PInscriptions = Items<PInscription>;

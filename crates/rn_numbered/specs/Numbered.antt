@@ -1,6 +1,6 @@
 -- Kinds, constants, expressions, conditions and inscriptions with numbers in place of names.
 use Rattle.std.specs.Prelude.{ℕ, List, [], ◌∷◌, length, map, flat_map}
-use Rattle.std.specs.Prelude.{Option, Some, None, unwrap_or, slice_get}
+use Rattle.std.specs.Prelude.{Option, Some, None, unwrap_or, slice_get, option_map, min, nat_abs}
 use Rattle.rn_value.specs.declared.value.Kind.{Kind}
 use Rattle.rn_value.specs.declared.value.Kind.TheVariants as Kind
 use Rattle.rn_value.specs.declared.value.Value.{Value}
@@ -27,6 +27,8 @@ use Rattle.rn_net.specs.declared.kinds.PKind.{PKind, fold-PKind}
 use Rattle.rn_net.specs.declared.kinds.PKindForm.TheOpen as K
 use Rattle.rn_net.specs.declared.constants.PConst.{PConst, fold-PConst}
 use Rattle.rn_net.specs.declared.constants.PConstForm.TheOpen as C
+use Rattle.rn_net.specs.declared.plain.PMax.{PMax}
+use Rattle.rn_model.specs.Limits.{greatest_capacity}
 use Rattle.rn_declared.specs.Names.{number_among}
 
 -- one kind that stands in a text
@@ -51,6 +53,12 @@ value_of_form (C.List values) = Value.List values
 -- the value of a constant
 abbrev pub value_of : PConst → Value
 value_of = fold-PConst Value Value value_of_form (λ const. const.form)
+
+-- The capacity of a place, where it has one. A number that is too great, which is broken, stands
+-- for the greatest capacity, and a negative one, which is in no text, for the number without its
+-- sign.
+abbrev pub capacity_of : Option PMax → Option ℕ
+capacity_of = option_map (λ (max : PMax). min (nat_abs max.number) greatest_capacity)
 
 -- the number of a name among these, and 0 where it isn't
 abbrev pub number_in : List (List ℕ) → List ℕ → ℕ

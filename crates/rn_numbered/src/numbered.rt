@@ -1,13 +1,14 @@
-//! Kinds, constants and expressions with numbers in place of names.
+//! Kinds, constants, capacities and expressions with numbers in place of names.
 ghost use Rattle.std.specs.Prelude.{◌≡◌, IfOk, map};
 ghost use Rattle.rn_numbered.specs.NumbersFound.{AreFew};
-ghost use Rattle.rn_numbered.specs.Numbered.{kind_of, value_of, expr_of, number_in};
+ghost use Rattle.rn_numbered.specs.Numbered.{kind_of, value_of, capacity_of, expr_of, number_in};
 
 use crate::numbers::Names;
 use rn_inscript::{PExpr, PForm};
 use rn_items::{Boxed, Items};
+use rn_model::limits::GREATEST_CAPACITY;
 use rn_model::{Expr, Exprs};
-use rn_net::{PConst, PConstForm, PKind, PKindForm};
+use rn_net::{PConst, PConstForm, PKind, PKindForm, PMax};
 use rn_value::{Kind, Kinds, NoMemory, Vals, Value, copy_text};
 use std::alloc::Global;
 
@@ -58,6 +59,16 @@ pub fn values_of(alloc: Global, constants: &[PConst]) -> Result<Vals, NoMemory>
         made.push(value_of(alloc, constant)?)?;
     }
     Ok(Items::from_vec(made))
+}
+
+/// The capacity of a place, where it has one.
+pub fn capacity_of(max: Option<PMax>) -> Option<u32>
+    ensures { result ≡ capacity_of max }
+{
+    match max {
+        Some(max) => Some(max.number.unsigned_abs().min(GREATEST_CAPACITY as u64) as u32),
+        None => None,
+    }
 }
 
 /// The expression with numbers in place of names, where variables have these.

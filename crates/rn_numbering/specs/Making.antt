@@ -8,7 +8,8 @@ use Rattle.rn_net.specs.declared.plain.PTransition.{PTransition}
 use Rattle.rn_net.specs.declared.plain.Plain.{Plain}
 use Rattle.rn_declared.specs.Channels.{channels_faults}
 use Rattle.rn_declared.specs.Names.{names_faults}
-use Rattle.rn_numbered.specs.Numbered.{Numbers, number_in, kind_of, value_of, inscribed}
+use Rattle.rn_numbered.specs.Numbered.{Numbers, number_in, kind_of, value_of, capacity_of}
+use Rattle.rn_numbered.specs.Numbered.{inscribed}
 use Rattle.rn_numbered.specs.NumbersFound.{AreFew}
 use Rattle.rn_occurring.specs.TransitionVars.{with_vars}
 
@@ -53,7 +54,12 @@ bare_net net = record {
   name = net.name.text;
   vars = map (λ v. record { name = v.name.text; kind = kind_of v.kind }) net.vars;
   places = map
-      (λ p. record { name = p.name.text; kind = kind_of p.kind; initial = map value_of p.initial })
+      (λ p. record {
+        name = p.name.text;
+        kind = kind_of p.kind;
+        initial = map value_of p.initial;
+        max = capacity_of p.max;
+      })
       net.places;
   transitions = [];
 }

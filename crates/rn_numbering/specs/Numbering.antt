@@ -8,7 +8,8 @@ use Rattle.rn_net.specs.declared.plain.Plain.{Plain}
 use Rattle.rn_net.specs.declared.plain.PNet.{PNet}
 use Rattle.rn_net.specs.declared.plain.PTransition.{PTransition}
 use Rattle.rn_declared.specs.Channels.{channel_from}
-use Rattle.rn_numbered.specs.Numbered.{Numbers, number_in, kind_of, value_of, inscribed}
+use Rattle.rn_numbered.specs.Numbered.{Numbers, number_in, kind_of, value_of, capacity_of}
+use Rattle.rn_numbered.specs.Numbered.{inscribed}
 use Rattle.rn_occurring.specs.TransitionVars.{with_vars}
 
 -- the numbers of a net's variables and places, and of the nets and channels of its system
@@ -32,7 +33,12 @@ net_of plain net = record {
   name = net.name.text;
   vars = map (λ v. record { name = v.name.text; kind = kind_of v.kind }) net.vars;
   places = map
-      (λ p. record { name = p.name.text; kind = kind_of p.kind; initial = map value_of p.initial })
+      (λ p. record {
+        name = p.name.text;
+        kind = kind_of p.kind;
+        initial = map value_of p.initial;
+        max = capacity_of p.max;
+      })
       net.places;
   transitions = map (transition_of plain net) net.transitions;
 }

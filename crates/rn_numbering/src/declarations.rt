@@ -1,11 +1,11 @@
 //! Declarations with numbers in place of names.
 ghost use Rattle.std.specs.Prelude.{◌≡◌, IfOk, map};
-ghost use Rattle.rn_numbered.specs.Numbered.{kind_of, value_of};
+ghost use Rattle.rn_numbered.specs.Numbered.{kind_of, value_of, capacity_of};
 
 use rn_items::Items;
 use rn_model::{Channel, Channels, Place, Places, Var, Vars};
 use rn_net::{PChannel, PPlace, PVar};
-use rn_numbered::{kind_of, kinds_of, values_of};
+use rn_numbered::{capacity_of, kind_of, kinds_of, values_of};
 use rn_value::{NoMemory, copy_text};
 use std::alloc::Global;
 
@@ -37,12 +37,13 @@ pub(crate) fn vars_of(alloc: Global, vars: &[PVar]) -> Result<Vars, NoMemory>
     Ok(Items::from_vec(made))
 }
 
-/// The places of a net with their initial tokens, in the order of the text.
+/// The places of a net with their initial tokens and capacities, in the order of the text.
 pub(crate) fn places_of(alloc: Global, places: &[PPlace]) -> Result<Places, NoMemory>
     ensures { IfOk result (λ made. made ≡ map (λ p. record {
       name = p.name.text;
       kind = kind_of p.kind;
       initial = map value_of p.initial;
+      max = capacity_of p.max;
     }) places.now) }
 {
     let mut made = Vec::with_capacity(alloc, places.len())?;
@@ -54,6 +55,7 @@ pub(crate) fn places_of(alloc: Global, places: &[PPlace]) -> Result<Places, NoMe
             name,
             kind,
             initial,
+            max: capacity_of(place.max),
         })?;
     }
     Ok(Items::from_vec(made))

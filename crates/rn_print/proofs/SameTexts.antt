@@ -28,6 +28,7 @@ use Rattle.rn_net.specs.declared.plain.Plain.{Plain}
 use Rattle.rn_net.specs.declared.plain.PChannel.{PChannel}
 use Rattle.rn_net.specs.declared.plain.PVar.{PVar}
 use Rattle.rn_net.specs.declared.plain.PPlace.{PPlace}
+use Rattle.rn_net.specs.declared.plain.PMax.{PMax}
 use Rattle.rn_net.specs.declared.plain.PTransition.{PTransition}
 use Rattle.rn_net.specs.declared.plain.PNet.{PNet}
 use Rattle.rn_net.specs.Kinds.{kind_at}
@@ -38,8 +39,8 @@ use Rattle.rn_print.specs.Constants.{constant_text}
 use Rattle.rn_print.specs.Expressions.{Operand, form_step, expr_step, operand_text, expr_text, exprs_text, row}
 use Rattle.rn_print.specs.Conditions.{cond_text, simple_text, comparison, all_step}
 use Rattle.rn_print.specs.Inscriptions.{inscribed_text, after_place, arc_word}
-use Rattle.rn_print.specs.Nets.{channel_text, var_text, initial_text, place_text, inscription_line, transition_text, net_text, canonical_text}
-use Rattle.rn_print.specs.SameButSpots.{first_spot, kind_unplaced, constant_unplaced, expr_unplaced, cond_unplaced, simple_unplaced, inscribed_unplaced, inscription_unplaced, channel_unplaced, var_unplaced, place_unplaced, transition_unplaced, net_unplaced, unplaced, SameButSpots}
+use Rattle.rn_print.specs.Nets.{channel_text, var_text, capacity_text, initial_text, place_text, inscription_line, transition_text, net_text, canonical_text}
+use Rattle.rn_print.specs.SameButSpots.{first_spot, kind_unplaced, constant_unplaced, expr_unplaced, cond_unplaced, simple_unplaced, inscribed_unplaced, inscription_unplaced, channel_unplaced, var_unplaced, max_unplaced, place_unplaced, transition_unplaced, net_unplaced, unplaced, SameButSpots}
 use Rattle.rn_print.proofs.SpelledKinds as Kinds
 use Rattle.rn_print.proofs.SpelledConstants as Constants
 use Rattle.rn_print.proofs.ExpressionTexts as Exprs
@@ -341,11 +342,18 @@ initial_same (item ∷ items) =
     ap (λ ts. codes " = " ++ separated (codes ", ") ts)
     (maps constant_text constant_unplaced (item ∷ items) (each ConstSame (item ∷ items) const_same))
 
+capacity_same : (max : Option PMax) → capacity_text (option_map max_unplaced max) ≡ capacity_text max
+capacity_same None = refl
+capacity_same (Some max) = refl
+
 place_same : (p : PPlace) → place_text (place_unplaced p) ≡ place_text p
 place_same p =
-    ap (λ t. codes "  place " ++ p.name.text ++ codes ": " ++ t
+    let start = codes "  place " ++ p.name.text ++ codes ": " in
+    ap (λ t. start ++ t ++ capacity_text (option_map max_unplaced p.max)
     ++ initial_text (map constant_unplaced p.initial) ++ codes ";\n") (kind_same p.kind)
-    ∙ ap (λ t. codes "  place " ++ p.name.text ++ codes ": " ++ kind_text p.kind ++ t ++ codes ";\n")
+    ∙ ap (λ t. start ++ kind_text p.kind ++ t ++ initial_text (map constant_unplaced p.initial)
+    ++ codes ";\n") (capacity_same p.max)
+    ∙ ap (λ t. start ++ kind_text p.kind ++ capacity_text p.max ++ t ++ codes ";\n")
     (initial_same p.initial)
 
 line_same : (i : PInscription) → inscription_line (inscription_unplaced i) ≡ inscription_line i

@@ -1,14 +1,16 @@
 -- Where some tokens stand for a declaration, a net or a system, its text is read back.
-use Rattle.std.proofs.Common.{◌≡◌, ℕ, ◌≤◌, false, List, [], ◌∷◌, ◌++◌, map, refl, sym, ap, ◌∙◌, subst, append_assoc, arith}
-use Rattle.std.specs.Prelude.{codes, Some}
+use Rattle.std.proofs.Common.{◌≡◌, ℕ, ℤ, pos, ◌≤◌, false, List, [], ◌∷◌, ◌++◌, map, refl, sym, ap, ◌∙◌, subst, append_assoc, arith}
+use Rattle.std.specs.Prelude.{codes, Option, Some, None, option_map}
 use Rattle.std.specs.List.{AllByRecursion}
 use Rattle.std.proofs.Math.Bool.{and-false}
 use Rattle.std.proofs.lemmas.Bool.Decides.{nat_tests}
 use Rattle.std.proofs.lemmas.Grind.{common_steps}
 use Rattle.std.proofs.lemmas.List.{append-nil}
 use Rattle.rn_value.specs.Words.{reserved_words}
+use Rattle.rn_value.specs.Text.{numeral}
+use Rattle.rn_notation.specs.Words.{greatest_number}
 use Rattle.rn_notation.specs.Tokens.{IsGap, IsToken}
-use Rattle.rn_notation.specs.Reading.{gap, token_after}
+use Rattle.rn_notation.specs.Reading.{gap, token, token_after}
 use Rattle.rn_notation.specs.declared.token.Spot.{Spot}
 use Rattle.rn_notation.specs.declared.token.Token.{Token}
 use Rattle.rn_notation.specs.declared.token.TokenKind.{TokenKind}
@@ -32,20 +34,21 @@ use Rattle.rn_net.specs.declared.constants.PConst.{PConst}
 use Rattle.rn_net.specs.declared.plain.PChannel.{PChannel}
 use Rattle.rn_net.specs.declared.plain.PVar.{PVar}
 use Rattle.rn_net.specs.declared.plain.PPlace.{PPlace}
+use Rattle.rn_net.specs.declared.plain.PMax.{PMax}
 use Rattle.rn_net.specs.declared.plain.PTransition.{PTransition}
-use Rattle.rn_net.specs.Words.{semicolon}
+use Rattle.rn_net.specs.Words.{semicolon, max_name}
 use Rattle.rn_net.specs.Constants.{IsConstant, AreConstants, AreMoreConstants}
-use Rattle.rn_net.specs.Nets.{channel_of, var_of, place_of, transition_of, IsChannel, AreMoreNames, AreVars, IsKindOfPlace, AreInitial, IsPlace, AreInscriptions, IsTransition}
+use Rattle.rn_net.specs.Nets.{channel_of, var_of, max_of, place_of, transition_of, IsChannel, AreMoreNames, AreVars, IsKindOfPlace, IsCapacity, AreInitial, IsPlace, AreInscriptions, IsTransition}
 use Rattle.rn_print.specs.Kinds.{kind_text}
 use Rattle.rn_print.specs.Constants.{constant_text}
-use Rattle.rn_print.specs.Nets.{channel_text, var_text, initial_text, place_text, inscription_line, transition_text}
-use Rattle.rn_print.specs.SameButSpots.{kind_unplaced, constant_unplaced, name_unplaced, inscription_unplaced, channel_unplaced, var_unplaced, place_unplaced, transition_unplaced, first_spot}
+use Rattle.rn_print.specs.Nets.{channel_text, var_text, capacity_text, initial_text, place_text, inscription_line, transition_text}
+use Rattle.rn_print.specs.SameButSpots.{kind_unplaced, constant_unplaced, name_unplaced, inscription_unplaced, channel_unplaced, var_unplaced, max_unplaced, place_unplaced, transition_unplaced, first_spot}
 use Rattle.rn_print.proofs.LeftOut.{LeftOut, Covers, Matches}
 use Rattle.rn_print.proofs.LeftOut as Left
 use Rattle.rn_print.proofs.SameTokens.{SameTokens, shallow}
 use Rattle.rn_print.proofs.Beside.{Follows, Same, declared}
 use Rattle.rn_print.proofs.Trees.{Tree, nothing, piece, both, bytes_in, tokens_in, Stands, Stops, Reads}
-use Rattle.rn_print.proofs.Atoms.{spaced, spaced_stands, name_stands, comma_stands, semicolon_stands, equals_stands, open_paren_stands, close_paren_stands, open_brace_stands, close_brace_stands}
+use Rattle.rn_print.proofs.Atoms.{Legal, spaced, spaced_stands, name_stands, number_stands, comma_stands, semicolon_stands, equals_stands, open_paren_stands, close_paren_stands, open_brace_stands, close_brace_stands}
 use Rattle.rn_print.proofs.Separated.{Phrases, Separator, Listed, some}
 use Rattle.rn_print.proofs.Lines.{Line, Sequence, sequence}
 use Rattle.rn_print.proofs.ExpressionBack.{sign_tree}
@@ -193,6 +196,60 @@ pub kind_ends : (k : PKind) (w : Token) (ts ending : List Token) → w.kind ≡ 
 kind_ends k w ts ending ends r within =
     let p = shallow (r.beside [] (ending, []) (w ∷ []) (SameTokens.done ends ends)) 0 within in p.0
 
+-- capacities
+pub record CapacityBack (max : Option PMax) (ts ending : List Token) : Type 0 where
+  pub reads : Reads IsCapacity (option_map max_unplaced) max (capacity_text max)
+      (Follows Same Same ts ending)
+  pub stops : (rest : List ℕ) → Stops rest → Stops (bytes_in reads.tree ++ rest)
+
+pub no_capacity : (ts : List Token) → CapacityBack None ts ts
+no_capacity ts = record {
+  reads = record {
+    tree = nothing;
+    spells = refl;
+    stands = λ rest h. tt;
+    means = λ before rest. (None, IsCapacity.none, refl);
+    beside = λ before q us x. x;
+  };
+  stops = λ rest h. h;
+}
+
+max_is_legal : Legal max_name
+unfolding reserved_words
+max_is_legal = (refl, refl)
+
+some_capacity : (t u : Token) (s : Spot) (n : ℕ) (ending : List Token) → t.kind ≡ max_name →
+    u.kind ≡ Number (pos n) → n ≤ greatest_number →
+    CapacityBack (Some (max_of (pos n) s)) (t ∷ u ∷ ending) ending
+some_capacity t u s n ending here there low =
+    let blank = piece (gap (codes " ")) in record {
+      reads = record {
+        tree = both (both (both blank (name_tree (codes "max"))) blank) (piece (token (Number (pos n)) (numeral n)));
+        spells = refl;
+        stands = λ rest h. (
+          (
+            (IsGap.blank refl, name_stands (codes "max") (codes " " ++ (numeral n ++ rest)) max_is_legal refl),
+            IsGap.blank refl,
+          ),
+          number_stands n rest low h,
+        );
+        means = λ before rest.
+            let v = token_after (before ++ codes " max ") (Number (pos n)) (numeral n) in
+            (Some (max_of (pos n) v.spot), IsCapacity.some refl refl, refl);
+        beside = λ before q us x.
+            SameTokens.same (sym here) (ap is_semicolon here)
+            (SameTokens.same (sym there) (ap is_semicolon there) x);
+      };
+      stops = λ rest h. refl;
+    }
+
+pub capacity_back : (t u : Token) (s : Spot) (number : ℤ) (ending : List Token) →
+    t.kind ≡ max_name → u.kind ≡ Number number → Legal (Number number) →
+    CapacityBack (Some (max_of number s)) (t ∷ u ∷ ending) ending
+capacity_back t u s number ending here there (n, is, low) =
+    subst (λ z. CapacityBack (Some (max_of z s)) (t ∷ u ∷ ending) ending) (sym is)
+    (some_capacity t u s n ending here (subst (λ z. u.kind ≡ Number z) is there) low)
+
 -- initial tokens
 comma_space : Separator comma (codes ", ")
 comma_space = record {
@@ -204,7 +261,6 @@ comma_space = record {
   plain = refl;
 }
 
--- what may follow the kind of a place
 pub record InitialBack (items : List PConst) (ts ending : List Token) : Type 0 where
   pub reads : Reads AreInitial (map constant_unplaced) items (initial_text items)
       (Follows Same Same ts ending)
@@ -246,40 +302,49 @@ initial_back t items ts ending here (item, later, mid, same, one, row) =
 abbrev pub PlaceBack : PPlace → Type 0
 PlaceBack p = Line IsPlace place_unplaced p (place_text p)
 
-pub place_back : (name : PName) (k : PKind) (items : List PConst) (w : Token)
-    (ts mid ending : List Token) → LegalName name → w.kind ≡ semicolon → PlaceKind k ts mid →
-    InitialBack items mid (w ∷ ending) → IsShallow (declaring 0) ts →
-    PlaceBack (place_of name k items) × IsShallow between ending
-place_back name k items w ts mid ending is ends r initial within =
+pub place_back : (name : PName) (k : PKind) (max : Option PMax) (items : List PConst) (w : Token)
+    (ts mid left ending : List Token) → LegalName name → w.kind ≡ semicolon → PlaceKind k ts mid →
+    CapacityBack max mid left → InitialBack items left (w ∷ ending) → IsShallow (declaring 0) ts →
+    PlaceBack (place_of name k items max) × IsShallow between ending
+place_back name k max items w ts mid left ending is ends r capacity initial within =
+    let m = capacity.reads in
     let i = initial.reads in
-    let stays = λ (before after : List ℕ) (c u : Token) (rest : List Token) (here : c.kind ≡ colon) (h : u.kind ≡ semicolon).
-    r.beside before c ending rest (tokens_in after i.tree (u ∷ rest)) here
-    (i.beside after (ending, rest) (u ∷ rest) (SameTokens.done ends h)) within in
-    let word = both blanks (word_tree 1 (codes "place")) in (
+    let stays = λ (before middle after : List ℕ) (c u : Token) (rest : List Token) (here : c.kind ≡ colon) (h : u.kind ≡ semicolon).
+    let tokens = tokens_in after i.tree (u ∷ rest) in
+    r.beside before c ending rest (tokens_in middle m.tree tokens) here
+    (m.beside middle (ending, rest) tokens
+    (i.beside after (ending, rest) (u ∷ rest) (SameTokens.done ends h))) within in
+    let word = both blanks (word_tree 1 (codes "place")) in
+    let front = (codes "  place " ++ name.text) ++ codes ": " in
+    let a = front ++ bytes_in r.tree in
+    let b = a ++ bytes_in m.tree in (
       record {
-        tree = both (both (both (both (both word (name_tree name.text)) colon_tree) r.tree) i.tree) ended;
+        tree = both (both (both (both (both (both word (name_tree name.text)) colon_tree) r.tree) m.tree) i.tree) ended;
         spells =
-            ap (λ t. codes "  place " ++ name.text ++ codes ": " ++ t ++ bytes_in i.tree ++ codes ";\n")
-            r.spells
-            ∙ ap (λ t. codes "  place " ++ name.text ++ codes ": " ++ kind_text k ++ t ++ codes ";\n")
-            i.spells;
+            ap (λ t. front ++ t ++ bytes_in m.tree ++ bytes_in i.tree ++ codes ";\n") r.spells
+            ∙ ap (λ t. front ++ kind_text k ++ t ++ bytes_in i.tree ++ codes ";\n") m.spells
+            ∙ ap (λ t. front ++ kind_text k ++ capacity_text max ++ t ++ codes ";\n") i.spells;
         stands = λ rest.
             let end = codes ";\n" ++ rest in
             let tokens = bytes_in i.tree ++ end in
-            let kind = bytes_in r.tree ++ tokens in (
+            let most = bytes_in m.tree ++ tokens in
+            let kind = bytes_in r.tree ++ most in (
               (
                 (
                   (
                     (
                       (
-                        blanks_stand (codes "place " ++ (name.text ++ (codes ": " ++ kind))),
-                        word_stands 1 (codes "place") (name.text ++ (codes ": " ++ kind)) place_stands,
+                        (
+                          blanks_stand (codes "place " ++ (name.text ++ (codes ": " ++ kind))),
+                          word_stands 1 (codes "place") (name.text ++ (codes ": " ++ kind)) place_stands,
+                        ),
+                        name_stands name.text (codes ": " ++ kind) is refl,
                       ),
-                      name_stands name.text (codes ": " ++ kind) is refl,
+                      colon_space_stands kind,
                     ),
-                    colon_space_stands kind,
+                    r.stands most (capacity.stops tokens (initial.stops end refl)),
                   ),
-                  r.stands tokens (initial.stops end refl),
+                  m.stands tokens (initial.stops end refl),
                 ),
                 i.stands end refl,
               ),
@@ -287,25 +352,24 @@ place_back name k items w ts mid ending is ends r initial within =
             );
         means = λ before rest.
             let u = token_after (before ++ codes "  place ") (Name name.text) name.text in
-            let front = (codes "  place " ++ name.text) ++ codes ": " in
-            let after = before ++ (front ++ bytes_in r.tree) in
-            let v = token_after (before ++ ((front ++ bytes_in r.tree) ++ bytes_in i.tree)) semicolon (codes ";") in
-            let n = i.means after (v ∷ rest) in
-            let m = r.means (before ++ front) (tokens_in after i.tree (v ∷ rest)) in (
-              place_of (name_at u.spot name.text) m.0 n.0,
-              IsPlace.place refl refl (IsKindOfPlace.given refl m.1) n.1 refl,
-              ap (λ k. place_of (name_unplaced name) k (map constant_unplaced n.0)) m.2
-                  ∙ ap (λ items. place_of (name_unplaced name) (kind_unplaced k) items) n.2,
+            let v = token_after (before ++ (b ++ bytes_in i.tree)) semicolon (codes ";") in
+            let tokens = tokens_in (before ++ b) i.tree (v ∷ rest) in
+            let n = i.means (before ++ b) (v ∷ rest) in
+            let o = m.means (before ++ a) tokens in
+            let p = r.means (before ++ front) (tokens_in (before ++ a) m.tree tokens) in (
+              place_of (name_at u.spot name.text) p.0 n.0 o.0,
+              IsPlace.place refl refl (IsKindOfPlace.given refl p.1) o.1 n.1 refl,
+              ap (λ k. place_of (name_unplaced name) k (map constant_unplaced n.0) (option_map max_unplaced o.0)) p.2
+                  ∙ ap (λ items. place_of (name_unplaced name) (kind_unplaced k) items (option_map max_unplaced o.0)) n.2
+                  ∙ ap (λ max. place_of (name_unplaced name) (kind_unplaced k) (map constant_unplaced items) max) o.2,
             );
         shallow = λ before rest h.
-            let head = codes "  place " ++ name.text in
-            let front = head ++ codes ": " in
-            let c = token_after (before ++ head) colon (codes ":") in
-            let u = token_after (before ++ ((front ++ bytes_in r.tree) ++ bytes_in i.tree)) semicolon (codes ";") in
-            let p = stays (before ++ front) (before ++ (front ++ bytes_in r.tree)) c u rest refl refl in
+            let c = token_after (before ++ (codes "  place " ++ name.text)) colon (codes ":") in
+            let u = token_after (before ++ (b ++ bytes_in i.tree)) semicolon (codes ";") in
+            let p = stays (before ++ front) (before ++ a) (before ++ b) c u rest refl refl in
             (refl, (refl, p.1 h));
       },
-      (stays [] [] (token_after [] colon []) w [] refl ends).0,
+      (stays [] [] [] (token_after [] colon []) w [] refl ends).0,
     )
 
 -- A token begins an inscription: it is in a region of its own from there on.

@@ -1,6 +1,6 @@
 -- Where some tokens stand for a net or a system, its text is read back.
 use Rattle.std.proofs.Common.{◌≡◌, ℕ, List, [], ◌∷◌, ◌++◌, map, refl, sym, ap, ◌∙◌, subst, append_assoc}
-use Rattle.std.specs.Prelude.{codes}
+use Rattle.std.specs.Prelude.{codes, Option}
 use Rattle.std.specs.List.{flat_map, AllByRecursion}
 use Rattle.std.proofs.lemmas.List.{append-nil}
 use Rattle.rn_value.specs.Words.{reserved_words}
@@ -21,9 +21,10 @@ use Rattle.rn_net.specs.declared.plain.Plain.{Plain}
 use Rattle.rn_net.specs.declared.plain.PChannel.{PChannel}
 use Rattle.rn_net.specs.declared.plain.PVar.{PVar}
 use Rattle.rn_net.specs.declared.plain.PPlace.{PPlace}
+use Rattle.rn_net.specs.declared.plain.PMax.{PMax}
 use Rattle.rn_net.specs.declared.plain.PTransition.{PTransition}
 use Rattle.rn_net.specs.declared.plain.PNet.{PNet}
-use Rattle.rn_net.specs.Nets.{var_of, net_of, plain_of, IsChannel, AreMoreNames, AreVars, IsKindOfPlace, AreInitial, IsPlace, AreInscriptions, IsTransition, AreParts, IsNet, AreItems, IsSystem}
+use Rattle.rn_net.specs.Nets.{var_of, net_of, plain_of, IsChannel, AreMoreNames, AreVars, IsKindOfPlace, IsCapacity, AreInitial, IsPlace, AreInscriptions, IsTransition, AreParts, IsNet, AreItems, IsSystem}
 use Rattle.rn_print.specs.Nets.{channel_text, var_text, place_text, transition_text, net_text, canonical_text}
 use Rattle.rn_print.specs.SameButSpots.{name_unplaced, channel_unplaced, var_unplaced, place_unplaced, transition_unplaced, net_unplaced, unplaced}
 use Rattle.rn_net.specs.Levels.{Region, IsShallow, after}
@@ -36,7 +37,7 @@ use Rattle.rn_print.proofs.SpelledExpressions.{AllLegal, legal}
 use Rattle.rn_print.proofs.SpelledKinds.{KindBack, PlaceKind, kind_back, listed_kinds, given_kind, absent_kind}
 use Rattle.rn_print.proofs.SpelledConstants.{constants_back}
 use Rattle.rn_print.proofs.SpelledInscriptions.{word_tree, WordSpaced, word_stands, name_tree, LegalName, form_back}
-use Rattle.rn_print.proofs.SpelledNets.{opened, opened_stands, line_end, ChannelBack, channel_back, IsVar, VarBack, var_back, kind_ends, PlaceBack, InitialBack, no_initial, initial_back, place_back, LineBack, line_back, TransitionBack, transition_back}
+use Rattle.rn_print.proofs.SpelledNets.{opened, opened_stands, line_end, ChannelBack, channel_back, IsVar, VarBack, var_back, kind_ends, PlaceBack, CapacityBack, no_capacity, capacity_back, InitialBack, no_initial, initial_back, place_back, LineBack, line_back, TransitionBack, transition_back}
 
 net_stands : WordSpaced 0 (codes "net")
 unfolding reserved_words
@@ -214,6 +215,12 @@ kind_of_place (IsKindOfPlace.absent {spot = spot} {rest = rest}) h = (absent_kin
 kind_of_place (IsKindOfPlace.given {t = t} {ts = ts} {rest = rest} {kind = kind} is k) h =
     let p = kind_back k h.1 in (given_kind t kind ts rest is p.0, p.1)
 
+capacity_of_place : {ts rest : List Token} {max : Option PMax} → IsCapacity ts max rest →
+    AllLegal ts → CapacityBack max ts rest × AllLegal rest
+capacity_of_place (IsCapacity.none {rest = rest}) h = (no_capacity rest, h)
+capacity_of_place (IsCapacity.some {t = t} {u = u} {rest = rest} {number = number} is a) h =
+    (capacity_back t u u.spot number rest is a (legal a h.1.0), h.1.1)
+
 initial_of_place : {ts rest : List Token} {items : List PConst} → AreInitial ts items rest →
     AllLegal ts → InitialBack items ts rest × AllLegal rest
 initial_of_place (AreInitial.none {rest = rest}) h = (no_initial rest, h)
@@ -222,10 +229,11 @@ initial_of_place (AreInitial.some {t = t} {ts = ts} {rest = rest} {items = items
 
 one_place : {ts rest : List Token} {p : PPlace} → IsPlace ts p rest → AllLegal ts →
     IsShallow between ts → PlaceBack p × AllLegal rest × IsShallow between rest
-one_place (IsPlace.place {t = t} {u = u} {v = v} {ts = ts} {mid = mid} {rest = rest} {name = name} {kind = kind} {initial = initial} is a k i e) h s =
+one_place (IsPlace.place {t = t} {u = u} {v = v} {ts = ts} {mid = mid} {us = us} {rest = rest} {name = name} {kind = kind} {max = max} {initial = initial} is a k m i e) h s =
     let p = kind_of_place k h.1.1 in
-    let q = initial_of_place i p.1 in
-    let r = place_back (name_at u.spot name) kind initial v ts mid rest (legal a h.1.0) e p.0 q.0
+    let o = capacity_of_place m p.1 in
+    let q = initial_of_place i o.1 in
+    let r = place_back (name_at u.spot name) kind max initial v ts mid us rest (legal a h.1.0) e p.0 o.0 q.0
     (past (declaring 0) u ts (Name name) a (past between t (u ∷ ts) place_word is s)) in
     (r.0, q.1.1, r.1)
 

@@ -23,10 +23,11 @@ use Rattle.rn_net.specs.declared.plain.PChannel.{PChannel}
 use Rattle.rn_net.specs.declared.plain.PNet.{PNet}
 use Rattle.rn_net.specs.declared.plain.PVar.{PVar}
 use Rattle.rn_net.specs.declared.plain.PPlace.{PPlace}
+use Rattle.rn_net.specs.declared.plain.PMax.{PMax}
 use Rattle.rn_net.specs.declared.plain.PTransition.{PTransition}
 use Rattle.rn_net.specs.Kinds.{kind_at}
 use Rattle.rn_net.specs.Constants.{constant_at}
-use Rattle.rn_net.specs.Nets.{channel_of, var_of, place_of, transition_of, net_of, plain_of}
+use Rattle.rn_net.specs.Nets.{channel_of, var_of, max_of, place_of, transition_of, net_of, plain_of}
 
 -- the first byte of a text
 abbrev pub first_spot : Spot
@@ -94,10 +95,13 @@ channel_unplaced channel = channel_of (name_unplaced channel.name) (map kind_unp
 abbrev pub var_unplaced : PVar → PVar
 var_unplaced var = var_of (kind_unplaced var.kind) (name_unplaced var.name)
 
+abbrev pub max_unplaced : PMax → PMax
+max_unplaced max = max_of max.number first_spot
+
 abbrev pub place_unplaced : PPlace → PPlace
 place_unplaced place =
     place_of (name_unplaced place.name) (kind_unplaced place.kind)
-    (map constant_unplaced place.initial)
+    (map constant_unplaced place.initial) (option_map max_unplaced place.max)
 
 abbrev pub transition_unplaced : PTransition → PTransition
 transition_unplaced transition =

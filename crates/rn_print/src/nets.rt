@@ -1,7 +1,8 @@
 //! The text of channels, nets and whole systems.
 ghost use Rattle.std.specs.Prelude.{◌≡◌, ◌++◌, IfOk, OnOk};
 ghost use Rattle.std.specs.List.{flat_map};
-ghost use Rattle.rn_print.specs.Nets.{channel_text, var_text, initial_text, place_text};
+ghost use Rattle.rn_print.specs.Nets.{channel_text, var_text, capacity_text, initial_text};
+ghost use Rattle.rn_print.specs.Nets.{place_text};
 ghost use Rattle.rn_print.specs.Nets.{inscription_line, transition_text, net_text, canonical_text};
 ghost use Rattle.rn_print.specs.ReadingBack.{IsReadBack};
 
@@ -11,7 +12,8 @@ use crate::kinds::{put_kind, put_kinds};
 use crate::pieces::{put, put_text};
 use rn_inscript::PInscription;
 use rn_items::NoMemory;
-use rn_net::{PChannel, PConst, PNet, PPlace, PTransition, PVar, Plain};
+use rn_net::{PChannel, PConst, PMax, PNet, PPlace, PTransition, PVar, Plain};
+use rn_value::write_int;
 use std::alloc::Global;
 
 fn put_channel(channel: &PChannel, out: &mut Vec<u8>) -> Result<(), NoMemory>
@@ -34,6 +36,18 @@ fn put_var(var: &PVar, out: &mut Vec<u8>) -> Result<(), NoMemory>
     put(b";\n", out)
 }
 
+fn put_capacity(alloc: Global, max: Option<PMax>, out: &mut Vec<u8>) -> Result<(), NoMemory>
+    ensures { OnOk result (out.new.items ≡ out.old.items ++ capacity_text max) }
+{
+    match max {
+        Some(max) => {
+            put(b" max ", out)?;
+            write_int(alloc, max.number, out)
+        }
+        None => Ok(()),
+    }
+}
+
 fn put_initial(alloc: Global, initial: &[PConst], out: &mut Vec<u8>) -> Result<(), NoMemory>
     ensures { OnOk result (out.new.items ≡ out.old.items ++ initial_text initial.now) }
 {
@@ -51,6 +65,7 @@ fn put_place(alloc: Global, place: &PPlace, out: &mut Vec<u8>) -> Result<(), NoM
     put_text(&place.name.text, out)?;
     put(b": ", out)?;
     put_kind(&place.kind, out)?;
+    put_capacity(alloc, place.max, out)?;
     put_initial(alloc, place.initial.as_slice(), out)?;
     put(b";\n", out)
 }

@@ -1,7 +1,7 @@
 -- The constants of a system that a text spells are fine.
 use Rattle.std.proofs.Common.{◌≡◌, ℕ, ℤ, neg_ℤ, Bool, List, [], ◌∷◌, map, refl, sym, ap}
 use Rattle.std.proofs.Common.{◌∙◌, subst}
-use Rattle.std.specs.Prelude.{All, Some, None, flat_map, slice_get}
+use Rattle.std.specs.Prelude.{All, Option, Some, None, flat_map, slice_get}
 use Rattle.std.specs.List.{AllByRecursion}
 use Rattle.std.specs.Option.{option_map_or}
 use Rattle.std.proofs.lemmas.List.Elements.{All-from_recursion}
@@ -41,15 +41,16 @@ use Rattle.rn_net.specs.declared.plain.PChannel.{PChannel}
 use Rattle.rn_net.specs.declared.plain.PNet.{PNet}
 use Rattle.rn_net.specs.declared.plain.PVar.{PVar}
 use Rattle.rn_net.specs.declared.plain.PPlace.{PPlace}
+use Rattle.rn_net.specs.declared.plain.PMax.{PMax}
 use Rattle.rn_net.specs.declared.plain.PTransition.{PTransition}
 use Rattle.rn_net.specs.Constants.{constant_at, IsConstant, AreConstants, AreMoreConstants}
 use Rattle.rn_net.specs.Constants as Constants
 use Rattle.rn_net.specs.Kinds.{IsKind, AreListed, AreKinds, AreMoreKinds}
 use Rattle.rn_net.specs.Nets.{IsSystem, AreItems, IsChannel, IsNet, AreParts, AreVars, IsPlace}
-use Rattle.rn_net.specs.Nets.{AreMoreNames, IsKindOfPlace, AreInitial, IsTransition}
+use Rattle.rn_net.specs.Nets.{AreMoreNames, IsKindOfPlace, IsCapacity, AreInitial, IsTransition}
 use Rattle.rn_net.specs.Nets.{AreInscriptions}
 use Rattle.rn_net.specs.Texts.{Spells}
-use Rattle.rn_numbered.specs.Numbered.{value_of, value_of_form, Numbers}
+use Rattle.rn_numbered.specs.Numbered.{value_of, value_of_form, capacity_of, Numbers}
 use Rattle.rn_numbering.specs.Numbering.{numbers_of}
 use Rattle.rn_numbered.specs.Numbered.{equality_of, action_of, uplink_of, downlink_of, arc_of}
 use Rattle.rn_numbering.specs.Numbering.{transition_of, net_of, system_of}
@@ -270,6 +271,11 @@ after_place_kind : {spot : Spot} {ts rest : List Token} {kind : PKind} →
 after_place_kind IsKindOfPlace.absent d = d
 after_place_kind (IsKindOfPlace.given e x) d = after_kind x d.1
 
+after_capacity : {ts rest : List Token} {max : Option PMax} → IsCapacity ts max rest →
+    AreFineTokens ts → AreFineTokens rest
+after_capacity IsCapacity.none d = d
+after_capacity (IsCapacity.some e f) d = d.1.1
+
 initial_are_fine : {ts rest : List Token} {items : List PConst} → AreInitial ts items rest →
     AreFineTokens ts → AllByRecursion IsFineConst items × AreFineTokens rest
 initial_are_fine AreInitial.none d = (tt, d)
@@ -280,8 +286,8 @@ IsFinePlace place = AllByRecursion IsFineConst place.initial
 
 place_is_fine : {ts rest : List Token} {place : PPlace} → IsPlace ts place rest →
     AreFineTokens ts → IsFinePlace place × AreFineTokens rest
-place_is_fine (IsPlace.place e f x y g) d =
-    let p = initial_are_fine y (after_place_kind x d.1.1) in (p.0, p.1.1)
+place_is_fine (IsPlace.place e f x m y g) d =
+    let p = initial_are_fine y (after_capacity m (after_place_kind x d.1.1)) in (p.0, p.1.1)
 
 abbrev IsFineInscription : PInscription → Type 0
 IsFineInscription i = IsFineForm i.form
@@ -453,6 +459,7 @@ module _ (plain : Plain) where
           name = p.name.text;
           kind = kind_of p.kind;
           initial = map value_of p.initial;
+          max = capacity_of p.max;
         })
         net.places
         (each_weaker IsFinePlace (λ p. All IsFine (map value_of p.initial)) numbered_place

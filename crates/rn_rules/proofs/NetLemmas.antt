@@ -17,7 +17,7 @@ use Rattle.rn_declared.specs.declared.pattern.Pattern.{Pattern}
 use Rattle.rn_declared.specs.Faults.{first_from, broken_if, past_limit}
 use Rattle.rn_declared.specs.Patterns.{pattern_of}
 use Rattle.rn_declared.specs.Names.{same_name, number_among, declared_faults}
-use Rattle.rn_declared.specs.Declarations.{kind_faults, place_faults}
+use Rattle.rn_declared.specs.Declarations.{kind_faults, place_faults, has_capacity}
 use Rattle.rn_rules.specs.Transitions.{Scope, transition_faults}
 use Rattle.rn_declared.specs.Channels.{channel_from, channels_faults}
 use Rattle.rn_rules.specs.Systems.{net_faults, system_faults, text_start}
@@ -45,6 +45,7 @@ scope_parts is_net channel vars places = record {
       (number_among (map (λ v. v.name.text) vars) name);
   pattern_of_place = λ name. option_and_then (slice_get (map (λ p. pattern_of p.kind) places))
       (number_among (map (λ p. p.name.text) places) name);
+  has_capacity = has_capacity places;
   is_net = is_net;
   channel = channel;
 }
@@ -63,28 +64,41 @@ net_parts is_net channel vars places ts =
 -- what is told of a net, where names find what is declared in it
 pub net_told : (is_net : List ℕ → Bool) (channel : List ℕ → ℕ → Option (List Pattern)) (net : PNet)
     (vars : List PVar) (places : List PPlace) (ts : List PTransition)
-    (var_found place_found : List ℕ → Option Pattern) (k0 k1 k2 k3 k4 : Option Fault) →
+    (var_found place_found : List ℕ → Option Pattern) (capped : List ℕ → Bool) (k0 k1 k2 k3 k4 : Option Fault) →
     vars ≡ net.vars → places ≡ net.places → ts ≡ net.transitions →
     ((name : List ℕ) → var_found name ≡ (scope_parts is_net channel vars places).pattern_of_var name) →
     ((name : List ℕ) → place_found name ≡ (scope_parts is_net channel vars places).pattern_of_place name) →
+    ((name : List ℕ) → capped name ≡ has_capacity places name) →
     k1 ≡ first_from k0 (declared_faults most_vars (map (λ v. v.name) vars) ++ flat_map (λ v. kind_faults v.kind) vars) →
     k2 ≡ first_from k1 (declared_faults most_places (map (λ p. p.name) places) ++ flat_map place_faults places) →
     k3 ≡ first_from k2 (declared_faults most_transitions (map (λ t. t.name) ts)) →
     k4 ≡ first_from k3 (flat_map (transition_faults
-    (record { pattern_of_var = var_found; pattern_of_place = place_found; is_net = is_net; channel = channel })) ts) →
+    (record {
+      pattern_of_var = var_found;
+      pattern_of_place = place_found;
+      has_capacity = capped;
+      is_net = is_net;
+      channel = channel;
+    })) ts) →
     k4 ≡ first_from k0 (faults_in_net is_net channel net)
-net_told is_net channel net vars places ts var_found place_found k0 k1 k2 k3 k4 own_vars own_places own_ts
-    vars_are places_are told1 told2 told3 told4 =
+net_told is_net channel net vars places ts var_found place_found capped k0 k1 k2 k3 k4 own_vars own_places own_ts
+    vars_are places_are capped_are told1 told2 told3 told4 =
     let d2 : List Fault = declared_faults most_places (map (λ p. p.name) places) in
     let p2 : List Fault = flat_map place_faults places in
     let d3 : List Fault = declared_faults most_transitions (map (λ t. t.name) ts) in
     let t3 : List Fault = flat_map (transition_faults (scope_parts is_net channel vars places)) ts in
     let v1 : List Fault = declared_faults most_vars (map (λ v. v.name) vars) ++ flat_map (λ v. kind_faults v.kind) vars in
-    let found : Scope =
-    record { pattern_of_var = var_found; pattern_of_place = place_found; is_net = is_net; channel = channel } in
+    let found : Scope = record {
+      pattern_of_var = var_found;
+      pattern_of_place = place_found;
+      has_capacity = capped;
+      is_net = is_net;
+      channel = channel;
+    } in
     let same : found ≡ scope_parts is_net channel vars places = λ i. record {
       pattern_of_var = λ name. vars_are name i;
       pattern_of_place = λ name. places_are name i;
+      has_capacity = λ name. capped_are name i;
       is_net = is_net;
       channel = channel;
     } in

@@ -1,6 +1,7 @@
 pub mod Expressions
 pub mod Conditions
 pub mod Arcs
+pub mod Counted
 pub mod Calls
 pub mod Actions
 pub mod Transitions

@@ -7,19 +7,20 @@ use Rattle.rn_net.specs.declared.plain.PNet.{PNet}
 use Rattle.rn_declared.specs.declared.fault.Fault.{Fault}
 use Rattle.rn_declared.specs.Patterns.{pattern_of}
 use Rattle.rn_declared.specs.Names.{number_among, declared_faults}
-use Rattle.rn_declared.specs.Declarations.{kind_faults, place_faults}
+use Rattle.rn_declared.specs.Declarations.{kind_faults, place_faults, has_capacity}
 use Rattle.rn_declared.specs.declared.pattern.Pattern.{Pattern}
 use Rattle.rn_rules.specs.declared.scope.Known.{Known}
 use Rattle.rn_rules.specs.declared.scope.Stand.{Stand}
-use Rattle.rn_declared.specs.Tables.{found_in, pattern_in, channel_in}
-use Rattle.rn_rules.specs.Numbers.{declared_of, channels_of}
+use Rattle.rn_declared.specs.Tables.{found_in, pattern_in, capped_in, channel_in}
+use Rattle.rn_rules.specs.Numbers.{declared_of, places_of, channels_of}
 use Rattle.rn_rules.specs.Transitions.{Scope, Progress, transition_faults}
 
 -- what is known by name
 abbrev pub scope_in : {N : Type 0} → Known N → Scope
 scope_in known = record {
   pattern_of_var = pattern_in (declared_of known.vars.now);
-  pattern_of_place = pattern_in (declared_of known.places.now);
+  pattern_of_place = pattern_in (places_of known.places.now).declared;
+  has_capacity = capped_in (places_of known.places.now);
   is_net = λ name. is_some (found_in known.nets.now name);
   channel = channel_in (channels_of known.channels.now);
 }
@@ -40,6 +41,7 @@ scope_with is_net channel net = record {
       (number_among (map (λ v. v.name.text) net.vars) name);
   pattern_of_place = λ name. option_and_then (slice_get (map (λ p. pattern_of p.kind) net.places))
       (number_among (map (λ p. p.name.text) net.places) name);
+  has_capacity = has_capacity net.places;
   is_net = is_net;
   channel = channel;
 }

@@ -12,7 +12,7 @@ use Rattle.rn_declared.specs.declared.fault.Fault.{Fault}
 use Rattle.rn_declared.specs.Faults.{broken_if, past_limit}
 use Rattle.rn_declared.specs.Patterns.{pattern_of}
 use Rattle.rn_declared.specs.Names.{same_name, number_among, declared_faults}
-use Rattle.rn_declared.specs.Declarations.{kind_faults, place_faults}
+use Rattle.rn_declared.specs.Declarations.{kind_faults, place_faults, has_capacity}
 use Rattle.rn_declared.specs.Channels.{channel_from, channels_faults}
 use Rattle.rn_rules.specs.Transitions.{Scope, transition_faults}
 
@@ -23,6 +23,7 @@ scope_of plain net = record {
       (number_among (map (λ v. v.name.text) net.vars) name);
   pattern_of_place = λ name. option_and_then (slice_get (map (λ p. pattern_of p.kind) net.places))
       (number_among (map (λ p. p.name.text) net.places) name);
+  has_capacity = has_capacity net.places;
   is_net = λ name. is_some (number_among (map (λ n. n.name.text) plain.nets) name);
   channel = λ name count. option_and_then
       (slice_get (map (λ c. map pattern_of c.kinds) plain.channels))

@@ -1,6 +1,6 @@
 -- Transitions: what is broken in their inscriptions.
 use Rattle.std.specs.Prelude.{ℕ, ◌+◌, Bool, true, false, ◌||◌, List, [], ◌∷◌, ◌++◌, length, map}
-use Rattle.std.specs.Prelude.{Option, if◌then◌else◌}
+use Rattle.std.specs.Prelude.{Option, is_some, if◌then◌else◌}
 use Rattle.rn_notation.specs.declared.token.Spot.{Spot}
 use Rattle.rn_inscript.specs.declared.exprs.PExpr.{PExpr}
 use Rattle.rn_inscript.specs.declared.inscriptions.PName.{PName}
@@ -18,14 +18,17 @@ use Rattle.rn_declared.specs.Names.{number_among}
 use Rattle.rn_rules.specs.Expressions.{Where, seen_of}
 use Rattle.rn_rules.specs.Conditions.{condition_faults, sides_faults}
 use Rattle.rn_rules.specs.Arcs.{arc_faults}
+use Rattle.rn_rules.specs.Counted.{counted_faults}
 use Rattle.rn_rules.specs.Calls.{call_faults, target_faults, creation_faults}
 use Rattle.rn_rules.specs.Actions.{set_name, set_names, is_set_by, set_faults, value_faults}
 
--- what is declared, by names: the patterns of the net's variables and places, whether there is a
--- net of a name, and the patterns of the arguments of a channel with so many
+-- what is declared, by names: the patterns of the net's variables and places, whether a place has a
+-- capacity, whether there is a net of a name, and the patterns of the arguments of a channel with
+-- so many
 pub record Scope : Type 0 where
   pub pattern_of_var : List ℕ → Option Pattern
   pub pattern_of_place : List ℕ → Option Pattern
+  pub has_capacity : List ℕ → Bool
   pub is_net : List ℕ → Bool
   pub channel : List ℕ → ℕ → Option (List Pattern)
 
@@ -89,6 +92,7 @@ abbrev pub inscription_faults : Scope → Progress → PInscription → PInscrib
 inscription_faults scope p i (I.Arc kind place e) =
     arc_faults kind (scope.pattern_of_place place.text) place e
     (if is_output kind then in_output scope p else elsewhere scope p)
+    ++ counted_faults kind (scope.has_capacity place.text) e (λ name. is_some (p.setter name))
 inscription_faults scope p i (I.Guard cond) = condition_faults cond (elsewhere scope p)
 inscription_faults scope p i (I.Print e) = (seen_of e (in_action scope p)).faults
 inscription_faults scope p i (I.Set var e) = set_action_faults scope p var e

@@ -10,6 +10,7 @@ ghost use Rattle.rn_rules.specs.Sights.{where_of};
 use crate::arcs::see_arc;
 use crate::calls::{see_call, see_creation, see_left, see_target, see_value};
 use crate::conditions::{see_condition, see_sides};
+use crate::counted::see_counted;
 use crate::scope::{Known, Stand};
 use crate::seeing::see;
 use crate::sight::Here;
@@ -162,7 +163,10 @@ pub(crate) fn see_inscription<N: Numbers>(
         } => {
             let here = of_arc(*kind, known, stand);
             let pattern = known.places.pattern(&place.text);
-            Ok(see_arc(alloc, *kind, pattern, place, inscription, &here, first)?)
+            see_arc(alloc, *kind, pattern, place, inscription, &here, first)?;
+            let capped = known.places.is_capped(&place.text);
+            see_counted(*kind, capped, inscription, stand.setters, first);
+            Ok(())
         }
         PInscribed::Guard(cond) => {
             let here = elsewhere(known, stand);

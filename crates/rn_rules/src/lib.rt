@@ -5,6 +5,7 @@ mod arcs;
 mod broken;
 mod calls;
 mod conditions;
+mod counted;
 mod inscriptions;
 mod nets;
 mod scope;

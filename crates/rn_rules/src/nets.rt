@@ -10,7 +10,7 @@ ghost use Rattle.rn_rules.specs.Scopes.{scope_in, faults_in_net};
 ghost use Rattle.rn_declared.specs.Tables.{channel_in};
 ghost use Rattle.rn_rules.specs.Numbers.{channels_of};
 
-use crate::scope::{ChannelNames, Known, channel_names_of, names_of};
+use crate::scope::{ChannelNames, Known, channel_names_of, names_of, place_names_of};
 use crate::transitions::see_transition;
 use rn_declared::{
     Channels, First, Kinds, Numbers, Rule, Table, declare_all, declare_channels, declare_places,
@@ -55,7 +55,7 @@ fn see_net<N: Numbers>(
     let declared = declare_vars(alloc, net.vars.as_slice(), first)?;
     let vars = names_of(alloc, declared, kinds)?;
     let declared = declare_places(alloc, net.places.as_slice(), first)?;
-    let places = names_of(alloc, declared, kinds)?;
+    let places = place_names_of(alloc, declared, kinds)?;
     let transitions = net.transitions.as_slice();
     let _names = declare_all(alloc, transitions, MOST_TRANSITIONS, first)?;
     let known = Known {

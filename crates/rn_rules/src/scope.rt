@@ -1,9 +1,11 @@
 //! What is known by name in a net, and where an inscription stands in its transition.
 ghost use Rattle.std.specs.Prelude.{◌≡◌, IfOk, option_copied};
-ghost use Rattle.rn_declared.specs.Tables.{pattern_in, channel_in};
-ghost use Rattle.rn_rules.specs.Numbers.{declared_of, channels_of};
+ghost use Rattle.rn_declared.specs.Tables.{pattern_in, capped_in, channel_in};
+ghost use Rattle.rn_rules.specs.Numbers.{declared_of, places_of, channels_of};
 
-use rn_declared::{Channels, Declared, Kinds, Numbered, Numbers, Patterns, Table, number_all};
+use rn_declared::{
+    Channels, Declared, DeclaredPlaces, Kinds, Numbered, Numbers, Patterns, Table, number_all,
+};
 use rn_items::Items;
 use rn_value::{NoMemory, Str};
 use std::alloc::Global;
@@ -40,6 +42,46 @@ pub(crate) fn names_of<N: Numbers>(
     let Declared { table, patterns } = declared;
     let patterns = number_all(alloc, patterns.as_slice(), kinds)?;
     Ok(Names { table, patterns })
+}
+
+/// What was declared as a place by name, and whether each has a capacity.
+#[derive(Drop)]
+pub(crate) struct PlaceNames<N: Numbers> {
+    pub(crate) names: Names<N>,
+    pub(crate) capped: Items<bool>,
+}
+
+impl<N: Numbers> PlaceNames<N> {
+    /// The pattern of the kind with which a place was declared first.
+    pub(crate) fn pattern(&self, name: &Str) -> Option<&Numbered<N>>
+        ensures { option_copied result ≡ pattern_in (places_of self.now).declared name.now }
+    {
+        self.names.pattern(name)
+    }
+
+    /// Whether a place was declared first with a capacity.
+    pub(crate) fn is_capped(&self, name: &Str) -> bool
+        ensures { result ≡ capped_in (places_of self.now) name.now }
+    {
+        match self.names.table.number(name) {
+            Some(number) => self.capped.get(number).copied().unwrap_or(false),
+            None => false,
+        }
+    }
+}
+
+/// The same places, with numbers at their patterns.
+pub(crate) fn place_names_of<N: Numbers>(
+    alloc: Global,
+    places: DeclaredPlaces,
+    kinds: &Kinds,
+) -> Result<PlaceNames<N>, NoMemory>
+    requires { kinds.now.patterns ≡ N.patterns }
+    ensures { IfOk result (λ names. places_of names ≡ places) }
+{
+    let DeclaredPlaces { declared, capped } = places;
+    let names = names_of(alloc, declared, kinds)?;
+    Ok(PlaceNames { names, capped })
 }
 
 /// The channels, by their number of arguments and their name, with numbers at the patterns.
@@ -100,7 +142,7 @@ pub(crate) fn channel_names_of<N: Numbers>(
 #[derive(Drop)]
 pub(crate) struct Known<'a, N: Numbers> {
     pub(crate) vars: &'a Names<N>,
-    pub(crate) places: &'a Names<N>,
+    pub(crate) places: &'a PlaceNames<N>,
     pub(crate) nets: &'a Table,
     pub(crate) channels: &'a ChannelNames<N>,
 }

@@ -14,7 +14,7 @@ ghost use Rattle.rn_search.specs.Allowing.{StartIsAllowed, TokensAreAllowed, Lis
 ghost use Rattle.rn_search.specs.Allowing.{ResultsAreAllowed, CallsAreAllowed};
 ghost use Rattle.rn_search.specs.Leaving.{LeftIsAsked, AskedIsLeft, NoneLeftIsDone};
 ghost use Rattle.rn_search.specs.Leaving.{LeftOutIsClosed, LeftIsNew};
-ghost use Rattle.rn_search.specs.Needing.{StartsFindTokens};
+ghost use Rattle.rn_search.specs.Needing.{StartsFindTokens, StartsFindRoom};
 ghost use Rattle.rn_search.specs.Narrowing.{KnownTokenIsIt, KnownFirstPart, EquatedTokenIsIt};
 ghost use Rattle.rn_search.specs.Parting.{KnownPartsHold};
 ghost use Rattle.rn_search.specs.Solving.{WholeIsOnly};
@@ -55,6 +55,13 @@ pub fn what_may_be_cut()
 /// these places is empty has nothing.
 pub fn starts_find_tokens()
     ensures { StartsFindTokens }
+{}
+
+/// In a place with a capacity, where a start that calls nothing has neither flexible nor clear arcs,
+/// the tokens and the arcs that put one there are no more than the capacity and the arcs that take
+/// one. So a start without such room has nothing.
+pub fn starts_find_room()
+    ensures { StartsFindRoom }
 {}
 
 /// Where the inscription of an arc, or its first part, is known, just the tokens that have that

@@ -11,8 +11,8 @@ mod tokens;
 
 pub use laws::{
     forced_are_made, nothing_is_missed, one_way, points_are_allowed, room_falls, sound_decisions,
-    starts_find_tokens, stuck_means_none, tokens_are_narrowed, what_is_found, what_is_left,
-    what_may_be_cut,
+    starts_find_room, starts_find_tokens, stuck_means_none, tokens_are_narrowed, what_is_found,
+    what_is_left, what_may_be_cut,
 };
 pub use point::{Called, Point};
 pub use problem::Problem;

@@ -1,6 +1,7 @@
 -- What a text spells is well formed.
 use Rattle.std.proofs.Common.{◌≡◌, ℕ, ◌≤◌, List, [], ◌∷◌, ◌++◌, map}
 use Rattle.std.proofs.Common.{refl, sym, subst, arith}
+use Rattle.std.specs.Prelude.{Option}
 use Rattle.std.specs.List.{AllByRecursion}
 use Rattle.std.proofs.lemmas.List.Elements.{All-from_recursion}
 use Rattle.rn_model.specs.Kinds.{value_depth}
@@ -23,13 +24,14 @@ use Rattle.rn_net.specs.declared.plain.PChannel.{PChannel}
 use Rattle.rn_net.specs.declared.plain.PNet.{PNet}
 use Rattle.rn_net.specs.declared.plain.PVar.{PVar}
 use Rattle.rn_net.specs.declared.plain.PPlace.{PPlace}
+use Rattle.rn_net.specs.declared.plain.PMax.{PMax}
 use Rattle.rn_net.specs.declared.plain.PTransition.{PTransition}
 use Rattle.rn_net.specs.Kinds.{kind_at}
 use Rattle.rn_net.specs.Levels.{IsShallow}
 use Rattle.rn_net.specs.Levels.Region.{between, heading, declaring}
 use Rattle.rn_net.specs.Words.{semicolon}
 use Rattle.rn_net.specs.Nets.{IsSystem, AreItems, IsChannel, IsNet, AreParts, AreVars, IsPlace}
-use Rattle.rn_net.specs.Nets.{AreMoreNames, IsKindOfPlace, AreInitial, IsTransition}
+use Rattle.rn_net.specs.Nets.{AreMoreNames, IsKindOfPlace, IsCapacity, AreInitial, IsTransition}
 use Rattle.rn_net.specs.Nets.{AreInscriptions, var_of}
 use Rattle.rn_numbered.specs.Numbered.{value_of}
 use Rattle.rn_spelled.specs.WellFormed.{IsShallowKind, IsWellFormedInscription}
@@ -118,6 +120,12 @@ kind_well (IsKindOfPlace.given {kind = kind} e x) d =
     let p = kind_fits x (declared_on (neither refl refl refl) e d) in
     (shallow_kind kind p.0, p.1)
 
+capacity_well : {ts rest : List Token} {max : Option PMax} → IsCapacity ts max rest →
+    Declared 0 ts → Declared 0 rest
+capacity_well IsCapacity.none d = d
+capacity_well (IsCapacity.some e f) d =
+    declared_on (neither refl refl refl) f (declared_on (neither refl refl refl) e d)
+
 initial_well : {ts rest : List Token} {items : List PConst} → AreInitial ts items rest →
     Declared 0 ts → AllByRecursion (ConstantFits 0) items × Declared 0 rest
 initial_well AreInitial.none d = (tt, d)
@@ -132,11 +140,11 @@ shallow_token c h = omega (arith, h)
 
 place_well : {ts rest : List Token} {place : PPlace} → IsPlace ts place rest → Starts ts →
     IsWellFormedPlace place × Starts rest
-place_well (IsPlace.place {t = t} {u = u} {ts = ts} {initial = initial} e f x y g) s =
+place_well (IsPlace.place {t = t} {u = u} {ts = ts} {initial = initial} e f x m y g) s =
     let word = first between t (u ∷ ts) e s.shallow in
     let d : Declared 0 (u ∷ ts) = declares word.1 s.names.1 in
     let p = kind_well x (declared_on (neither refl refl refl) f d) in
-    let q = initial_well y p.1 in (
+    let q = initial_well y (capacity_well m p.1) in (
       record {
         name = named f s.names.1.0;
         kind = p.0;

@@ -1,5 +1,5 @@
 //! An instance: its number, its net, and the tokens of its places.
-ghost use Rattle.std.specs.Prelude.{◌≡◌, map, IfOk, OnOk, slice_get};
+ghost use Rattle.std.specs.Prelude.{◌≡◌, [], length, map, unwrap_or, IfOk, OnOk, slice_get};
 ghost use Rattle.std.specs.Option.{option_copied};
 ghost use Rattle.rn_model.specs.Lists.{ordered_values};
 ghost use Rattle.rn_table.specs.Steps.{after_step};
@@ -74,6 +74,16 @@ impl Inst {
         match self.bags.get(place as usize) {
             None => None,
             Some(bag) => Some(bag),
+        }
+    }
+
+    /// How many tokens a place has, and none where there is no such place. It looks at none of them.
+    pub fn count(&self, place: usize) -> usize
+        ensures { result ≡ length (unwrap_or (slice_get self.now.places place) []) }
+    {
+        match self.bags.get(place) {
+            None => 0,
+            Some(bag) => bag.len(),
         }
     }
 

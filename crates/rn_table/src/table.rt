@@ -4,7 +4,7 @@ ghost use Rattle.std.specs.Option.{option_copied};
 ghost use Rattle.std.specs.List.Sorted.{IsSorted, IsStrictlyIncreasing};
 ghost use Rattle.rn_value.specs.Order.{value_cmp};
 ghost use Rattle.rn_model.specs.declared.system.System.{System};
-ghost use Rattle.rn_model.specs.Markings.{Instance, IsThere, initial_marking, instance_at, net_of};
+ghost use Rattle.rn_model.specs.Markings.{Instance, IsThere, initial_marking, instance_at, net_of, tokens_at};
 ghost use Rattle.rn_model.specs.Limits.{greatest_instance};
 ghost use Rattle.rn_table.specs.Changes.{MayCome, changed};
 ghost use Rattle.rn_table.specs.Leaves.{stays};
@@ -110,6 +110,17 @@ impl Table {
         match self.find(n) {
             None => None,
             Some(inst) => inst.bag(place),
+        }
+    }
+
+    /// How many tokens a place of an instance has, and none where the instance isn't kept or hasn't
+    /// that place. It looks at none of them.
+    pub fn count(&self, n: u32, place: usize) -> usize
+        ensures { result ≡ length (tokens_at self.now.marking n place) }
+    {
+        match self.find(n) {
+            None => 0,
+            Some(inst) => inst.count(place),
         }
     }
 

@@ -141,7 +141,7 @@ module _ (system : System) (all : List ℕ) (step worker : ℕ) where
 
 -- Marks.
 abbrev no_place : Place
-no_place = record { name = []; kind = Kind.Tuple []; initial = [] }
+no_place = record { name = []; kind = Kind.Tuple []; initial = []; max = None }
 
 place_by : (o : Option Place) → option_map_or (λ p. p.name) o [] ≡ (unwrap_or o no_place).name
 place_by None = refl

@@ -1,6 +1,6 @@
 -- What is the same as the translation but for its spots stands for the net too.
 use Rattle.std.proofs.Common.{◌≡◌, ℕ, zero, suc, Bool, true, false, cond, List, [], ◌∷◌, map, length, refl, sym, ap, ◌∙◌}
-use Rattle.std.specs.Prelude.{Some, None, All, nat_lt, replicate}
+use Rattle.std.specs.Prelude.{Option, Some, None, option_map, All, nat_lt, replicate}
 use Rattle.std.specs.List.{AllZip}
 use Rattle.std.proofs.lemmas.List.Elements.{All-nil, All-cons}
 use Rattle.rn_model.specs.declared.system.ArcKind.{ArcKind}
@@ -25,10 +25,11 @@ use Rattle.rn_net.specs.declared.constants.PConstForm.TheOpen as CO
 use Rattle.rn_net.specs.declared.plain.Plain.{Plain}
 use Rattle.rn_net.specs.declared.plain.PNet.{PNet}
 use Rattle.rn_net.specs.declared.plain.PPlace.{PPlace}
+use Rattle.rn_net.specs.declared.plain.PMax.{PMax}
 use Rattle.rn_net.specs.declared.plain.PTransition.{PTransition}
 use Rattle.rn_net.specs.Kinds.{kind_at}
 use Rattle.rn_net.specs.Constants.{constant_at}
-use Rattle.rn_print.specs.SameButSpots.{SameButSpots, first_spot, kind_unplaced, kind_moved, constant_unplaced, constant_moved, expr_unplaced, expr_moved, name_unplaced, inscribed_unplaced, inscription_unplaced, channel_unplaced, var_unplaced, place_unplaced, transition_unplaced, net_unplaced}
+use Rattle.rn_print.specs.SameButSpots.{SameButSpots, first_spot, kind_unplaced, kind_moved, constant_unplaced, constant_moved, expr_unplaced, expr_moved, name_unplaced, inscribed_unplaced, inscription_unplaced, channel_unplaced, var_unplaced, max_unplaced, place_unplaced, transition_unplaced, net_unplaced}
 use Rattle.rn_weighted.specs.declared.weighted.Weighted.{Weighted}
 use Rattle.rn_weighted.specs.declared.weighted.WPlace.{WPlace}
 use Rattle.rn_weighted.specs.declared.weighted.WTransition.{WTransition}
@@ -234,6 +235,10 @@ list_back n k e =
     )
 
 -- places
+none_back : (max : Option PMax) → option_map max_unplaced max ≡ None → max ≡ None
+none_back None same = refl
+none_back (Some max) same = absurd (let no : ⊥ = cc in no)
+
 place_back : (wp : WPlace) (p : PPlace) → place_unplaced p ≡ place_unplaced (plain_place wp) →
     IsPlaceForm wp p
 place_back wp p e =
@@ -245,6 +250,7 @@ place_back wp p e =
       kind = kind_back p.kind (ap (λ x. x.kind) e);
       tokens = tokens.0;
       many = tokens.1;
+      max = none_back p.max (ap (λ x. x.max) e);
     }
 
 -- arcs

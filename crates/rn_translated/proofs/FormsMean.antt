@@ -31,11 +31,12 @@ use Rattle.rn_net.specs.declared.constants.PConstForm.TheVariants as C
 use Rattle.rn_net.specs.declared.plain.Plain.{Plain}
 use Rattle.rn_net.specs.declared.plain.PNet.{PNet}
 use Rattle.rn_net.specs.declared.plain.PPlace.{PPlace}
+use Rattle.rn_net.specs.declared.plain.PMax.{PMax}
 use Rattle.rn_net.specs.declared.plain.PTransition.{PTransition}
 use Rattle.rn_net.specs.Kinds.{kind_at}
 use Rattle.rn_net.specs.Constants.{constant_at}
 use Rattle.rn_declared.specs.Names.{same_name, number_from, number_among}
-use Rattle.rn_numbered.specs.Numbered.{Numbers, kind_of, kind_of_form, value_of, value_of_form, expr_of, expr_of_form, inscribed, equality_of, guard_of, action_of, creation_of, uplink_of, downlink_of, arc_of}
+use Rattle.rn_numbered.specs.Numbered.{Numbers, kind_of, kind_of_form, value_of, value_of_form, capacity_of, expr_of, expr_of_form, inscribed, equality_of, guard_of, action_of, creation_of, uplink_of, downlink_of, arc_of}
 use Rattle.rn_occurring.specs.TransitionVars.{with_vars}
 use Rattle.rn_numbering.specs.Numbering.{numbers_of, transition_of, net_of, system_of}
 use Rattle.rn_weighted.specs.declared.weighted.Weighted.{Weighted}
@@ -104,16 +105,23 @@ read_place p = record {
   name = p.name.text;
   kind = kind_of p.kind;
   initial = map value_of p.initial;
+  max = capacity_of p.max;
 }
 
 place_means : (wp : WPlace) (p : PPlace) → IsPlaceForm wp p → read_place p ≡ net_place wp
 place_means wp p is =
-    ap (λ name. record { name = name; kind = kind_of p.kind; initial = map value_of p.initial })
-    is.name
-    ∙ ap (λ kind. record { name = wp.name; kind = kind; initial = map value_of p.initial })
+    let made : List ℕ → Kind → List Value → Option PMax → Place = λ name kind initial max. record {
+      name = name;
+      kind = kind;
+      initial = initial;
+      max = capacity_of max;
+    } in
+    ap (λ name. made name (kind_of p.kind) (map value_of p.initial) p.max) is.name
+    ∙ ap (λ kind. made wp.name kind (map value_of p.initial) p.max)
     (ap kind_of is.kind ∙ kind_means is.spot)
-    ∙ ap (λ initial. record { name = wp.name; kind = Kind.Tuple []; initial = initial })
+    ∙ ap (λ initial. made wp.name (Kind.Tuple []) initial p.max)
     (tokens_mean p.initial is.tokens ∙ ap blacks is.many)
+    ∙ ap (made wp.name (Kind.Tuple []) (blacks wp.initial)) is.max
 
 places_mean : (wps : List WPlace) (ps : List PPlace) → AllZip IsPlaceForm wps ps →
     map read_place ps ≡ map net_place wps

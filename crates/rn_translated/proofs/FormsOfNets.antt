@@ -1,6 +1,6 @@
 -- Plain forms that stand for a weighted net, whatever their spots.
 use Rattle.std.proofs.Common.{◌≡◌, ℕ, Bool, true, false, List, [], ◌∷◌, length}
-use Rattle.std.specs.Prelude.{All, Some, codes, nat_lt}
+use Rattle.std.specs.Prelude.{All, Some, None, codes, nat_lt}
 use Rattle.std.specs.List.{AllZip}
 use Rattle.rn_notation.specs.declared.token.Spot.{Spot}
 use Rattle.rn_model.specs.declared.system.ArcKind.{ArcKind}
@@ -39,6 +39,7 @@ pub record IsPlaceForm (wp : WPlace) (place : PPlace) : Type 0 where
   pub kind : place.kind ≡ kind_at spot (K.Tuple [])
   pub tokens : All IsToken place.initial
   pub many : length place.initial ≡ wp.initial
+  pub max : place.max ≡ None
 
 -- the inscription of an arc, by whether its weight is above 1
 abbrev pub IsWeight : Bool → ℕ → PExpr → Type 0

@@ -1,6 +1,6 @@
 -- In a plain form that stands for a weighted net no rule is broken.
 use Rattle.std.proofs.Common.{◌≡◌, ℕ, zero, suc, ◌<◌, ◌≤◌, Bool, true, false, not, ◌||◌, List, [], ◌∷◌, ◌++◌, map, length, refl, ap, ◌∙◌, arith}
-use Rattle.std.specs.Prelude.{◌≢◌, Option, Some, All, codes, nat_lt, flat_map, slice_get}
+use Rattle.std.specs.Prelude.{◌≢◌, ◌&&◌, Option, Some, None, All, codes, nat_lt, flat_map, slice_get, is_some, unwrap_or}
 use Rattle.std.specs.List.{AllZip, list_any}
 use Rattle.std.specs.Option.{option_and_then}
 use Rattle.std.proofs.lemmas.List.{length-map}
@@ -35,13 +35,14 @@ use Rattle.rn_declared.specs.declared.pattern.Pattern.TheVariants as Pattern
 use Rattle.rn_declared.specs.Faults.{broken_if, past_limit}
 use Rattle.rn_declared.specs.Names.{same_name, declared_faults, number_among}
 use Rattle.rn_declared.specs.Patterns.{pattern_of, pattern_step, share}
-use Rattle.rn_declared.specs.Declarations.{Part, kind_part, kind_faults, kind_form_faults, const_part, const_form_faults, fits, fits_form, token_faults, place_faults}
+use Rattle.rn_declared.specs.Declarations.{Part, kind_part, kind_faults, kind_form_faults, const_part, const_form_faults, fits, fits_form, token_faults, capacity_faults, place_faults}
 use Rattle.rn_declared.proofs.PatternKinds.{share-out}
 use Rattle.rn_declared.proofs.CommonPatterns.{any_both, both_self}
 use Rattle.rn_declared.specs.Channels.{channels_faults}
 use Rattle.rn_items.proofs.Numbers.{numbers_themselves}
 use Rattle.rn_rules.specs.Expressions.{Where, seen_of, seen_form, whole, with_element, with_elements, listed, tuple_of}
 use Rattle.rn_rules.specs.Arcs.{arc_faults, asked_of, is_clear, inscribed_faults}
+use Rattle.rn_rules.specs.Counted.{holds_name, is_flex_output, counted_faults}
 use Rattle.rn_rules.specs.Transitions.{Scope, Progress, inscription_faults, inscriptions_faults, after, at_first, transition_faults}
 use Rattle.rn_rules.specs.Systems.{scope_of, net_faults, system_faults, text_start}
 use Rattle.rn_check.proofs.ExpressionKinds.{Forms, Parts, seen-at}
@@ -127,12 +128,15 @@ place_fine wp p good is =
     let tokens : flat_map (token_faults (pattern_of p.kind)) p.initial ≡ [] =
     ap (λ q. flat_map (token_faults q) p.initial) pattern
     ∙ each_fine IsToken (token_faults tuple) token_fine p.initial is.tokens in
-    none_both (kind_faults p.kind ++ flat_map (token_faults (pattern_of p.kind)) p.initial)
-    (past_limit most_initial (map (λ token. (const_part token).spot) p.initial))
-    (none_both (kind_faults p.kind) (flat_map (token_faults (pattern_of p.kind)) p.initial)
+    let spots = map (λ token. (const_part token).spot) p.initial in
+    let tokens_faults = flat_map (token_faults (pattern_of p.kind)) p.initial in
+    none_both (kind_faults p.kind ++ tokens_faults ++ past_limit most_initial spots)
+    (capacity_faults p.max spots)
+    (none_both (kind_faults p.kind ++ tokens_faults) (past_limit most_initial spots)
+    (none_both (kind_faults p.kind) tokens_faults
     (ap kind_faults is.kind ∙ ap (λ part. part.faults) (kind_sound is.spot)) tokens)
-    (within_limit most_initial (map (λ token. (const_part token).spot) p.initial)
-    (omega (arith, count, is.many, good.tokens)))
+    (within_limit most_initial spots (omega (arith, count, is.many, good.tokens))))
+    (ap (λ max. capacity_faults max spots) is.max)
 
 places_fine : (wps : List WPlace) (ps : List PPlace) → All IsWPlace wps →
     AllZip IsPlaceForm wps ps → flat_map place_faults ps ≡ []
@@ -152,6 +156,24 @@ patterns_are (wp ∷ wps) (p ∷ ps) zero are within =
     ap Some (ap pattern_of are.0.kind ∙ pattern_is are.0.spot)
 patterns_are (wp ∷ wps) (p ∷ ps) (suc k) are within =
     patterns_are wps ps k are.1 (omega (arith, within))
+
+-- no place of these has a capacity
+none_capped : (wps : List WPlace) (ps : List PPlace) → AllZip IsPlaceForm wps ps → (o : Option ℕ) →
+    unwrap_or (option_and_then (slice_get (map (λ p. is_some p.max) ps)) o) false ≡ false
+none_capped wps ps are None = refl
+none_capped [] [] are (Some n) = refl
+none_capped (wp ∷ wps) (p ∷ ps) are (Some zero) = ap is_some are.0.max
+none_capped (wp ∷ wps) (p ∷ ps) are (Some (suc n)) = none_capped wps ps are.1 (Some n)
+none_capped [] (p ∷ ps) are (Some n) = absurd are
+none_capped (wp ∷ wps) [] are (Some n) = absurd are
+
+counted_fine : (kind : ArcKind) (capped : Bool) (e : PExpr) (acts : List ℕ → Bool) →
+    capped ≡ false → counted_faults kind capped (Some e) acts ≡ []
+counted_fine kind capped e acts none = by (is_flex_output kind)
+  where
+    by : (b : Bool) → broken_if (b && capped && holds_name e acts) Rule.Counted e.spot ≡ []
+    by true = rw none refl
+    by false = refl
 
 -- expressions
 share_tuple : share tuple tuple ≡ true
@@ -250,7 +272,8 @@ weight_fine a places false is above place name e at known (s, form) =
 
 module _ (scope : Scope) (wps : List WPlace)
     (known : (k : ℕ) → k < length wps →
-    scope.pattern_of_place (place_name wps k) ≡ Some tuple) where
+    scope.pattern_of_place (place_name wps k) ≡ Some tuple)
+    (uncapped : (name : List ℕ) → scope.has_capacity name ≡ false) where
   inscriptions_fine : (p : Progress) (arcs : List WArc) (is : List PInscription) →
       All (IsWArc (length wps)) arcs → AllZip (IsArcForm wps) arcs is →
       inscriptions_faults scope p is ≡ []
@@ -261,8 +284,13 @@ module _ (scope : Scope) (wps : List WPlace)
       let place = are.0.place in
       none_both (inscription_faults scope p i i.form) (inscriptions_faults scope (after p i.form) is)
       (ap (inscription_faults scope p i) are.0.form
-      ∙ weight_fine a (length wps) more is_arc refl (scope.pattern_of_place place.text) place
+      ∙ none_both (arc_faults (form_kind more a.kind) _ place (Some are.0.expr) _)
+      (counted_faults (form_kind more a.kind) (scope.has_capacity place.text) (Some are.0.expr)
+      (λ name. is_some (p.setter name)))
+      (weight_fine a (length wps) more is_arc refl (scope.pattern_of_place place.text) place
       are.0.expr _ (ap scope.pattern_of_place are.0.name ∙ known a.place is_arc.place) are.0.weight)
+      (counted_fine (form_kind more a.kind) (scope.has_capacity place.text) are.0.expr
+      (λ name. is_some (p.setter name)) (uncapped place.text)))
       (inscriptions_fine (after p i.form) arcs is (All-tail (IsWArc (length wps)) a arcs good) are.1)
   inscriptions_fine p [] (i ∷ is) good are = absurd are
   inscriptions_fine p (a ∷ arcs) [] good are = absurd are
@@ -324,6 +352,11 @@ module _ (net : Weighted) (plain : Plain) (main : PNet) (good : IsWeighted net)
       (place_found net.places k good.places_distinct within)
       ∙ patterns_are net.places main.places k is.places within
 
+  uncapped : (name : List ℕ) → (scope_of plain main).has_capacity name ≡ false
+  uncapped name =
+      none_capped net.places main.places is.places
+      (number_among (map (λ p. p.name.text) main.places) name)
+
   places_declared : declared_faults most_places (map (λ p. p.name) main.places) ≡ []
   places_declared =
       let count = length-map main.places (λ p. p.name) in
@@ -369,7 +402,7 @@ module _ (net : Weighted) (plain : Plain) (main : PNet) (good : IsWeighted net)
       places_declared)
       (places_fine net.places main.places good.places is.places))
       transitions_declared)
-      (transitions_fine (scope_of plain main) net.places known net.transitions main.transitions
+      (transitions_fine (scope_of plain main) net.places known uncapped net.transitions main.transitions
       good.transitions is.transitions)
 
 main_declared : (main : PNet) → main.name.text ≡ codes "main" →

@@ -1,6 +1,6 @@
 -- A marking meets the binding of one node exactly where the weighted net's transition is enabled.
 use Rattle.std.proofs.Common.{◌≡◌, ℕ, zero, suc, ◌<◌, inl, Bool, true, false, cond, List, [], ◌∷◌, map, length, refl, sym, ap, ◌∙◌, subst, arith, append-nil}
-use Rattle.std.specs.Prelude.{Some, ◌≢◌, All, Contains, slice_get, slice_index, nat_eq, sum_by, flat_map}
+use Rattle.std.specs.Prelude.{Some, option_and_then, ◌≢◌, All, Contains, slice_get, slice_index, nat_eq, sum_by, flat_map}
 use Rattle.std.specs.Cmp.{Equal-is}
 use Rattle.std.specs.Ordering.{is_eq, nat_cmp}
 use Rattle.std.proofs.lemmas.Bool.{eqb-true, eq-eqb}
@@ -21,17 +21,25 @@ use Rattle.rn_model.specs.Evaluation.{Env}
 use Rattle.rn_model.specs.Bindings.{env_of}
 use Rattle.rn_model.specs.Demands.{takes, tests, inhibits, clears, asked_by_arc, asked_at, taken_at, tested_at, inhibited_at, cleared_at}
 use Rattle.rn_model.specs.Markings.{tokens, net_of}
-use Rattle.rn_model.specs.Enabling.{PlaceFits, Fits, Enabled}
+use Rattle.rn_model.specs.Enabling.{PlaceFits, HasRoom, MadeHasRoom, Fits, Enabled}
 use Rattle.rn_model.proofs.EnablingLemmas.{not_in_nil, idle}
 use Rattle.rn_weighted.specs.declared.weighted.Weighted.{Weighted}
+use Rattle.rn_weighted.specs.declared.weighted.WPlace.{WPlace}
 use Rattle.rn_weighted.specs.declared.weighted.WTransition.{WTransition}
 use Rattle.rn_weighted.specs.declared.weighted.WArc.{WArc}
 use Rattle.rn_weighted.specs.Weighted.{IsWArc}
 use Rattle.rn_translated.specs.WeightedRuns.{total, taken, WEnabled}
-use Rattle.rn_translated.specs.TranslatedSystem.{black, blacks, net_arc, occurrence, marking_of}
+use Rattle.rn_translated.specs.TranslatedSystem.{black, blacks, net_arc, net_place, occurrence, marking_of}
 use Rattle.rn_translated.proofs.BlackTokens.{ordered_blacks, fewer_within, within_fewer, black_there, held}
 use Rattle.rn_translated.proofs.ArcDemands.{inhibited, takes_blacks, inhibits_blacks, tests_none, clears_none, arcs_ask, arcs_ask_none}
-use Rattle.rn_translated.proofs.OneOccurrence.{sys, node, transition_is, shape, agrees, derived}
+use Rattle.rn_translated.proofs.OneOccurrence.{sys, node, transition_is, none_made, shape, agrees, derived}
+
+-- no place has a capacity
+never_full : (ps : List WPlace) (place most : ℕ) →
+    option_and_then (λ p. p.max) (slice_get (map net_place ps) place) ≡ Some most → ⊥
+never_full [] place most has = let no : ⊥ = cc in no
+never_full (p ∷ ps) zero most has = let no : ⊥ = cc in no
+never_full (p ∷ ps) (suc place) most has = never_full ps place most has
 
 -- the weights of inhibitor arcs at a place
 abbrev weight_at : ℕ → WArc → ℕ
@@ -189,6 +197,12 @@ module _ (net : Weighted) (t : ℕ) (wt : WTransition) (is : slice_get net.trans
           (λ k e. subst (λ i. net_of (marking_of m) i ≡ Some 0) (same_old 1 k e) refl)
           (All-nil (λ n. (k : ℕ) → n.inst ≡ Old k → net_of (marking_of m) k ≡ Some n.net));
       places = λ inst place. at_inst enabled inst place (is_eq (inst_cmp (Old 1) inst)) refl;
+      room = All-cons (HasRoom (sys net t wt is arcs) (marking_of m) (occurrence t)) the_node []
+          (λ n place most inst has. absurd (never_full net.places place most has))
+          (All-nil (HasRoom (sys net t wt is arcs) (marking_of m) (occurrence t)));
+      made = subst (All (MadeHasRoom (sys net t wt is arcs) (occurrence t)))
+          (sym (none_made net t wt is arcs))
+          (All-nil (MadeHasRoom (sys net t wt is arcs) (occurrence t)));
     }
 
     -- an enabled transition's occurrence is enabled

@@ -23,6 +23,7 @@ use Rattle.rn_model.specs.Systems.{transition_at, transition_of, empty_transitio
 use Rattle.rn_model.specs.Evaluation.{Env, worth, IsTrueUnder}
 use Rattle.rn_model.specs.Lists.{HaveOneValue}
 use Rattle.rn_model.specs.Bindings.{Shape, IsNodeOf, IsOfCreation, IsCalled, env_of}
+use Rattle.rn_model.specs.Firing.{creations_of}
 use Rattle.rn_model.specs.Agreement.{Agrees, NodeAgrees, ArcAgrees, HasValueOf, HaveKindsOf, inscribed_kind}
 use Rattle.rn_model.specs.Derivation.{Item, entry, found, computed, items_of, node_items, sites_of, computed_at, holes_in, finds_token, finds_values, arcs_that, arc, Site, InBy, Derived, IsVarForced}
 use Rattle.rn_model.proofs.DerivationLemmas.{holes_in-Tuple}
@@ -165,6 +166,14 @@ module _ (net : Weighted) (t : ℕ) (wt : WTransition) (is : slice_get net.trans
   pub by_transition : (P : Transition → Type 0) → P (net_transition wt) →
       P (transition_of sys node)
   by_transition P holds = subst P (sym transition_is) holds
+
+  -- the occurrence makes no instance
+  pub none_made : creations_of sys (occurrence t) ≡ []
+  none_made =
+      ap
+      (λ tr. map (λ c. record { path = node.path; index = c.0; net = c.1.net })
+      (enumerate_from 0 tr.creations) ++ [])
+      transition_is
 
   no_calls : {A : Type 0} (caller : Node) (i : ℕ) (d : Downlink) →
       slice_get (transition_of sys caller).downlinks i ≡ Some d → A

@@ -210,16 +210,17 @@ arc_has places arc good =
 
 place_has : (p : WPlace) → length (place_text (plain_place p)) ≡ place_length p
 place_has p =
-    of_six (codes "  place ") p.name (codes ": ") (kind_text (kind_at first (K.Tuple [])))
+    of_seven (codes "  place ") p.name (codes ": ") (kind_text (kind_at first (K.Tuple []))) []
     (initial_text (replicate p.initial black_token)) (codes ";\n")
     ∙ ap
     (λ t.
-    8 + length p.name + 2 + length t + length (initial_text (replicate p.initial black_token)) + 2)
+    8 + length p.name + 2 + length t + 0
+    + length (initial_text (replicate p.initial black_token)) + 2)
     black_kind
     ∙ all (length p.name) (length (initial_text (replicate p.initial black_token)))
     (initial_length p.initial) (initial_has p.initial)
   where
-    all : (n i j : ℕ) → i ≡ j → 8 + n + 2 + 2 + i + 2 ≡ 8 + n + 4 + j + 2
+    all : (n i j : ℕ) → i ≡ j → 8 + n + 2 + 2 + 0 + i + 2 ≡ 8 + n + 4 + j + 2
     all n i j is = omega (arith, is)
 
 transition_has : (places : List WPlace) (t : WTransition) → IsWTransition (length places) t →

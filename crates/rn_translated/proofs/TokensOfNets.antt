@@ -22,7 +22,7 @@ use Rattle.rn_net.specs.declared.plain.PNet.{PNet}
 use Rattle.rn_net.specs.Words.{semicolon, net_word, place_word, trans_word}
 use Rattle.rn_net.specs.Kinds.{IsKind, AreListed}
 use Rattle.rn_net.specs.Constants.{IsConstant, AreItems, AreConstants, AreMoreConstants}
-use Rattle.rn_net.specs.Nets.{IsKindOfPlace, AreInitial, IsPlace, AreInscriptions, IsTransition, AreParts, IsNet, IsSystem, net_of, plain_of}
+use Rattle.rn_net.specs.Nets.{IsKindOfPlace, IsCapacity, AreInitial, IsPlace, AreInscriptions, IsTransition, AreParts, IsNet, IsSystem, net_of, plain_of}
 use Rattle.rn_net.specs.Nets as Nets
 use Rattle.rn_weighted.specs.declared.weighted.Weighted.{Weighted}
 use Rattle.rn_weighted.specs.declared.weighted.WPlace.{WPlace}
@@ -76,7 +76,7 @@ place_tokens wp rest =
 place : (wp : WPlace) (rest : List Token) → IsPlace (place_tokens wp rest) (plain_place wp) rest
 place wp rest =
     IsPlace.place refl refl (IsKindOfPlace.given refl (IsKind.tuple refl (AreListed.nothing refl)))
-    (initial wp.initial (tok semicolon ∷ rest)) refl
+    IsCapacity.none (initial wp.initial (tok semicolon ∷ rest)) refl
 
 -- expressions
 expr : {rest : List Token} → IsExpr (tok open_bracket ∷ tok close_bracket ∷ rest) black_expr rest

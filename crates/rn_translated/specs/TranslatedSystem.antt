@@ -1,6 +1,6 @@
 -- The system that stands for a weighted net, and the bindings and markings that stand for its
 -- transitions and markings.
-use Rattle.std.specs.Prelude.{ℕ, List, [], ◌∷◌, map, codes, replicate, nat_lt, if◌then◌else◌}
+use Rattle.std.specs.Prelude.{ℕ, List, [], ◌∷◌, map, codes, replicate, nat_lt, None, if◌then◌else◌}
 use Rattle.rn_value.specs.declared.value.InstRef.TheVariants.{Old}
 use Rattle.rn_value.specs.declared.value.Value.{Value}
 use Rattle.rn_value.specs.declared.value.Value.TheVariants as Value
@@ -50,8 +50,12 @@ net_arc arc =
 
 -- a place, with as many black tokens
 abbrev pub net_place : WPlace → Place
-net_place place =
-    record { name = place.name; kind = Kind.Tuple []; initial = blacks place.initial }
+net_place place = record {
+  name = place.name;
+  kind = Kind.Tuple [];
+  initial = blacks place.initial;
+  max = None;
+}
 
 -- a transition with just these arcs
 abbrev pub net_transition : WTransition → Transition

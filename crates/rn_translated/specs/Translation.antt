@@ -1,7 +1,7 @@
 -- The net text, in its plain form, that stands for a weighted net. It isn't read from a text, and
 -- each of its spots is the first of a text.
-use Rattle.std.specs.Prelude.{ℕ, List, [], ◌∷◌, map, codes, replicate, nat_lt, Some, slice_get}
-use Rattle.std.specs.Prelude.{if◌then◌else◌}
+use Rattle.std.specs.Prelude.{ℕ, List, [], ◌∷◌, map, codes, replicate, nat_lt, slice_get}
+use Rattle.std.specs.Prelude.{Some, None, if◌then◌else◌}
 use Rattle.std.specs.Option.{option_map_or}
 use Rattle.rn_notation.specs.declared.token.Spot.{Spot}
 use Rattle.rn_inscript.specs.declared.exprs.PExpr.{PExpr}
@@ -55,6 +55,7 @@ plain_place place = record {
   name = named place.name;
   kind = kind_at first (K.Tuple []);
   initial = replicate place.initial black_token;
+  max = None;
 }
 
 -- An arc of weight 1 has the inscription `[]`, as `in p: []`. One of weight k above 1 is a flexible

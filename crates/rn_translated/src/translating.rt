@@ -76,6 +76,7 @@ fn place_of(alloc: Global, place: &WPlace) -> Result<PPlace, NoMemory>
         name,
         kind,
         initial: Items::from_vec(tokens),
+        max: None,
     })
 }
 

@@ -32,7 +32,7 @@ use Rattle.rn_model.specs.Lists.{value_beside}
 use Rattle.rn_model.specs.Agreement.{Agrees, NodeAgrees, CallAgrees, HaveKindsOf}
 use Rattle.rn_model.specs.Derivation.{Item, entry, target, items_of, Derived}
 use Rattle.rn_model.specs.Derivation.{Forced, IsVarForced, MayEnter, term_value_at}
-use Rattle.rn_model.specs.Enabling.{Enabled, PlaceFits}
+use Rattle.rn_model.specs.Enabling.{Enabled, HasRoom, MadeHasRoom, PlaceFits}
 use Rattle.rn_model.specs.RoundLaws.{ComeIn, IsClosed, ForceAll}
 use Rattle.rn_model.proofs.AskedValues.{got_contained}
 use Rattle.rn_model.proofs.EnablingLemmas.{not_in_nil}
@@ -324,6 +324,11 @@ enabled = record {
     there = both (λ x. (n : ℕ) → x.inst ≡ Old n → net_of m n ≡ Some x.net) start_is_there
         (λ n e. absurd (let no : ⊥ = cc in no));
     places = places_fit_by_arcs sys m b no_arcs;
+    room = both (HasRoom sys m b)
+        (λ n place most is has. absurd (let no : ⊥ = cc in no))
+        (λ n place most is has. absurd (let no : ⊥ = cc in no));
+    made = All-cons (MadeHasRoom sys b) (record { path = []; index = 0; net = 1 }) []
+        (λ place p most is has. absurd (let no : ⊥ = cc in no)) (All-nil _);
   };
 }
 

@@ -1,6 +1,6 @@
 -- A system that fires once: its binding is enabled at first, and not after its firing.
 -- net main { place p = []; place q; trans t { in p; out q; } }
-use Rattle.std.proofs.Common.{◌≡◌, ℕ, ◌≤◌, Bool, true, false, [], ◌∷◌, length, refl, sym, ◌∙◌, ap, subst, inl, inr, arith}
+use Rattle.std.proofs.Common.{◌≡◌, ℕ, zero, suc, ◌≤◌, Bool, true, false, [], ◌∷◌, length, refl, sym, ◌∙◌, ap, subst, inl, inr, arith}
 use Rattle.std.specs.Prelude.{Some, Ok, All, Contains, slice_get, nat_eq}
 use Rattle.rn_value.proofs.Variants.{same_old}
 use Rattle.rn_value.specs.Order.{inst_cmp}
@@ -19,7 +19,7 @@ use Rattle.rn_model.specs.declared.system.ArcKind.TheVariants.{Input, Output}
 use Rattle.rn_model.specs.declared.binding.Binding.{Binding}
 use Rattle.rn_model.specs.declared.binding.Node.{Node}
 use Rattle.rn_model.specs.Lists.{IsWithin, count_of}
-use Rattle.rn_model.specs.Systems.{transition_of, awaits_action, place_kind}
+use Rattle.rn_model.specs.Systems.{transition_of, awaits_action, place_kind, capacity}
 use Rattle.rn_model.specs.Evaluation.{Env}
 use Rattle.rn_model.specs.Bindings.{Shape, IsNodeOf, IsOfCreation, IsCalled, env_of}
 use Rattle.rn_model.specs.Agreement.{Agrees, NodeAgrees, HasValueOf, inscribed_kind}
@@ -29,7 +29,7 @@ use Rattle.std.specs.Cmp.{Equal-is}
 use Rattle.std.proofs.lemmas.Map.Lookups.{exact_unsigned}
 use Rattle.rn_model.specs.Markings.{Marking, initial_marking, tokens, net_of}
 use Rattle.rn_model.specs.Firing.{fire}
-use Rattle.rn_model.specs.Enabling.{PlaceFits, Fits, Enabled}
+use Rattle.rn_model.specs.Enabling.{PlaceFits, HasRoom, Fits, Enabled}
 use Rattle.rn_model.specs.Runs.{Firing, Run, after_firing, marking_or, end_of}
 use Rattle.rn_model.proofs.Examples.ExampleSystems.{black, arc_of, place_of, only_arcs, one_net, example_rules}
 use Rattle.rn_model.proofs.DerivationLemmas.{hole_rules}
@@ -157,10 +157,18 @@ at_inst (Old k) place true e =
     subst (λ i. PlaceFits sys m b (Old i) place) same (at_one place (nat_eq 0 place) (nat_eq 1 place) refl refl)
 at_inst (New path j) place true e = let no : ⊥ = cc in absurd no
 
+-- no place has a capacity
+no_capacity : (place most : ℕ) → ¬ (capacity sys 0 place ≡ Some most)
+no_capacity zero most e = let no : ⊥ = cc in no
+no_capacity (suc zero) most e = let no : ⊥ = cc in no
+no_capacity (suc (suc place)) most e = let no : ⊥ = cc in no
+
 fits : Fits sys m b
 fits = record {
   there = All-cons (λ node. (k : ℕ) → node.inst ≡ Old k → net_of m k ≡ Some node.net) n [] (λ k e. let same : 1 ≡ k = same_old 1 k e in subst (λ i. net_of m i ≡ Some 0) same refl) (All-nil _);
   places = λ inst place. at_inst inst place (is_eq (inst_cmp (Old 1) inst)) refl;
+  room = All-cons (HasRoom sys m b) n [] (λ k place most is has. absurd (no_capacity place most has)) (All-nil _);
+  made = All-nil _;
 }
 
 pub enabled : Enabled sys m b 4

@@ -1,6 +1,6 @@
 -- A system that is good: net main { place p = []; place q; trans t { in p; out q; } }
 use Rattle.std.proofs.Common.{◌≡◌, ℕ, zero, suc, ◌<◌, ◌≤◌, Bool, false, [], ◌∷◌, length, get_or, refl, sym, ap, ◌∙◌, subst, arith}
-use Rattle.std.specs.Prelude.{◌≢◌, All, AllPairs, Contains, IsTrue, codes}
+use Rattle.std.specs.Prelude.{◌≢◌, None, All, AllPairs, Contains, IsTrue, codes}
 use Rattle.std.proofs.lemmas.List.Elements.{All-nil, All-cons}
 use Rattle.rn_value.specs.declared.value.Kind.{Kind, fold_out-Kind}
 use Rattle.rn_value.specs.declared.value.Kind.TheVariants as Kind
@@ -17,7 +17,7 @@ use Rattle.rn_value.specs.Words.{reserved_words}
 use Rattle.rn_model.specs.Names.{IsGoodName}
 use Rattle.rn_model.specs.Systems.{empty_transition, holds_action_var, var_kind_in}
 use Rattle.rn_model.specs.Kinds.{HasExprKind, expr_or_var_step, kind_depth, kind_depth_step, value_depth, value_depth_step, expr_depth, expr_depth_step, kind_narrow, kind_narrow_step, value_narrow, value_narrow_step, expr_narrow, expr_narrow_step, holds_step, step_in_step, holds_instance, inst_in_step}
-use Rattle.rn_model.specs.Good.{Good, IsGoodNet, IsGoodPlace, IsGoodKind, IsGoodToken, IsGoodTransition, IsGoodArc, HasItsVars, UsesActions, IsWellKinded, occurring}
+use Rattle.rn_model.specs.Good.{Good, IsGoodNet, IsGoodPlace, IsGoodKind, IsGoodToken, IsGoodTransition, IsGoodArc, IsCounted, HasItsVars, UsesActions, IsWellKinded, occurring}
 use Rattle.rn_model.proofs.Examples.ExampleSystems.{black, arc_of}
 use Rattle.rn_model.proofs.KindRules.{kind_rules}
 use Rattle.rn_model.proofs.DerivationLemmas.{var_rules}
@@ -79,16 +79,16 @@ unfolding reserved_words
 named_main = (refl, omega arith)
 
 abbrev p : Place
-p = record { name = codes "p"; kind = blacks; initial = black ∷ [] }
+p = record { name = codes "p"; kind = blacks; initial = black ∷ []; max = None }
 
 abbrev q : Place
-q = record { name = codes "q"; kind = blacks; initial = [] }
+q = record { name = codes "q"; kind = blacks; initial = []; max = None }
 
 good_p : IsGoodPlace p
-good_p = record { name = named_p; kind = good_kind; initial = All-cons (IsGoodToken blacks) black [] good_black (All-nil (IsGoodToken blacks)); many = omega arith }
+good_p = record { name = named_p; kind = good_kind; initial = All-cons (IsGoodToken blacks) black [] good_black (All-nil (IsGoodToken blacks)); many = omega arith; max = λ most e. absurd (let no : ⊥ = cc in no) }
 
 good_q : IsGoodPlace q
-good_q = record { name = named_q; kind = good_kind; initial = All-nil (IsGoodToken blacks); many = omega arith }
+good_q = record { name = named_q; kind = good_kind; initial = All-nil (IsGoodToken blacks); many = omega arith; max = λ most e. absurd (let no : ⊥ = cc in no) }
 
 abbrev t : Transition
 t = record empty_transition { name = codes "t"; arcs = arc_of Input 0 empty ∷ arc_of Output 1 empty ∷ [] }
@@ -153,6 +153,8 @@ good_t = record {
   guards_deep = All-nil _;
   narrow = All-cons Narrow empty (empty ∷ []) narrow_expr (All-cons Narrow empty [] narrow_expr (All-nil Narrow));
   many = omega arith;
+  counted = All-cons (IsCounted main t) (arc_of Input 0 empty) (arc_of Output 1 empty ∷ []) (λ flex holds. refl)
+      (All-cons (IsCounted main t) (arc_of Output 1 empty) [] (λ flex holds. refl) (All-nil (IsCounted main t)));
 }
 
 p_and_q : AllPairs (λ x y. x.name ≢ y.name) (p ∷ q ∷ [])

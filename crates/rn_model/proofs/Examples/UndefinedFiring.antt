@@ -23,7 +23,7 @@ use Rattle.rn_model.specs.Markings.{Marking, initial_marking, net_of}
 use Rattle.rn_model.specs.Bindings.{Shape, IsNodeOf, IsOfCreation, IsCalled}
 use Rattle.rn_model.specs.Agreement.{Agrees, NodeAgrees}
 use Rattle.rn_model.specs.Derivation.{entry, items_of, InBy, Derived, IsVarForced}
-use Rattle.rn_model.specs.Enabling.{PlaceFits, Enabled}
+use Rattle.rn_model.specs.Enabling.{PlaceFits, HasRoom, Enabled}
 use Rattle.rn_model.specs.Firing.{fire}
 use Rattle.rn_model.specs.Runs.{Log, IsTrueEnd}
 use Rattle.rn_model.proofs.Examples.ExampleSystems.{one_net, int_var, example_rules}
@@ -95,6 +95,8 @@ enabled = record {
   fits = record {
     there = All-cons (λ node. (k : ℕ) → node.inst ≡ Old k → net_of m k ≡ Some node.net) n [] (λ k e. subst (λ i. net_of m i ≡ Some 0) (same_old 1 k e) refl) (All-nil _);
     places = λ inst place. place_fits inst place (is_eq (inst_cmp (Old 1) inst)) refl;
+    room = All-cons (HasRoom sys m b) n [] (λ k place most is has. absurd (let no : ⊥ = cc in no)) (All-nil _);
+    made = All-nil _;
   };
 }
 

@@ -15,7 +15,7 @@ pub negated-requires : goal.negated-requires
 negated-requires c = let n = c.requires.naturals c.args.after c.in-Some.ensures.0.0 c.in-Some.number c.in-Some.ensures.0.1 c.in-Some.ensures.0.2 in let h : pos 0 ≤ℤ c.in-Some.number = subst (λ z. pos 0 ≤ℤ z) (sym n.1) (omega (arith, ints)) in search rules
 
 pub returns-in-Some-clause-reads : goal.returns-in-Some-clause-reads
-returns-in-Some-clause-reads c = λ depth. same_end (search rules) (number_read (λ n. done (constant_at c.args.spot (C.Int (neg_ℤ n)))) c.args.tokens.now c.args.after _ (declaring depth) (negative_open c.args.tokens.now c.args.at c.args.after depth c.requires.next c.requires.after) c.in-Some.ensures.0 c.in-Some.ensures.1 refl refl)
+returns-in-Some-clause-reads c = λ depth. same_end (search rules) (number_read (λ place n. done (constant_at c.args.spot (C.Int (neg_ℤ n)))) c.args.tokens.now c.args.after _ (declaring depth) (negative_open c.args.tokens.now c.args.at c.args.after depth c.requires.next c.requires.after) c.in-Some.ensures.0 c.in-Some.ensures.1 refl refl)
 
 pub returns-in-None-clause-reads : goal.returns-in-None-clause-reads
-returns-in-None-clause-reads c = λ depth. number_stuck (λ n. done (constant_at c.args.spot (C.Int (neg_ℤ n)))) c.args.tokens.now c.args.after (negative_open c.args.tokens.now c.args.at c.args.after depth c.requires.next c.requires.after) (omega (arith, c.requires.after, c.requires.next.1.1)) c.in-None.ensures
+returns-in-None-clause-reads c = λ depth. number_stuck (λ place n. done (constant_at c.args.spot (C.Int (neg_ℤ n)))) c.args.tokens.now c.args.after (negative_open c.args.tokens.now c.args.at c.args.after depth c.requires.next c.requires.after) (omega (arith, c.requires.after, c.requires.next.1.1)) c.in-None.ensures

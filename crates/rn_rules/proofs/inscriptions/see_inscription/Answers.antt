@@ -1,10 +1,15 @@
 -- Arcs and creations, in the terms of what is known.
-use Rattle.std.proofs.Common.{◌∙◌, ap, sym}
-use Rattle.std.specs.Prelude.{is_some}
+use Rattle.std.proofs.Common.{◌∙◌, ap, sym, Bool, List, ℕ}
+use Rattle.std.specs.Prelude.{is_some, if◌then◌else◌}
+use Rattle.rn_declared.specs.declared.fault.Fault.{Fault}
 use Rattle.rn_declared.specs.Faults.{first_from}
+use Rattle.rn_declared.specs.Tables.{found_in}
+use Rattle.rn_declared.proofs.ToldLemmas.{first_from-append}
 use Rattle.rn_rules.specs.Arcs.{arc_faults}
+use Rattle.rn_rules.specs.Counted.{counted_faults}
 use Rattle.rn_rules.specs.Calls.{creation_faults}
-use Rattle.rn_rules.specs.Transitions.{elsewhere, inscription_faults}
+use Rattle.rn_model.specs.Systems.{is_output}
+use Rattle.rn_rules.specs.Transitions.{in_output, elsewhere, inscription_faults}
 use Rattle.rn_rules.specs.Scopes.{scope_in, progress_of}
 use Rattle.rn_rules.specs.Sights.{where_of}
 use Rattle.rn_rules.proofs.inscriptions.see_inscription.Goals as goal
@@ -17,9 +22,18 @@ returns-in_ok-see_arc-in-Arc g c =
     let kind = c.in-Arc.kind in
     let place = c.in-Arc.place in
     let e = c.in-Arc.inscription in
-    c.in_ok-see_arc-in-Arc.ensures
+    let counted : Bool → List Fault =
+    λ b. counted_faults kind b e (λ name. is_some (found_in c.args.stand.now.setters.now name)) in
+    let arc : List Fault =
+    arc_faults kind (s.pattern_of_place place.text) place e
+    (if is_output kind then in_output s p else elsewhere s p) in
+    c.see_counted.ensures
+    ∙ ap (λ k. first_from k (counted c.is_capped-capped.result))
+    (c.in_ok-see_arc-in-Arc.ensures
     ∙ ap (λ o. first_from known (arc_faults kind o place e (where_of c.of_arc-here.result))) c.pattern-pattern.ensures
-    ∙ ap (λ w. first_from known (arc_faults kind (s.pattern_of_place place.text) place e w)) c.of_arc-here.ensures
+    ∙ ap (λ w. first_from known (arc_faults kind (s.pattern_of_place place.text) place e w)) c.of_arc-here.ensures)
+    ∙ ap (λ b. first_from (first_from known arc) (counted b)) c.is_capped-capped.ensures
+    ∙ sym (first_from-append arc (counted (s.has_capacity place.text)) known)
     ∙ ap (λ f. first_from known (inscription_faults s p c.args.i.now f)) (sym c.in-Arc.is)
 
 pub returns-in_ok-see_creation-in-New : goal.returns-in_ok-see_creation-in-New

@@ -1,11 +1,8 @@
 -- Which numbers stand in both of two lists.
-use Rattle.std.proofs.Common.{◌≡◌, ℕ, Bool, true, false, ◌||◌, ◌&&◌, List, [], ◌∷◌, refl, sym, ap}
-use Rattle.std.proofs.Common.{◌∙◌, subst}
+use Rattle.std.proofs.Common.{◌≡◌, ℕ, Bool, true, false, ◌||◌, List, [], ◌∷◌, refl, sym, ap}
+use Rattle.std.proofs.Common.{◌∙◌}
 use Rattle.std.specs.Prelude.{nat_eq}
 use Rattle.std.specs.List.{list_any}
-use Rattle.rn_model.specs.declared.system.Transition.{Transition}
-use Rattle.rn_model.specs.declared.system.NetArc.{NetArc}
-use Rattle.rn_model.specs.Systems.{vars_in, is_output, holds_action_var, awaits_action}
 
 or_any : {X : Type 0} (p q : X → Bool) (xs : List X) →
     (list_any p xs || list_any q xs) ≡ list_any (λ x. p x || q x) xs
@@ -30,13 +27,3 @@ either_way [] ys = sym (none_any ys)
 either_way (x ∷ xs) ys =
     ap (λ b. list_any (λ y. nat_eq y x) ys || b) (either_way xs ys)
     ∙ or_any (λ y. nat_eq y x) (λ y. list_any (nat_eq y) xs) ys
-
--- an output awaits an action where one of the action variables stands in it
-pub output_awaits : (t : Transition) (arc : NetArc) (vars : List ℕ) (answer : Bool) →
-    is_output arc.kind ≡ true → vars ≡ t.action_vars →
-    answer ≡ list_any (λ x. list_any (λ y. nat_eq y x) vars) (vars_in arc.inscription) →
-    answer ≡ awaits_action t arc
-output_awaits t arc vars answer puts are is =
-    subst (λ b. answer ≡ (b && holds_action_var t arc.inscription)) (sym puts)
-    (is ∙ either_way (vars_in arc.inscription) vars
-    ∙ ap (λ ys. list_any (λ y. list_any (nat_eq y) (vars_in arc.inscription)) ys) are)

@@ -2,7 +2,7 @@ use Rattle.std.proofs.Common.{◌≡◌, map, drop}
 use Rattle.std.specs.Prelude.{nat_eq}
 use Rattle.std.specs.List.{list_any, concat}
 use Rattle.rn_model.specs.Systems.{vars_in}
-use Rattle.rn_agree.proofs.mentions.+mentions.Given as goal
+use Rattle.rn_calc.proofs.mentions.+mentions.Given as goal
 
 abbrev pub invariant-mention-loop-expr : goal.invariant-mention-loop-expr
 invariant-mention-loop-expr l =
