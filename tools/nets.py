@@ -30,8 +30,19 @@ def tokens_of(text):
     return found
 
 
+class Place:
+    """A place: its kind, its initial tokens as one line, and its capacity, None where it has none."""
+
+    def __init__(self, kind, initial, capacity):
+        self.kind, self.initial, self.capacity = kind, initial, capacity
+
+    def limit(self):
+        """What stands beside its name and kind: ` max 5`, or nothing."""
+        return '' if self.capacity is None else f' max {self.capacity}'
+
+
 class Net:
-    """A net: its name, variables (name to kind), places (name to kind and initial tokens) and transitions."""
+    """A net: its name, variables (name to kind), places (name to place) and transitions."""
 
     def __init__(self, name):
         self.name, self.vars, self.places, self.transitions = name, {}, {}, []
@@ -138,8 +149,14 @@ def read_part(tokens, at, net):
         kind = ''.join(part[part.index(':') + 1:])
         net.vars.update((name, kind) for name in part[:part.index(':')] if name != ',')
     else:
-        body = part[1:]
-        cut = body.index('=') if '=' in body else len(body)
-        kind = ''.join(body[1:cut]) or '[]'
-        net.places[part[0]] = kind, laid_out(body[cut + 1:])
+        net.places[part[0]] = place_of(part[1:])
     return end + 1
+
+
+def place_of(rest):
+    """The place of which this follows the name: its kind, `max` and a number, `=` and its initial tokens, or less."""
+    cut = rest.index('=') if '=' in rest else len(rest)
+    kind, initial, capacity = rest[:cut], laid_out(rest[cut + 1:]), None
+    if 'max' in kind:
+        kind, capacity = kind[:-2], int(kind[-1])
+    return Place(''.join(kind[1:]) or '[]', initial, capacity)

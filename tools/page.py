@@ -146,7 +146,7 @@ def shortened(text):
 
 def figure(k, net):
     """The picture of a net: lines first, then nodes, then the inscriptions of arcs."""
-    sizes = {('place', name): (max(100, len(name) * WIDE + 30), 44) for name in net.places}
+    sizes = {('place', name): (max(100, len(name + place.limit()) * WIDE + 30), 44) for name, place in net.places.items()}
     rows = {it.name: [part.text() for part in it.inscriptions if part.kind not in nets.ARCS] for it in net.transitions}
     for name, some in rows.items():
         sizes['trans', name] = max(map(len, [name, *map(shortened, some)])) * WIDE + 18, 21 + 13 * len(some)
@@ -158,7 +158,7 @@ def figure(k, net):
     ends = [(('trans', t), ('place', p)) if kind in TURNED else (('place', p), ('trans', t)) for t, p, kind in arcs]
     spots, routes, (width, height) = layout.picture(sizes, ends)
     parts = [line(key, *route) for key, route in zip(arcs, routes)]
-    parts += [place(name, kind, spots['place', name], sizes['place', name]) for name, (kind, _) in net.places.items()]
+    parts += [ellipse(name, place, spots['place', name], sizes['place', name]) for name, place in net.places.items()]
     parts += [transition(name, rows[name], spots['trans', name], sizes['trans', name]) for name in rows]
     boxes = [(*spots[node], *sizes[node]) for node in sizes]
     parts += [label_of(labels, points, boxes) for labels, (points, _) in zip(arcs.values(), routes)]
@@ -207,11 +207,12 @@ def rows_of(kind, rows, x, y):
     return f'<text class="{kind}" y="{y:.1f}">{spans}<title>{full}</title></text>'
 
 
-def place(name, kind, spot, size):
+def ellipse(name, place, spot, size):
+    """A place, with its capacity beside its name."""
     x, y = spot
-    return (f'<g class="place" data-place="{name}"><title>place {name}: {kind}</title>'
+    return (f'<g class="place" data-place="{name}"><title>place {name}: {place.kind}{place.limit()}</title>'
             f'<ellipse cx="{x:.1f}" cy="{y:.1f}" rx="{size[0] / 2:.1f}" ry="{size[1] / 2:.1f}"/>'
-            f'<text class="name" x="{x:.1f}" y="{y - 6:.1f}">{name}</text>'
+            f'<text class="name" x="{x:.1f}" y="{y - 6:.1f}">{name}{place.limit()}</text>'
             f'<text class="tokens" x="{x:.1f}" y="{y + 11:.1f}"></text></g>')
 
 
