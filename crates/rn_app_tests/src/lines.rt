@@ -1,5 +1,7 @@
 //! Values and nodes that are read by themselves, which no command does.
-use rn_lines::{line_laws, read_node, read_value, value_laws};
+use rn_lines::{
+    line_laws, lines_are_read_by_their_grammar, read_node, read_value, value_laws,
+};
 use std::alloc::Global;
 use std::test::Fail;
 
@@ -24,5 +26,6 @@ fn by_themselves(rt: HostRuntime) -> Result<(), Fail> {
     );
     value_laws();
     line_laws();
+    lines_are_read_by_their_grammar();
     Ok(())
 }

@@ -1,5 +1,5 @@
 -- What the texts of values in records have to do with those that are written, and how lines stand.
-use Rattle.std.specs.Prelude.{◌≡◌, ◌≢◌, ℕ, zero, suc, ℤ, pos, negsuc, List, Bool, false, nat_lt, Some, All, IsTrue}
+use Rattle.std.specs.Prelude.{◌≡◌, ◌≢◌, ◌↔◌, ℕ, zero, suc, ℤ, pos, negsuc, List, Bool, false, nat_lt, Some, All, IsTrue}
 use Rattle.std.specs.List.{list_all, AllByRecursion}
 use Rattle.std.specs.Str.{is_utf8}
 use Rattle.rn_value.specs.Names.{name_of, AreNamed}
@@ -8,6 +8,7 @@ use Rattle.rn_value.specs.Words.{IsName}
 use Rattle.rn_value.specs.declared.value.InstRef.TheVariants.{Old, New}
 use Rattle.rn_value.specs.declared.value.Value.{Value, fold-Value}
 use Rattle.rn_value.specs.declared.value.Value.TheOpen as V
+use Rattle.rn_lines.specs.LineReading.{line_at}
 use Rattle.rn_lines.specs.LineText.{LineSaid, IsLine}
 use Rattle.rn_lines.specs.ValueText.{Said, IsValue}
 
@@ -55,3 +56,9 @@ WrittenTextsAreRead = (names : List (List ℕ)) (depth : ℕ) (v : Value) →
 -- No line holds a line feed, so the lines of bytes are those between their line feeds.
 abbrev pub LinesHoldNoLineFeed : Type 0
 LinesHoldNoLineFeed = (x : LineSaid) (bytes : List ℕ) → IsLine x bytes → All (λ c. c ≢ 10) bytes
+
+-- What is read of a line is what it says by the grammar of lines, and nothing exactly where the bytes
+-- are no line. So a definition that reads lines is one over the grammar.
+abbrev pub LinesAreReadByTheirGrammar : Type 0
+LinesAreReadByTheirGrammar = (x : LineSaid) (bytes : List ℕ) →
+    line_at bytes ≡ Some x ↔ IsLine x bytes

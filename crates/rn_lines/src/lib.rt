@@ -14,7 +14,7 @@ mod values;
 
 pub use cutting::first_line;
 pub use instances::Mention;
-pub use laws::{line_laws, value_laws};
+pub use laws::{line_laws, lines_are_read_by_their_grammar, value_laws};
 pub use lines::{Ending, Lead, Line, ReadMark, ReadToken, read_line};
 pub use nodes::{ReadGiven, ReadNode, read_node};
 pub use numerals::is_numeral;
