@@ -1,5 +1,5 @@
 -- Each cause has its status, whether an answer is written or none is.
-use Rattle.std.proofs.Common.{◌≡◌, ◌≢◌, ◌⊎◌, ℕ, List, Option, Some, None, Ok, Err, Result, inl, inr, refl, sym, subst}
+use Rattle.std.proofs.Common.{◌≡◌, ◌≢◌, ◌⊎◌, ℕ, List, Option, Some, None, Ok, Err, Result, inl, inr, refl, sym, subst, arith}
 use Rattle.std.specs.Prelude.{IfSome}
 use Rattle.rn_model.specs.declared.log.Options.{Options}
 use Rattle.rn_outside.specs.Faults.{Rose}
@@ -12,24 +12,42 @@ use Rattle.rn_answer.specs.declared.answer.Answer.{Answer}
 use Rattle.rn_answer.specs.declared.status.TheConstants.{DONE, FAULTED, NET_REFUSED, NO_MEMORY, RECORD_REFUSED, WORDS_REFUSED, WRITE_FAULT}
 use Rattle.rn_answer.specs.declared.stopped.Stopped.{Stopped}
 use Rattle.rn_answer.specs.declared.stopped.Stopped.TheVariants.{ReadFault, Refused}
-use Rattle.rn_app.specs.TopCall.{Comes, ComesOrStops, IsFaultStatus, IsFine, IsNoInput, IsNoRecord, MayFault}
+use Rattle.rn_commands.specs.declared.jobs.Job.{Job}
+use Rattle.rn_app.specs.declared.beginning.Begun.TheVariants.{Done, Working}
+use Rattle.rn_app.specs.declared.preparing.Prepared.{Prepared}
+use Rattle.rn_app.specs.declared.preparing.Prepared.TheVariants.{Answered}
+use Rattle.rn_app.specs.Begun.{PreparesOrStops}
+use Rattle.rn_app.specs.TopCall.{Comes, IsFaultStatus, IsFine, IsNoInput, IsNoRecord, MayFault}
 use Rattle.rn_app.proofs.Causes.{IsDoneBut, Laws, RefusesRecords, fine_status, input_status, moves_refuse, record_status}
 use Rattle.rn_app.proofs.Causes.{replay_refuses, words_status}
 use Rattle.rn_app.proofs.Written.{Call, IsWritten, same_or_other, status_or_fault, write_fault_clause}
 
 -- where there is an answer the words and the input come to it
-pub came : (words : List (List ℕ)) (left left_after : Option (List ℕ)) (faults faults_after : ℕ) (r : Result Answer Stopped) (a : Answer) → r ≡ Ok a → ComesOrStops words left left_after faults faults_after r → Comes words left left_after a
-came words left left_after faults faults_after r a is comes = subst (ComesOrStops words left left_after faults faults_after) is comes
+pub came : (words : List (List ℕ)) (left left_after : Option (List ℕ)) (faults faults_after : ℕ) (r : Result Prepared Stopped) (a : Answer) → r ≡ Ok (Answered a) → PreparesOrStops words left left_after faults faults_after r → Comes words left left_after a
+came words left left_after faults faults_after r a is comes = subst (PreparesOrStops words left left_after faults faults_after) is comes
 
-pub came_refused : (words : List (List ℕ)) (left left_after : Option (List ℕ)) (faults faults_after : ℕ) (r : Result Answer Stopped) (a : Answer) → r ≡ Err (Refused a) → ComesOrStops words left left_after faults faults_after r → Comes words left left_after a
-came_refused words left left_after faults faults_after r a is comes = subst (ComesOrStops words left left_after faults faults_after) is comes
+pub came_refused : (words : List (List ℕ)) (left left_after : Option (List ℕ)) (faults faults_after : ℕ) (r : Result Prepared Stopped) (a : Answer) → r ≡ Err (Refused a) → PreparesOrStops words left left_after faults faults_after r → Comes words left left_after a
+came_refused words left left_after faults faults_after r a is comes = subst (PreparesOrStops words left left_after faults faults_after) is comes
 
 -- where a read failed the count of faults rose
-pub read_failed : (words : List (List ℕ)) (left left_after : Option (List ℕ)) (faults faults_after : ℕ) (r : Result Answer Stopped) → r ≡ Err ReadFault → ComesOrStops words left left_after faults faults_after r → Rose faults faults_after
-read_failed words left left_after faults faults_after r is comes = subst (ComesOrStops words left left_after faults faults_after) is comes
+pub read_failed : (words : List (List ℕ)) (left left_after : Option (List ℕ)) (faults faults_after : ℕ) (r : Result Prepared Stopped) → r ≡ Err ReadFault → PreparesOrStops words left left_after faults faults_after r → Rose faults faults_after
+read_failed words left left_after faults faults_after r is comes = subst (PreparesOrStops words left left_after faults faults_after) is comes
+
+-- a status that all is done with is this one
+pub status_is : {n m : ℕ} → Done n ≡ Done m → n ≡ m
+status_is is = cc
+
+-- where a run is due not all is done
+pub never_done : {job : Job} {status : ℕ} → Working job ≡ Done status → ⊥
+never_done is = absurd cc
+
+-- a refusal of the net text, or a fault, isn't the status of a run
+pub run_is_undone : (status n : ℕ) → (n ≡ DONE) ⊎ (n ≡ FAULTED) → status ≡ n → (status ≡ NET_REFUSED) ⊎ IsFaultStatus status → ⊥
+run_is_undone status n (inl done) is which = grind (arith, done, is, which)
+run_is_undone status n (inr faulted) is which = grind (arith, faulted, is, which)
 
 -- what holds of the bytes that are left, where these are known
-if_some : (left : Option (List ℕ)) (P : List ℕ → Type 0) → ((bytes : List ℕ) → left ≡ Some bytes → P bytes) → IfSome left P
+pub if_some : (left : Option (List ℕ)) (P : List ℕ → Type 0) → ((bytes : List ℕ) → left ≡ Some bytes → P bytes) → IfSome left P
 if_some None P given = tt
 if_some (Some bytes) P given = given bytes refl
 
@@ -65,6 +83,10 @@ module _ {E : Type 0} (k : Call E) (a : Answer) (w : IsWritten k a) (laws : Laws
 
   pub moves_clause : (options : Options) → WordsOk k.words (command.Moves options) → IfSome k.left (λ bytes. IsNoRecord options bytes → (k.result ≡ RECORD_REFUSED) ⊎ IsFaultStatus k.result)
   moves_clause options accepted = refused_record options (command.Moves options) (moves_refuse options) accepted
+
+  -- a net text that is refused
+  pub refused_clause : a.status ≡ NET_REFUSED → (k.result ≡ NET_REFUSED) ⊎ IsFaultStatus k.result
+  refused_clause is = or_fault NET_REFUSED k.result (status_or_fault k a w NET_REFUSED is)
 
   pub complete_clause : (c : Command) → WordsOk k.words c → IsFine c k.left → ¬ Rose k.out_faults k.out_faults_after → ¬ Rose k.err_faults k.err_faults_after →
       (k.result ≡ DONE) ⊎ ((k.result ≡ NO_MEMORY) ⊎ ((k.result ≡ FAULTED) × MayFault c))

@@ -4,3 +4,4 @@ mod Statuses
 mod Causes
 mod Written
 mod Answering
+mod DueRuns

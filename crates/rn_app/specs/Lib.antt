@@ -1,3 +1,4 @@
 pub mod Commands
 pub mod TopCall
 pub mod Laws
+pub mod Begun

@@ -1,6 +1,6 @@
 -- What the top call returns, and what it leaves of its input and on the sinks.
 use Rattle.std.specs.Prelude.{ℕ, ◌≡◌, ◌≢◌, ◌<◌, ◌≤◌, ◌+◌, ◌⊎◌, List, length, Option, Some, None}
-use Rattle.std.specs.Prelude.{[], Result, Ok, Err, ⊤}
+use Rattle.std.specs.Prelude.{[], Err, ⊤}
 use Rattle.rn_model.specs.declared.log.Options.{Options}
 use Rattle.rn_model.specs.declared.log.Reason.{Reason}
 use Rattle.rn_model.specs.declared.system.System.{System}
@@ -10,15 +10,13 @@ use Rattle.rn_weighted.specs.declared.weighted.Weighted.{Weighted}
 use Rattle.rn_pt.specs.declared.fault.PtFault.{PtFault}
 use Rattle.rn_pt.specs.Texts.{Spells, IsRefused}
 use Rattle.rn_outside.specs.Bytes.{GivesAll, GivesAtMost, Appends, AppendsPrefix}
-use Rattle.rn_outside.specs.Faults.{Rose, risen}
+use Rattle.rn_outside.specs.Faults.{risen}
 use Rattle.rn_words.specs.declared.command.Command.{Command}
 use Rattle.rn_words.specs.declared.command.Command.TheVariants as command
 use Rattle.rn_words.specs.declared.command.WordsFault.{WordsFault}
 use Rattle.rn_words.specs.Commands.{WordsOk}
 use Rattle.rn_words.specs.Reading.{reading}
 use Rattle.rn_answer.specs.declared.answer.Answer.{Answer}
-use Rattle.rn_answer.specs.declared.stopped.Stopped.{Stopped}
-use Rattle.rn_answer.specs.declared.stopped.Stopped.TheVariants.{Refused, ReadFault, NoMemory}
 use Rattle.rn_answer.specs.declared.status.TheConstants.{WORDS_REFUSED}
 use Rattle.rn_answer.specs.declared.status.TheConstants.{READ_FAULT, WRITE_FAULT, NO_MEMORY, RECORD_REFUSED}
 use Rattle.rn_answer.specs.Lines.{words_line}
@@ -44,15 +42,6 @@ pub data Comes (words : List (List ℕ)) (left left_after : Option (List ℕ)) :
   whole : (a : Answer) (c : Command) (limit : ℕ) (bytes : List ℕ) → WordsOk words c →
       longest_input c ≡ Some limit → GivesAll left bytes left_after → length bytes ≤ limit →
       ComesTo c bytes a → Comes words left left_after a
-
--- What a command comes to, or why there is nothing: a read failed, or memory ran out.
-abbrev pub ComesOrStops : List (List ℕ) → Option (List ℕ) → Option (List ℕ) → ℕ → ℕ →
-    Result Answer Stopped → Type 0
-ComesOrStops words left left_after faults faults_after (Ok a) = Comes words left left_after a
-ComesOrStops words left left_after faults faults_after (Err (Refused a)) =
-    Comes words left left_after a
-ComesOrStops words left left_after faults faults_after (Err ReadFault) = Rose faults faults_after
-ComesOrStops words left left_after faults faults_after (Err NoMemory) = ⊤
 
 -- a count has risen once at most
 abbrev pub RoseOnceAtMost : ℕ → ℕ → Type 0

@@ -1,8 +1,11 @@
 //! All that the program does, in one call from words and bytes to bytes and a status.
 #![tactic(auto)]
 
+mod beginning;
 mod laws;
+mod preparing;
 mod top;
 
+pub use beginning::{Begun, begin};
 pub use laws::input_laws;
 pub use top::renew_top;

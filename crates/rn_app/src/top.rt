@@ -1,6 +1,6 @@
 //! The top call: all that the program does.
 ghost use Rattle.std.specs.Prelude.{◌≡◌, ◌≢◌, ◌≤◌, ◌+◌, ◌⊎◌, Err, Some, None, map, string_bytes};
-ghost use Rattle.std.specs.Prelude.{IfSome, IsErrOf, codes, length, List, ℕ};
+ghost use Rattle.std.specs.Prelude.{IfSome, codes, length, ℕ};
 ghost use Rattle.rn_model.specs.declared.log.Options.{Options};
 ghost use Rattle.rn_model.specs.declared.log.Reason.{Reason};
 ghost use Rattle.rn_model.specs.declared.log.Reason.TheVariants as End;
@@ -10,106 +10,34 @@ ghost use Rattle.rn_notation.specs.Limits.{longest_text};
 ghost use Rattle.rn_outside.specs.Bytes.{GivesAtMost, IsCalledSeldom};
 ghost use Rattle.rn_outside.specs.Faults.{Rose, risen};
 ghost use Rattle.rn_words.specs.declared.command.Command.{Command as Given};
+ghost use Rattle.rn_words.specs.declared.command.Command.TheVariants as Command;
 ghost use Rattle.rn_words.specs.declared.command.WordsFault.{WordsFault as Fault};
 ghost use Rattle.rn_words.specs.Commands.{WordsOk};
 ghost use Rattle.rn_words.specs.Reading.{reading};
 ghost use Rattle.rn_answer.specs.declared.status.TheConstants.{DONE, FAULTED, NET_REFUSED};
 ghost use Rattle.rn_answer.specs.declared.status.TheConstants.{RECORD_REFUSED, WORDS_REFUSED, WRITE_FAULT};
 ghost use Rattle.rn_answer.specs.Input.{longest_input};
-ghost use Rattle.rn_answer.specs.Refusing.{Concludes};
 ghost use Rattle.rn_answer.specs.Writing.{TakesLine};
-ghost use Rattle.rn_app.specs.Commands.{ComesTo};
-ghost use Rattle.rn_app.specs.TopCall.{ComesOrStops, IsStatus, IsOwnStatus, IsFaultStatus};
+ghost use Rattle.rn_app.specs.TopCall.{IsStatus, IsOwnStatus, IsFaultStatus};
 ghost use Rattle.rn_app.specs.TopCall.{Writes, WritesRun, WritesLeastRun, WritesUnfinished};
 ghost use Rattle.rn_app.specs.TopCall.{FailsToWrite, FailsToTell};
 ghost use Rattle.rn_app.specs.TopCall.{IsNoInput, IsNoRecord, IsFine, MayFault, RoseOnceAtMost};
 
+use crate::beginning::{Begun, begin};
 use crate::laws::input_laws;
-use rn_answer::{
-    Answer, NO_MEMORY, READ_FAULT, Stopped, check, command_of, input_of, print, write_answer,
-    write_line,
-};
-use rn_commands::{
-    answer_laws, counts, enabled, moves, parts_laws, pt, replay, run, run_least, run_seeded,
-    run_workload, run_workload_seeded, session,
-};
+use rn_answer::{NO_MEMORY, READ_FAULT, write_answer, write_line};
+use rn_commands::{answer_laws, parts_laws, run_job};
 use rn_outside::{Sink, Source};
-use rn_words::{Command, words_laws};
+use rn_words::words_laws;
 use rn_worker::Gate;
 use std::alloc::Global;
 use std::sync::Wait;
 use std::thread::Threads;
 
-// What a command comes to on its input.
-fn work<R: Threads + Wait + Sync, G: Gate + Sync>(
-    rt: &R,
-    alloc: Global,
-    command: Command,
-    bytes: &[u8],
-    gate: &G,
-) -> Result<Answer, Stopped>
-    requires given { (words : List (List ℕ)) × WordsOk words command }
-    requires few { length bytes.now ≤ longest_text }
-    ensures { Concludes (ComesTo command bytes.now) result }
-{
-    words_laws();
-    match command {
-        Command::Run(options) => run(rt, alloc, options, bytes, gate),
-        Command::RunLeast(options) => run_least(rt, alloc, options, bytes, gate),
-        Command::RunSeeded(options, seed) => run_seeded(rt, alloc, options, seed, bytes, gate),
-        Command::Check => check(alloc, bytes),
-        Command::Print => print(alloc, bytes),
-        Command::Enabled(depth) => enabled(alloc, depth, bytes),
-        Command::Replay(options) => replay(alloc, options, bytes),
-        Command::Gen(copies, options) => run_workload(rt, alloc, copies, options, gate),
-        Command::GenSeeded(copies, options, seed) => {
-            run_workload_seeded(rt, alloc, copies, options, seed, gate)
-        }
-        Command::Session(options) => session(alloc, options, bytes),
-        Command::Counts(options) => counts(alloc, options, bytes),
-        Command::Moves(options) => moves(alloc, options, bytes),
-        Command::Pt => pt(alloc, bytes),
-    }
-}
-
-// What the words come to: the command is read, then its input, and then it is done.
-fn answer<R: Threads + Wait + Sync, I: Source, G: Gate + Sync>(
-    rt: &R,
-    alloc: Global,
-    words: &[String],
-    input: &mut I,
-    gate: &G,
-) -> Result<Answer, Stopped>
-    // What is answered, or refused, is what the words and the input come to; or a read failed, or
-    // memory ran out.
-    ensures comes { ComesOrStops (map string_bytes words.now) (I.left input.old) (I.left input.new)
-        (I.faults input.old) (I.faults input.new) result }
-    ensures refuses_words { (fault : Fault) → reading (map string_bytes words.now) ≡ Err fault →
-        (input.new ≡ input.old) × (¬ IsErrOf result Stopped.ReadFault) }
-    ensures inputless { (c : Given) → WordsOk (map string_bytes words.now) c →
-        longest_input c ≡ None → input.new ≡ input.old }
-    ensures limited { (c : Given) (limit : ℕ) → WordsOk (map string_bytes words.now) c →
-        longest_input c ≡ Some limit →
-        GivesAtMost (limit + 1) (I.left input.old) (I.left input.new)
-        × (I.reads input.new ≤ I.reads input.old + (limit + 1)) }
-    ensures taken { GivesAtMost (longest_text + 1) (I.left input.old) (I.left input.new) }
-    ensures reads { I.reads input.new ≤ I.reads input.old + (longest_text + 1) }
-    ensures each_gives { IfSome (I.left input.old) (λ left.
-        I.reads input.new ≤ I.reads input.old + (length left + 1)) }
-    ensures faults { ¬ IsErrOf result Stopped.ReadFault →
-        I.faults input.new ≡ I.faults input.old }
-    ensures one_fault { IsErrOf result Stopped.ReadFault →
-        I.faults input.new ≡ risen (I.faults input.old) }
-{
-    words_laws();
-    let command = command_of(alloc, words)?;
-    let bytes = input_of(alloc, &command, input)?;
-    work(rt, alloc, command, bytes.as_slice(), gate)
-}
-
 /// Does all that the program does: it accepts the words, reads the input, does the command, and
 /// writes what it comes to. `words` are those after the program's name. The workers of a run call
-/// `gate` between a search and its commit. It returns one of the statuses of the crate.
+/// `gate` between a search and its commit. It returns one of the statuses of the crate. `begin` does
+/// all that needs no threads, and returns; only a run that it leaves may wait.
 pub fn renew_top<R: Threads + Wait + Sync, I: Source, O: Sink, E: Sink, G: Gate + Sync>(
     rt: &R,
     alloc: Global,
@@ -242,10 +170,11 @@ pub fn renew_top<R: Threads + Wait + Sync, I: Source, O: Sink, E: Sink, G: Gate 
     input_laws();
     parts_laws();
     answer_laws();
-    match answer(rt, alloc, words, input, gate) {
-        Ok(answer) => write_answer(out, err, &answer),
-        Err(Stopped::Refused(answer)) => write_answer(out, err, &answer),
-        Err(Stopped::ReadFault) => write_line(err, b"read fault\n", READ_FAULT),
-        Err(Stopped::NoMemory) => write_line(err, b"memory\n", NO_MEMORY),
+    match begin(alloc, words, input, out, err) {
+        Begun::Done(status) => status,
+        Begun::Working(job) => match run_job(rt, alloc, job, gate) {
+            Ok(answer) => write_answer(out, err, &answer),
+            Err(_) => write_line(err, b"memory\n", NO_MEMORY),
+        },
     }
 }

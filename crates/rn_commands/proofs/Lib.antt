@@ -2,6 +2,7 @@ pub mod AcceptedWorkloads
 pub mod Counted
 pub mod EndedRuns
 pub mod FirstBindings
+pub mod JobLemmas
 pub mod LastReasons
 pub mod MovesLemmas
 pub mod LeastEnds

@@ -12,3 +12,4 @@ pub mod NetCommands
 pub mod Laws
 pub mod LeastLaws
 pub mod LeastRuns
+pub mod Jobs

@@ -5,6 +5,7 @@
 mod bindings;
 mod counting;
 mod ends;
+mod jobs;
 mod laws;
 mod least_runs;
 mod moving;
@@ -17,6 +18,7 @@ mod workload;
 
 pub use bindings::enabled;
 pub use counting::counts;
+pub use jobs::{Job, Pick, Telling, net_job, run_job, workload_job};
 pub use laws::{answer_laws, gen_laws, moves_laws, parts_laws};
 pub use least_runs::{least_run_laws, run_least};
 pub use moving::moves;

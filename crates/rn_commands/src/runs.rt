@@ -5,10 +5,11 @@ ghost use Rattle.rn_fire.specs.States.{State};
 ghost use Rattle.rn_commands.specs.Ends.{fault_line, IsClosedBy, IsWrittenBy};
 ghost use Rattle.rn_answer.specs.NetTexts.{RefusesNet};
 ghost use Rattle.rn_answer.specs.Refusing.{Concludes};
+ghost use Rattle.rn_commands.specs.LeastRuns.{RunsLeastTo};
 ghost use Rattle.rn_commands.specs.Runs.{RunsTo};
 
-use crate::running::run_system;
-use rn_answer::{Answer, DONE, FAULTED, NO_MEMORY, Stopped, number_line, system_of};
+use crate::jobs::{Pick, net_job, run_job};
+use rn_answer::{Answer, DONE, FAULTED, NO_MEMORY, Stopped, number_line};
 use rn_fire::SimState;
 use rn_items::{Items, NoMemory};
 use rn_model::{Entry, FaultKind, Options, Reason};
@@ -61,21 +62,22 @@ pub(crate) fn written(alloc: Global, state: &SimState) -> Result<Answer, NoMemor
     })
 }
 
-// What a run of this net text comes to, with these options, and with a seed or none.
-fn run_by<R: Threads + Wait + Sync, G: Gate + Sync>(
+/// What a run of this net text comes to, with these options, where what fires is picked so.
+pub(crate) fn run_by<R: Threads + Wait + Sync, G: Gate + Sync>(
     rt: &R,
     alloc: Global,
     options: Options,
-    seed: Option<u32>,
+    pick: Pick,
     bytes: &[u8],
     gate: &G,
 ) -> Result<Answer, Stopped>
     requires { IsInLimits options }
-    ensures { Concludes (λ a. RefusesNet bytes.now a ⊎ RunsTo options bytes.now a) result }
+    ensures runs { Concludes (λ a. RefusesNet bytes.now a ⊎ RunsTo options bytes.now a) result }
+    ensures least { pick ≡ Pick.Least →
+        Concludes (λ a. RefusesNet bytes.now a ⊎ RunsLeastTo options bytes.now a) result }
 {
-    let system = system_of(alloc, bytes)?;
-    let state = run_system(rt, alloc, system, options, seed, gate)?;
-    Ok(written(alloc, &state)?)
+    let job = net_job(alloc, options, pick, bytes)?;
+    Ok(run_job(rt, alloc, job, gate)?)
 }
 
 /// What `run` comes to on this net text, with these options.
@@ -89,7 +91,7 @@ pub fn run<R: Threads + Wait + Sync, G: Gate + Sync>(
     requires { IsInLimits options }
     ensures { Concludes (λ a. RefusesNet bytes.now a ⊎ RunsTo options bytes.now a) result }
 {
-    run_by(rt, alloc, options, None, bytes, gate)
+    run_by(rt, alloc, options, Pick::Any, bytes, gate)
 }
 
 /// The same with a seed, which changes nothing of what may come.
@@ -104,5 +106,5 @@ pub fn run_seeded<R: Threads + Wait + Sync, G: Gate + Sync>(
     requires { IsInLimits options }
     ensures { Concludes (λ a. RefusesNet bytes.now a ⊎ RunsTo options bytes.now a) result }
 {
-    run_by(rt, alloc, options, Some(seed), bytes, gate)
+    run_by(rt, alloc, options, Pick::Seeded(seed), bytes, gate)
 }

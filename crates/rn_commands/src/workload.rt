@@ -10,7 +10,7 @@ ghost use Rattle.rn_answer.specs.declared.stopped.Stopped.TheVariants.{NoMemory 
 ghost use Rattle.rn_commands.specs.Workloads.{counted_line, GensTo, IsTallyOf, IsTalliedBy};
 
 use crate::ends::fired_count;
-use crate::running::run_system;
+use crate::jobs::{Pick, run_job, workload_job};
 use crate::runs::closed_by;
 use rn_answer::{Answer, Stopped, system_of};
 use rn_fire::SimState;
@@ -67,8 +67,8 @@ fn tally_text(alloc: Global, state: &SimState) -> Result<Vec<u8>, NoMemory>
     Ok(text)
 }
 
-// What the tally of a state whose log has ended comes to.
-fn tallied(alloc: Global, state: &SimState) -> Result<Answer, NoMemory>
+/// What the tally of a state whose log has ended comes to.
+pub(crate) fn tallied(alloc: Global, state: &SimState) -> Result<Answer, NoMemory>
     requires { state.now.ended ≢ None }
     ensures { IfOk result (λ a. IsTalliedBy state.now a) }
 {
@@ -91,10 +91,11 @@ fn out_of_memory(stopped: Stopped) -> NoMemory
     }
 }
 
-// The system of the workload text of so many workers, which is never refused.
-fn workload_system(alloc: Global, copies: u32) -> Result<System, NoMemory>
+/// The system of the workload text of so many workers, which is never refused.
+pub(crate) fn workload_system(alloc: Global, copies: u32) -> Result<System, NoMemory>
     requires copies { (1 ≤ copies) × (copies ≤ 10000) }
-    ensures { IfOk result (λ system. Accepted (workload copies) system × Good system) }
+    ensures accepted { IfOk result (λ system. Accepted (workload copies) system) }
+    ensures good { IfOk result Good }
 {
     workload_laws();
     let text = gen_text(alloc, copies)?;
@@ -104,22 +105,22 @@ fn workload_system(alloc: Global, copies: u32) -> Result<System, NoMemory>
     }
 }
 
-// What a run of the workload comes to for so many workers, with these options, and with a seed or none.
+// What a run of the workload comes to for so many workers, with these options, where what fires is
+// picked so.
 fn run_workload_by<R: Threads + Wait + Sync, G: Gate + Sync>(
     rt: &R,
     alloc: Global,
     copies: u32,
     options: Options,
-    seed: Option<u32>,
+    pick: Pick,
     gate: &G,
 ) -> Result<Answer, Stopped>
     requires copies { (1 ≤ copies) × (copies ≤ 10000) }
     requires limits { IsInLimits options }
     ensures { Concludes (GensTo copies options) result }
 {
-    let system = workload_system(alloc, copies)?;
-    let state = run_system(rt, alloc, system, options, seed, gate)?;
-    Ok(tallied(alloc, &state)?)
+    let job = workload_job(alloc, copies, options, pick)?;
+    Ok(run_job(rt, alloc, job, gate)?)
 }
 
 /// What `gen` comes to for so many workers, with these options.
@@ -134,7 +135,7 @@ pub fn run_workload<R: Threads + Wait + Sync, G: Gate + Sync>(
     requires limits { IsInLimits options }
     ensures { Concludes (GensTo copies options) result }
 {
-    run_workload_by(rt, alloc, copies, options, None, gate)
+    run_workload_by(rt, alloc, copies, options, Pick::Any, gate)
 }
 
 /// The same with a seed, which changes nothing of what may come.
@@ -150,5 +151,5 @@ pub fn run_workload_seeded<R: Threads + Wait + Sync, G: Gate + Sync>(
     requires limits { IsInLimits options }
     ensures { Concludes (GensTo copies options) result }
 {
-    run_workload_by(rt, alloc, copies, options, Some(seed), gate)
+    run_workload_by(rt, alloc, copies, options, Pick::Seeded(seed), gate)
 }

@@ -1,14 +1,14 @@
 use Rattle.std.proofs.Common.{◌≡◌, ◌+◌, ◌≤◌, ℕ, List, None, Some, Err, map, string_bytes, length, ap, refl, sym, subst, arith, rules}
 use Rattle.rn_outside.specs.Bytes.{GivesAtMost}
 use Rattle.rn_answer.specs.Input.{longest_input}
-use Rattle.rn_answer.specs.Refusing.{Concludes}
-use Rattle.rn_app.specs.Commands.{ComesTo}
-use Rattle.rn_app.specs.TopCall.{ComesOrStops}
-use Rattle.rn_app.proofs.WordsAndInput.{few_bytes, no_read, no_read_words, nothing_given, of_command, of_fault, taken_at_most, unread, wordless, worked}
-use Rattle.rn_app.proofs.top.answer.Goals as goal
+use Rattle.rn_answer.specs.declared.status.TheConstants.{NET_REFUSED}
+use Rattle.rn_app.specs.Begun.{IfAnswered, IsPrepared, NeedsThreads, PreparesOrStops}
+use Rattle.rn_app.proofs.WordsAndInput.{few_bytes, no_read, no_read_words, nothing_given, of_command, of_fault, one_command, prepared_refused, prepares, taken_at_most}
+use Rattle.rn_app.proofs.WordsAndInput.{unread, unread_refused, wordless}
+use Rattle.rn_app.proofs.preparing.prepare.Goals as goal
 
 pub work-requires-clause-few : goal.work-requires-clause-few
-work-requires-clause-few g c κs within =
+work-requires-clause-few g c =
     let same : c.as_slice.result.now ≡ c.in_ok-bytes.bytes.items = search rules in
     subst (λ (bytes : List ℕ). length bytes ≤ 67108864) (sym same)
     (few_bytes c.in_ok-command.command c.in_ok-bytes.bytes.items (longest_input c.in_ok-command.command) refl (λ none. (c.in_ok-bytes.ensures.inputless none).1) (λ limit is. (c.in_ok-bytes.ensures.all limit is).1))
@@ -17,7 +17,11 @@ work-requires-clause-few g c κs within =
 pub returns-in_err-command-clause-comes : goal.returns-in_err-command-clause-comes
 returns-in_err-command-clause-comes g c =
     let same : c.from_residual.result ≡ Err c.in_err-command.field-0.0 = search rules in
-    subst (ComesOrStops (map string_bytes c.args.words.now) (g.I.Source.left c.args.input.now) (g.I.Source.left c.args.input.now) (g.I.Source.faults c.args.input.now) (g.I.Source.faults c.args.input.now)) (sym same) (wordless (map string_bytes c.args.words.now) (g.I.Source.left c.args.input.now) (g.I.Source.faults c.args.input.now) c.in_err-command.field-0.0 c.in_err-command.ensures.given c.in_err-command.ensures.refused)
+    subst (PreparesOrStops (map string_bytes c.args.words.now) (g.I.Source.left c.args.input.now) (g.I.Source.left c.args.input.now) (g.I.Source.faults c.args.input.now) (g.I.Source.faults c.args.input.now)) (sym same) (wordless (map string_bytes c.args.words.now) (g.I.Source.left c.args.input.now) (g.I.Source.faults c.args.input.now) c.in_err-command.field-0.0 c.in_err-command.ensures.given c.in_err-command.ensures.refused)
+
+pub returns-in_err-command-clause-refuses_run : goal.returns-in_err-command-clause-refuses_run
+returns-in_err-command-clause-refuses_run g c = λ command accepted needs.
+    absurd (c.in_err-command.ensures.given command ((c.words_laws.ensures.accepted (map string_bytes c.args.words.now) command).1 accepted))
 
 pub returns-in_err-command-clause-refuses_words : goal.returns-in_err-command-clause-refuses_words
 returns-in_err-command-clause-refuses_words g c = λ fault faulty.
@@ -39,9 +43,16 @@ returns-in_err-command-clause-one_fault g c = λ stopped.
 pub returns-in_err-bytes-clause-comes : goal.returns-in_err-bytes-clause-comes
 returns-in_err-bytes-clause-comes g c =
     let same : c.from_residual-in_err-bytes.result ≡ Err c.in_err-bytes.field-0.0 = search rules in
-    subst (ComesOrStops (map string_bytes c.args.words.now) (g.I.Source.left c.args.input.now) (g.I.Source.left c.input_of.new.input) (g.I.Source.faults c.args.input.now) (g.I.Source.faults c.input_of.new.input)) (sym same)
+    subst (PreparesOrStops (map string_bytes c.args.words.now) (g.I.Source.left c.args.input.now) (g.I.Source.left c.input_of.new.input) (g.I.Source.faults c.args.input.now) (g.I.Source.faults c.input_of.new.input)) (sym same)
     (unread (map string_bytes c.args.words.now) (g.I.Source.left c.args.input.now) (g.I.Source.left c.input_of.new.input) (g.I.Source.faults c.args.input.now) (g.I.Source.faults c.input_of.new.input) c.in_ok-command.command (longest_input c.in_ok-command.command) c.in_err-bytes.field-0.0 refl c.in_ok-command.ensures.accepted
     (λ none. (c.in_err-bytes.ensures.inputless none).1) c.in_err-bytes.ensures.stopped (λ limit is. (c.input_of.ensures.limited limit is).0))
+
+pub returns-in_err-bytes-clause-refuses_run : goal.returns-in_err-bytes-clause-refuses_run
+returns-in_err-bytes-clause-refuses_run g c = λ command accepted needs.
+    let same : c.from_residual-in_err-bytes.result ≡ Err c.in_err-bytes.field-0.0 = search rules in
+    subst (λ r. IfAnswered r (λ a. a.status ≡ NET_REFUSED)) (sym same)
+    (unread_refused (g.I.Source.left c.args.input.now) (g.I.Source.faults c.args.input.now) (g.I.Source.faults c.input_of.new.input) c.in_ok-command.command (longest_input c.in_ok-command.command) c.in_err-bytes.field-0.0 refl
+    (λ none. (c.in_err-bytes.ensures.inputless none).1) c.in_err-bytes.ensures.stopped)
 
 pub returns-in_err-bytes-clause-refuses_words : goal.returns-in_err-bytes-clause-refuses_words
 returns-in_err-bytes-clause-refuses_words g c =
@@ -69,9 +80,14 @@ returns-in_err-bytes-clause-reads g c =
 pub returns-clause-comes : goal.returns-clause-comes
 returns-clause-comes g c =
     let same : c.as_slice.result.now ≡ c.in_ok-bytes.bytes.items = search rules in
-    worked (map string_bytes c.args.words.now) (g.I.Source.left c.args.input.now) (g.I.Source.left c.input_of.new.input) (g.I.Source.faults c.args.input.now) (g.I.Source.faults c.input_of.new.input) c.in_ok-command.command c.in_ok-bytes.bytes.items c.work.result c.in_ok-command.ensures.accepted
+    prepares (map string_bytes c.args.words.now) (g.I.Source.left c.args.input.now) (g.I.Source.left c.input_of.new.input) (g.I.Source.faults c.args.input.now) (g.I.Source.faults c.input_of.new.input) c.in_ok-command.command c.in_ok-bytes.bytes.items c.work.result c.in_ok-command.ensures.accepted
     (λ none. (ap (λ input. g.I.Source.left input) (c.input_of.ensures.inputless none).0, (c.in_ok-bytes.ensures.inputless none).1)) c.in_ok-bytes.ensures.all
-    (subst (λ (bytes : List ℕ). Concludes (ComesTo c.in_ok-command.command bytes) c.work.result) same c.work.ensures)
+    (subst (λ (bytes : List ℕ). IsPrepared c.in_ok-command.command bytes c.work.result) same c.work.ensures)
+
+pub returns-clause-refuses_run : goal.returns-clause-refuses_run
+returns-clause-refuses_run g c = λ command accepted needs.
+    let one = one_command c.words_laws.ensures.accepted (map string_bytes c.args.words.now) command c.in_ok-command.command accepted c.in_ok-command.ensures.accepted in
+    prepared_refused c.in_ok-command.command c.as_slice.result.now c.work.result (subst NeedsThreads one needs) c.work.ensures
 
 pub returns-clause-refuses_words : goal.returns-clause-refuses_words
 returns-clause-refuses_words g c =
@@ -96,4 +112,4 @@ returns-clause-reads g c =
     (λ none. (ap (λ input. g.I.Source.left input) (c.input_of.ensures.inputless none).0, ap (λ input. g.I.Source.reads input) (c.input_of.ensures.inputless none).0)) c.input_of.ensures.limited).1
 
 pub returns-clause-one_fault : goal.returns-clause-one_fault
-returns-clause-one_fault g c = λ stopped. absurd (no_read _ c.work.result c.work.ensures stopped)
+returns-clause-one_fault g c = λ stopped. absurd (no_read c.in_ok-command.command c.as_slice.result.now c.work.result c.work.ensures stopped)

@@ -1,0 +1,123 @@
+-- What is done without threads, and what is left to them.
+use Rattle.std.specs.Prelude.{ℕ, ◌≡◌, ◌≤◌, List, [], length, Option, Some, None, Result, Ok, Err, ⊤}
+use Rattle.rn_model.specs.Good.{Good, IsInLimits}
+use Rattle.rn_outside.specs.Bytes.{GivesAll}
+use Rattle.rn_outside.specs.Faults.{Rose}
+use Rattle.rn_words.specs.declared.command.Command.{Command}
+use Rattle.rn_words.specs.declared.command.Command.TheVariants as command
+use Rattle.rn_words.specs.Commands.{WordsOk}
+use Rattle.rn_gen.specs.Workload.{workload}
+use Rattle.rn_answer.specs.declared.answer.Answer.{Answer}
+use Rattle.rn_answer.specs.declared.stopped.Stopped.{Stopped}
+use Rattle.rn_answer.specs.declared.stopped.Stopped.TheVariants.{Refused, ReadFault, NoMemory}
+use Rattle.rn_answer.specs.NetTexts.{Accepted, RefusesNet}
+use Rattle.rn_answer.specs.Refusing.{Stops}
+use Rattle.rn_answer.specs.Input.{longest_input}
+use Rattle.rn_commands.specs.declared.jobs.Job.{Job}
+use Rattle.rn_commands.specs.declared.jobs.Pick.TheVariants.{Any, Seeded, Least}
+use Rattle.rn_commands.specs.declared.jobs.Telling.TheVariants.{Record, Tally}
+use Rattle.rn_commands.specs.Jobs.{IsAskedBy}
+use Rattle.rn_app.specs.declared.beginning.Begun.{Begun}
+use Rattle.rn_app.specs.declared.beginning.Begun.TheVariants.{Done, Working}
+use Rattle.rn_app.specs.declared.preparing.Prepared.{Prepared}
+use Rattle.rn_app.specs.declared.preparing.Prepared.TheVariants.{Answered, Due}
+use Rattle.rn_app.specs.Commands.{ComesTo}
+use Rattle.rn_app.specs.TopCall.{Comes}
+
+-- the commands whose work is a run by workers, which needs threads
+abbrev pub NeedsThreads : Command → Type 0
+NeedsThreads (command.Run options) = ⊤
+NeedsThreads (command.RunLeast options) = ⊤
+NeedsThreads (command.RunSeeded options seed) = ⊤
+NeedsThreads (command.Gen copies options) = ⊤
+NeedsThreads (command.GenSeeded copies options seed) = ⊤
+NeedsThreads _ = ⊥
+
+-- The run that a command asks for on the bytes of its input. For `run` these are a net text of its
+-- system, and its record is asked for; for `gen` that is the workload text, and its tally.
+abbrev pub AsksFor : Command → List ℕ → Job → Type 0
+AsksFor (command.Run options) bytes job =
+    Accepted bytes job.system × IsAskedBy options Any Record job
+AsksFor (command.RunLeast options) bytes job =
+    Accepted bytes job.system × IsAskedBy options Least Record job
+AsksFor (command.RunSeeded options seed) bytes job =
+    Accepted bytes job.system × IsAskedBy options (Seeded seed) Record job
+AsksFor (command.Gen copies options) bytes job =
+    Accepted (workload copies) job.system × IsAskedBy options Any Tally job
+AsksFor (command.GenSeeded copies options seed) bytes job =
+    Accepted (workload copies) job.system × IsAskedBy options (Seeded seed) Tally job
+AsksFor _ bytes job = ⊥
+
+-- a run can be done: its system is good, and its options are within their limits
+abbrev pub CanRun : Job → Type 0
+CanRun job = Good job.system × IsInLimits job.options
+
+-- A run is due: the words give a command that asks for it on its input. All of the input was taken,
+-- and is within the limit of the command; for `gen` nothing was.
+pub record IsDue (words : List (List ℕ)) (left left_after : Option (List ℕ)) (job : Job)
+    : Type 0 where
+  pub chosen : Command
+  pub given : WordsOk words chosen
+  pub bytes : List ℕ
+  pub asked : AsksFor chosen bytes job
+  pub can_run : CanRun job
+  pub inputless : longest_input chosen ≡ None → (left_after ≡ left) × (bytes ≡ [])
+  pub whole : (limit : ℕ) → longest_input chosen ≡ Some limit →
+      GivesAll left bytes left_after × (length bytes ≤ limit)
+
+-- where all is done, its status has this
+abbrev pub IfDone : Begun → (ℕ → Type 0) → Type 0
+IfDone (Done status) P = P status
+IfDone (Working job) P = ⊤
+
+-- all is done, and its status has this
+abbrev pub IsDone : Begun → (ℕ → Type 0) → Type 0
+IsDone (Done status) P = P status
+IsDone (Working job) P = ⊥
+
+-- where a run is due, it has this
+abbrev pub IfWorking : Begun → (Job → Type 0) → Type 0
+IfWorking (Done status) P = ⊤
+IfWorking (Working job) P = P job
+
+-- What follows only connects the code to the definitions.
+
+-- what a command comes to where no run is due: those that need threads come to a refusal alone
+abbrev pub AnswersTo : Command → List ℕ → Answer → Type 0
+AnswersTo (command.Run options) bytes a = RefusesNet bytes a
+AnswersTo (command.RunLeast options) bytes a = RefusesNet bytes a
+AnswersTo (command.RunSeeded options seed) bytes a = RefusesNet bytes a
+AnswersTo (command.Gen copies options) bytes a = ⊥
+AnswersTo (command.GenSeeded copies options seed) bytes a = ⊥
+AnswersTo c bytes a = ComesTo c bytes a
+
+-- what a command comes to on its input, or the run that it asks for; or why there is neither
+abbrev pub IsPrepared : Command → List ℕ → Result Prepared Stopped → Type 0
+IsPrepared c bytes (Ok (Answered a)) = AnswersTo c bytes a
+IsPrepared c bytes (Ok (Due job)) = AsksFor c bytes job × CanRun job
+IsPrepared c bytes (Err stopped) = Stops (AnswersTo c bytes) stopped
+
+-- why words and input come to nothing: they are refused, a read failed, or memory ran out
+abbrev pub IsStoppedBy : List (List ℕ) → Option (List ℕ) → Option (List ℕ) → ℕ → ℕ → Stopped →
+    Type 0
+IsStoppedBy words left left_after faults faults_after (Refused a) = Comes words left left_after a
+IsStoppedBy words left left_after faults faults_after ReadFault = Rose faults faults_after
+IsStoppedBy words left left_after faults faults_after NoMemory = ⊤
+
+-- the same where there may be an answer, or a run that is due
+abbrev pub PreparesOrStops : List (List ℕ) → Option (List ℕ) → Option (List ℕ) → ℕ → ℕ →
+    Result Prepared Stopped → Type 0
+PreparesOrStops words left left_after faults faults_after (Ok (Answered a)) =
+    Comes words left left_after a
+PreparesOrStops words left left_after faults faults_after (Ok (Due job)) =
+    IsDue words left left_after job
+PreparesOrStops words left left_after faults faults_after (Err stopped) =
+    IsStoppedBy words left left_after faults faults_after stopped
+
+-- an answer, or one by which words and input are refused, has this
+abbrev pub IfAnswered : Result Prepared Stopped → (Answer → Type 0) → Type 0
+IfAnswered (Ok (Answered a)) P = P a
+IfAnswered (Ok (Due job)) P = ⊤
+IfAnswered (Err (Refused a)) P = P a
+IfAnswered (Err ReadFault) P = ⊤
+IfAnswered (Err NoMemory) P = ⊤
