@@ -1,7 +1,5 @@
 //! Values and nodes that are read by themselves, which no command does.
-use rn_lines::{
-    line_laws, lines_are_read_by_their_grammar, read_node, read_value, value_laws,
-};
+use rn_lines::{line_laws, lines_are_read_by_their_grammar, read_node, read_value, value_laws};
 use std::alloc::Global;
 use std::test::Fail;
 
