@@ -1,3 +1,4 @@
+pub mod ChangedLemmas
 pub mod DroppingLemmas
 pub mod EntryLemmas
 pub mod FiringLemmas

@@ -1,6 +1,7 @@
 //! The state of a run: its log, which only grows by true entries, and the table at the log's end.
 #![tactic(auto)]
 
+mod changed;
 mod committing;
 mod dropping;
 mod ending;

@@ -20,6 +20,7 @@ use Rattle.rn_model.proofs.LiveByRounds.{contained_any}
 use Rattle.rn_reach.specs.Reach.{Reach, itself, further, RefersTo, StartsIn}
 use Rattle.rn_reach.proofs.ReachLemmas.{reach_decides}
 use Rattle.rn_holders.specs.Holders.{HasItsHolders, HaveTheseHolders, KeepHolders, MentionNear, held_by}
+use Rattle.rn_found.specs.Idle.{AreIdle, IsIn}
 use Rattle.rn_found.specs.Starting.{HasStartIn, start_of}
 use Rattle.rn_found.proofs.StartingBindings.{IsStartOf, is_start_of, may_start_there}
 use Rattle.rn_firsts.specs.Known.{ComesAfter, HasFewPlaces, HaveLiveHolders, IsLookedAt}
@@ -111,7 +112,20 @@ module _ (system : System) (changed : List ℕ) (before after : Marking)
       (in_or_not (held_by new n) holder))
       (in_or_not changed holder)
 
-  -- where none started and none is found, none starts
+  -- where none started in an instance and it isn't found, none starts in it
+  none_after : (depth n : ℕ) (found : List ℕ) (holders : List (List ℕ)) →
+      HaveLiveHolders system after holders → HasItsHolders holders changed found →
+      ¬ Contains found n →
+      ((b : Binding) → Enabled system before b depth → ¬ HasStartIn n b) →
+      (b : Binding) → Enabled system after b depth → ¬ HasStartIn n b
+  none_after depth n found holders have its out none b enabled at =
+      let live = live_start system after depth n b enabled at in
+      let same : (k : ℕ) → Reach after n k → instance_at before k ≡ instance_at after k =
+      λ k reach. sym (comes.same k (live_reach n k live reach)
+      (λ one. out (found_back holders found have its n k live reach (its.these k one)))) in
+      none b ((reach_decides system after before b depth n same (starts_in_it b n at)).0 enabled) at
+
+  -- so what was looked at is looked at, but for those that are found
   pub looked_after : (depth until : ℕ) (old new found : List ℕ) (holders : List (List ℕ)) →
       IsLookedAt system before depth until old → HaveLiveHolders system after holders →
       HasItsHolders holders changed found → ((n : ℕ) → Contains old n → Contains new n) →
@@ -119,16 +133,21 @@ module _ (system : System) (changed : List ℕ) (before after : Marking)
       (All (λ n. n < until) old → All (λ n. n < until) new) →
       IsLookedAt system after depth until new
   looked_after depth until old new found holders looked have its stay come below = record {
-    none = λ n low out b enabled at.
-        let live = live_start system after depth n b enabled at in
-        let same : (k : ℕ) → Reach after n k → instance_at before k ≡ instance_at after k =
-        λ k reach. sym (comes.same k (live_reach n k live reach)
-        (λ one. out (come n (found_back holders found have its n k live reach (its.these k one))
-        low))) in
-        looked.none n low (λ there. out (stay n there)) b
-        ((reach_decides system after before b depth n same (starts_in_it b n at)).0 enabled) at;
+    none = λ n low out. none_after depth n found holders have its
+        (λ there. out (come n there low)) (looked.none n low (λ there. out (stay n there)));
     below = below looked.below;
   }
+
+  -- and what is idle stays so, but for those that are found
+  pub idle_after : (depth : ℕ) (old new found : List ℕ) (holders : List (List ℕ)) →
+      AreIdle system before depth old → HaveLiveHolders system after holders →
+      HasItsHolders holders changed found →
+      ((n : ℕ) → IsIn new n → IsIn old n × ¬ Contains found n) → AreIdle system after depth new
+  idle_after depth old new found holders idle have its out n has net t b enabled at =
+      let both = out n has in
+      none_after depth n found holders have its both.1
+      (λ d enabled_there (its_net, u, there). idle n both.0 its_net u d enabled_there there)
+      b enabled (net, t, at)
 
 -- with those to which each instance refers, the holders are those of live ones
 pub live_holders : (system : System) (m : Marking) (numbers : List ℕ) (holders : List (List ℕ)) →

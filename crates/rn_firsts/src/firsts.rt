@@ -15,7 +15,7 @@ ghost use Rattle.rn_firsts.specs.Known.{ComesAfter, HasFewPlaces, IsKnown};
 
 use crate::following::{hold_changes, mark_all};
 use crate::looking::{first_again, first_from};
-use crate::pace::{Pace, is_light};
+use crate::pace::{Pace, weight_within};
 use rn_binding::Candidate;
 use rn_channel::Uplinks;
 use rn_found::Room;
@@ -107,7 +107,7 @@ impl Firsts {
         if !self.pace.is_due() {
             return false;
         }
-        is_light(table, changed, self.held, self.pace.most())
+        weight_within(table, changed, self.held, self.pace.most()).is_some()
     }
 
     // What it knows of a table is brought up to date for one that comes after it with a change in these

@@ -4,7 +4,9 @@
 
 mod firsts;
 mod following;
+mod known_idle;
 mod looking;
 mod pace;
 
 pub use firsts::Firsts;
+pub use known_idle::KnownIdle;

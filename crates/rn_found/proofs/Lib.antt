@@ -1,6 +1,7 @@
 pub mod Branches
 pub mod FirstBindings
 pub mod FitTokens
+pub mod IdleSets
 pub mod JustThese
 pub mod KeptStarts
 pub mod LesserBindings

@@ -27,7 +27,7 @@ use Rattle.rn_search.proofs.Following.{one_start}
 use Rattle.rn_search.proofs.Items.{in_filter}
 use Rattle.rn_search.proofs.Offered.{starts_are_kept}
 use Rattle.rn_found.specs.Starting.{IsSearchable, IsNoStart, IsNoStartIn, HasStartIn, start_of}
-use Rattle.rn_found.specs.Starting.{AreJust}
+use Rattle.rn_found.specs.Starting.{AreJust, AreNoStartsBetween}
 use Rattle.rn_found.proofs.JustThese.{just_more, just_same}
 use Rattle.rn_found.proofs.Numbers.{chosen_ascend, first_from, less_or_not, none_from}
 
@@ -164,6 +164,15 @@ is_among system uplinks table number net t searched start =
     subst (λ xs. Contains xs number) (sym searched.of_system)
     (subst (Contains (starting_in system m)) (found_number m.instances number i found.1) listed)
 
+-- so one that the table doesn't know starts nothing
+pub none_unless_known : (system : System) (uplinks : Uplinks) (table : Kept) (depth number : ℕ) →
+    IsSearchable system uplinks table → ¬ Contains table.starting number →
+    IsNoStartIn system table.marking depth number
+none_unless_known system uplinks table depth number searched out net t b enabled starts =
+    out (is_among system uplinks table number net t searched
+    (is_start_of system table.marking number net t
+    (may_start_there system table.marking depth b (start_of number net t) enabled starts)))
+
 -- those ascend, and are below the next one
 pub ascend : (system : System) (uplinks : Uplinks) (table : Kept) →
     IsSearchable system uplinks table → AllPairs (λ m n. m < n) table.starting
@@ -266,11 +275,6 @@ none_round system m depth number net first count None is whole later earlier =
     (λ (from : first ≤ t). later t from (omega arith))
     (less_or_not t first))
 none_round system m depth number net first count (Some x) is whole later earlier = tt
-
--- Between two numbers no instance that may start a firing starts one.
-abbrev pub AreNoStartsBetween : System → Kept → ℕ → ℕ → ℕ → Type 0
-AreNoStartsBetween system table depth from end = (k : ℕ) → from ≤ k → k < end →
-    Contains table.starting k → IsNoStartIn system table.marking depth k
 
 module _ (system : System) (m : Marking) (depth number net : ℕ) where
   abbrev Just : (Binding → Type 0) → List Binding → Type 0

@@ -1,4 +1,5 @@
 pub mod First
+pub mod Idle
 pub mod Lesser
 pub mod Premises
 pub mod Starting

@@ -1,5 +1,5 @@
 -- Bindings by where they start.
-use Rattle.std.specs.Prelude.{ℕ, ◌≡◌, ◌<◌, ◌≢◌, List, [], ◌++◌, Contains, AllPairs, All, map}
+use Rattle.std.specs.Prelude.{ℕ, ◌≡◌, ◌<◌, ◌≤◌, ◌≢◌, List, [], ◌++◌, Contains, AllPairs, All, map}
 use Rattle.std.specs.Prelude.{Bool, false, ◌&&◌, ◌+◌, Some, length, nat_eq, nat_lt, slice_get}
 use Rattle.std.specs.Prelude.{unwrap_or}
 use Rattle.std.specs.List.{list_any}
@@ -72,6 +72,11 @@ IsNoStart system m depth start = (b : Binding) → Enabled system m b depth → 
 abbrev pub IsNoStartIn : System → Marking → ℕ → ℕ → Type 0
 IsNoStartIn system m depth number =
     (net t : ℕ) → IsNoStart system m depth (start_of number net t)
+
+-- nor with an instance of a number between two that may start a firing
+abbrev pub AreNoStartsBetween : System → Kept → ℕ → ℕ → ℕ → Type 0
+AreNoStartsBetween system table depth from end = (k : ℕ) → from ≤ k → k < end →
+    Contains table.starting k → IsNoStartIn system table.marking depth k
 
 -- a binding starts with an instance
 abbrev pub HasStartIn : ℕ → Binding → Type 0

@@ -142,10 +142,15 @@ impl Explorer {
         self.transition = transition;
     }
 
+    /// It goes on with an instance.
+    pub(crate) fn pass_to(&mut self, number: u32) {
+        self.stand_at(number, 0);
+        self.pay(1);
+    }
+
     /// It goes on behind the transitions of an instance.
     pub(crate) fn pass_instance(&mut self, number: u32) {
-        self.stand_at(number.saturating_add(1), 0);
-        self.pay(1);
+        self.pass_to(number.saturating_add(1));
     }
 
     /// It goes on behind a transition of an instance.

@@ -7,6 +7,7 @@ ghost use Rattle.rn_found.specs.Starting.{IsKept, IsSearchable};
 
 use crate::finding::find_from;
 use crate::hint::Hint;
+use crate::idle::Idle;
 use crate::marked::Marked;
 use crate::room::Room;
 use crate::starts::transition_count;
@@ -103,11 +104,13 @@ fn explore_drawn<A: Asked>(
     explore_start(alloc, asked, marked, room, turns, inst, transition)
 }
 
-// Goes on by one start in turn, which it explores or passes by.
+// Goes on by one start in turn, which it explores or passes by, or behind instances that are known to
+// be idle.
 fn explore_next<A: Asked>(
     alloc: Global,
     asked: &A,
     marked: Marked<'_>,
+    idle: &Idle,
     room: &mut Room,
     turns: &mut Turns,
 ) -> Result<Option<Candidate>, A::Halt>
@@ -120,6 +123,11 @@ fn explore_next<A: Asked>(
         turns.explorer.end_round();
         return Ok(None);
     };
+    let other = idle.first_other(number);
+    if other != number {
+        turns.explorer.pass_to(other);
+        return Ok(None);
+    }
     let Some(inst) = marked.table.find(number) else {
         turns.explorer.pass_instance(number);
         return Ok(None);
@@ -141,6 +149,7 @@ fn explore_once<A: Asked>(
     alloc: Global,
     asked: &A,
     marked: Marked<'_>,
+    idle: &Idle,
     room: &mut Room,
     turns: &mut Turns,
 ) -> Result<Option<Candidate>, A::Halt>
@@ -152,7 +161,7 @@ fn explore_once<A: Asked>(
     if turns.draws() {
         return explore_drawn(alloc, asked, marked, room, turns);
     }
-    explore_next(alloc, asked, marked, room, turns)
+    explore_next(alloc, asked, marked, idle, room, turns)
 }
 
 /// A binding that the explorer finds, as long as there is something to be spent.
@@ -160,6 +169,7 @@ pub(crate) fn explore<A: Asked>(
     alloc: Global,
     asked: &A,
     marked: Marked<'_>,
+    idle: &Idle,
     room: &mut Room,
     turns: &mut Turns,
 ) -> Result<Option<Candidate>, A::Halt>
@@ -173,7 +183,7 @@ pub(crate) fn explore<A: Asked>(
             return Ok(None);
         }
         asked.go_on(room.choices.spent())?;
-        if let Some(found) = explore_once(alloc, asked, marked, room, turns)? {
+        if let Some(found) = explore_once(alloc, asked, marked, idle, room, turns)? {
             return Ok(Some(found));
         }
     }

@@ -6,11 +6,14 @@ ghost use Rattle.rn_model.specs.Enabling.{Enabled, DeadAt};
 ghost use Rattle.rn_search.specs.Problems.{HasFitTokens};
 ghost use Rattle.rn_channel.specs.Uplinks.{AreUplinksOf};
 ghost use Rattle.rn_table.specs.Tables.{IsTableOf};
-ghost use Rattle.rn_found.specs.Starting.{IsKept, IsNoStart, IsNoStartIn, IsSearchable, start_of};
+ghost use Rattle.rn_found.specs.Idle.{AreIdle};
+ghost use Rattle.rn_found.specs.Starting.{AreNoStartsBetween, IsKept, IsNoStart, IsNoStartIn};
+ghost use Rattle.rn_found.specs.Starting.{IsSearchable, start_of};
 
 use crate::drawing::Draws;
 use crate::exploring::{explore, visit};
 use crate::hint::Hint;
+use crate::idle::Idle;
 use crate::marked::{Marked, problem_at};
 use crate::room::Room;
 use crate::starts::{cost_of, may_start, transition_count};
@@ -123,6 +126,35 @@ fn find_at<A: Asked>(
     Ok(found)
 }
 
+// The first instance from a number on from which a firing may start and of which it isn't known that
+// nothing starts in it. Those before it from which no firing may start become known.
+fn next_start(marked: Marked<'_>, idle: &mut Idle, from: u32) -> Option<u32>
+    requires searched { IsSearchable marked.system.now marked.uplinks.now
+        marked.table.now }
+    requires idle { AreIdle marked.system.now marked.table.now.marking marked.depth idle.old }
+    ensures some { IfSome result (λ number. (from ≤ number)
+        × AreNoStartsBetween marked.entry.system.now marked.entry.table.now
+        marked.entry.depth from number) }
+    ensures none { IfNone result ((number : ℕ) → from ≤ number →
+        Contains marked.entry.table.now.starting number →
+        IsNoStartIn marked.entry.system.now marked.entry.table.now.marking
+        marked.entry.depth number) }
+    ensures idle { AreIdle marked.entry.system.now marked.entry.table.now.marking
+        marked.entry.depth idle.new }
+{
+    let mut next = from;
+    while let Some(start) = marked.table.first_starting(next) {
+        idle.add_unless(next, start);
+        let other = idle.first_other(start);
+        if other == start {
+            return Some(start);
+        }
+        idle.pass(other - start);
+        next = other;
+    }
+    None
+}
+
 impl Finding {
     /// It begins where the number says, and has no room yet.
     pub fn new(alloc: Global, start: u64) -> Finding {
@@ -176,26 +208,29 @@ impl Finding {
         self.turns.go_beside(start);
     }
 
-    // A binding that starts with an instance of a number below an end and not below another.
+    // A binding that starts with an instance of a number below an end and not below another. Those that
+    // are known to be idle are passed over, and those that are looked at in vain become known.
     fn find_between<A: Asked>(
         &mut self,
         alloc: Global,
         asked: &A,
         marked: Marked<'_>,
+        idle: &mut Idle,
         from: u32,
         end: u32,
     ) -> Result<Option<Candidate>, A::Halt>
-        requires { IsSearchable marked.system.now marked.uplinks.now
+        requires searched { IsSearchable marked.system.now marked.uplinks.now
             marked.table.now }
+        requires idle { AreIdle marked.system.now marked.table.now.marking marked.depth idle.old }
         ensures found { IfOk result (λ found. IfSome found (λ b. Enabled marked.entry.system.now
             marked.entry.table.now.marking b marked.entry.depth)) }
-        ensures none { IfOk result (λ found. IfNone found ((number : ℕ) → from ≤ number →
-            number < end → Contains marked.entry.table.now.starting number →
-            IsNoStartIn marked.entry.system.now marked.entry.table.now.marking
-            marked.entry.depth number)) }
+        ensures none { IfOk result (λ found. IfNone found (AreNoStartsBetween
+            marked.entry.system.now marked.entry.table.now marked.entry.depth from end)) }
+        ensures idle { AreIdle marked.entry.system.now marked.entry.table.now.marking
+            marked.entry.depth idle.new }
     {
         let mut next = from;
-        while let Some(number) = marked.table.first_starting(next) {
+        while let Some(number) = next_start(marked, idle, next) {
             if number >= end {
                 return Ok(None);
             }
@@ -206,38 +241,88 @@ impl Finding {
                     .settle(number, transition, self.room.choices.oldest());
                 return Ok(Some(found));
             }
+            idle.add(number);
             next = number + 1;
         }
         Ok(None)
     }
 
     // A binding that is enabled, or `None` exactly where none is within the depth: it goes round all
-    // starts, from home.
+    // starts that aren't known to be idle, from home.
     fn find_round<A: Asked>(
         &mut self,
         alloc: Global,
         asked: &A,
         marked: Marked<'_>,
+        idle: &mut Idle,
     ) -> Result<Option<Candidate>, A::Halt>
-        requires { IsSearchable marked.system.now marked.uplinks.now
+        requires searched { IsSearchable marked.system.now marked.uplinks.now
             marked.table.now }
+        requires idle { AreIdle marked.system.now marked.table.now.marking marked.depth idle.old }
         ensures found { IfOk result (λ found. IfSome found (λ b. Enabled marked.entry.system.now
             marked.entry.table.now.marking b marked.entry.depth)) }
         ensures none { IfOk result (λ found. IsNone found
             ↔ DeadAt marked.entry.system.now marked.entry.table.now.marking marked.entry.depth) }
+        ensures idle { AreIdle marked.entry.system.now marked.entry.table.now.marking
+            marked.entry.depth idle.new }
     {
         let from = self.turns.home.number;
         let end = marked.table.next();
-        if let Some(found) = self.find_between(alloc, asked, marked, from, end)? {
+        if let Some(found) = self.find_between(alloc, asked, marked, idle, from, end)? {
             return Ok(Some(found));
         }
-        let found = self.find_between(alloc, asked, marked, 0, from)?;
+        let found = self.find_between(alloc, asked, marked, idle, 0, from)?;
         Ok(found)
     }
 
     /// A binding that is enabled, or `None` exactly where none is within the depth. Before each step,
     /// and before each start, it asks whether it goes on; where it doesn't, that says nothing of bindings.
     /// The searcher may be used again.
+    ///
+    /// Instances that are known to be idle at this table are passed over, and those that it looks at in
+    /// vain become known, however the search ends.
+    pub fn find_beside<A: Asked>(
+        &mut self,
+        alloc: Global,
+        asked: &A,
+        system: &System,
+        uplinks: &Uplinks,
+        table: &Table,
+        depth: u32,
+        idle: &mut Idle,
+    ) -> Result<Option<Candidate>, A::Halt>
+        requires good { Good system.now }
+        requires own { AreUplinksOf system.now uplinks.now }
+        requires table { IsTableOf system.now table.now }
+        requires tokens { HasFitTokens system.now table.now.marking }
+        requires idle { AreIdle system.now table.now.marking depth idle.old }
+        ensures found { IfOk result (λ found. IfSome found
+            (λ b. Enabled system.now table.now.marking b depth)) }
+        ensures none { IfOk result (λ found. IsNone found
+            ↔ DeadAt system.now table.now.marking depth) }
+        ensures idle { AreIdle system.now table.now.marking depth idle.new }
+    {
+        let marked = Marked {
+            system,
+            uplinks,
+            table,
+            depth,
+        };
+        let _end = table.next();
+        if let Some(found) = explore(alloc, asked, marked, idle, &mut self.room, &mut self.turns)? {
+            return Ok(Some(found));
+        }
+        if let Some(found) = visit(alloc, asked, marked, &mut self.room, &mut self.turns)? {
+            return Ok(Some(found));
+        }
+        let before = self.room.choices.spent();
+        let found = self.find_round(alloc, asked, marked, idle)?;
+        let cost = self.room.choices.spent().wrapping_sub(before);
+        self.turns.explorer.earn(cost);
+        Ok(found)
+    }
+
+    /// The same, where of no instance it is known that it is idle.
     pub fn find_while<A: Asked>(
         &mut self,
         alloc: Global,
@@ -256,24 +341,8 @@ impl Finding {
         ensures none { IfOk result (λ found. IsNone found
             ↔ DeadAt system.now table.now.marking depth) }
     {
-        let marked = Marked {
-            system,
-            uplinks,
-            table,
-            depth,
-        };
-        let _end = table.next();
-        if let Some(found) = explore(alloc, asked, marked, &mut self.room, &mut self.turns)? {
-            return Ok(Some(found));
-        }
-        if let Some(found) = visit(alloc, asked, marked, &mut self.room, &mut self.turns)? {
-            return Ok(Some(found));
-        }
-        let before = self.room.choices.spent();
-        let found = self.find_round(alloc, asked, marked)?;
-        let cost = self.room.choices.spent().wrapping_sub(before);
-        self.turns.explorer.earn(cost);
-        Ok(found)
+        let mut idle = Idle::new(alloc);
+        self.find_beside(alloc, asked, system, uplinks, table, depth, &mut idle)
     }
 
     /// A binding that is enabled, or `None` exactly where none is within the depth.

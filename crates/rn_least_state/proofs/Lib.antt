@@ -1,3 +1,2 @@
-pub mod ChangedLemmas
 pub mod LeastLogs
 pub mod ThreadSafety

@@ -1,3 +1,2 @@
-pub mod Changed
 pub mod CommitsAt
 pub mod LeastStates

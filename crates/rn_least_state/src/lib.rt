@@ -2,7 +2,6 @@
 //! at the log's end.
 #![tactic(auto)]
 
-mod changed;
 mod committing;
 mod ending;
 mod kept;

@@ -1,8 +1,11 @@
 //! The state of a least run.
-ghost use Rattle.std.specs.Prelude.{◌≡◌, [], None, IfOk};
+ghost use Rattle.std.specs.Prelude.{◌≡◌, ◌≤◌, ◌↔◌, ℕ, [], None, length, take, drop, IfOk, Contains};
 ghost use Rattle.rn_model.specs.Good.{Good, IsInLimits};
 ghost use Rattle.rn_model.specs.Markings.{initial_marking};
-ghost use Rattle.rn_fire.specs.States.{State};
+ghost use Rattle.rn_model.specs.Runs.{end_of};
+ghost use Rattle.rn_reach.specs.Changes.{MayChange};
+ghost use Rattle.rn_reach.specs.Reach.{DifferAtMostIn};
+ghost use Rattle.rn_fire.specs.States.{State, end_marking};
 ghost use Rattle.rn_least_state.specs.LeastStates.{HasLeastLog};
 
 use rn_fire::{SimState, open_state};
@@ -81,5 +84,18 @@ impl LeastState {
         ensures least { HasLeastLog self }
     {
         self.state
+    }
+
+    /// The instances that the firings after the first `seen` may have changed or made, as
+    /// `SimState::changed_since` lists them.
+    pub fn changed_since(&self, alloc: Global, seen: u64, next: u32) -> Result<Vec<u32>, NoMemory>
+        requires seen { seen ≤ length self.now.fired }
+        requires next { next ≡ (end_of self.now.setup.system (take seen self.now.fired)).next }
+        ensures just { IfOk result (λ changed. (n : ℕ) → Contains changed.items n
+            ↔ MayChange (drop seen self.now.fired) next (end_marking self.now).next n) }
+        ensures differ { IfOk result (λ changed. DifferAtMostIn changed.items
+            (end_of self.now.setup.system (take seen self.now.fired)) (end_marking self.now)) }
+    {
+        self.state.changed_since(alloc, seen, next)
     }
 }

@@ -1,3 +1,2 @@
-pub mod LaterViews
 pub mod LeastSeen
 pub mod ThreadSafety

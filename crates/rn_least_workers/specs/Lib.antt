@@ -1,3 +1,3 @@
 pub mod LeastPlans
 pub mod LeastPosts
-pub mod Views
+pub mod Following

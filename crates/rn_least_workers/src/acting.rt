@@ -4,23 +4,19 @@ ghost use Rattle.rn_model.specs.Limits.{most_workers};
 ghost use Rattle.rn_desk.specs.Passes.{fixed_of, number, seen, mine, IsOf, HasNoTurn};
 ghost use Rattle.rn_fire.specs.Ends.{MayGoOn};
 ghost use Rattle.rn_fire.specs.States.{logged};
-ghost use Rattle.rn_worker.specs.Seen.{KeepsLog, GoesOn, IsSightOf, marking_after};
+ghost use Rattle.rn_worker.specs.Seen.{KeepsLog, GoesOn, marking_after};
 ghost use Rattle.rn_worker.specs.Plans.{AddsOwn, GrowsBy, HasNoneLive};
 ghost use Rattle.rn_desk.specs.Entries.{StartsWith};
 ghost use Rattle.rn_least_workers.specs.LeastPlans.{DropsNone, FitsIn, Knows, WasFound};
-ghost use Rattle.rn_least_workers.specs.Views.{ChangedSince, ChangedBetween, ShowsView, next_after};
+ghost use Rattle.rn_worker.specs.Views.{ChangedBetween, ShowsView};
 
 use crate::considering::LeastPlan;
-use crate::looking::View;
 use rn_desk::{Desk, Kept, Pass};
 use rn_items::NoMemory;
 use rn_least_state::{CommitAt, LeastState};
-use rn_worker::{Done, count_kept, sight_below};
+use rn_worker::{Done, View, count_kept, view_below};
 use std::alloc::Global;
 use std::sync::Wait;
-
-// What changed is looked for in up to so many entries.
-const MOST_ENTRIES: u64 = 64;
 
 /// What came of a turn: what the worker did, and what it saw then, where it looked.
 #[derive(Drop)]
@@ -109,42 +105,6 @@ fn act_on(
     Done { fired, swept }
 }
 
-// The instances that the entries after the first so many may have changed, where these are few.
-fn changed_since(
-    alloc: Global,
-    state: &LeastState,
-    looked: u64,
-    next: u32,
-    now: u64,
-) -> Option<Vec<u32>>
-    requires looked { looked ≤ length state.now.fired }
-    requires next { next ≡ next_after state.now looked }
-    ensures { IfSome result (λ changed. ChangedSince state.now looked changed.items) }
-{
-    if now.saturating_sub(looked) > MOST_ENTRIES {
-        return None;
-    }
-    match state.changed_since(alloc, looked, next) {
-        Ok(changed) => Some(changed),
-        Err(_) => None,
-    }
-}
-
-// A snapshot of a state whose log goes on below so many steps, and what changed since so many entries.
-fn view_below(alloc: Global, state: &LeastState, steps: u32, looked: u64, next: u32) -> Option<View>
-    requires looked { looked ≤ length state.now.fired }
-    requires next { next ≡ next_after state.now looked }
-    ensures some { IfSome result (λ v. IsSightOf state.now v.sight) }
-    ensures changed { IfSome result (λ v. IfSome v.changed (λ changed.
-        ChangedSince state.now looked changed.items)) }
-{
-    let Some(sight) = sight_below(state.base(), steps) else {
-        return None;
-    };
-    let changed = changed_since(alloc, state, looked, next, sight.seen);
-    Some(View { sight, changed })
-}
-
 /// Takes a turn and acts. Where the log then goes on below the step limit, and there is memory for it,
 /// it takes the next snapshot too.
 pub(crate) fn act<R: Wait>(
@@ -191,7 +151,7 @@ pub(crate) fn act<R: Wait>(
     let state = turn.state();
     let _length = state.base().length();
     let done = act_on(alloc, state, worker, looked, plan);
-    let view = view_below(alloc, state, steps, looked, next);
+    let view = view_below(alloc, state.base(), steps, looked, next);
     desk.give(pass, turn);
     Acted { done, view }
 }

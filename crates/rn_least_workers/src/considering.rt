@@ -5,16 +5,15 @@ ghost use Rattle.rn_model.specs.Enabling.{DeadAt};
 ghost use Rattle.rn_least.specs.LeastRuns.{IsLeast};
 ghost use Rattle.rn_worker.specs.Plans.{IsToSearch};
 ghost use Rattle.rn_firsts.specs.Known.{IsKnown};
-ghost use Rattle.rn_least_workers.specs.Views.{FollowsIn};
+ghost use Rattle.rn_least_workers.specs.Following.{FollowsIn};
 ghost use Rattle.rn_least_workers.specs.LeastPlans.{DropsNone, IsLeastAt, IsPlanAt};
 
-use crate::looking::View;
 use rn_binding::Candidate;
 use rn_channel::Uplinks;
 use rn_firsts::Firsts;
 use rn_items::NoMemory;
 use rn_model::System;
-use rn_worker::listed_at;
+use rn_worker::{View, listed_at};
 use std::alloc::Global;
 
 /// What a worker found: the first binding that was enabled, or `None` where none was; instances that

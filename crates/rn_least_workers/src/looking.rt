@@ -4,19 +4,13 @@ ghost use Rattle.rn_desk.specs.Entries.{StartsWith};
 ghost use Rattle.rn_desk.specs.Passes.{fixed_of, number, seen, mine, IsOf, HasNoTurn};
 ghost use Rattle.rn_worker.specs.Seen.{HasEnded, IsSightOf, StaysOrEnds};
 ghost use Rattle.rn_firsts.specs.Known.{Known};
-ghost use Rattle.rn_least_workers.specs.Views.{Follows, ShowsView};
+ghost use Rattle.rn_worker.specs.Views.{ShowsView};
+ghost use Rattle.rn_least_workers.specs.Following.{Follows};
 
 use rn_desk::{Desk, Kept, Pass};
 use rn_least_state::LeastState;
-use rn_worker::Sight;
+use rn_worker::{Sight, View};
 use std::sync::Wait;
-
-/// A snapshot, and the instances that may have changed since the one before, where that is known.
-#[derive(Drop)]
-pub(crate) struct View {
-    pub sight: Sight,
-    pub changed: Option<Vec<u32>>,
-}
 
 // A snapshot of a state whose log goes on. A log at the step limit ends so, and one without memory
 // for the snapshot ends so.

@@ -1,4 +1,5 @@
 pub mod ChangeLemmas
+pub mod ChunkLemmas
 pub mod CursorLemmas
 pub mod DirLemmas
 pub mod EditedLemmas

@@ -1,6 +1,8 @@
 -- Steps: what one of them, and some of them, make of places and instances.
-use Rattle.std.proofs.Common.{◌≡◌, ◌≢◌, ℕ, zero, suc, ◌+◌, ◌<◌, ◌≤◌, nat_eq, Bool, true, false, cond, Option, Some, List, [], ◌∷◌, length, get_or, set, map, refl, sym, ap, ◌∙◌, subst, arith}
+use Rattle.std.proofs.Common.{◌≡◌, ◌≢◌, ℕ, zero, suc, ◌+◌, ◌<◌, ◌≤◌, nat_eq, Bool, true, false, cond, Option, Some, List, [], ◌∷◌, length, get_or, set, map, refl, sym, ap, ◌∙◌, subst, arith, inl, inr}
 use Rattle.std.specs.Prelude.{filter, ◌&&◌}
+use Rattle.std.proofs.lemmas.Bool.{cases_lt}
+use Rattle.std.proofs.lemmas.List.{get_or_default, set_past}
 use Rattle.std.specs.List.{AllByRecursion, enumerate_from}
 use Rattle.std.specs.Ordering.{is_lt}
 use Rattle.std.specs.List.Sorted.{IsSorted}
@@ -14,7 +16,7 @@ use Rattle.rn_bag.specs.Cuts.{Ascends}
 use Rattle.rn_bag.proofs.AscendingLemmas.{sorted_of}
 use Rattle.rn_bag.proofs.CursorLemmas.{ascends_of}
 use Rattle.rn_table.specs.Leaves.{Ascending, HasSortedPlaces, numbered}
-use Rattle.rn_table.specs.Steps.{Step, stepped, step_at, after_step}
+use Rattle.rn_table.specs.Steps.{Step, stepped, step_at, after_step, with_step}
 use Rattle.rn_table.proofs.InstanceLemmas.{NoneHas, same_number, other_number, all_get}
 
 -- an element that is read through a list of pointers
@@ -109,11 +111,18 @@ module _ (s : Step) (n : ℕ) where
 abbrev pub with_places : Instance → List (List Value) → Instance
 with_places i ps = record i { places = ps }
 
-pub place_set : (s : Step) (i : Instance) (k : ℕ) (x y : List Value) → i.number ≡ s.inst → k ≡ s.place → k < length i.places → x ≡ get_or i.places k x → y ≡ stepped s x → with_places i (set i.places k y) ≡ after_step s i
+place_set : (s : Step) (i : Instance) (k : ℕ) (x y : List Value) → i.number ≡ s.inst → k ≡ s.place → k < length i.places → x ≡ get_or i.places k x → y ≡ stepped s x → with_places i (set i.places k y) ≡ after_step s i
 place_set s i k x y inst at inside x_is y_is = ap (with_places i) (one_changes s i.number 0 i.places k x y inst (omega (arith, at)) inside x_is y_is)
 
-pub no_place : (s : Step) (i : Instance) → length i.places ≤ s.place → i ≡ after_step s i
+no_place : (s : Step) (i : Instance) → length i.places ≤ s.place → i ≡ after_step s i
 no_place s i past = ap (with_places i) (sym (others_stay s i.number 0 i.places (λ j inside e. omega (arith, inside, e, past))))
+
+-- the places after a step, and its instance after it
+pub step_of_places : (s : Step) (i : Instance) → i.number ≡ s.inst → with_places i (with_step s s.place i.places) ≡ after_step s i
+step_of_places s i inst = elim (cases_lt s.place (length i.places)) [
+  | inl within ↦ place_set s i s.place (get_or i.places s.place []) (stepped s (get_or i.places s.place [])) inst refl within (get_or_default i.places s.place [] (get_or i.places s.place []) within) refl
+  | inr past ↦ ap (with_places i) (set_past i.places s.place (stepped s (get_or i.places s.place [])) past) ∙ no_place s i past
+]
 
 pub other_stays : (s : Step) (i : Instance) → nat_eq i.number s.inst ≡ false → after_step s i ≡ i
 other_stays s i differ = ap (with_places i) (none_changes s i.number differ 0 i.places)

@@ -1,4 +1,6 @@
 pub mod Changes
+pub mod Chunks
+pub mod Forms
 pub mod Laws
 pub mod LeafSteps
 pub mod Leaves

@@ -2,6 +2,7 @@
 -- the change.
 use Rattle.std.specs.Prelude.{ℕ, ◌≡◌, ◌≤◌, ◌+◌, ◌&&◌, Bool, true, false, not, nat_eq}
 use Rattle.std.specs.Prelude.{if◌then◌else◌, List, [], ◌∷◌, ◌++◌, map, flat_map, refl}
+use Rattle.std.specs.Prelude.{slice_index_or, slice_set}
 use Rattle.std.specs.Coded.{Coded, code_by, coded×, coded_ℕ, coded_bool}
 use Rattle.std.specs.List.{sum_by}
 use Rattle.rn_value.specs.declared.value.Value.{Value}
@@ -30,6 +31,10 @@ step_code =
 -- the tokens of its place after a step
 abbrev pub stepped : Step → List Value → List Value
 stepped s vs = if s.puts then with_value s.value vs else without_one vs s.value
+
+-- the tokens of places after a step at the place of an index
+abbrev pub with_step : Step → ℕ → List (List Value) → List (List Value)
+with_step s k places = slice_set places k (stepped s (slice_index_or places k []))
 
 -- the tokens of any place after it
 abbrev pub step_at : Step → ℕ → ℕ → List Value → List Value

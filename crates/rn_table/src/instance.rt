@@ -4,25 +4,24 @@ ghost use Rattle.std.specs.Option.{option_copied};
 ghost use Rattle.rn_model.specs.Lists.{ordered_values};
 ghost use Rattle.rn_table.specs.Steps.{after_step};
 
-use crate::bags::{bag_of, edit_shared};
 use crate::edits::Edit;
+use crate::places::Places;
 use rn_bag::Bag;
 use rn_items::NoMemory;
 use rn_model::Place;
 use std::alloc::Global;
 use std::marker::Model;
-use std::sync::Arc;
 
-/// A kept instance, whose bags copies share.
+/// A kept instance. Copies share the bags of its places, and where there are more than 32, chunks
+/// of these.
 #[derive(Drop)]
 pub struct Inst {
     number: u32,
     net: u32,
-    bags: Vec<Arc<Bag>>,
+    places: Places,
 }
 
 impl Model for Inst {
-    ghost use Rattle.std.specs.Prelude.{map};
     ghost use Rattle.rn_model.specs.Markings.{Instance};
     ghost use Rattle.rn_model.specs.MarkingCodes.{instance_code};
 
@@ -30,7 +29,7 @@ impl Model for Inst {
 
     ghost coded = { instance_code };
 
-    ghost view = { λ inst. record { number = inst.number; net = inst.net; places = map (λ bag. bag.value) inst.bags.items } };
+    ghost view = { λ inst. record { number = inst.number; net = inst.net; places = inst.places } };
 }
 
 impl Inst {
@@ -45,12 +44,12 @@ impl Inst {
         ensures net { IfOk result (λ inst. inst.net ≡ net) }
         ensures places { IfOk result (λ inst. inst.places ≡ map (λ p. ordered_values p.initial) places.now) }
     {
-        let mut bags = Vec::with_capacity(alloc, places.len())?;
-        for place in places {
-            let bag = bag_of(alloc, &place.initial)?;
-            bags.push(Arc::new(alloc, bag)?)?;
-        }
-        Ok(Inst { number, net, bags })
+        let places = Places::fresh(alloc, places)?;
+        Ok(Inst {
+            number,
+            net,
+            places,
+        })
     }
 
     /// Its number.
@@ -71,34 +70,28 @@ impl Inst {
     pub fn bag(&self, place: u32) -> Option<&Bag>
         ensures { option_copied result ≡ slice_get self.now.places place }
     {
-        match self.bags.get(place as usize) {
-            None => None,
-            Some(bag) => Some(bag),
-        }
+        self.places.get(place as usize)
     }
 
     /// How many tokens a place has, and none where there is no such place. It looks at none of them.
     pub fn count(&self, place: usize) -> usize
         ensures { result ≡ length (unwrap_or (slice_get self.now.places place) []) }
     {
-        match self.bags.get(place) {
+        match self.places.get(place) {
             None => 0,
             Some(bag) => bag.len(),
         }
     }
 
-    /// The same instance, which shares its bags with the first.
+    /// The same instance, which shares its bags or chunks of them with the first.
     pub(crate) fn copy(&self) -> Result<Inst, NoMemory>
         ensures { IfOk result (λ inst. inst ≡ self.now) }
     {
-        let mut bags = Vec::with_capacity(*self.bags.allocator(), self.bags.len())?;
-        for bag in self.bags.as_slice() {
-            bags.push(Arc::try_clone(bag)?)?;
-        }
+        let places = self.places.copy()?;
         Ok(Inst {
             number: self.number,
             net: self.net,
-            bags,
+            places,
         })
     }
 
@@ -107,11 +100,7 @@ impl Inst {
         requires { self.old.number ≡ edit.now.inst }
         ensures { OnOk result (self.new ≡ after_step edit.now self.old) }
     {
-        let place = edit.place as usize;
-        if place >= self.bags.len() {
-            return Ok(());
-        }
-        edit_shared(alloc, &mut self.bags[place], edit)?;
+        self.places.edit(alloc, edit)?;
         Ok(())
     }
 }

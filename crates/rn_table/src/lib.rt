@@ -3,6 +3,7 @@
 
 mod bags;
 mod change;
+mod chunk;
 mod dir;
 mod edits;
 mod instance;
@@ -12,6 +13,7 @@ mod leaves;
 mod nets;
 mod page;
 mod pages;
+mod places;
 mod sharing;
 mod table;
 

@@ -28,7 +28,7 @@ use std::sync::Arc;
 ///
 /// Instances stand in pages of 64, and pages in directories of 32. A copy shares the directories, a
 /// changed directory its other pages, a changed page the instances that didn't change, and a changed
-/// instance its other places.
+/// instance its other places, of which more than 32 stand in chunks of 32.
 #[derive(Drop)]
 pub struct Table {
     next: u32,
@@ -158,8 +158,9 @@ impl Table {
     /// New instances come with their initial tokens, what is taken and cleared goes, and what is put
     /// comes.
     ///
-    /// It changes a copy, which takes the table's place last. A directory that it touches, a page, an
-    /// instance and a bag are copied first. What is put where it is taken touches nothing.
+    /// It changes a copy, which takes the table's place last. A directory that it touches, a page,
+    /// an instance, a chunk of its places and a bag are copied first. What is put where it is taken
+    /// touches nothing.
     pub fn apply(&mut self, system: &System, change: &Change) -> Result<(), NoMemory>
         requires { MayCome system.now change.now self.old.marking }
         ensures marking { OnOk result (self.new.marking ≡ changed system.now change.now self.old.marking) }

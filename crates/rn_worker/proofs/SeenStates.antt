@@ -27,7 +27,7 @@ use Rattle.rn_fire.proofs.EntryLemmas.{firings_of}
 use Rattle.rn_worker.specs.declared.considering.Plan.{Plan}
 use Rattle.rn_worker.specs.declared.looking.Sight.{Sight}
 use Rattle.rn_worker.specs.Seen.{GoesOn, IsSightOf, Shows, marking_after}
-use Rattle.rn_worker.specs.Plans.{AddsOwn, AreDeadAt, FitsIn, HasNoneLive, IsFoundAt, IsPlanAt, IsToSearch, Knows, WasFound}
+use Rattle.rn_worker.specs.Plans.{AddsOwn, AreDeadAt, FitsIn, GrowsBy, HasNoneLive, IsFoundAt, IsPlanAt, IsToSearch, Knows, WasFound}
 use Rattle.rn_worker.proofs.SeenEntries.{fired_then, going_count, had_seen, taken}
 
 -- what is seen of a state whose log goes on
@@ -48,11 +48,6 @@ shows t v setup es (is, going, table, count) same are =
       of_system = subst (IsTableOf t.setup.system) (sym table) is.of_system;
       count = count ∙ ap length (sym are);
     })
-
-pub shows_some : (o : Option Sight) (t : State) (setup : Setup) (es : List Entry) →
-    IfSome o (IsSightOf t) → t.setup ≡ setup → es ≡ logged t → IfSome o (Shows setup es)
-shows_some None t setup es is same are = tt
-shows_some (Some v) t setup es is same are = shows t v setup es is same are
 
 pub kept_setup : (worker : ℕ) (fired : Bool) (old new : State) → AddsOwn worker fired old new →
     new.setup ≡ old.setup
@@ -198,3 +193,14 @@ rounds_end false true steps old turned new few later then more never =
     let grows = more refl in omega (arith, few, grows, then)
 rounds_end false false steps old turned new few later then more never =
     let grows = more refl in omega (arith, few, grows, then)
+
+-- Firings of one's own are among the entries that were seen: where one fired, an entry came.
+pub own_within : (fired stopped : Bool) (own more : List Entry) (old turned new : ℕ) →
+    GrowsBy fired own more → length own ≤ old → old ≤ turned → (stopped ≡ false → old < turned) →
+    (stopped ≡ true → fired ≡ false) → turned ≤ new → length more ≤ new
+own_within true true own more old turned new grows within later goes halts then =
+    let no : true ≡ false = halts refl in cc
+own_within true false own more old turned new grows within later goes halts then =
+    let further = goes refl in omega (arith, grows, within, further, then)
+own_within false stopped own more old turned new grows within later goes halts then =
+    let same = ap length grows in omega (arith, same, within, later, then)

@@ -3,3 +3,4 @@ pub mod Ends
 pub mod Plans
 pub mod Posts
 pub mod Seen
+pub mod Views

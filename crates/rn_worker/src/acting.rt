@@ -1,16 +1,18 @@
 //! A worker's turn: it commits what it found, and looks again.
 ghost use Rattle.std.specs.Prelude.{◌≡◌, ◌≤◌, ◌<◌, [], None, false, IfOk, IfSome, length};
 ghost use Rattle.rn_model.specs.Limits.{most_workers};
+ghost use Rattle.rn_desk.specs.Entries.{StartsWith};
 ghost use Rattle.rn_desk.specs.Passes.{fixed_of, number, seen, mine, IsOf, HasNoTurn};
 ghost use Rattle.rn_fire.specs.Ends.{MayGoOn};
 ghost use Rattle.rn_fire.specs.States.{logged};
-ghost use Rattle.rn_worker.specs.Seen.{KeepsLog, GoesOn, Shows, StaysOrEnds};
+ghost use Rattle.rn_worker.specs.Seen.{KeepsLog, GoesOn, StaysOrEnds, marking_after};
+ghost use Rattle.rn_worker.specs.Views.{ChangedBetween, ShowsView};
 ghost use Rattle.rn_worker.specs.Pacing.{DoesFiring, DropsListed, DropsThenFires, IsSwept};
 ghost use Rattle.rn_worker.specs.Pacing.{dropped_by, kept_among};
 ghost use Rattle.rn_worker.specs.Plans.{AddsOwn, DropsNone, FitsIn, GrowsBy, HasNoneLive, Knows, WasFound, WasStopped};
 
 use crate::considering::Plan;
-use crate::looking::{Sight, sight_below};
+use crate::looking::{View, view_below};
 use crate::tally::Done;
 use rn_desk::{Desk, Kept, Pass};
 use rn_fire::{Commit, SimState};
@@ -23,7 +25,7 @@ use std::sync::Wait;
 #[derive(Drop)]
 pub(crate) struct Acted {
     pub done: Done,
-    pub sight: Option<Sight>,
+    pub view: Option<View>,
 }
 
 /// How many of these instances are kept.
@@ -157,6 +159,7 @@ pub(crate) fn act<R: Wait>(
     pass: &mut Pass<SimState>,
     worker: u32,
     looked: u64,
+    next: u32,
     steps: u32,
     plan: &Result<Plan, Halt>,
 ) -> Acted
@@ -166,6 +169,8 @@ pub(crate) fn act<R: Wait>(
     requires number { number pass.old ≡ worker }
     requires going { GoesOn (seen pass.old) }
     requires looked { looked ≡ length (seen pass.old) }
+    requires next { next ≡ (marking_after (fixed_of ⟦<SimState as Kept>⟧.fixed desk.now)
+        (seen pass.old)).next }
     requires knows { IfOk plan.now (Knows (fixed_of ⟦<SimState as Kept>⟧.fixed desk.now) (seen pass.old)) }
 
     // The pass.
@@ -180,16 +185,20 @@ pub(crate) fn act<R: Wait>(
     ensures stopped { WasStopped plan.now → result.done.fired ≡ false }
     ensures swept { DropsNone plan.now → result.done.swept ≡ 0 }
 
+    ensures entries { StartsWith (seen pass.new) (seen pass.old) }
+
     // What it saw then.
-    ensures some { IfSome result.sight (Shows (fixed_of ⟦<SimState as Kept>⟧.fixed desk.now)
+    ensures some { IfSome result.view (ShowsView (fixed_of ⟦<SimState as Kept>⟧.fixed desk.now)
         (seen pass.new)) }
-    ensures below { IfSome result.sight (λ v. v.seen < steps) }
+    ensures below { IfSome result.view (λ v. v.sight.seen < steps) }
+    ensures changed { IfSome result.view (ChangedBetween
+        (fixed_of ⟦<SimState as Kept>⟧.fixed desk.now) (seen pass.old) (seen pass.new)) }
 {
     let mut turn = desk.take(rt, pass);
     let state = turn.state();
     let _length = state.length();
     let done = act_on(alloc, state, worker, looked, plan);
-    let sight = sight_below(state, steps);
+    let view = view_below(alloc, state, steps, looked, next);
     desk.give(pass, turn);
-    Acted { done, sight }
+    Acted { done, view }
 }

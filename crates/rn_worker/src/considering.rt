@@ -1,17 +1,21 @@
 //! What a worker does between its turns: it searches its snapshot.
 ghost use Rattle.std.specs.Prelude.{◌≡◌, ◌↔◌, ◌<◌, ◌+◌, ◌^◌, ℕ, [], Some, IfOk, IfSome, IsNone};
-ghost use Rattle.std.specs.Prelude.{MatchBool, false, true, is_some, length, min};
+ghost use Rattle.std.specs.Prelude.{MatchBool, MatchOption, false, true, is_some, length, min};
 ghost use Rattle.rn_model.specs.Enabling.{DeadAt, Enabled};
 ghost use Rattle.rn_model.specs.Markings.{Instance, instance_at};
 ghost use Rattle.rn_worker.specs.Pacing.{AreAllDead, IsDue, last_count, met_by, paced};
+ghost use Rattle.rn_firsts.specs.Resting.{KnowsIdle};
 ghost use Rattle.rn_worker.specs.Plans.{AreDeadAt, DropsNone, IsPlanAt, IsToSearch, WasStopped};
+ghost use Rattle.rn_worker.specs.Views.{FollowsIn};
 
-use crate::looking::Sight;
+use crate::looking::View;
 use crate::pacing::Pace;
 use crate::standby::Watch;
 use crate::tally::{Done, Tally};
 use rn_binding::Candidate;
 use rn_channel::Uplinks;
+use rn_choices::ToTheEnd;
+use rn_firsts::KnownIdle;
 use rn_found::{Finding, Halt};
 use rn_items::NoMemory;
 use rn_live::garbage;
@@ -62,11 +66,31 @@ pub(crate) struct Seed {
     pub number: Option<u32>,
 }
 
+/// What a worker searches with: its searcher, and what that knows of idle instances.
+#[derive(Drop)]
+pub(crate) struct Searcher {
+    pub finding: Finding,
+    pub idle: KnownIdle,
+}
+
 /// The searcher of a worker, one of so many. With a seed it draws where it looks.
-pub(crate) fn searcher(alloc: Global, worker: u32, workers: u32, seed: Seed) -> Finding {
-    match seed.number {
+pub(crate) fn searcher_of(alloc: Global, worker: u32, workers: u32, seed: Seed) -> Searcher {
+    let finding = match seed.number {
         Some(seed) => Finding::of_seed(alloc, worker, workers, seed),
         None => Finding::of_share(alloc, worker, workers),
+    };
+    let idle = KnownIdle::new(alloc);
+    Searcher { finding, idle }
+}
+
+// The instances in which the table of a view may differ from that of the one before, where that is known.
+fn changed_in(view: &View) -> Option<&[u32]>
+    ensures { MatchOption view.now.changed (IsNone result)
+        (λ changed. IfSome result (λ c. c.now ≡ changed.items)) }
+{
+    match &view.changed {
+        Some(changed) => Some(changed.as_slice()),
+        None => None,
     }
 }
 
@@ -93,28 +117,39 @@ pub fn listed_at(
     Ok((dead, Some(live)))
 }
 
-// Searches a table. Unless it is to be searched whole, the search ends where the watch says.
+// Searches the table of a view, where the instances that are known to be idle are passed over. Unless it
+// is to be searched whole, the search ends where the watch says.
 fn find_at(
     alloc: Global,
     system: &System,
     uplinks: &Uplinks,
     depth: u32,
-    finding: &mut Finding,
-    table: &Table,
+    searcher: &mut Searcher,
+    view: &View,
     watch: &Watch<'_>,
     whole: bool,
 ) -> Result<Option<Candidate>, Halt>
-    requires { IsToSearch system.now uplinks.now table.now }
+    requires table { IsToSearch system.now uplinks.now view.now.sight.table }
+    requires follows { FollowsIn system.now depth searcher.old.idle view.now }
     ensures found { IfOk result (λ found. IfSome found
-        (λ b. Enabled system.now table.now.marking b depth)) }
+        (λ b. Enabled system.now view.now.sight.table.marking b depth)) }
     ensures none { IfOk result (λ found. IsNone found
-        ↔ DeadAt system.now table.now.marking depth) }
+        ↔ DeadAt system.now view.now.sight.table.marking depth) }
+    ensures known { KnowsIdle system.now view.now.sight.table.marking depth searcher.new.idle }
     ensures whole { whole ≡ true → ¬ WasStopped result }
 {
+    let changed = changed_in(view);
+    let table = &view.sight.table;
+    let finding = &mut searcher.finding;
+    let idle = &mut searcher.idle;
     if !whole {
-        return finding.find_while(alloc, watch, system, uplinks, table, depth);
+        return idle.find_while(
+            alloc, watch, finding, system, uplinks, table, depth, changed,
+        );
     }
-    match finding.find(alloc, system, uplinks, table, depth) {
+    match idle.find_while(
+        alloc, &ToTheEnd, finding, system, uplinks, table, depth, changed,
+    ) {
         Ok(found) => Ok(found),
         Err(_) => Err(Halt::NoMemory),
     }
@@ -127,28 +162,29 @@ pub(crate) fn plan_at(
     system: &System,
     uplinks: &Uplinks,
     depth: u32,
-    finding: &mut Finding,
-    sight: Sight,
+    searcher: &mut Searcher,
+    view: View,
     pace: Pace,
     every: u32,
     watch: &Watch<'_>,
     whole: bool,
 ) -> Result<Plan, Halt>
-    requires { IsToSearch system.now uplinks.now sight.table }
-    ensures plan { IfOk result (IsPlanAt system.now depth sight.table) }
-    ensures due { IsDue every sight.table.marking.next pace → IfOk result (λ p.
-        AreAllDead system.now sight.table.marking p.dead.items × (is_some p.live ≡ true)) }
-    ensures not_due { ¬ IsDue every sight.table.marking.next pace → IfOk result (λ p.
+    requires table { IsToSearch system.now uplinks.now view.sight.table }
+    requires follows { FollowsIn system.now depth searcher.old.idle view }
+    ensures plan { IfOk result (IsPlanAt system.now depth view.sight.table) }
+    ensures due { IsDue every view.sight.table.marking.next pace → IfOk result (λ p.
+        AreAllDead system.now view.sight.table.marking p.dead.items × (is_some p.live ≡ true)) }
+    ensures not_due { ¬ IsDue every view.sight.table.marking.next pace → IfOk result (λ p.
         (p.dead.items ≡ []) × (is_some p.live ≡ false)) }
     ensures none { every ≡ 0 → DropsNone result }
     ensures whole { whole ≡ true → ¬ WasStopped result }
+    ensures known { KnowsIdle system.now view.sight.table.marking depth searcher.new.idle }
 {
-    let due = pace.is_due(every, sight.table.next());
-    let Ok((dead, live)) = listed_at(alloc, system, &sight.table, due) else {
+    let due = pace.is_due(every, view.sight.table.next());
+    let found = find_at(alloc, system, uplinks, depth, searcher, &view, watch, whole)?;
+    let Ok((dead, live)) = listed_at(alloc, system, &view.sight.table, due) else {
         return Err(Halt::NoMemory);
     };
-    let table = &sight.table;
-    let found = find_at(alloc, system, uplinks, depth, finding, table, watch, whole)?;
     Ok(Plan { found, dead, live })
 }
 

@@ -18,7 +18,7 @@ pub use acting::count_kept;
 pub use considering::listed_at;
 pub use dropping::drop_dead;
 pub use gate::{Gate, NoGate};
-pub use looking::{Sight, sight_below};
+pub use looking::{Sight, View, view_below};
 pub use meeting::MeetGate;
 pub use pacing::Pace;
 pub use tally::{Done, Tallies, Tally};

@@ -1,20 +1,37 @@
 //! How a worker looks: by a turn of its own, or at the end of a turn in which it acted.
-ghost use Rattle.std.specs.Prelude.{◌≡◌, ◌≢◌, ◌<◌, ◌≤◌, None, IfNone, IfSome};
+ghost use Rattle.std.specs.Prelude.{◌≡◌, ◌≢◌, ◌<◌, ◌≤◌, None, IfNone, IfSome, length};
 ghost use Rattle.rn_desk.specs.Entries.{StartsWith};
 ghost use Rattle.rn_desk.specs.Passes.{fixed_of, number, seen, mine, IsOf, HasNoTurn};
-ghost use Rattle.rn_worker.specs.Seen.{HasEnded, IsSightOf, Shows, StaysOrEnds};
+ghost use Rattle.rn_firsts.specs.Resting.{Resting};
+ghost use Rattle.rn_worker.specs.Seen.{HasEnded, IsSightOf, StaysOrEnds};
+ghost use Rattle.rn_worker.specs.Views.{ChangedSince, Follows, ShowsView, next_after};
 
 use crate::standby::{Role, Standby};
 use rn_desk::{Desk, Kept, Pass};
 use rn_fire::SimState;
 use rn_table::Table;
+use std::alloc::Global;
 use std::sync::Wait;
+
+// What changed is looked for in up to so many entries.
+const MOST_ENTRIES: u64 = 64;
+
+// While the next instance gets a number up to this one, what changed isn't looked for: to search so few
+// again costs less.
+const FEW: u32 = 16;
 
 /// A snapshot of the table, and how many entries the log had.
 #[derive(Drop)]
 pub struct Sight {
     pub table: Table,
     pub seen: u64,
+}
+
+/// A snapshot, and the instances that may have changed since the one before, where that is known.
+#[derive(Drop)]
+pub struct View {
+    pub sight: Sight,
+    pub changed: Option<Vec<u32>>,
 }
 
 // A snapshot of a state whose log goes on. A log at the step limit ends so, and one without memory
@@ -38,9 +55,9 @@ fn sight_of(state: &mut SimState) -> Option<Sight>
     }
 }
 
-/// A snapshot of a state whose log goes on below so many steps, where there is memory for it. The state
-/// stays as it is, since a turn adds one entry at most and may have added it.
-pub fn sight_below(state: &SimState, steps: u32) -> Option<Sight>
+// A snapshot of a state whose log goes on below so many steps, where there is memory for it. The state
+// stays as it is, since a turn adds one entry at most and may have added it.
+fn sight_below(state: &SimState, steps: u32) -> Option<Sight>
     ensures some { IfSome result (IsSightOf state.now) }
     ensures below { IfSome result (λ v. v.seen < steps) }
 {
@@ -54,12 +71,58 @@ pub fn sight_below(state: &SimState, steps: u32) -> Option<Sight>
     }
 }
 
-/// Takes a turn and looks. `None` exactly where the log has then ended.
+// The instances that the entries after the first so many may have changed, where these are few and
+// instances aren't.
+fn changed_since(
+    alloc: Global,
+    state: &SimState,
+    looked: u64,
+    next: u32,
+    now: u64,
+) -> Option<Vec<u32>>
+    requires looked { looked ≤ length state.now.fired }
+    requires next { next ≡ next_after state.now looked }
+    ensures { IfSome result (λ changed. ChangedSince state.now looked changed.items) }
+{
+    if next <= FEW || now.saturating_sub(looked) > MOST_ENTRIES {
+        return None;
+    }
+    match state.changed_since(alloc, looked, next) {
+        Ok(changed) => Some(changed),
+        Err(_) => None,
+    }
+}
+
+/// A snapshot of a state whose log goes on below so many steps, and what changed since so many entries,
+/// after which the next instance was to get this number.
+pub fn view_below(
+    alloc: Global,
+    state: &SimState,
+    steps: u32,
+    looked: u64,
+    next: u32,
+) -> Option<View>
+    requires looked { looked ≤ length state.now.fired }
+    requires next { next ≡ next_after state.now looked }
+    ensures some { IfSome result (λ v. IsSightOf state.now v.sight) }
+    ensures below { IfSome result (λ v. v.sight.seen < steps) }
+    ensures changed { IfSome result (λ v. IfSome v.changed (λ changed.
+        ChangedSince state.now looked changed.items)) }
+{
+    let Some(sight) = sight_below(state, steps) else {
+        return None;
+    };
+    let changed = changed_since(alloc, state, looked, next, sight.seen);
+    Some(View { sight, changed })
+}
+
+/// Takes a turn and looks. `None` exactly where the log has then ended. What changed isn't
+/// looked for.
 pub(crate) fn look<R: Wait>(
     rt: &R,
     desk: &Desk<SimState>,
     pass: &mut Pass<SimState>,
-) -> Option<Sight>
+) -> Option<View>
     requires here { IsOf ⟦<SimState as Kept>⟧.fixed desk.now pass.old }
     requires free { HasNoTurn pass.old }
     requires numbered { 1 ≤ number pass.old }
@@ -68,14 +131,22 @@ pub(crate) fn look<R: Wait>(
     ensures number { number pass.new ≡ number pass.old }
     ensures mine { mine pass.new ≡ mine pass.old }
     ensures entries { StartsWith (seen pass.new) (seen pass.old) }
-    ensures some { IfSome result (Shows (fixed_of ⟦<SimState as Kept>⟧.fixed desk.now)
+    ensures some { IfSome result (ShowsView (fixed_of ⟦<SimState as Kept>⟧.fixed desk.now)
         (seen pass.new)) }
     ensures none { IfNone result (HasEnded (seen pass.new)) }
+    ensures follows { (k : Resting) → IfSome result
+        (Follows (fixed_of ⟦<SimState as Kept>⟧.fixed desk.now) k) }
 {
     let mut turn = desk.take(rt, pass);
     let sight = sight_of(turn.state());
     desk.give(pass, turn);
-    sight
+    match sight {
+        Some(sight) => Some(View {
+            sight,
+            changed: None,
+        }),
+        None => None,
+    }
 }
 
 /// What a worker sees next: what its last turn left, or else what it sees by a turn of its own. Where it
@@ -85,24 +156,27 @@ pub(crate) fn look_on<R: Wait>(
     rt: &R,
     desk: &Desk<SimState>,
     pass: &mut Pass<SimState>,
-    left: Option<Sight>,
+    left: Option<View>,
     standby: &Standby,
     role: Role,
     rests: bool,
-) -> Option<Sight>
+) -> Option<View>
     requires here { IsOf ⟦<SimState as Kept>⟧.fixed desk.now pass.old }
     requires free { HasNoTurn pass.old }
     requires numbered { 1 ≤ number pass.old }
-    requires left { IfSome left (Shows (fixed_of ⟦<SimState as Kept>⟧.fixed desk.now)
+    requires left { IfSome left (ShowsView (fixed_of ⟦<SimState as Kept>⟧.fixed desk.now)
         (seen pass.old)) }
     ensures here { IsOf ⟦<SimState as Kept>⟧.fixed desk.now pass.new }
     ensures free { HasNoTurn pass.new }
     ensures number { number pass.new ≡ number pass.old }
     ensures mine { mine pass.new ≡ mine pass.old }
     ensures entries { StartsWith (seen pass.new) (seen pass.old) }
-    ensures some { IfSome result (Shows (fixed_of ⟦<SimState as Kept>⟧.fixed desk.now)
+    ensures some { IfSome result (ShowsView (fixed_of ⟦<SimState as Kept>⟧.fixed desk.now)
         (seen pass.new)) }
     ensures none { IfNone result (HasEnded (seen pass.new)) }
+    ensures follows { (k : Resting) →
+        IfSome left (Follows (fixed_of ⟦<SimState as Kept>⟧.fixed desk.now) k) →
+        IfSome result (Follows (fixed_of ⟦<SimState as Kept>⟧.fixed desk.now) k) }
 {
     if rests {
         drop(left);
@@ -110,7 +184,7 @@ pub(crate) fn look_on<R: Wait>(
         return look(rt, desk, pass);
     }
     match left {
-        Some(sight) => Some(sight),
+        Some(view) => Some(view),
         None => look(rt, desk, pass),
     }
 }

@@ -7,7 +7,7 @@ ghost use Rattle.rn_worker.specs.Seen.{HasEnded};
 
 use crate::acting::{Acted, act};
 use crate::considering::{
-    Seed, count_round, go_beside, go_on_after, late_after, plan_at, searcher, start_beside,
+    Seed, count_round, go_beside, go_on_after, late_after, plan_at, searcher_of, start_beside,
     was_stopped,
 };
 use crate::gate::Gate;
@@ -106,25 +106,25 @@ pub(crate) fn work_while<R: Wait, G: Gate + Sync>(
 {
     let worker = tally.worker;
     let role = standby.role_of(worker);
-    let mut finding = searcher(alloc, worker, options.workers, seed);
+    let mut searcher = searcher_of(alloc, worker, options.workers, seed);
     let mut pace = Pace::new();
     let mut late = 0;
     let mut rests = false;
     let mut stopped = false;
     let mut watch = Watch::new(standby, role);
     standby.begin(role);
-    let mut sight = look(rt, desk, pass);
-    while let Some(now) = sight {
-        let seen = now.seen;
-        let next = now.table.next();
-        go_on_after(&mut finding, rests, worker, next);
-        watch.begin(&finding);
+    let mut view = look(rt, desk, pass);
+    while let Some(now) = view {
+        let seen = now.sight.seen;
+        let next = now.sight.table.next();
+        go_on_after(&mut searcher.finding, rests, worker, next);
+        watch.begin(&searcher.finding);
         let plan = plan_at(
             alloc,
             system,
             uplinks,
             options.depth,
-            &mut finding,
+            &mut searcher,
             now,
             pace,
             options.sweep_every,
@@ -133,23 +133,24 @@ pub(crate) fn work_while<R: Wait, G: Gate + Sync>(
         );
         let beside = start_beside(worker, seen, late, next, &plan);
         gate.between(worker, seen);
-        let Acted { done, sight: left } = act(
+        let Acted { done, view: left } = act(
             rt,
             alloc,
             desk,
             pass,
             worker,
             seen,
+            next,
             options.steps,
             &plan,
         );
         count_round(tally, &mut pace, &plan, done);
-        go_beside(&mut finding, done.fired, beside);
+        go_beside(&mut searcher.finding, done.fired, beside);
         late = late_after(late, done.fired);
         stopped = was_stopped(&plan);
-        watch.note_round(&finding, stopped, done.fired);
+        watch.note_round(&searcher.finding, stopped, done.fired);
         rests = left.is_some() && watch.stands_by();
-        sight = look_on(rt, desk, pass, left, standby, role, rests);
+        view = look_on(rt, desk, pass, left, standby, role, rests);
     }
     standby.end();
 }

@@ -1,12 +1,14 @@
 -- What was found after the entries that were seen fits the state, and what is seen then is shown.
-use Rattle.std.proofs.Common.{◌≡◌, ap, sym, ◌∙◌, subst}
+use Rattle.std.proofs.Common.{◌≡◌, ◌≤◌, ap, length, sym, ◌∙◌, subst}
 use Rattle.std.specs.Prelude.{IfSome}
 use Rattle.rn_desk.specs.Entries.{StartsWith}
 use Rattle.rn_desk.specs.Passes.{fixed_of, seen}
 use Rattle.rn_fire.specs.declared.setup.Setup.{Setup}
 use Rattle.rn_fire.specs.States.{State, IsState, logged}
+use Rattle.rn_worker.specs.Seen.{IsSightOf}
+use Rattle.rn_worker.specs.Views.{ChangedSince, next_after}
 use Rattle.rn_worker.proofs.SeenStates.{kept_setup}
-use Rattle.rn_least_workers.proofs.LaterViews.{changed_between, few_after, next_is, show_views}
+use Rattle.rn_worker.proofs.LaterViews.{changed_between, few_after, next_is, show_views}
 use Rattle.rn_least_workers.proofs.LeastSeen.{fits}
 use Rattle.rn_least_workers.proofs.acting.act.Goals as goal
 
@@ -27,8 +29,9 @@ view_below-view-requires-clause-looked g c =
     let setup : Setup = fixed_of (λ s. s.setup) c.args.desk.now in
     let begins : StartsWith (logged t) es = subst (λ s. StartsWith (logged s) es) (sym c.state-state.ensures.value) c.take-turn.ensures.entries in
     let same : t.setup ≡ setup = ap (λ s. s.setup) c.state-state.ensures.value ∙ c.take-turn.ensures.fixed in
-    few_after t c.act_on-done.new.state c.args.worker c.act_on-done.result.fired setup es begins
-    c.requires.going same c.act_on-done.ensures.added c.args.looked c.requires.looked
+    subst (λ (s : State). c.args.looked ≤ length s.fired) (sym c.base-2.ensures.state)
+    (few_after t c.act_on-done.new.state c.args.worker c.act_on-done.result.fired setup es begins
+    c.requires.going same c.act_on-done.ensures.added c.args.looked c.requires.looked)
 
 pub view_below-view-requires-clause-next : goal.view_below-view-requires-clause-next
 view_below-view-requires-clause-next g c =
@@ -37,9 +40,10 @@ view_below-view-requires-clause-next g c =
     let setup : Setup = fixed_of (λ s. s.setup) c.args.desk.now in
     let begins : StartsWith (logged t) es = subst (λ s. StartsWith (logged s) es) (sym c.state-state.ensures.value) c.take-turn.ensures.entries in
     let same : t.setup ≡ setup = ap (λ s. s.setup) c.state-state.ensures.value ∙ c.take-turn.ensures.fixed in
-    next_is t c.act_on-done.new.state c.args.worker c.act_on-done.result.fired setup es begins
+    subst (λ (s : State). c.args.next ≡ next_after s c.args.looked) (sym c.base-2.ensures.state)
+    (next_is t c.act_on-done.new.state c.args.worker c.act_on-done.result.fired setup es begins
     c.requires.going same c.act_on-done.ensures.added c.args.looked c.requires.looked c.args.next
-    c.requires.next
+    c.requires.next)
 
 pub returns-clause-some : goal.returns-clause-some
 returns-clause-some g c =
@@ -49,7 +53,9 @@ returns-clause-some g c =
     let began : t.setup ≡ setup = ap (λ s. s.setup) c.state-state.ensures.value ∙ c.take-turn.ensures.fixed in
     let same : after.setup ≡ setup = kept_setup c.args.worker c.act_on-done.result.fired t after c.act_on-done.ensures.added ∙ began in
     show_views c.view_below-view.result after setup (seen c.give.new.pass)
-    c.view_below-view.ensures.some same c.give.ensures.seen
+    (subst (λ (s : State). IfSome c.view_below-view.result (λ v. IsSightOf s v.sight))
+    c.base-2.ensures.state c.view_below-view.ensures.some)
+    same c.give.ensures.seen
 
 pub returns-clause-changed : goal.returns-clause-changed
 returns-clause-changed g c =
@@ -61,4 +67,6 @@ returns-clause-changed g c =
     changed_between t c.act_on-done.new.state c.args.worker c.act_on-done.result.fired setup es
     begins c.requires.going same c.act_on-done.ensures.added c.args.looked c.requires.looked
     (seen c.give.new.pass) c.give.ensures.seen c.view_below-view.result
-    c.view_below-view.ensures.changed
+    (subst (λ (s : State). IfSome c.view_below-view.result (λ v. IfSome v.changed (λ changed.
+    ChangedSince s c.args.looked changed.items)))
+    c.base-2.ensures.state c.view_below-view.ensures.changed)

@@ -7,9 +7,10 @@ use Rattle.rn_desk.specs.Passes.{fixed_of, mine, seen}
 use Rattle.rn_fire.specs.declared.setup.Setup.{Setup}
 use Rattle.rn_worker.specs.Seen.{Shows}
 use Rattle.rn_worker.proofs.SeenStates.{few_by, never_fewer, never_many, searched_by}
-use Rattle.rn_least_workers.specs.Views.{Follows, FollowsIn, ShowsView}
+use Rattle.rn_worker.specs.Views.{ShowsView}
+use Rattle.rn_least_workers.specs.Following.{Follows, FollowsIn}
 use Rattle.rn_firsts.specs.Known.{IsKnown}
-use Rattle.rn_least_workers.proofs.LaterViews.{follow_then}
+use Rattle.rn_worker.proofs.LaterViews.{follow_then}
 use Rattle.rn_least_workers.proofs.LeastSeen.{known_by, rounds_end}
 use Rattle.rn_least_workers.proofs.worker.work_least.Goals as goal
 
@@ -109,8 +110,8 @@ loop-view-preserved g c =
       swept = search rules;
       some = search rules;
       follows = c.look_on-view.ensures.follows k
-          (follow_then setup es (seen c.act-left.new.pass) c.in-Some.now c.act-left.result.view k
-          shown c.act-left.ensures.entries c.act-left.ensures.some c.act-left.ensures.changed known);
+          (follow_then setup es (seen c.act-left.new.pass) c.in-Some.now c.act-left.result.view
+          (λ m. IsKnown setup.system m setup.options.depth k) shown c.act-left.ensures.entries c.act-left.ensures.some c.act-left.ensures.changed known);
       none = search rules;
     }
 
@@ -138,7 +139,7 @@ loop-view-preserved-in-Some g c =
       swept = search rules;
       some = search rules;
       follows = c.look_on-view.ensures.follows k
-          (follow_then setup es (seen c.act-left.new.pass) c.in-Some.now c.act-left.result.view k
-          shown c.act-left.ensures.entries c.act-left.ensures.some c.act-left.ensures.changed known);
+          (follow_then setup es (seen c.act-left.new.pass) c.in-Some.now c.act-left.result.view
+          (λ m. IsKnown setup.system m setup.options.depth k) shown c.act-left.ensures.entries c.act-left.ensures.some c.act-left.ensures.changed known);
       none = search rules;
     }

@@ -4,7 +4,8 @@ use Rattle.rn_desk.specs.Entries.{StartsWith}
 use Rattle.rn_desk.specs.Passes.{fixed_of, seen}
 use Rattle.rn_fire.specs.declared.setup.Setup.{Setup}
 use Rattle.rn_fire.specs.States.{State, IsState, logged}
-use Rattle.rn_worker.proofs.SeenStates.{fits, kept_setup, shows_some}
+use Rattle.rn_worker.proofs.LaterViews.{changed_between, few_after, next_is, show_views}
+use Rattle.rn_worker.proofs.SeenStates.{fits, kept_setup}
 use Rattle.rn_worker.proofs.acting.act.Goals as goal
 
 pub act_on-done-requires-clause-plan : goal.act_on-done-requires-clause-plan
@@ -24,4 +25,38 @@ returns-clause-some g c =
     let setup : Setup = fixed_of (λ s. s.setup) c.args.desk.now in
     let began : t.setup ≡ setup = ap (λ s. s.setup) c.state-state.ensures.value ∙ c.take-turn.ensures.fixed in
     let same : after.setup ≡ setup = kept_setup c.args.worker c.act_on-done.result.fired t after c.act_on-done.ensures.added ∙ began in
-    shows_some c.sight_below-sight.result after setup (seen c.give.new.pass) c.sight_below-sight.ensures.some same c.give.ensures.seen
+    show_views c.view_below-view.result after setup (seen c.give.new.pass)
+    c.view_below-view.ensures.some same c.give.ensures.seen
+
+pub view_below-view-requires-clause-looked : goal.view_below-view-requires-clause-looked
+view_below-view-requires-clause-looked g c =
+    let t : State = c.state-state.result.now in
+    let es = seen c.args.pass.now in
+    let setup : Setup = fixed_of (λ s. s.setup) c.args.desk.now in
+    let begins : StartsWith (logged t) es = subst (λ s. StartsWith (logged s) es) (sym c.state-state.ensures.value) c.take-turn.ensures.entries in
+    let same : t.setup ≡ setup = ap (λ s. s.setup) c.state-state.ensures.value ∙ c.take-turn.ensures.fixed in
+    few_after t c.act_on-done.new.state c.args.worker c.act_on-done.result.fired setup es begins
+    c.requires.going same c.act_on-done.ensures.added c.args.looked c.requires.looked
+
+pub view_below-view-requires-clause-next : goal.view_below-view-requires-clause-next
+view_below-view-requires-clause-next g c =
+    let t : State = c.state-state.result.now in
+    let es = seen c.args.pass.now in
+    let setup : Setup = fixed_of (λ s. s.setup) c.args.desk.now in
+    let begins : StartsWith (logged t) es = subst (λ s. StartsWith (logged s) es) (sym c.state-state.ensures.value) c.take-turn.ensures.entries in
+    let same : t.setup ≡ setup = ap (λ s. s.setup) c.state-state.ensures.value ∙ c.take-turn.ensures.fixed in
+    next_is t c.act_on-done.new.state c.args.worker c.act_on-done.result.fired setup es begins
+    c.requires.going same c.act_on-done.ensures.added c.args.looked c.requires.looked c.args.next
+    c.requires.next
+
+pub returns-clause-changed : goal.returns-clause-changed
+returns-clause-changed g c =
+    let t : State = c.state-state.result.now in
+    let es = seen c.args.pass.now in
+    let setup : Setup = fixed_of (λ s. s.setup) c.args.desk.now in
+    let begins : StartsWith (logged t) es = subst (λ s. StartsWith (logged s) es) (sym c.state-state.ensures.value) c.take-turn.ensures.entries in
+    let same : t.setup ≡ setup = ap (λ s. s.setup) c.state-state.ensures.value ∙ c.take-turn.ensures.fixed in
+    changed_between t c.act_on-done.new.state c.args.worker c.act_on-done.result.fired setup es
+    begins c.requires.going same c.act_on-done.ensures.added c.args.looked c.requires.looked
+    (seen c.give.new.pass) c.give.ensures.seen c.view_below-view.result
+    c.view_below-view.ensures.changed

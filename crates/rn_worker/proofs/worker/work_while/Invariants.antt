@@ -2,11 +2,12 @@
 use Rattle.std.proofs.Common.{◌≡◌, ◌+◌, ◌*◌, ◌-◌, ◌≤◌, cond, length}
 use Rattle.std.specs.Prelude.{IfNone, IfSome}
 use Rattle.rn_desk.specs.Passes.{HasNoTurn, IsOf, fixed_of, mine, number, seen}
-use Rattle.rn_worker.specs.Seen.{HasEnded, Shows}
+use Rattle.rn_worker.specs.Seen.{HasEnded}
+use Rattle.rn_worker.specs.Views.{Follows, ShowsView}
 use Rattle.rn_worker.proofs.worker.work_while.Given as goal
 
-abbrev pub invariant-loop-sight : goal.invariant-loop-sight
-invariant-loop-sight g l = record {
+abbrev pub invariant-loop-view : goal.invariant-loop-view
+invariant-loop-view g l = record {
   here : IsOf (λ s. s.setup) l.desk l.pass;
   free : HasNoTurn l.pass;
   number : number l.pass ≡ number l.fn.pass;
@@ -14,10 +15,11 @@ invariant-loop-sight g l = record {
   fired : l.tally.fired ≡ length (mine l.pass);
   within : length (mine l.pass) ≤ length (seen l.pass);
   swept : l.options.sweep_every ≡ 0 → l.tally.swept ≡ 0;
-  some : IfSome l.sight (Shows (fixed_of (λ s. s.setup) l.desk) (seen l.pass));
-  none : IfNone l.sight (HasEnded (seen l.pass));
+  some : IfSome l.view (ShowsView (fixed_of (λ s. s.setup) l.desk) (seen l.pass));
+  follows : IfSome l.view (Follows (fixed_of (λ s. s.setup) l.desk) l.searcher.idle);
+  none : IfNone l.view (HasEnded (seen l.pass));
 }
 
-abbrev pub decreases-loop-sight : goal.decreases-loop-sight
-decreases-loop-sight g l =
+abbrev pub decreases-loop-view : goal.decreases-loop-view
+decreases-loop-view g l =
     2 * ((l.options.steps + 2) - length (seen l.pass)) + cond l.stopped 0 1

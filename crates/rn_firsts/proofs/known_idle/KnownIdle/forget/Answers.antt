@@ -1,0 +1,7 @@
+use Rattle.rn_firsts.proofs.known_idle.KnownIdle.forget.Goals as goal
+
+pub returns : goal.returns
+returns c system m depth = record {
+  idle = λ n has. absurd (c.clear.ensures n has);
+  held = λ is. absurd (let no : ⊥ = cc in no);
+}

@@ -1,7 +1,0 @@
-use Rattle.rn_least_state.specs.Changed.{Gets}
-use Rattle.rn_least_state.proofs.ChangedLemmas.{Between}
-use Rattle.rn_least_state.proofs.changed.put_numbers.Given as goal
-
-abbrev pub invariant-loop-number : goal.invariant-loop-number
-invariant-loop-number l =
-    Gets (Between l.from l.number l.end) l.initial.changed.items l.changed.items
