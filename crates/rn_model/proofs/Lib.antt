@@ -53,6 +53,7 @@ pub mod ReadingLemmas
 pub mod RenamedReadings
 pub mod ReplacedReadings
 pub mod ReplacedValues
+pub mod RepeatedValues
 pub mod RoomOfStarts
 pub mod Rounds
 pub mod RunLemmas

@@ -28,6 +28,7 @@ pub mod NodeText
 pub mod Numbers
 pub mod Order
 pub mod OrderLaws
+pub mod Repeats
 pub mod RoomLaws
 pub mod RoundLaws
 pub mod Runs

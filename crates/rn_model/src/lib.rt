@@ -13,6 +13,7 @@ mod log;
 mod node_text;
 mod numbers;
 mod ordering;
+mod repeats;
 mod round_laws;
 mod sharing;
 mod system;
@@ -38,6 +39,7 @@ pub use log::{Entries, Entry, FaultKind, MarkLine, MarkLines, Options, Reason, T
 pub use node_text::{write_instance, write_nodes};
 pub use numbers::named;
 pub use ordering::{binding_order_is_total, compare_bindings, same_binding};
+pub use repeats::{Repeat, Repeats, repeats_hold_values, same_repeats};
 pub use round_laws::{forced_terms_are_own, items_come_in, more_items_force_more};
 pub use system::{
     Action, Actions, ArcKind, Channel, Channels, Creation, Creations, Downlink, Downlinks, Net,
