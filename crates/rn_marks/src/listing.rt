@@ -8,12 +8,25 @@ ghost use Rattle.rn_marks.specs.Lines.{line_of, lines_from, lines_at};
 use rn_bag::Bag;
 use rn_items::{Items, NoMemory};
 use rn_live::live;
-use rn_model::{MarkLine, MarkLines, System};
+use rn_model::{MarkLine, MarkLines, Repeats, System};
 use rn_table::Table;
+use rn_value::Vals;
 use std::alloc::Global;
+
+/// Values in a row, equal neighbours counted.
+fn counted(alloc: Global, values: Vals) -> Result<Repeats, NoMemory>
+    ensures { IfOk result (λ repeats. repeats ≡ values) }
+{
+    let mut repeats = Repeats::new(alloc);
+    for value in values.into_vec() {
+        repeats.push(value, 1)?;
+    }
+    Ok(repeats)
+}
 
 /// Adds the line of a place, where it holds tokens.
 fn put_line(
+    alloc: Global,
     number: u32,
     net: u32,
     place: u32,
@@ -23,7 +36,7 @@ fn put_line(
     ensures { OnOk result (lines.new.items
         ≡ lines.old.items ++ line_of number net place bag.now) }
 {
-    let values = bag.sorted_list()?;
+    let values = counted(alloc, bag.sorted_list()?)?;
     if values.is_empty() {
         return Ok(());
     }
@@ -38,6 +51,7 @@ fn put_line(
 
 /// Adds the lines of an instance of this net, place by place.
 fn put_places(
+    alloc: Global,
     table: &Table,
     number: u32,
     net: u32,
@@ -51,19 +65,24 @@ fn put_places(
         let Some(bag) = table.bag(number, place) else {
             return Ok(());
         };
-        put_line(number, net, place, bag, lines)?;
+        put_line(alloc, number, net, place, bag, lines)?;
     }
     Ok(())
 }
 
 /// Adds the lines of an instance, where it is kept.
-fn put_instance(table: &Table, number: u32, lines: &mut Vec<MarkLine>) -> Result<(), NoMemory>
+fn put_instance(
+    alloc: Global,
+    table: &Table,
+    number: u32,
+    lines: &mut Vec<MarkLine>,
+) -> Result<(), NoMemory>
     requires { length (places_of table.now.marking number) < 2 ^ 32 }
     ensures { OnOk result (lines.new.items
         ≡ lines.old.items ++ lines_at table.now.marking number) }
 {
     match table.net_of(number) {
-        Some(net) => put_places(table, number, net, lines),
+        Some(net) => put_places(alloc, table, number, net, lines),
         None => Ok(()),
     }
 }
@@ -76,7 +95,7 @@ fn lines_of(alloc: Global, table: &Table, numbers: &[u32]) -> Result<Vec<MarkLin
 {
     let mut lines = Vec::new(alloc);
     for number in numbers {
-        put_instance(table, *number, &mut lines)?;
+        put_instance(alloc, table, *number, &mut lines)?;
     }
     Ok(lines)
 }

@@ -1,2 +1,3 @@
 pub mod EndedRuns
+pub mod NamedRepeats
 pub mod NamesInOrder

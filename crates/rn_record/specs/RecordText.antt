@@ -2,8 +2,8 @@
 --
 -- A firing names the instances that it makes by the numbers that follow those of all instances
 -- made before. So each text is stated by the names of the nets of these instances, in order.
-use Rattle.std.specs.Prelude.{ℕ, ◌+◌, List, [], ◌∷◌, ◌++◌, length, map, codes}
-use Rattle.std.specs.Prelude.{slice_get, flat_map}
+use Rattle.std.specs.Prelude.{ℕ, ◌≡◌, ◌⊎◌, ◌+◌, List, [], ◌∷◌, ◌++◌, length, map, codes}
+use Rattle.std.specs.Prelude.{slice_get, flat_map, nat_eq, if◌then◌else◌}
 use Rattle.std.specs.Option.{option_map_or}
 use Rattle.rn_value.specs.declared.value.InstRef.TheVariants.{Old}
 use Rattle.rn_value.specs.declared.value.Value.{Value}
@@ -20,9 +20,15 @@ use Rattle.rn_model.specs.declared.log.Entry.{Entry}
 use Rattle.rn_model.specs.declared.log.Entry.TheVariants.{Fire, End}
 use Rattle.rn_model.specs.declared.log.MarkLine.{MarkLine}
 use Rattle.rn_model.specs.declared.log.Told.{Told}
+use Rattle.rn_model.specs.declared.repeats.Repeat.{Repeat}
 use Rattle.rn_model.specs.Systems.{net_at, transition_of}
 use Rattle.rn_model.specs.Firing.{named}
 use Rattle.rn_model.specs.NodeText.{instance_text, node_lines}
+use Rattle.rn_model.specs.Repeats.{repeats_of}
+
+-- There are two formats of records.
+abbrev pub IsFormat : ℕ → Type 0
+IsFormat format = (format ≡ 1) ⊎ (format ≡ 2)
 
 -- the names of the nets of the instances that a node makes
 abbrev pub names_by : System → Node → List (List ℕ)
@@ -106,17 +112,35 @@ place_text system line =
     instance_text (net_at system line.net).name (Old line.inst) ++ codes "."
     ++ place_name (net_at system line.net) line.place
 
--- a place of an instance, with its tokens, as `main[1].q [] []`
-abbrev pub mark_text : System → List (List ℕ) → MarkLine → List ℕ
-mark_text system names line =
-    place_text system line ++ flat_map (token_text names) line.values ++ codes "\n"
+-- how often a value stands there, after it: nothing where it is once
+abbrev pub count_text : ℕ → List ℕ
+count_text n = if nat_eq n 1 then [] else codes "*" ++ numeral n
+
+-- a value after a space, and how often it stands there, as ` 5*3`
+abbrev pub item_text : List (List ℕ) → Repeat → List ℕ
+item_text names r = token_text names r.value ++ count_text r.count
+
+-- Tokens in a row: in format 1 each by itself, in format 2 equal neighbours once, with their number.
+abbrev pub tokens_text : ℕ → List (List ℕ) → List Value → List ℕ
+tokens_text format names vs =
+    if nat_eq format 1 then flat_map (token_text names) vs
+    else flat_map (item_text names) (repeats_of vs)
+
+-- a place of an instance, with its tokens, as `main[1].q [] []`, or `main[1].q []*2`
+abbrev pub mark_text : ℕ → System → List (List ℕ) → MarkLine → List ℕ
+mark_text format system names line =
+    place_text system line ++ tokens_text format names line.values ++ codes "\n"
 
 -- the names at the start, where the instance of `main` is the only one
 abbrev pub first_names : List (List ℕ)
 first_names = codes "main" ∷ []
 
+-- the first line of a record: in format 1 there is none, and format 2 is named
+abbrev pub header_text : ℕ → List ℕ
+header_text format = if nat_eq format 1 then [] else codes "run 2\n"
+
 -- The text of a run: its entries, numbered from 1, and then its marks.
-abbrev pub record_text : System → Told → List ℕ
-record_text system told =
-    entries_text system first_names 1 told.entries
-    ++ flat_map (mark_text system (names_at_end system first_names told.entries)) told.marks
+abbrev pub record_text : ℕ → System → Told → List ℕ
+record_text format system told =
+    header_text format ++ entries_text system first_names 1 told.entries
+    ++ flat_map (mark_text format system (names_at_end system first_names told.entries)) told.marks

@@ -2,10 +2,12 @@
 ghost use Rattle.std.specs.Prelude.{◌≡◌, ◌++◌, All, OnOk, flat_map};
 ghost use Rattle.rn_value.specs.Names.{AreNamed};
 ghost use Rattle.rn_model.specs.Systems.{net_at};
-ghost use Rattle.rn_record.specs.RecordText.{place_name, place_text, token_text, mark_text};
+ghost use Rattle.rn_model.specs.Repeats.{times, values_of};
+ghost use Rattle.rn_record.specs.RecordText.{IsFormat, place_name, place_text, token_text, count_text};
+ghost use Rattle.rn_record.specs.RecordText.{item_text, tokens_text, mark_text};
 
-use rn_model::{MarkLine, System, write_instance};
-use rn_value::{Names, NoMemory, Value, write_value};
+use rn_model::{MarkLine, Repeat, Repeats, System, repeats_hold_values, write_instance};
+use rn_value::{Names, NoMemory, Value, write_numeral, write_value};
 use std::alloc::Global;
 
 fn put_place_name(system: &System, line: &MarkLine, out: &mut Vec<u8>) -> Result<(), NoMemory>
@@ -20,21 +22,105 @@ fn put_place_name(system: &System, line: &MarkLine, out: &mut Vec<u8>) -> Result
     Ok(())
 }
 
+fn put_token(alloc: Global, value: &Value, names: &Names, out: &mut Vec<u8>) -> Result<(), NoMemory>
+    requires { AreNamed names.now value.now }
+    ensures { OnOk result (out.new.items ≡ out.old.items ++ token_text names.now value.now) }
+{
+    out.extend_from_slice(b" ")?;
+    write_value(alloc, value, names, out)
+}
+
+/// Appends a value as often as it stands there.
+fn put_each(
+    alloc: Global,
+    repeat: &Repeat,
+    names: &Names,
+    out: &mut Vec<u8>,
+) -> Result<(), NoMemory>
+    requires { AreNamed names.now repeat.now.value }
+    ensures { OnOk result (out.new.items
+        ≡ out.old.items ++ flat_map (token_text names.now) (times repeat.now)) }
+{
+    for _ in 0..repeat.count {
+        put_token(alloc, &repeat.value, names, out)?;
+    }
+    Ok(())
+}
+
+/// Appends the values one by one.
+fn put_all(
+    alloc: Global,
+    repeats: &[Repeat],
+    names: &Names,
+    out: &mut Vec<u8>,
+) -> Result<(), NoMemory>
+    requires { All (λ r. AreNamed names.now r.value) repeats.now }
+    ensures { OnOk result (out.new.items
+        ≡ out.old.items ++ flat_map (token_text names.now) (values_of repeats.now)) }
+{
+    for repeat in repeats {
+        put_each(alloc, repeat, names, out)?;
+    }
+    Ok(())
+}
+
+fn put_count(alloc: Global, count: u64, out: &mut Vec<u8>) -> Result<(), NoMemory>
+    ensures { OnOk result (out.new.items ≡ out.old.items ++ count_text count) }
+{
+    if count == 1 {
+        return Ok(());
+    }
+    out.extend_from_slice(b"*")?;
+    write_numeral(alloc, count, out)
+}
+
+fn put_item(
+    alloc: Global,
+    repeat: &Repeat,
+    names: &Names,
+    out: &mut Vec<u8>,
+) -> Result<(), NoMemory>
+    requires { AreNamed names.now repeat.now.value }
+    ensures { OnOk result (out.new.items ≡ out.old.items ++ item_text names.now repeat.now) }
+{
+    put_token(alloc, &repeat.value, names, out)?;
+    put_count(alloc, repeat.count, out)
+}
+
+/// Appends the values, each with its number.
+fn put_items(
+    alloc: Global,
+    repeats: &[Repeat],
+    names: &Names,
+    out: &mut Vec<u8>,
+) -> Result<(), NoMemory>
+    requires { All (λ r. AreNamed names.now r.value) repeats.now }
+    ensures { OnOk result (out.new.items
+        ≡ out.old.items ++ flat_map (item_text names.now) repeats.now) }
+{
+    for repeat in repeats {
+        put_item(alloc, repeat, names, out)?;
+    }
+    Ok(())
+}
+
 fn put_tokens(
     alloc: Global,
-    values: &[Value],
+    format: u32,
+    values: &Repeats,
     names: &Names,
     out: &mut Vec<u8>,
 ) -> Result<(), NoMemory>
     requires { All (AreNamed names.now) values.now }
     ensures { OnOk result (out.new.items
-        ≡ out.old.items ++ flat_map (token_text names.now) values.now) }
+        ≡ out.old.items ++ tokens_text format names.now values.now) }
 {
-    for value in values {
-        out.extend_from_slice(b" ")?;
-        write_value(alloc, value, names, out)?;
+    repeats_hold_values();
+    if format == 1 {
+        put_all(alloc, values.as_slice(), names, out)
+    } else {
+        put_items(alloc, values.as_slice(), names, out)
     }
-    Ok(())
 }
 
 fn put_place(
@@ -53,33 +139,37 @@ fn put_place(
 fn put_mark(
     alloc: Global,
     system: &System,
+    format: u32,
     line: &MarkLine,
     names: &Names,
     out: &mut Vec<u8>,
 ) -> Result<(), NoMemory>
     requires { All (AreNamed names.now) line.now.values }
-    ensures { OnOk result (out.new.items ≡ out.old.items ++ mark_text system.now names.now line.now) }
+    ensures { OnOk result (out.new.items
+        ≡ out.old.items ++ mark_text format system.now names.now line.now) }
 {
     put_place(alloc, system, line, out)?;
-    put_tokens(alloc, line.values.as_slice(), names, out)?;
+    put_tokens(alloc, format, &line.values, names, out)?;
     out.extend_from_slice(b"\n")?;
     Ok(())
 }
 
-/// Appends the lines of marks, each a place of an instance with its tokens.
+/// Appends the lines of marks, each a place of an instance with its tokens, in format 1 or 2.
 pub fn put_marks(
     alloc: Global,
     system: &System,
+    format: u32,
     lines: &[MarkLine],
     names: &Names,
     out: &mut Vec<u8>,
 ) -> Result<(), NoMemory>
-    requires { All (λ line. All (AreNamed names.now) line.values) lines.now }
+    requires format { IsFormat format }
+    requires named { All (λ line. All (AreNamed names.now) line.values) lines.now }
     ensures { OnOk result (out.new.items
-        ≡ out.old.items ++ flat_map (mark_text system.now names.now) lines.now) }
+        ≡ out.old.items ++ flat_map (mark_text format system.now names.now) lines.now) }
 {
     for line in lines {
-        put_mark(alloc, system, line, names, out)?;
+        put_mark(alloc, system, format, line, names, out)?;
     }
     Ok(())
 }

@@ -1,6 +1,6 @@
 //! The text of a whole run.
 ghost use Rattle.std.specs.Prelude.{◌≡◌, IfOk};
-ghost use Rattle.rn_record.specs.RecordText.{record_text};
+ghost use Rattle.rn_record.specs.RecordText.{IsFormat, header_text, record_text};
 ghost use Rattle.rn_record.specs.Writable.{HasText};
 
 use crate::entries::put_entries;
@@ -20,33 +20,54 @@ use std::alloc::Global;
 /// ```
 ///
 /// An instance that a firing makes is written with its number, which is the next one after those of
-/// all instances made before.
-pub fn write_told(alloc: Global, system: &System, told: &Told) -> Result<Vec<u8>, NoMemory>
-    requires { HasText system.now told.now }
-    ensures { IfOk result (λ text. text.items ≡ record_text system.now told.now) }
+/// all instances made before. In format 2 a line `run 2` stands first, and equal tokens of a mark are
+/// counted, as `main[1].q []*2`.
+pub fn write_told(
+    alloc: Global,
+    system: &System,
+    format: u32,
+    told: &Told,
+) -> Result<Vec<u8>, NoMemory>
+    requires format { IsFormat format }
+    requires text { HasText system.now told.now }
+    ensures { IfOk result (λ text. text.items ≡ record_text format system.now told.now) }
 {
     write_run(
         alloc,
         system,
+        format,
         told.entries.as_slice(),
         told.marks.as_slice(),
     )
+}
+
+/// The first line of a record.
+fn header(alloc: Global, format: u32) -> Result<Vec<u8>, NoMemory>
+    ensures { IfOk result (λ text. text.items ≡ header_text format) }
+{
+    let mut text = Vec::new(alloc);
+    if format != 1 {
+        text.extend_from_slice(b"run 2\n")?;
+    }
+    Ok(text)
 }
 
 /// The text of the run of these entries and marks, as `write_told` gives it.
 pub fn write_run(
     alloc: Global,
     system: &System,
+    format: u32,
     entries: &[Entry],
     marks: &[MarkLine],
 ) -> Result<Vec<u8>, NoMemory>
-    requires { HasText system.now (record { entries = entries.now; marks = marks.now }) }
-    ensures { IfOk result (λ text.
-        text.items ≡ record_text system.now (record { entries = entries.now; marks = marks.now })) }
+    requires format { IsFormat format }
+    requires text { HasText system.now (record { entries = entries.now; marks = marks.now }) }
+    ensures { IfOk result (λ text. text.items
+        ≡ record_text format system.now (record { entries = entries.now; marks = marks.now })) }
 {
     let mut names = first_names(alloc)?;
-    let mut text = Vec::new(alloc);
+    let mut text = header(alloc, format)?;
     put_entries(alloc, system, entries, &mut names, &mut text)?;
-    put_marks(alloc, system, marks, &names, &mut text)?;
+    put_marks(alloc, system, format, marks, &names, &mut text)?;
     Ok(text)
 }

@@ -6,8 +6,7 @@ ghost use Rattle.rn_fire.specs.States.{end_marking};
 use rn_fire::SimState;
 use rn_items::NoMemory;
 use rn_marks::live_part;
-use rn_model::MarkLine;
-use rn_value::same_all;
+use rn_model::{MarkLine, same_repeats};
 use std::alloc::Global;
 
 /// Whether two lines are the same.
@@ -23,7 +22,7 @@ fn same_line(a: &MarkLine, b: &MarkLine) -> bool
     if a.place != b.place {
         return false;
     }
-    same_all(a.values.as_slice(), b.values.as_slice())
+    same_repeats(&a.values, &b.values)
 }
 
 /// Whether two lists of lines are the same.

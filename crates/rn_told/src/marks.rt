@@ -7,11 +7,10 @@ ghost use Rattle.rn_told.specs.Marks.{marks_from};
 ghost use Rattle.rn_told.specs.MarksAhead.{mark, MarkJudged, MarkSteps, LeavesLess};
 
 use crate::lines::{Next, next_line};
-use rn_items::Items;
 use rn_lines::{Line, ReadMark, ReadToken};
 use rn_lookup::{Directory, Refusal, find_mark, is_called, tokens_are_called};
-use rn_model::{MarkLine, System};
-use rn_value::{NoMemory, Vals, copy};
+use rn_model::{MarkLine, Repeats, System};
+use rn_value::{NoMemory, copy};
 use std::alloc::Global;
 
 /// What comes next where a mark may stand.
@@ -31,14 +30,14 @@ pub(crate) struct MarksRead {
     pub(crate) refusal: Option<Refusal>,
 }
 
-fn values_of(alloc: Global, tokens: &[ReadToken<'_>]) -> Result<Vals, NoMemory>
+fn values_of(alloc: Global, tokens: &[ReadToken<'_>]) -> Result<Repeats, NoMemory>
     ensures { IfOk result (λ vs. vs ≡ map (λ t. t.value) (map token tokens.now)) }
 {
-    let mut values = Vec::with_capacity(alloc, tokens.len())?;
+    let mut values = Repeats::new(alloc);
     for token in tokens {
-        values.push(copy(alloc, &token.value)?)?;
+        values.push(copy(alloc, &token.value)?, 1)?;
     }
-    Ok(Items::from_vec(values))
+    Ok(values)
 }
 
 fn judge_mark(
