@@ -25,7 +25,7 @@ fn text_of_end(alloc: Global, system: &System, reason: Reason) -> Result<Vec<u8>
         entries,
         marks: Items::new(alloc),
     };
-    write_told(alloc, system, &told)
+    write_told(alloc, system, 1, &told)
 }
 
 // Whether the text of a run of no firings with each of these ends is the one beside it.

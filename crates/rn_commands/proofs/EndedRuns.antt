@@ -62,7 +62,7 @@ module _ (system : System) (options : Options) (s : State) (a : Answer)
           live = subst (λ (x : Setup). LivePart x.system (end_of x.system s.fired) record_is.marks) setup
               record_is.live;
           told = record_is.text
-              ∙ ap (λ e. record_text s.setup.system (record { entries = entries_of s.fired e; marks = record_is.marks })) closed.1
+              ∙ ap (λ e. record_text 1 s.setup.system (record { entries = entries_of s.fired e; marks = record_is.marks })) closed.1
               ∙ ap (λ (x : Setup). run_text x.system s.fired reason record_is.marks) setup;
         };
         status = closed.3;

@@ -47,7 +47,7 @@ module _ (options : Options) (bytes net rest : List ℕ) (parts : HasParts bytes
     pub moves_done : (told : Told) (s : State) (whole : IsWhole told.entries)
         (replayed : IsReplayed system options told s) (text : List ℕ) →
         TellsRecord system rest (Verdict.tells told.entries told.marks) →
-        rest ≡ record_text system told → IsState s →
+        rest ≡ record_text 1 system told → IsState s →
         MovesText s.setup.system (logged s) text → MovesComeTo options bytes (done text)
     moves_done told s whole replayed text tells spelled state moved =
         let ended = replayed_ended options bytes net rest parts system accepted told s whole replayed in
@@ -59,7 +59,7 @@ module _ (options : Options) (bytes net rest : List ℕ) (parts : HasParts bytes
               (subst (λ u. Log u.system u.options s.fired s.ended) replayed.setup state.log);
           marks = told.marks;
           live = subst (λ u. LivePart system (end_of u.system s.fired) told.marks) replayed.setup replayed.marks;
-          told = spelled ∙ ap (λ es. record_text system (record { entries = es; marks = told.marks })) entries;
+          told = spelled ∙ ap (λ es. record_text 1 system (record { entries = es; marks = told.marks })) entries;
         } in
         moves_to (done text)
         (RecordMovesTo.moved (length s.fired) whole.reason run

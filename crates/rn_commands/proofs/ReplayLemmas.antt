@@ -95,7 +95,7 @@ module _ (options : Options) (bytes net rest : List ℕ) (parts : HasParts bytes
       pub entries_are : told.entries ≡ entries_of s.fired (Some whole.reason)
       entries_are = sym replayed.entries ∙ ap (entries_of s.fired) replayed_ended
 
-      record_of_run : rest ≡ record_text system told → IsState s →
+      record_of_run : rest ≡ record_text 1 system told → IsState s →
           IsRecordOfRun system options rest (length s.fired) whole.reason
       record_of_run spelled state = record {
         firings = s.fired;
@@ -104,11 +104,11 @@ module _ (options : Options) (bytes net rest : List ℕ) (parts : HasParts bytes
             (subst (λ u. Log u.system u.options s.fired s.ended) replayed.setup state.log);
         marks = told.marks;
         live = subst (λ u. LivePart system (end_of u.system s.fired) told.marks) replayed.setup replayed.marks;
-        told = spelled ∙ ap (λ es. record_text system (record { entries = es; marks = told.marks })) entries_are;
+        told = spelled ∙ ap (λ es. record_text 1 system (record { entries = es; marks = told.marks })) entries_are;
       }
 
       pub replay_done : (text : List ℕ) → TellsRecord system rest (Verdict.tells told.entries told.marks) →
-          rest ≡ record_text system told → IsState s →
+          rest ≡ record_text 1 system told → IsState s →
           IfSome s.ended (λ reason. text ≡ replayed_text (length s.fired) reason) →
           ReplayComesTo options bytes (done text)
       unfolding record_of_run

@@ -55,4 +55,4 @@ IsClosedBy s status line = (reason : Reason) × (s.ended ≡ Some reason)
 
 -- the answer of a run that is written
 abbrev pub IsWrittenBy : State → Answer → Type 0
-IsWrittenBy s a = IsRecordOf s a.text × IsClosedBy s a.status a.line
+IsWrittenBy s a = IsRecordOf 1 s a.text × IsClosedBy s a.status a.line

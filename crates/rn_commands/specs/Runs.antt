@@ -14,7 +14,7 @@ use Rattle.rn_commands.specs.Ends.{end_status, end_message}
 -- the text of these firings, of this end, and of these marks
 abbrev pub run_text : System → List Firing → Reason → List MarkLine → List ℕ
 run_text system firings reason marks =
-    record_text system (record { entries = entries_of firings (Some reason); marks = marks })
+    record_text 1 system (record { entries = entries_of firings (Some reason); marks = marks })
 
 -- a firing's worker is one of so many
 abbrev pub IsOfWorkers : ℕ → Firing → Type 0

@@ -103,7 +103,7 @@ pub(crate) fn told_of(alloc: Global, system: &System, bytes: &[u8]) -> Result<To
     ensures tells { IfOk result (λ told.
         TellsRecord system.now bytes.now (Verdict.tells told.entries told.marks)) }
     ensures whole { IfOk result (λ told. IsWhole told.entries) }
-    ensures spelled { IfOk result (λ told. bytes.now ≡ record_text system.now told) }
+    ensures spelled { IfOk result (λ told. bytes.now ≡ record_text 1 system.now told) }
     ensures refused { (options : RunOptions) →
         IfErr result (Stops (RefusesRecord system.now options bytes.now)) }
 {

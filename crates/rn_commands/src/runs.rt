@@ -53,7 +53,7 @@ pub(crate) fn written(alloc: Global, state: &SimState) -> Result<Answer, NoMemor
     requires { state.now.ended ≢ None }
     ensures { IfOk result (λ a. IsWrittenBy state.now a) }
 {
-    let text = write_record(alloc, state)?;
+    let text = write_record(alloc, state, 1)?;
     let (status, line) = closed_by(alloc, state)?;
     Ok(Answer {
         status,

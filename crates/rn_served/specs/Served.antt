@@ -74,7 +74,7 @@ list_text system names found =
 
 -- what `show` writes
 abbrev pub show_text : System → List (List ℕ) → List MarkLine → List ℕ
-show_text system names marks = flat_map (mark_text system names) marks ++ ok_text
+show_text system names marks = flat_map (mark_text 1 system names) marks ++ ok_text
 
 -- `undo K` takes back the last K entries.
 pub record TakesBack (k : ℕ) (old new : Entries) : Type 0 where

@@ -23,7 +23,7 @@ pub(crate) fn put_show(
     let state = session.state();
     let system = state.system();
     let marks = live_part(alloc, system, state.table())?;
-    put_marks(alloc, system, marks.as_slice(), names, out)?;
+    put_marks(alloc, system, 1, marks.as_slice(), names, out)?;
     out.extend_from_slice(b"ok\n")?;
     Ok(())
 }

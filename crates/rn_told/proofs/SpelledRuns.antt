@@ -152,7 +152,7 @@ module _ (system : System) (all : List ℕ) where
   names = names_for system all
 
   abbrev marks_text : List MarkLine → List ℕ
-  marks_text = flat_map (mark_text system names)
+  marks_text = flat_map (mark_text 1 system names)
 
   tokens_spelled : {tokens : List Token} {a : List ℕ} → AreTokens tokens a → tokens_are_called system all tokens ≡ true →
       a ≡ flat_map (token_text names) (map (λ t. t.value) tokens)
@@ -179,7 +179,7 @@ module _ (system : System) (all : List ℕ) where
   mark_spelled : (m : Marked) (lines : List (Option LineSaid)) (bytes : List ℕ) →
       fault_of_mark system all m (mark_fault system m.inst m.place m.tokens) ≡ None →
       Spell (Some (LineSaid.holds m.inst m.place m.tokens) ∷ lines) bytes →
-      (rest : List ℕ) × Spell lines rest × (bytes ≡ mark_text system names (told_mark system m) ++ rest)
+      (rest : List ℕ) × Spell lines rest × (bytes ≡ mark_text 1 system names (told_mark system m) ++ rest)
   mark_spelled m lines bytes fine (text, rest, IsLine.holds {inst = inst} {place = place} {a = a} {b = b} {t = t} {tokens = tokens} is_inst is_name are, is, spell) =
       let f = called_fine m (mark_fault system inst place (t ∷ tokens)) fine in
       let net : Net = net_at system (net_said system inst) in
@@ -217,7 +217,7 @@ module _ (system : System) (all : List ℕ) where
       let end : read.1 ≡ None = ap (λ r. r.1) e in
       let one = mark_spelled m lines bytes fault (subst (λ l. Spell (l ∷ lines) bytes) is spell) in
       let rest = more read.0 one.0 (ap (λ s. (read.0, s)) end) one.1 in
-      one.2 ∙ ap (λ t. mark_text system names (told_mark system m) ++ t) rest ∙ ap marks_text are
+      one.2 ∙ ap (λ t. mark_text 1 system names (told_mark system m) ++ t) rest ∙ ap marks_text are
 
   by_mark : (line : Option LineSaid) (lines : List (Option LineSaid)) → SpellMarks lines → (o : Option Marked) → marked line ≡ o →
       (marks : List MarkLine) (bytes : List ℕ) → marked_then system all o (marks_from system all lines) ≡ (marks, None) →
@@ -348,22 +348,22 @@ module _ (system : System) (made : List ℕ) where
   Ended ending bytes es ms =
       (reason : Reason) × (es ≡ End reason ∷ [])
       × (ending_text ending ++ 10 ∷ bytes
-      ≡ end_text system (names_for system made) reason ++ flat_map (mark_text system (names_for system made)) ms)
+      ≡ end_text system (names_for system made) reason ++ flat_map (mark_text 1 system (names_for system made)) ms)
 
   -- the end and the marks that lines tell
   marks_told : (reason : Reason) (line : ℕ) (lines : List (Option LineSaid)) (bytes : List ℕ) (es : List Entry) (ms : List MarkLine) →
       with_marks reason line (marks_from system made lines) ≡ Verdict.tells es ms → Spell lines bytes →
-      (es ≡ End reason ∷ []) × (bytes ≡ flat_map (mark_text system (names_for system made)) ms)
+      (es ≡ End reason ∷ []) × (bytes ≡ flat_map (mark_text 1 system (names_for system made)) ms)
   marks_told reason line lines bytes es ms e spell = by (marks_from system made lines).0 (marks_from system made lines).1 refl e
     where
       by : (marks : List MarkLine) (o : Option Refusal) → marks_from system made lines ≡ (marks, o) →
           with_marks reason line (marks, o) ≡ Verdict.tells es ms →
-          (es ≡ End reason ∷ []) × (bytes ≡ flat_map (mark_text system (names_for system made)) ms)
+          (es ≡ End reason ∷ []) × (bytes ≡ flat_map (mark_text 1 system (names_for system made)) ms)
       by marks (Some r) is e = absurd (let no : ⊥ = cc in no)
       by marks None is e =
           let entries : End reason ∷ [] ≡ es = cc in
           let same : marks ≡ ms = cc in
-          (sym entries, marks_spelled system made lines marks bytes is spell ∙ ap (flat_map (mark_text system (names_for system made))) same)
+          (sym entries, marks_spelled system made lines marks bytes is spell ∙ ap (flat_map (mark_text 1 system (names_for system made))) same)
 
   plain_end : (ending : Ending) (reason : Reason) (line : ℕ) (lines : List (Option LineSaid)) (bytes : List ℕ) (es : List Entry) (ms : List MarkLine) →
       ending_text ending ++ 10 ∷ [] ≡ end_text system (names_for system made) reason →
@@ -402,7 +402,7 @@ module _ (system : System) (made : List ℕ) where
             told.0,
             sym (append_assoc (ending_text ending) (10 ∷ []) bytes) ∙ ap (λ t. t ++ bytes) text
                 ∙ ap (λ t. fault_line cause ++ t) (fine.4 ∙ ap (λ t. lines_text ++ t) told.1)
-                ∙ sym (append_assoc (fault_line cause) lines_text (flat_map (mark_text system names) ms)),
+                ∙ sym (append_assoc (fault_line cause) lines_text (flat_map (mark_text 1 system names) ms)),
           )
 
   end_spelled : (ending : Ending) (line : ℕ) (lines : List (Option LineSaid)) (bytes : List ℕ) (es : List Entry) (ms : List MarkLine) →
@@ -438,7 +438,7 @@ entries_more entry (Verdict.bad line r) es ms e = absurd (let no : ⊥ = cc in n
 -- The text of a run, after some instances were made.
 abbrev pub run_text : System → List (List ℕ) → ℕ → List Entry → List MarkLine → List ℕ
 run_text system names step es ms =
-    entries_text system names step es ++ flat_map (mark_text system (names_at_end system names es)) ms
+    entries_text system names step es ++ flat_map (mark_text 1 system (names_at_end system names es)) ms
 
 run_spelled : (system : System) (made : List ℕ) (step line : ℕ) (lines : List (Option LineSaid)) (v : Verdict) →
     Tells system made step line lines v → (es : List Entry) (ms : List MarkLine) (bytes : List ℕ) → v ≡ Verdict.tells es ms →
@@ -449,7 +449,7 @@ run_spelled system made step line lines v (Tells.ended {e = ending} p) es ms byt
     let first = end_line ending lines bytes p spell in
     let ended = end_spelled system made ending (line + 1) (drop 1 lines) first.0 es ms e first.1 in
     let names = names_for system made in
-    let marks = flat_map (mark_text system names) ms in
+    let marks = flat_map (mark_text 1 system names) ms in
     first.2 ∙ ended.2
     ∙ ap (λ t. t ++ marks) (sym (append-nil (end_text system names ended.0)))
     ∙ ap (λ xs. run_text system names step xs ms) (sym ended.1)
@@ -462,7 +462,7 @@ run_spelled system made step line lines v (Tells.fired {all = all} {worker = wor
     ∙ ap (λ x. entry_text system names step entry ++ x) later
     ∙ ap (λ ns. entry_text system names step entry ++ run_text system ns (step + 1) more.0 ms) one.3
     ∙ sym (append_assoc (entry_text system names step entry) (entries_text system (names_past system names entry) (step + 1) more.0)
-    (flat_map (mark_text system (names_at_end system (names_past system names entry) more.0)) ms))
+    (flat_map (mark_text 1 system (names_at_end system (names_past system names entry) more.0)) ms))
     ∙ ap (λ xs. run_text system names step xs ms) (sym more.2)
 
 -- There is a net with a name that is counted.

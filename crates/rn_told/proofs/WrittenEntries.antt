@@ -133,7 +133,7 @@ module _ (system : System) (m : Marking) (made : List ℕ) (depth : ℕ) (good :
   -- The end.
   module _ (step line : ℕ) (marks : List MarkLine) (right : AllByRecursion (IsRightMark system good made at.real at.few) marks) where
     abbrev marks_text : List ℕ
-    marks_text = flat_map (mark_text system names) marks
+    marks_text = flat_map (mark_text 1 system names) marks
 
     abbrev Ended : List ℕ → Reason → Type 0
     Ended text reason = RunTold system made step line (lines_in text) (Verdict.tells (End reason ∷ []) marks)

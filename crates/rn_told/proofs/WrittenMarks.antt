@@ -170,18 +170,18 @@ module _ (system : System) (good : Good system) (all : List ℕ) (real : AllByRe
     line_is (t ∷ tokens) same vs values any are =
         IsLine.holds (instance_written own (good_net system line.net good is.net).name.0 is.low is.high) place_is.0 are
 
-    mark_then_rest : (rest : List ℕ) → lines_in (mark_text system names line ++ rest) ≡ Some (LineSaid.holds own word read.tokens) ∷ lines_in rest
+    mark_then_rest : (rest : List ℕ) → lines_in (mark_text 1 system names line ++ rest) ≡ Some (LineSaid.holds own word read.tokens) ∷ lines_in rest
     mark_then_rest rest =
-        let cut : mark_text system names line ++ rest ≡ (instance_text net.name (Old line.inst) ++ (46 ∷ (word ++ bytes))) ++ 10 ∷ rest =
+        let cut : mark_text 1 system names line ++ rest ≡ (instance_text net.name (Old line.inst) ++ (46 ∷ (word ++ bytes))) ++ 10 ∷ rest =
         mark_cut (instance_text net.name (Old line.inst)) word bytes rest in
         ap lines_in cut ∙ line_then (line_is read.tokens refl line.values read.values is.any read.are) rest
 
   -- the marks are read
   pub marks_read : (marks : List MarkLine) → AllByRecursion IsRightMark marks →
-      marks_from system all (lines_in (flat_map (mark_text system names) marks)) ≡ (marks, None)
+      marks_from system all (lines_in (flat_map (mark_text 1 system names) marks)) ≡ (marks, None)
   marks_read [] are = refl
   marks_read (line ∷ marks) (is, are) =
-      let rest = flat_map (mark_text system names) marks in
+      let rest = flat_map (mark_text 1 system names) marks in
       let m = said line is in
       ap (marks_from system all) (mark_then_rest line is rest)
       ∙ ap (λ o. mark_then (told_mark system m) o (marks_from system all (lines_in rest))) (fine line is)

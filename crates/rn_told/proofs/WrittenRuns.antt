@@ -173,7 +173,7 @@ module _ (system : System) (depth : ℕ) (good : Good system) (marks : List Mark
       ≡ entry_text system names step (Fire f.worker f.binding f.outs) ++ rest =
       append_assoc (entry_text system names step (Fire f.worker f.binding f.outs))
       (entries_text system (names_after system names f.binding) (step + 1) es)
-      (flat_map (mark_text system (names_at_end system (names_after system names f.binding) es)) marks)
+      (flat_map (mark_text 1 system (names_at_end system (names_after system names f.binding) es)) marks)
       ∙ ap (λ ns. entry_text system names step (Fire f.worker f.binding f.outs) ++ run_text system ns (step + 1) es marks) same in
       subst (λ t. RunTold system made step line (lines_in t) (Verdict.tells (entries_of (f ∷ fs) (Some reason)) marks)) (sym text)
       (record {

@@ -23,7 +23,7 @@ OneReading = (system : System) (bytes : List ℕ) (v w : Verdict) →
 abbrev pub OneSpelling : Type 0
 OneSpelling = (system : System) (bytes : List ℕ) (entries : List Entry) (marks : List MarkLine) →
     Good system → TellsRecord system bytes (Verdict.tells entries marks) →
-    bytes ≡ record_text system (record { entries = entries; marks = marks })
+    bytes ≡ record_text 1 system (record { entries = entries; marks = marks })
 
 -- What is told are firings by workers from 1 to 64, and then one end.
 abbrev pub TellsWholeRuns : Type 0
@@ -41,5 +41,5 @@ TextsTell = (system : System) (options : Options) (fired : List Firing) (reason 
     HasText system (record { entries = entries_of fired (Some reason); marks = marks }) →
     IsReadableRun (record { entries = entries_of fired (Some reason); marks = marks }) →
     TellsRecord system
-    (record_text system (record { entries = entries_of fired (Some reason); marks = marks }))
+    (record_text 1 system (record { entries = entries_of fired (Some reason); marks = marks }))
     (Verdict.tells (entries_of fired (Some reason)) marks)

@@ -164,7 +164,7 @@ module _ (net : Weighted) where
 
   -- the lines of marks
   mark_says : (place n : ℕ) →
-      flat_map (mark_text system first_names) (place_line place n)
+      flat_map (mark_text 1 system first_names) (place_line place n)
       ≡ w_mark_line (place_name net.places place) n
   mark_says place zero = refl
   mark_says place (suc n) =
@@ -177,13 +177,13 @@ module _ (net : Weighted) where
       (tokens_text first_names (suc n))
 
   all_marks_say : (place : ℕ) (m : List ℕ) →
-      flat_map (mark_text system first_names) (place_lines place m)
+      flat_map (mark_text 1 system first_names) (place_lines place m)
       ≡ flat_map (λ e. w_mark_line (place_name net.places e.0) e.1) (enumerate_from place m)
   all_marks_say place [] = refl
   all_marks_say place (n ∷ m) =
-      flat_map-append (mark_text system first_names) (place_line place n)
+      flat_map-append (mark_text 1 system first_names) (place_line place n)
       (place_lines (place + 1) m)
-      ∙ ap (λ t. t ++ flat_map (mark_text system first_names) (place_lines (place + 1) m))
+      ∙ ap (λ t. t ++ flat_map (mark_text 1 system first_names) (place_lines (place + 1) m))
       (mark_says place n)
       ∙ ap (λ t. w_mark_line (place_name net.places place) n ++ t) (all_marks_say (place + 1) m)
 
@@ -198,7 +198,7 @@ module _ (net : Weighted) where
   abbrev HasMarks : List ℕ → Type 0
   HasMarks m =
       (marks : List MarkLine) × LivePart system (marking_of m) marks
-      × (flat_map (mark_text system first_names) marks ≡ w_mark_lines net m)
+      × (flat_map (mark_text 1 system first_names) marks ≡ w_mark_lines net m)
 
   has_marks : (m : List ℕ) → HasMarks m
   has_marks m = by net.transitions refl
@@ -212,25 +212,25 @@ module _ (net : Weighted) where
       )
 
   marks_say : (m : List ℕ) (marks : List MarkLine) → LivePart system (marking_of m) marks →
-      flat_map (mark_text system first_names) marks ≡ w_mark_lines net m
+      flat_map (mark_text 1 system first_names) marks ≡ w_mark_lines net m
   marks_say m marks live =
       let has = has_marks m in
-      ap (flat_map (mark_text system first_names))
+      ap (flat_map (mark_text 1 system first_names))
       (live_part_is_unique system (marking_of m) marks has.0 live has.1)
       ∙ has.2
 
   text_says : (options : Options) (ws : List WFiring) (reason : Reason) (marks : List MarkLine) →
       IsTrueWEnd net options (transitions_of ws) reason →
       LivePart system (marking_of (WEnd net (transitions_of ws))) marks →
-      record_text system
+      record_text 1 system
       (record { entries = entries_of (map firing_by ws) (Some reason); marks = marks })
       ≡ w_record_text net ws reason
   text_says options ws reason marks ends live =
       ap
       (λ names. entries_text system first_names 1 (entries_of (map firing_by ws) (Some reason))
-      ++ flat_map (mark_text system names) marks)
+      ++ flat_map (mark_text 1 system names) marks)
       (names_stay_all ws reason)
-      ∙ ap (λ t. t ++ flat_map (mark_text system first_names) marks)
+      ∙ ap (λ t. t ++ flat_map (mark_text 1 system first_names) marks)
       (entries_say options (transitions_of ws) 1 ws reason ends)
       ∙ ap (λ t. w_firing_lines net 1 ws ++ w_end_line reason ++ t)
       (marks_say (WEnd net (transitions_of ws)) marks live)

@@ -95,7 +95,7 @@ pub record IsTextOfLog (net : Weighted) (options : Options) (fs : List Firing) (
   pub log : Log (translated_system net) options fs (Some reason)
   pub marks : List MarkLine
   pub live : LivePart (translated_system net) (end_of (translated_system net) fs) marks
-  pub text : bytes ≡ record_text (translated_system net)
+  pub text : bytes ≡ record_text 1 (translated_system net)
       (record { entries = entries_of fs (Some reason); marks = marks })
 
 -- the firing of the system that stands for one of the net

@@ -17,8 +17,8 @@ live_part-requires c =
     (is_marking c.args.state.now system.result.now table.result.now.marking system.ensures.system
     system.ensures.good table.ensures.stands)
 
-pub write_run-requires : goal.write_run-requires
-write_run-requires c =
+pub write_run-requires-text : goal.write_run-requires-text
+write_run-requires-text c =
     let system = c.system-system in
     let table = c.table-table in
     subst (λ marks. HasText system.result.now (record { entries = c.entries.result.now; marks = marks }))
@@ -39,11 +39,11 @@ returns c =
     live_at_end s system.result.now table.result.now.marking system.ensures.system
     system.ensures.good table.ensures.stands marks c.in_ok-marks.ensures in
     IfOk-weaker c.write_run.result
-    (λ text. text.items ≡ record_text system.result.now (record { entries = entries; marks = c.as_slice.result.now }))
-    (λ text. IsRecordOf s text.items)
+    (λ text. text.items ≡ record_text c.args.format system.result.now (record { entries = entries; marks = c.as_slice.result.now }))
+    (λ text. IsRecordOf c.args.format s text.items)
     (λ text is. record {
       marks = marks;
       live = live;
-      text = is ∙ (λ i. record_text (system.ensures.system i)
+      text = is ∙ (λ i. record_text c.args.format (system.ensures.system i)
           (record { entries = are i; marks = c.as_slice.ensures i }));
     }) c.write_run.ensures
