@@ -18,11 +18,7 @@ use std::alloc::Global;
 /// end dead
 /// main[1].q []
 /// ```
-pub fn write_record(
-    alloc: Global,
-    state: &SimState,
-    format: u32,
-) -> Result<Vec<u8>, NoMemory>
+pub fn write_record(alloc: Global, state: &SimState, format: u32) -> Result<Vec<u8>, NoMemory>
     requires ended { state.now.ended ≢ None }
     requires format { IsFormat format }
     ensures { IfOk result (λ text. IsRecordOf format state.now text.items) }
