@@ -4,4 +4,4 @@ use Rattle.rn_told.proofs.marks.values_of.Given as goal
 
 abbrev pub invariant-loop-token : goal.invariant-loop-token
 invariant-loop-token l =
-    l.values.items ≡ map (λ t. t.value) (map token (take l.token-index l.tokens))
+    l.values ≡ map (λ t. t.value) (map token (take l.token-index l.tokens))
