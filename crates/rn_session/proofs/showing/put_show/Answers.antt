@@ -15,8 +15,8 @@ live_part-requires c =
     good_places c.system-system.result.now t.marking c.system-system.ensures.good
     (subst (λ (x : System). IsMarking x t.marking) (sym c.system-system.ensures.system) c.table.ensures.stands.form)
 
-pub put_marks-requires-named : goal.put_marks-requires-named
-put_marks-requires-named c =
+pub put_marks-requires-clause-named : goal.put_marks-requires-clause-named
+put_marks-requires-clause-named c =
     let s : State = c.args.session.now in
     let t = c.table.result.now in
     let marks = c.in_ok-marks.marks in

@@ -17,8 +17,8 @@ live_part-requires c =
     (is_marking c.args.state.now system.result.now table.result.now.marking system.ensures.system
     system.ensures.good table.ensures.stands)
 
-pub write_run-requires-text : goal.write_run-requires-text
-write_run-requires-text c =
+pub write_run-requires-clause-text : goal.write_run-requires-clause-text
+write_run-requires-clause-text c =
     let system = c.system-system in
     let table = c.table-table in
     subst (λ marks. HasText system.result.now (record { entries = c.entries.result.now; marks = marks }))
