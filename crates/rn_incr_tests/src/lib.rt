@@ -4,6 +4,8 @@
 #[cfg(test)]
 mod anew;
 #[cfg(test)]
+mod following;
+#[cfg(test)]
 mod nets;
 #[cfg(test)]
 mod runs;

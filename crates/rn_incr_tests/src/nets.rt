@@ -22,7 +22,8 @@ pub(crate) fn system_of(alloc: Global, text: &[u8]) -> Result<Arc<System>, Fail>
 /// One worker that drops nothing, and at most so many firings.
 pub(crate) fn options_of(steps: u32) -> Options
     requires { steps ≤ most_steps }
-    ensures { IsInLimits result }
+    ensures limits { IsInLimits result }
+    ensures steps { result.steps ≡ steps }
 {
     Options {
         workers: 1,
