@@ -80,6 +80,7 @@ impl KnownIdle {
     {
         let grows = table.next() > FEW && !self.pace.rests();
         self.idle.clear(grows);
+        self.pace.forget();
         self.held = false;
     }
 
@@ -106,8 +107,8 @@ impl KnownIdle {
         ensures { self.new ≡ self.old }
     {
         let count = self.idle.count();
-        self.pace.know(count);
-        let spared = self.idle.take_passed();
+        let looked = self.pace.know(count);
+        let spared = self.idle.take_passed().saturating_add(looked as u64);
         self.credit.earn(spared, count);
         if !self.pace.is_due() {
             return false;

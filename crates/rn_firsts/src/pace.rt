@@ -39,9 +39,11 @@ impl Pace {
         self.known = self.known.saturating_add(1);
     }
 
-    /// So many instances are known.
-    pub(crate) fn know(&mut self, count: u32) {
+    /// So many instances are known. It returns how many more these are than before.
+    pub(crate) fn know(&mut self, count: u32) -> u32 {
+        let more = count.saturating_sub(self.known);
         self.known = count;
+        more
     }
 
     /// No instance is known.
