@@ -99,6 +99,9 @@ impl Credit {
 
     /// So many instances were looked at in vain, or needn't be looked at. So many are known.
     pub(crate) fn earn(&mut self, spared: u64, known: u32) {
+        if spared == 0 {
+            return;
+        }
         self.saved = self
             .saved
             .saturating_add(spared.saturating_mul(WORTH))
