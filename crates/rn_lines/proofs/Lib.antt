@@ -1,7 +1,9 @@
 pub mod Beginnings
+pub mod Counts
 pub mod Digits
 pub mod Inside
 pub mod InstanceReading
+pub mod ItemReadings
 pub mod LineForms
 pub mod LineReadings
 pub mod NodeReadings

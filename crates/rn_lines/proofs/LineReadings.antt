@@ -13,35 +13,19 @@ use Rattle.rn_value.proofs.Numerals.{IsNumeral-digits}
 use Rattle.rn_value.proofs.Spans.{Stops}
 use Rattle.rn_lines.specs.ValueText.{Said, Seen, IsValue, most_brackets}
 use Rattle.rn_lines.specs.NodeText.{IsInstance}
-use Rattle.rn_lines.specs.LineText.{LeadSaid, Token, LineSaid, IsLead, AreTokens, IsLine}
+use Rattle.rn_lines.specs.LineText.{LeadSaid, Token, Held, LineSaid, IsLead, AreItems, IsLine}
 use Rattle.rn_lines.specs.Reading.{◌>>=◌, Misses, are_plain, number_after, numeral_at, byte_at, name_at, inst_at, seen_at}
-use Rattle.rn_lines.specs.LineReading.{step_at, worker_at, lead_at, last_at, token_at, tokens_at, mark_at}
+use Rattle.rn_lines.specs.LineReading.{step_at, worker_at, lead_at, last_at, items_at, mark_at}
 use Rattle.rn_lines.specs.declared.unread.Unread.{Unread}
 use Rattle.rn_lines.specs.declared.unread.Unread.TheVariants as unread
 use Rattle.rn_lines.proofs.Prefixes.{longest_prefix, prefix_is}
-use Rattle.rn_lines.proofs.NumeralReading.{bind_some, plain_numeral, numeral_of, numeral_reads, NumeralAt, numeral_read}
+use Rattle.rn_lines.proofs.NumeralReading.{bind_some, plain_numeral, numeral_of, numeral_reads, NumeralAt, numeral_read, step_reads, step_read}
 use Rattle.rn_lines.proofs.InstanceReading.{byte_reads, byte_read, name_reads, name_read, inst_reads, inst_read}
 use Rattle.rn_lines.proofs.Beginnings.{seen_reads, seen_read}
 use Rattle.rn_lines.proofs.Rows.{no_bytes}
+use Rattle.rn_lines.proofs.ItemReadings.{item_delimits, items_length, items_reads, items_read}
 
--- The lead of a firing's line: its step,
-step_reads : {n : ℕ} {step : List ℕ} → IsNumeral n step → (rest : List ℕ) → Stops is_digit rest → step_at (step ++ rest) ≡ Some (step, rest)
-step_reads {n} {step} p rest stops =
-    let parts = prefix_is is_digit step rest (IsNumeral-digits p) stops in
-    let plain : List ℕ → List ℕ → Option (List ℕ × List ℕ) = λ a b. cond (are_plain a) (Some (a, b)) None in
-    let read : List ℕ × List ℕ = (step, rest) in
-    (λ i. plain (parts.0 i) (parts.1 i)) ∙ ap (λ t. cond t (Some read) None) (plain_numeral p)
-
-step_read : (bytes : List ℕ) (x : List ℕ × List ℕ) → step_at bytes ≡ Some x → (bytes ≡ x.0 ++ x.1) × IsNumeral (number_after 0 x.0) x.0
-step_read bytes x e =
-    let step : List ℕ = take (prefix_len is_digit bytes) bytes in
-    let rest : List ℕ = drop (prefix_len is_digit bytes) bytes in
-    let read : List ℕ × List ℕ = (step, rest) in
-    let tests = cond_some (are_plain step) read x e in
-    let P : List ℕ × List ℕ → Type 0 = λ x. (bytes ≡ x.0 ++ x.1) × IsNumeral (number_after 0 x.0) x.0 in
-    subst P tests.1 (sym (take-append-drop (prefix_len is_digit bytes) bytes), numeral_of step tests.0 (longest_prefix is_digit bytes).0)
-
--- its worker,
+-- The worker of a firing's line,
 abbrev as_worker : ℕ → List ℕ → Option (ℕ × List ℕ)
 as_worker n rest = Some (n, rest)
 
@@ -132,97 +116,12 @@ last_read bytes t e =
     let whole : bytes ≡ here.text = here.whole ∙ ap (λ rest. here.text ++ rest) (no_bytes v.0.rest (eqb-true (length v.0.rest) 0 tests.0)) ∙ append-nil here.text in
     subst (λ t. IsValue most_brackets t.value t.named bytes) tests.1 (subst (IsValue most_brackets v.0.value v.0.named) (sym whole) here.stands)
 
--- Tokens up to the end
-abbrev as_token : Seen → Option (Token × List ℕ)
-as_token v = Some (record { value = v.value; named = v.named }, v.rest)
-
-abbrev one_more : Token → List Token → Option (List Token)
-one_more t ts = Some (t ∷ ts)
-
-token_delimits : {ts : List Token} {a : List ℕ} → AreTokens ts a → IsDelimited a × Stops is_name_byte a
-token_delimits AreTokens.none = (tt, tt)
-token_delimits (AreTokens.some t others) = (refl, refl)
-
-tokens_length : {ts : List Token} {a : List ℕ} → AreTokens ts a → length ts ≤ length a
-tokens_length AreTokens.none = omega arith
-tokens_length (AreTokens.some {text = text} {rest = rest} t others) = let h = tokens_length others in let size = length-append text rest in omega (arith, h, size)
-
-token_reads : (t : Token) (text rest : List ℕ) → IsValue most_brackets t.value t.named text → IsDelimited rest → token_at (32 ∷ (text ++ rest)) ≡ Some (t, rest)
-token_reads t text rest stands d =
-    ap (λ o. o >>= λ text. seen_at text >>= as_token) (byte_reads 32 (text ++ rest))
-    ∙ ap (λ o. o >>= as_token) (seen_reads (text ++ rest) (record { value = t.value; named = t.named; rest = rest }) (record { text = text; whole = refl; stands = stands; delimited = d }))
-
-record TokenAt (bytes : List ℕ) (x : Token × List ℕ) : Type 0 where
-  text : List ℕ
-  whole : bytes ≡ 32 ∷ (text ++ x.1)
-  stands : IsValue most_brackets x.0.value x.0.named text
-
-token_read : (bytes : List ℕ) (x : Token × List ℕ) → token_at bytes ≡ Some x → TokenAt bytes x
-token_read bytes x e =
-    let space = bind_some (byte_at 32 bytes) (λ text. seen_at text >>= as_token) x e in
-    let v = bind_some (seen_at space.0) as_token x space.2 in
-    let here = seen_read space.0 v.0 v.1 in
-    subst (TokenAt bytes) (same_Some (record { value = v.0.value; named = v.0.named }, v.0.rest) x v.2)
-    (record { text = here.text; whole = byte_read 32 bytes space.0 space.1 ∙ ap (λ b. 32 ∷ b) here.whole; stands = here.stands })
-
-tokens_read_all : {ts : List Token} {a : List ℕ} → AreTokens ts a → (most : ℕ) → length ts ≤ most → tokens_at most a ≡ Some ts
-tokens_read_all AreTokens.none zero few = refl
-tokens_read_all AreTokens.none (suc most) few = refl
-tokens_read_all (AreTokens.some t others) zero few = absurd (omega arith)
-tokens_read_all (AreTokens.some {text = text} {rest = rest} {v = v} {named = named} t others) (suc most) few =
-    let first : Token = record { value = v; named = named } in
-    ap (λ o. o >>= λ t. tokens_at most t.1 >>= one_more t.0) (token_reads first text rest t (token_delimits others).0)
-    ∙ ap (λ o. o >>= one_more first) (tokens_read_all others most (omega arith))
-
-tokens_read : (most : ℕ) (bytes : List ℕ) (ts : List Token) → tokens_at most bytes ≡ Some ts → AreTokens ts bytes
-tokens_read zero [] ts e = subst (λ ts. AreTokens ts []) (same_Some [] ts e) AreTokens.none
-tokens_read zero (c ∷ bytes) ts e = cc
-tokens_read (suc most) [] ts e = subst (λ ts. AreTokens ts []) (same_Some [] ts e) AreTokens.none
-tokens_read (suc most) (c ∷ bytes) ts e =
-    let t = bind_some (token_at (c ∷ bytes)) (λ t. tokens_at most t.1 >>= one_more t.0) ts e in
-    let more = bind_some (tokens_at most t.0.1) (one_more t.0.0) ts t.2 in
-    let here = token_read (c ∷ bytes) t.0 t.1 in
-    let others = tokens_read most t.0.1 more.0 more.1 in
-    subst (λ ts. AreTokens ts (c ∷ bytes)) (same_Some (t.0.0 ∷ more.0) ts more.2)
-    (subst (AreTokens (t.0.0 ∷ more.0)) (sym here.whole) (AreTokens.some here.stands others))
-
--- Tokens are read one after the other, as by a loop.
-abbrev pub with_tokens : List Token → Option (List Token) → Option (List Token)
-with_tokens front read = read >>= λ ts. Some (front ++ ts)
-
-regroup : (front : List Token) (t : Token) (read : Option (List Token)) → with_tokens front (read >>= one_more t) ≡ with_tokens (front ++ t ∷ []) read
-regroup front t None = refl
-regroup front t (Some ts) = ap (λ (ts : List Token). Some ts) (sym (append_assoc front (t ∷ []) ts))
-
-step : (most i : ℕ) (rest : List ℕ) → i < most → 0 < length rest → tokens_at (most - i) rest ≡ (token_at rest >>= λ t. tokens_at (most - (i + 1)) t.1 >>= one_more t.0)
-step most i [] low some = absurd (omega arith)
-step most i (c ∷ rest) low some =
-    let k : most - i ≡ suc (most - (i + 1)) = omega arith in
-    ap (λ k. tokens_at k (c ∷ rest)) k
-
-pub token_on : (most i : ℕ) (rest next : List ℕ) (t : Token) (front new : List Token) (whole : Option (List Token)) → i < most → 0 < length rest → token_at rest ≡ Some (t, next) → new ≡ front ++ t ∷ [] →
-    with_tokens front (tokens_at (most - i) rest) ≡ whole → with_tokens new (tokens_at (most - (i + 1)) next) ≡ whole
-token_on most i rest next t front new whole low some read put so_far =
-    ap (λ front. with_tokens front (tokens_at (most - (i + 1)) next)) put
-    ∙ sym (regroup front t (tokens_at (most - (i + 1)) next))
-    ∙ ap (λ o. with_tokens front (o >>= λ t. tokens_at (most - (i + 1)) t.1 >>= one_more t.0)) (sym read)
-    ∙ ap (with_tokens front) (sym (step most i rest low some))
-    ∙ so_far
-
-pub token_ends : (e : Unread) (most i : ℕ) (rest : List ℕ) (front : List Token) (whole : Option (List Token)) → i < most → 0 < length rest → Misses e (token_at rest) →
-    with_tokens front (tokens_at (most - i) rest) ≡ whole → Misses e whole
-token_ends unread.NoMemory most i rest front whole low some none so_far = tt
-token_ends unread.NotThere most i rest front whole low some none so_far =
-    sym so_far
-    ∙ ap (with_tokens front) (step most i rest low some)
-    ∙ ap (λ o. with_tokens front (o >>= λ t. tokens_at (most - (i + 1)) t.1 >>= one_more t.0)) none
-
 -- Marks
-abbrev as_mark : Said → List ℕ → List Token → Option LineSaid
-as_mark inst place tokens = cond (nat_eq (length tokens) 0) None (Some (LineSaid.holds inst place tokens))
+abbrev as_mark : Said → List ℕ → List Held → Option LineSaid
+as_mark inst place items = cond (nat_eq (length items) 0) None (Some (LineSaid.holds inst place items))
 
 abbrev after_place : Said → List ℕ × List ℕ → Option LineSaid
-after_place inst place = tokens_at (length place.1) place.1 >>= as_mark inst place.0
+after_place inst place = items_at (length place.1) place.1 >>= as_mark inst place.0
 
 abbrev after_inst : Said × List ℕ → Option LineSaid
 after_inst inst = byte_at 46 inst.1 >>= λ word. name_at word >>= after_place inst.0
@@ -230,29 +129,29 @@ after_inst inst = byte_at 46 inst.1 >>= λ word. name_at word >>= after_place in
 instance_reads : {inst : Said} {a : List ℕ} → IsInstance inst a → (rest : List ℕ) → inst_at (a ++ rest) ≡ Some (inst, rest)
 instance_reads (IsInstance.instance is low high p) rest = inst_reads is low high p rest
 
-pub mark_reads : {inst : Said} {place a b : List ℕ} {t : Token} {tokens : List Token} → IsInstance inst a → IsName place → AreTokens (t ∷ tokens) b → mark_at (a ++ (46 ∷ (place ++ b))) ≡ Some (LineSaid.holds inst place (t ∷ tokens))
-mark_reads {inst} {place} {a} {b} {t} {tokens} is named all =
+pub mark_reads : {inst : Said} {place a b : List ℕ} {h : Held} {items : List Held} → IsInstance inst a → IsName place → AreItems (h ∷ items) b → mark_at (a ++ (46 ∷ (place ++ b))) ≡ Some (LineSaid.holds inst place (h ∷ items))
+mark_reads {inst} {place} {a} {b} {h} {items} is named all =
     ap (λ o. o >>= after_inst) (instance_reads is (46 ∷ (place ++ b)))
     ∙ ap (λ o. o >>= λ word. name_at word >>= after_place inst) (byte_reads 46 (place ++ b))
-    ∙ ap (λ o. o >>= after_place inst) (name_reads place b named (token_delimits all).1)
-    ∙ ap (λ o. o >>= as_mark inst place) (tokens_read_all all (length b) (tokens_length all))
-    ∙ ap (λ u. cond u None (Some (LineSaid.holds inst place (t ∷ tokens)))) (ne_eqb (length (t ∷ tokens)) 0 (λ e. omega arith))
+    ∙ ap (λ o. o >>= after_place inst) (name_reads place b named (item_delimits all).name)
+    ∙ ap (λ o. o >>= as_mark inst place) (items_reads all (length b) (items_length all))
+    ∙ ap (λ u. cond u None (Some (LineSaid.holds inst place (h ∷ items)))) (ne_eqb (length (h ∷ items)) 0 (λ e. omega arith))
 
 pub mark_read : (bytes : List ℕ) (x : LineSaid) → mark_at bytes ≡ Some x → IsLine x bytes
 mark_read bytes x e =
     let inst = bind_some (inst_at bytes) after_inst x e in
     let point = bind_some (byte_at 46 inst.0.1) (λ word. name_at word >>= after_place inst.0.0) x inst.2 in
     let place = bind_some (name_at point.0) (after_place inst.0.0) x point.2 in
-    let tokens = bind_some (tokens_at (length place.0.1) place.0.1) (as_mark inst.0.0 place.0.0) x place.2 in
+    let items = bind_some (items_at (length place.0.1) place.0.1) (as_mark inst.0.0 place.0.0) x place.2 in
     let here = inst_read bytes inst.0 inst.1 in
     let named = name_read point.0 place.0 place.1 in
     let whole : bytes ≡ (inst.0.0.name ++ (91 ∷ here.digits ++ 93 ∷ [])) ++ (46 ∷ (place.0.0 ++ place.0.1)) =
     here.whole ∙ ap (λ b. (inst.0.0.name ++ (91 ∷ here.digits ++ 93 ∷ [])) ++ b) (byte_read 46 inst.0.1 point.0 point.1 ∙ ap (λ b. 46 ∷ b) named.0) in
-    by inst.0.0 (inst.0.0.name ++ (91 ∷ here.digits ++ 93 ∷ [])) place.0.0 place.0.1 tokens.0 (tokens_read (length place.0.1) place.0.1 tokens.0 tokens.1) tokens.2 whole (IsInstance.instance here.named here.low here.high here.stands) named.1
+    by inst.0.0 (inst.0.0.name ++ (91 ∷ here.digits ++ 93 ∷ [])) place.0.0 place.0.1 items.0 (items_read (length place.0.1) place.0.1 items.0 items.1) items.2 whole (IsInstance.instance here.named here.low here.high here.stands) named.1
   where
-    by : (inst : Said) (a place b : List ℕ) (ts : List Token) → AreTokens ts b → as_mark inst place ts ≡ Some x → bytes ≡ a ++ (46 ∷ (place ++ b)) → IsInstance inst a → IsName place → IsLine x bytes
+    by : (inst : Said) (a place b : List ℕ) (hs : List Held) → AreItems hs b → as_mark inst place hs ≡ Some x → bytes ≡ a ++ (46 ∷ (place ++ b)) → IsInstance inst a → IsName place → IsLine x bytes
     by inst a place b [] all e whole is named = cc
-    by inst a place b (t ∷ ts) all e whole is named =
-        let some : nat_eq (length (t ∷ ts)) 0 ≡ false = ne_eqb (length (t ∷ ts)) 0 (λ e. omega arith) in
-        let said : Some (LineSaid.holds inst place (t ∷ ts)) ≡ Some x = sym (ap (λ u. cond u None (Some (LineSaid.holds inst place (t ∷ ts)))) some) ∙ e in
-        subst (λ x. IsLine x bytes) (same_Some (LineSaid.holds inst place (t ∷ ts)) x said) (subst (IsLine (LineSaid.holds inst place (t ∷ ts))) (sym whole) (IsLine.holds is named all))
+    by inst a place b (h ∷ hs) all e whole is named =
+        let some : nat_eq (length (h ∷ hs)) 0 ≡ false = ne_eqb (length (h ∷ hs)) 0 (λ e. omega arith) in
+        let said : Some (LineSaid.holds inst place (h ∷ hs)) ≡ Some x = sym (ap (λ u. cond u None (Some (LineSaid.holds inst place (h ∷ hs)))) some) ∙ e in
+        subst (λ x. IsLine x bytes) (same_Some (LineSaid.holds inst place (h ∷ hs)) x said) (subst (IsLine (LineSaid.holds inst place (h ∷ hs))) (sym whole) (IsLine.holds is named all))

@@ -16,6 +16,7 @@ use Rattle.rn_value.specs.Grammar.IsWholeNumber.{positive, negative}
 use Rattle.rn_value.proofs.Numerals.{IsNumeral-digits, IsNumeral-first}
 use Rattle.rn_value.proofs.Spans.{Stops}
 use Rattle.rn_lines.specs.ValueText.{HasSixtyFourBits}
+use Rattle.rn_lines.specs.LineReading.{step_at}
 use Rattle.rn_lines.specs.Reading as reading
 use Rattle.rn_lines.specs.Reading.{◌>>=◌, are_plain, number_after, plain_number, numeral_at, whole_at}
 use Rattle.rn_lines.proofs.Digits.{some_within}
@@ -30,7 +31,7 @@ number_goes_on n [] b = refl
 number_goes_on n (d ∷ a) b = number_goes_on (n * 10 + (d - 48)) a b
 
 -- a numeral's digits spell its number
-numeral_value : {n : ℕ} {a : List ℕ} → IsNumeral n a → number_after 0 a ≡ n
+pub numeral_value : {n : ℕ} {a : List ℕ} → IsNumeral n a → number_after 0 a ≡ n
 numeral_value (digit {d = d} small) = omega arith
 numeral_value (more {n = n} {d = d} {prefix = prefix} low p small) =
     let e = numeral_value p in
@@ -216,3 +217,20 @@ spelled_same most m n bytes low plain all e = (
 
 pub spelled_none : (most n : ℕ) (bytes : List ℕ) → n ≤ most → None ≡ spelled most bytes → IsNumeral n bytes → ⊥
 spelled_none most n bytes low e p = none-some n (e ∙ spells most n bytes low p)
+
+-- Numerals of any length.
+pub step_reads : {n : ℕ} {step : List ℕ} → IsNumeral n step → (rest : List ℕ) → Stops is_digit rest → step_at (step ++ rest) ≡ Some (step, rest)
+step_reads {n} {step} p rest stops =
+    let parts = prefix_is is_digit step rest (IsNumeral-digits p) stops in
+    let plain : List ℕ → List ℕ → Option (List ℕ × List ℕ) = λ a b. cond (are_plain a) (Some (a, b)) None in
+    let read : List ℕ × List ℕ = (step, rest) in
+    (λ i. plain (parts.0 i) (parts.1 i)) ∙ ap (λ t. cond t (Some read) None) (plain_numeral p)
+
+pub step_read : (bytes : List ℕ) (x : List ℕ × List ℕ) → step_at bytes ≡ Some x → (bytes ≡ x.0 ++ x.1) × IsNumeral (number_after 0 x.0) x.0
+step_read bytes x e =
+    let step : List ℕ = take (prefix_len is_digit bytes) bytes in
+    let rest : List ℕ = drop (prefix_len is_digit bytes) bytes in
+    let read : List ℕ × List ℕ = (step, rest) in
+    let tests = cond_some (are_plain step) read x e in
+    let P : List ℕ × List ℕ → Type 0 = λ x. (bytes ≡ x.0 ++ x.1) × IsNumeral (number_after 0 x.0) x.0 in
+    subst P tests.1 (sym (take-append-drop (prefix_len is_digit bytes) bytes), numeral_of step tests.0 (longest_prefix is_digit bytes).0)

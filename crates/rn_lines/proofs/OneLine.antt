@@ -11,7 +11,7 @@ use Rattle.rn_items.proofs.Bools.{and_left, and_right}
 use Rattle.rn_value.proofs.OneLine.{OneLine, joined, numeral_line, bracketed, inside_line}
 use Rattle.rn_value.proofs.OneLine.{name_line as bytes_line}
 use Rattle.rn_lines.specs.Laws.{LinesHoldNoLineFeed}
-use Rattle.rn_lines.specs.LineText.{LeadSaid, Token, LineSaid, IsLead, AreTokens, IsLine, ending_text}
+use Rattle.rn_lines.specs.LineText.{LeadSaid, Held, LineSaid, IsLead, IsCount, AreItems, IsLine, ending_text}
 use Rattle.rn_lines.specs.NodeText.{Given, NodeSaid, IsInstance, AreGiven, IsNode}
 use Rattle.rn_lines.specs.ValueText.{Said, IsValue, IsRow, IsTail}
 use Rattle.rn_lines.specs.declared.lines.Ending.{Ending}
@@ -53,9 +53,14 @@ lead_line : {l : LeadSaid} {a : List ℕ} → IsLead l a → OneLine a
 lead_line (IsLead.lead {step = step} {digits = digits} p low high q) =
     joined step (32 ∷ 119 ∷ (digits ++ 32 ∷ [])) (numeral_line p) ((λ e. omega arith), ((λ e. omega arith), joined digits (32 ∷ []) (numeral_line q) ((λ e. omega arith), tt)))
 
-tokens_line : {ts : List Token} {a : List ℕ} → AreTokens ts a → OneLine a
-tokens_line AreTokens.none = tt
-tokens_line (AreTokens.some {text = text} {rest = rest} t others) = ((λ e. omega arith), joined text rest (value_line t) (tokens_line others))
+count_line : {times a : List ℕ} → IsCount times a → OneLine a
+count_line IsCount.once = tt
+count_line (IsCount.often low p) = ((λ e. omega arith), numeral_line p)
+
+items_line : {hs : List Held} {a : List ℕ} → AreItems hs a → OneLine a
+items_line AreItems.none = tt
+items_line (AreItems.some {text = text} {count = count} {rest = rest} t c others) =
+    ((λ e. omega arith), joined text (count ++ rest) (value_line t) (joined count rest (count_line c) (items_line others)))
 
 -- the bytes of an end's line, by a test that computes
 passing : (a : List ℕ) → list_all (λ c. not (nat_eq c 10)) a ≡ true → OneLine a
@@ -80,7 +85,7 @@ one_line (IsLine.ends {e = e}) = ending_line e
 one_line (IsLine.would_fire others) = ((λ e. omega arith), ((λ e. omega arith), node_line others))
 one_line (IsLine.would_call others) = ((λ e. omega arith), ((λ e. omega arith), ((λ e. omega arith), ((λ e. omega arith), node_line others))))
 one_line (IsLine.holds {place = place} {b = b} (IsInstance.instance {name = name} {digits = digits} is low high p) named all) =
-    joined (name ++ (91 ∷ digits ++ 93 ∷ [])) (46 ∷ (place ++ b)) (instance_line name digits is p) ((λ e. omega arith), joined place b (name_line place named) (tokens_line all))
+    joined (name ++ (91 ∷ digits ++ 93 ∷ [])) (46 ∷ (place ++ b)) (instance_line name digits is p) ((λ e. omega arith), joined place b (name_line place named) (items_line all))
 
 pub no_line_feed : LinesHoldNoLineFeed
 no_line_feed x a is = All-from_recursion (λ c. c ≢ 10) a (one_line is)

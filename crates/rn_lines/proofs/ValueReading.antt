@@ -137,8 +137,8 @@ row_value item c bytes byte rest is apart =
 mutual
   unfolding rows_at
 
-  pub value_reads : {depth : ℕ} {v : Value} {said : List Said} {a : List ℕ} → IsValue depth v said a → (rest : List ℕ) → IsDelimited rest → value_at depth (a ++ rest) ≡ Some (v, said, rest)
-  value_reads {depth} (IsValue.number fits n) rest d = whole_form (rows_at depth) fits n rest (stops_digits rest d)
+  pub value_reads : {depth : ℕ} {v : Value} {said : List Said} {a : List ℕ} → IsValue depth v said a → (rest : List ℕ) → Stops is_digit rest → value_at depth (a ++ rest) ≡ Some (v, said, rest)
+  value_reads {depth} (IsValue.number fits n) rest d = whole_form (rows_at depth) fits n rest d
   value_reads {depth} (IsValue.text utf8 s) rest d = text_form (rows_at depth) utf8 s rest
   value_reads (IsValue.tuple {depth = depth} {bytes = b} parts) rest d =
       ap (λ b. rows_at (suc depth) 93 b >>= λ x. Some (Value.Tuple x.0, x.1, x.2)) (append_assoc b (93 ∷ []) rest)
@@ -158,7 +158,7 @@ mutual
       let size : length all ≡ length b + length r + suc (length rest) = length-append (b ++ r) (c ∷ rest) ∙ ap (λ n. n + suc (length rest)) (length-append b r) in
       row_value (value_at depth) c all f.byte ((f.rest ++ r) ++ c ∷ rest) (ap (λ b. (b ++ r) ++ c ∷ rest) f.is) (apart b f)
       ∙ ap (λ bytes. value_at depth bytes >>= λ x. with_front (x.0 ∷ []) x.1 (tail_at (value_at depth) c (length all) x.2)) (append_assoc b r (c ∷ rest))
-      ∙ ap (λ o. o >>= λ x. with_front (x.0 ∷ []) x.1 (tail_at (value_at depth) c (length all) x.2)) (value_reads t (r ++ c ∷ rest) (tail_delimits others c rest closes))
+      ∙ ap (λ o. o >>= λ x. with_front (x.0 ∷ []) x.1 (tail_at (value_at depth) c (length all) x.2)) (value_reads t (r ++ c ∷ rest) (stops_digits (r ++ c ∷ rest) (tail_delimits others c rest closes)))
       ∙ ap (with_front (v ∷ []) said) (tail_reads others (length all) c rest (omega (arith, few, size)) closes)
 
   tail_reads : {depth : ℕ} {vs : List Value} {said : List Said} {a : List ℕ} → IsTail depth vs said a → (most c : ℕ) (rest : List ℕ) → length vs < most → Closes c →
@@ -168,7 +168,7 @@ mutual
   tail_reads (IsTail.comma t others) zero c rest few closes = absurd (omega arith)
   tail_reads {depth} (IsTail.comma {v = v} {vs = vs} {said = said} {more = more} {bytes = b} {rest = r} t others) (suc most) c rest few closes =
       ap (λ b. value_at depth b >>= λ x. with_front (x.0 ∷ []) x.1 (tail_at (value_at depth) c most x.2)) (append_assoc b r (c ∷ rest))
-      ∙ ap (λ o. o >>= λ x. with_front (x.0 ∷ []) x.1 (tail_at (value_at depth) c most x.2)) (value_reads t (r ++ c ∷ rest) (tail_delimits others c rest closes))
+      ∙ ap (λ o. o >>= λ x. with_front (x.0 ∷ []) x.1 (tail_at (value_at depth) c most x.2)) (value_reads t (r ++ c ∷ rest) (stops_digits (r ++ c ∷ rest) (tail_delimits others c rest closes)))
       ∙ ap (with_front (v ∷ []) said) (tail_reads others most c rest (omega arith) closes)
 
 -- What is read is in the grammar: a value before the rest,

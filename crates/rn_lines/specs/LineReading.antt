@@ -1,11 +1,11 @@
 -- What the readers of lines give, as functions on lists of bytes. (They connect the code to the
 -- grammar of `LineText`; the promise of `read_line` is stated by the grammar alone.)
-use Rattle.std.specs.Prelude.{ℕ, zero, suc, List, [], ◌∷◌, length, take, drop, nat_eq, bytes_eq, if◌then◌else◌, Option, Some, None}
+use Rattle.std.specs.Prelude.{ℕ, zero, suc, List, [], ◌∷◌, length, take, drop, Bool, true, false, nat_eq, nat_lt, bytes_eq, if◌then◌else◌, Option, Some, None}
 use Rattle.std.specs.List.{prefix_len}
 use Rattle.rn_value.specs.Characters.{is_digit}
-use Rattle.rn_lines.specs.LineText.{LeadSaid, Token, LineSaid, ending_text}
+use Rattle.rn_lines.specs.LineText.{LeadSaid, Token, Held, LineSaid, ending_text}
 use Rattle.rn_lines.specs.NodeReading.{node_at}
-use Rattle.rn_lines.specs.Reading.{◌>>=◌, are_plain, numeral_at, byte_at, name_at, inst_at, seen_at}
+use Rattle.rn_lines.specs.Reading.{◌>>=◌, are_plain, numeral_at, byte_at, name_at, inst_at, front_at, seen_at}
 use Rattle.rn_lines.specs.declared.lines.Ending.{Ending}
 use Rattle.rn_lines.specs.declared.lines.Ending.TheVariants.{Dead, Steps, Memory, ActionFault, InstancesFault}
 
@@ -37,21 +37,37 @@ last_at bytes =
     seen_at bytes >>= λ v.
     if nat_eq (length v.rest) 0 then Some (record { value = v.value; named = v.named }) else None
 
--- a token behind a space
-abbrev pub token_at : List ℕ → Option (Token × List ℕ)
-token_at bytes =
-    byte_at 32 bytes >>= λ text.
-    seen_at text >>= λ v.
-    Some (record { value = v.value; named = v.named }, v.rest)
+-- whether plain digits are there, of a number from 2 on
+abbrev pub is_several : List ℕ → Bool
+is_several [] = false
+is_several (d ∷ []) = nat_lt 49 d
+is_several (d ∷ e ∷ ds) = true
 
--- tokens up to the end, at most this many
-abbrev pub tokens_at : ℕ → List ℕ → Option (List Token)
-tokens_at most [] = Some []
-tokens_at zero (c ∷ bytes) = None
-tokens_at (suc most) (c ∷ bytes) =
-    token_at (c ∷ bytes) >>= λ t.
-    tokens_at most t.1 >>= λ tokens.
-    Some (t.0 ∷ tokens)
+-- the digits of a numeral of a number from 2 on
+abbrev pub several_at : List ℕ → Option (List ℕ × List ℕ)
+several_at bytes = step_at bytes >>= λ n. if is_several n.0 then Some n else None
+
+-- the digits of a count behind `*`, and none where no `*` stands first
+abbrev pub count_at : List ℕ → Option (List ℕ × List ℕ)
+count_at [] = Some ([], [])
+count_at (c ∷ bytes) = if nat_eq c 42 then several_at bytes else Some ([], c ∷ bytes)
+
+-- an item behind a space
+abbrev pub item_at : List ℕ → Option (Held × List ℕ)
+item_at bytes =
+    byte_at 32 bytes >>= λ text.
+    front_at text >>= λ v.
+    count_at v.rest >>= λ n.
+    Some (record { token = record { value = v.value; named = v.named }; times = n.0 }, n.1)
+
+-- items up to the end, at most this many
+abbrev pub items_at : ℕ → List ℕ → Option (List Held)
+items_at most [] = Some []
+items_at zero (c ∷ bytes) = None
+items_at (suc most) (c ∷ bytes) =
+    item_at (c ∷ bytes) >>= λ h.
+    items_at most h.1 >>= λ items.
+    Some (h.0 ∷ items)
 
 -- a mark
 abbrev pub mark_at : List ℕ → Option LineSaid
@@ -59,8 +75,8 @@ mark_at bytes =
     inst_at bytes >>= λ inst.
     byte_at 46 inst.1 >>= λ word.
     name_at word >>= λ place.
-    tokens_at (length place.1) place.1 >>= λ tokens.
-    if nat_eq (length tokens) 0 then None else Some (LineSaid.holds inst.0 place.0 tokens)
+    items_at (length place.1) place.1 >>= λ items.
+    if nat_eq (length items) 0 then None else Some (LineSaid.holds inst.0 place.0 items)
 
 -- what follows the lead of a firing
 abbrev pub firing_at : LeadSaid → List ℕ → Option LineSaid

@@ -174,6 +174,12 @@ rows_at (suc depth) close bytes = row_at (value_by (rows_at depth)) close bytes
 abbrev pub value_at : ℕ → List ℕ → Option (Value × List Said × List ℕ)
 value_at depth = value_by (rows_at depth)
 
+-- a value, whatever follows it
+abbrev pub front_at : List ℕ → Option Seen
+front_at bytes =
+    value_at most_brackets bytes >>= λ x.
+    Some (record { value = x.0; named = x.1; rest = x.2 })
+
 -- whether there are no bytes, or a delimiter stands first
 abbrev pub is_delimited : List ℕ → Bool
 is_delimited [] = true

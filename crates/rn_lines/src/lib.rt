@@ -4,6 +4,7 @@
 
 mod cutting;
 mod instances;
+mod items;
 mod laws;
 mod lines;
 mod nodes;
@@ -14,6 +15,7 @@ mod values;
 
 pub use cutting::first_line;
 pub use instances::Mention;
+pub use items::ReadItem;
 pub use laws::{line_laws, lines_are_read_by_their_grammar, value_laws};
 pub use lines::{Ending, Lead, Line, ReadMark, ReadToken, read_line};
 pub use nodes::{ReadGiven, ReadNode, read_node};

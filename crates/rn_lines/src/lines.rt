@@ -1,12 +1,13 @@
 //! Lines of records, each by itself.
 ghost use Rattle.std.specs.Prelude.{◌≡◌, length, map, IfOk, Some};
-ghost use Rattle.rn_lines.specs.LineReading.{step_at, worker_at, lead_at, last_at, token_at, tokens_at, mark_at};
+ghost use Rattle.rn_lines.specs.LineReading.{worker_at, lead_at, last_at, mark_at};
 ghost use Rattle.rn_lines.specs.LineReading.{firing_at, fault_at, ending_at, line_at};
 ghost use Rattle.rn_lines.specs.LineText.{LineSaid, IsLine};
 ghost use Rattle.rn_lines.specs.LinesSeen.{lead, token, line};
 ghost use Rattle.rn_lines.specs.Reading.{Gives};
 
 use crate::instances::{Mention, byte_at, inst_at, name_at};
+use crate::items::{ReadItem, items_at};
 use crate::nodes::{ReadNode, node_at};
 use crate::numerals::{numeral_at, step_at};
 use crate::unread::Unread;
@@ -31,12 +32,12 @@ pub struct ReadToken<'a> {
     pub mentions: Vec<Mention<'a>>,
 }
 
-/// A place of an instance with its tokens, as `main[1].q [] 5`.
+/// A place of an instance with its tokens, as `main[1].q [] 5*3`.
 #[derive(Debug, Drop)]
 pub struct ReadMark<'a> {
     pub inst: Mention<'a>,
     pub place: &'a [u8],
-    pub tokens: Vec<ReadToken<'a>>,
+    pub items: Vec<ReadItem<'a>>,
 }
 
 /// How a run ended, by its line: `end dead`, `end steps`, `end memory`, `end fault action` or
@@ -200,47 +201,9 @@ fn mark_at(alloc: Global, bytes: &[u8]) -> Result<Line<'_>, Unread>
     let (inst, rest) = inst_at(bytes)?;
     let rest = byte_at(b'.', rest)?;
     let (place, rest) = name_at(rest)?;
-    let tokens = tokens_at(alloc, rest)?;
-    if tokens.is_empty() {
+    let items = items_at(alloc, rest)?;
+    if items.is_empty() {
         return Err(Unread::NotThere);
     }
-    Ok(Line::Holds(ReadMark {
-        inst,
-        place,
-        tokens,
-    }))
-}
-
-/// A token behind a space, and the bytes after it.
-fn token_at(alloc: Global, bytes: &[u8]) -> Result<(ReadToken<'_>, &[u8]), Unread>
-    ensures { Gives (λ x. (token x.0, x.1.now)) result (token_at bytes.now) }
-{
-    let read = seen_at(alloc, byte_at(b' ', bytes)?)?;
-    let token = ReadToken {
-        value: read.value,
-        mentions: read.mentions,
-    };
-    Ok((token, read.rest))
-}
-
-/// Tokens up to the end of the bytes, each behind a space.
-fn tokens_at(alloc: Global, bytes: &[u8]) -> Result<Vec<ReadToken<'_>>, Unread>
-    ensures { Gives (λ v. map token v.items) result (tokens_at (length bytes.now) bytes.now) }
-{
-    let mut tokens = Vec::new(alloc);
-    let mut rest = bytes;
-    let most = bytes.len();
-    for _ in 0..most {
-        if rest.is_empty() {
-            return Ok(tokens);
-        }
-        let (token, more) = token_at(alloc, rest)?;
-        tokens.push(token)?;
-        rest = more;
-    }
-    if rest.is_empty() {
-        Ok(tokens)
-    } else {
-        Err(Unread::NotThere)
-    }
+    Ok(Line::Holds(ReadMark { inst, place, items }))
 }

@@ -1,10 +1,10 @@
 //! Numbers, in digits.
 ghost use Rattle.std.specs.Prelude.{◌≡◌, ◌↔◌, ◌≤◌, ◌-◌, negsuc, nat_le, if◌then◌else◌};
 ghost use Rattle.std.specs.Prelude.{IsTrue, IfOk, IfSome, Some, None};
-ghost use Rattle.std.specs.List.{prefix_len, list_all};
+ghost use Rattle.std.specs.List.{prefix_len};
 ghost use Rattle.rn_value.specs.Characters.{is_digit};
 ghost use Rattle.rn_value.specs.Grammar.{IsNumeral};
-ghost use Rattle.rn_lines.specs.LineReading.{step_at};
+ghost use Rattle.rn_lines.specs.LineReading.{step_at, is_several, several_at};
 ghost use Rattle.rn_lines.specs.Reading.{Gives, are_plain, number_after, numeral_at, whole_at};
 
 use crate::unread::Unread;
@@ -37,17 +37,15 @@ fn are_plain(digits: &[u8]) -> bool
 }
 
 /// The number that digits spell, unless it is greater than this.
-fn number_up_to(most: u64, digits: &[u8]) -> Option<u64>
-    requires room { 9 ≤ most }
-    requires digits { IsTrue (list_all is_digit digits.now) }
+pub(crate) fn number_up_to(most: u64, digits: &[u8]) -> Option<u64>
     ensures exact { result ≡ (if nat_le (number_after 0 digits.now) most
         then Some (number_after 0 digits.now) else None) }
     ensures within { IfSome result (λ n. n ≤ most) }
 {
     let mut number = 0u64;
     for digit in digits {
-        let units = (*digit - b'0') as u64;
-        if (most - units) / 10 < number {
+        let units = digit.saturating_sub(b'0') as u64;
+        if most < units || (most - units) / 10 < number {
             return None;
         }
         number = number * 10 + units;
@@ -73,7 +71,6 @@ pub fn is_numeral(number: u64, bytes: &[u8]) -> bool
 
 /// The numeral at the start of bytes, of a number up to this, and the bytes after it.
 pub(crate) fn numeral_at(most: u64, bytes: &[u8]) -> Result<(u64, &[u8]), Unread>
-    requires { 9 ≤ most }
     ensures exact { Gives (λ x. (x.0, x.1.now)) result (numeral_at most bytes.now) }
     ensures within { IfOk result (λ x. x.0 ≤ most) }
 {
@@ -93,6 +90,29 @@ pub(crate) fn step_at(bytes: &[u8]) -> Result<(&[u8], &[u8]), Unread>
 {
     let (digits, rest) = bytes.split_at(digits_length(bytes));
     if are_plain(digits) {
+        Ok((digits, rest))
+    } else {
+        Err(Unread::NotThere)
+    }
+}
+
+/// Whether digits are of a number from 2 on, where they are plain.
+fn is_several(digits: &[u8]) -> bool
+    ensures { result ≡ is_several digits.now }
+{
+    match digits {
+        [] => false,
+        [one] => b'1' < *one,
+        _ => true,
+    }
+}
+
+/// The same as `step_at`, of a number from 2 on.
+pub(crate) fn several_at(bytes: &[u8]) -> Result<(&[u8], &[u8]), Unread>
+    ensures { Gives (λ x. (x.0.now, x.1.now)) result (several_at bytes.now) }
+{
+    let (digits, rest) = step_at(bytes)?;
+    if is_several(digits) {
         Ok((digits, rest))
     } else {
         Err(Unread::NotThere)

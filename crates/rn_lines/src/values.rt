@@ -1,7 +1,7 @@
 //! Values, as records have them.
 ghost use Rattle.std.specs.Prelude.{◌≡◌, ◌-◌, ◌<◌, [], map, IfOk, Some};
 ghost use Rattle.rn_lines.specs.Reading.{Gives, with_front, after, tail_at, rows_at, value_at};
-ghost use Rattle.rn_lines.specs.Reading.{is_delimited, seen_at};
+ghost use Rattle.rn_lines.specs.Reading.{front_at, is_delimited, seen_at};
 ghost use Rattle.rn_lines.specs.Said.{said, seen};
 ghost use Rattle.rn_lines.specs.ValueText.{Seen, Begins, most_brackets};
 
@@ -48,6 +48,19 @@ pub(crate) fn seen_at(alloc: Global, bytes: &[u8]) -> Result<ReadValue<'_>, Unre
     if !is_delimited(rest) {
         return Err(Unread::NotThere);
     }
+    Ok(ReadValue {
+        value,
+        mentions,
+        rest,
+    })
+}
+
+/// The value that bytes begin with, whatever follows it.
+pub(crate) fn front_at(alloc: Global, bytes: &[u8]) -> Result<ReadValue<'_>, Unread>
+    ensures { Gives seen result (front_at bytes.now) }
+{
+    let mut mentions = Vec::new(alloc);
+    let (value, rest) = value_at(alloc, MOST_BRACKETS, bytes, &mut mentions)?;
     Ok(ReadValue {
         value,
         mentions,

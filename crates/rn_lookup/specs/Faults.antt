@@ -12,7 +12,7 @@ use Rattle.rn_lines.specs.ValueText.{Said}
 use Rattle.rn_lines.specs.NodeText.{Given, NodeSaid}
 use Rattle.rn_lines.specs.LineText.{Token}
 use Rattle.rn_lookup.specs.declared.refusal.Refusal.{Refusal}
-use Rattle.rn_lookup.specs.declared.refusal.Refusal.TheVariants.{Form, Name, Step, Memory}
+use Rattle.rn_lookup.specs.declared.refusal.Refusal.TheVariants.{Form, Name, Step, Many, Memory}
 use Rattle.rn_lookup.specs.Found.{transition_named, place_named, net_said, place_said}
 use Rattle.rn_lookup.specs.Found.{vars_due, values_fit, variables_fit, name_nets, names_net}
 
@@ -22,6 +22,7 @@ Tells (Ok x) fault = fault ≡ None
 Tells (Err Form) fault = fault ≡ Some Form
 Tells (Err Name) fault = fault ≡ Some Name
 Tells (Err Step) fault = fault ≡ Some Step
+Tells (Err Many) fault = fault ≡ Some Many
 Tells (Err Memory) fault = ⊤
 
 -- whether a node's net and transition are there

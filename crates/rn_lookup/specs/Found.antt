@@ -1,5 +1,5 @@
 -- What the names of a line stand for in a system.
-use Rattle.std.specs.Prelude.{ℕ, ◌+◌, ◌-◌, Bool, true, false, ◌&&◌, List, [], ◌∷◌, bytes_eq, nat_eq}
+use Rattle.std.specs.Prelude.{ℕ, ◌+◌, ◌-◌, Bool, true, false, ◌&&◌, List, [], ◌∷◌, map, bytes_eq, nat_eq}
 use Rattle.std.specs.Prelude.{Option, Some, None, is_some, unwrap_or, slice_get, if◌then◌else◌}
 use Rattle.std.specs.List.{list_all}
 use Rattle.std.specs.Option.{option_map_or}
@@ -10,7 +10,7 @@ use Rattle.rn_model.specs.declared.system.Net.{Net}
 use Rattle.rn_model.specs.Systems.{net_at, transition_at}
 use Rattle.rn_lines.specs.ValueText.{Said}
 use Rattle.rn_lines.specs.NodeText.{Given, NodeSaid}
-use Rattle.rn_lines.specs.LineText.{Token}
+use Rattle.rn_lines.specs.LineText.{Token, Held}
 
 -- the number of the first of these that has the name, where the first of all has this number
 abbrev pub number_from : {X : Type 0} → (X → List ℕ) → ℕ → List X → List ℕ → Option ℕ
@@ -93,6 +93,10 @@ are_called system made = list_all (is_called system made)
 abbrev pub node_is_called : System → List ℕ → NodeSaid → Bool
 node_is_called system made n =
     is_called system made n.inst && list_all (λ g. are_called system made g.named) n.given
+
+-- the values of a mark, without their counts
+abbrev pub tokens_of : List Held → List Token
+tokens_of = map (λ h. h.token)
 
 -- whether each instance that tokens name is
 abbrev pub tokens_are_called : System → List ℕ → List Token → Bool

@@ -3,10 +3,11 @@ ghost use Rattle.std.specs.Prelude.{◌≡◌, map};
 ghost use Rattle.std.specs.List.{list_all};
 ghost use Rattle.rn_lines.specs.Said.{said};
 ghost use Rattle.rn_lines.specs.NodeSeen.{given, node};
-ghost use Rattle.rn_lines.specs.LinesSeen.{token};
-ghost use Rattle.rn_lookup.specs.Found.{is_called, are_called, node_is_called, tokens_are_called};
+ghost use Rattle.rn_lines.specs.LinesSeen.{item};
+ghost use Rattle.rn_lookup.specs.Found.{is_called, are_called, node_is_called};
+ghost use Rattle.rn_lookup.specs.Found.{tokens_are_called, tokens_of};
 
-use rn_lines::{Mention, ReadGiven, ReadNode, ReadToken};
+use rn_lines::{Mention, ReadGiven, ReadItem, ReadNode};
 use rn_model::System;
 
 /// Whether an instance is among those made, and is called by the name of its net. `made` has the
@@ -56,12 +57,12 @@ pub fn node_is_called(system: &System, made: &[u32], read: &ReadNode<'_>) -> boo
     is_called(system, made, &read.inst) && all_given_called(system, made, read.given.as_slice())
 }
 
-/// Whether the instances that tokens name are.
-pub fn tokens_are_called(system: &System, made: &[u32], tokens: &[ReadToken<'_>]) -> bool
-    ensures { result ≡ tokens_are_called system.now made.now (map token tokens.now) }
+/// Whether the instances that the values of a mark name are.
+pub fn tokens_are_called(system: &System, made: &[u32], items: &[ReadItem<'_>]) -> bool
+    ensures { result ≡ tokens_are_called system.now made.now (tokens_of (map item items.now)) }
 {
-    for token in tokens {
-        if !are_called(system, made, token.mentions.as_slice()) {
+    for item in items {
+        if !are_called(system, made, item.token.mentions.as_slice()) {
             return false;
         }
     }

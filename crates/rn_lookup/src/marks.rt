@@ -4,15 +4,15 @@ ghost use Rattle.std.specs.List.{list_all};
 ghost use Rattle.rn_value.specs.Kinds.{value_has_kind};
 ghost use Rattle.rn_model.specs.Systems.{net_at, place_kind_in};
 ghost use Rattle.rn_lines.specs.Said.{said};
-ghost use Rattle.rn_lines.specs.LinesSeen.{token};
-ghost use Rattle.rn_lookup.specs.Found.{name_nets, net_said, place_said};
+ghost use Rattle.rn_lines.specs.LinesSeen.{item, token};
+ghost use Rattle.rn_lookup.specs.Found.{name_nets, net_said, place_said, tokens_of};
 ghost use Rattle.rn_lookup.specs.Faults.{Tells, token_fault, tokens_fault, mark_fault};
 ghost use Rattle.rn_lookup.specs.Tables.{IsDirectoryOf};
 
 use crate::directory::Directory;
 use crate::nodes::{name_nets, net_of};
 use crate::refusal::Refusal;
-use rn_lines::{ReadMark, ReadToken};
+use rn_lines::{ReadItem, ReadMark, ReadToken};
 use rn_model::System;
 use rn_value::{Kind, NoMemory, has_kind};
 use std::alloc::Global;
@@ -41,49 +41,50 @@ pub fn find_token(
     }
 }
 
-fn all_tokens_name_nets(
+fn all_items_name_nets(
     alloc: Global,
     system: &System,
     directory: &Directory,
-    tokens: &[ReadToken<'_>],
+    items: &[ReadItem<'_>],
 ) -> Result<bool, NoMemory>
     requires { IsDirectoryOf system.now directory.now }
     ensures { IfOk result (λ all_named.
-        all_named ≡ list_all (λ t. name_nets system.now t.named) (map token tokens.now)) }
+        all_named ≡ list_all (λ t. name_nets system.now t.named) (tokens_of (map item items.now))) }
 {
-    for token in tokens {
-        if !name_nets(alloc, system, directory, token.mentions.as_slice())? {
+    for item in items {
+        if !name_nets(alloc, system, directory, item.token.mentions.as_slice())? {
             return Ok(false);
         }
     }
     Ok(true)
 }
 
-fn tokens_fit(tokens: &[ReadToken<'_>], kind: &Kind) -> bool
-    ensures { result ≡ list_all (λ t. value_has_kind t.value kind.now) (map token tokens.now) }
+fn items_fit(items: &[ReadItem<'_>], kind: &Kind) -> bool
+    ensures { result ≡ list_all (λ t. value_has_kind t.value kind.now)
+        (tokens_of (map item items.now)) }
 {
-    for token in tokens {
-        if !has_kind(&token.value, kind) {
+    for item in items {
+        if !has_kind(&item.token.value, kind) {
             return false;
         }
     }
     true
 }
 
-fn check_tokens(
+fn check_items(
     alloc: Global,
     system: &System,
     directory: &Directory,
-    tokens: &[ReadToken<'_>],
+    items: &[ReadItem<'_>],
     kind: &Kind,
 ) -> Result<(), Refusal>
     requires { IsDirectoryOf system.now directory.now }
-    ensures { Tells result (tokens_fault system.now kind.now (map token tokens.now)) }
+    ensures { Tells result (tokens_fault system.now kind.now (tokens_of (map item items.now))) }
 {
-    if !tokens_fit(tokens, kind) {
+    if !items_fit(items, kind) {
         return Err(Refusal::Form);
     }
-    if !all_tokens_name_nets(alloc, system, directory, tokens)? {
+    if !all_items_name_nets(alloc, system, directory, items)? {
         return Err(Refusal::Name);
     }
     Ok(())
@@ -108,7 +109,7 @@ pub fn find_mark(
 ) -> Result<FoundMark, Refusal>
     requires { IsDirectoryOf system.now directory.now }
     ensures fault { Tells result (mark_fault system.now (said read.now.inst) read.now.place.now
-        (map token read.now.tokens.items)) }
+        (tokens_of (map item read.now.items.items))) }
     ensures net { IfOk result (λ f. f.net ≡ net_said system.now (said read.now.inst)) }
     ensures place { IfOk result (λ f.
         f.place ≡ place_said system.now (said read.now.inst) read.now.place.now) }
@@ -121,6 +122,6 @@ pub fn find_mark(
     };
     let found = FoundMark { net, place };
     let kind = kind_of_place(system, found);
-    check_tokens(alloc, system, directory, read.tokens.as_slice(), kind)?;
+    check_items(alloc, system, directory, read.items.as_slice(), kind)?;
     Ok(found)
 }

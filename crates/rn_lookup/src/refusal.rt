@@ -17,6 +17,9 @@ pub enum Refusal {
     /// It has another step than its entry.
     Step,
 
+    /// The values of the marks up to it are too many.
+    Many,
+
     /// The allocator had no memory.
     Memory,
 }

@@ -1,9 +1,15 @@
 -- Lines, and the numbers in them.
 use Rattle.std.proofs.Common.{◌≡◌, ◌≢◌, ◌+◌, ◌*◌, ◌≤◌, ℕ, zero, suc, Bool, true, false, List, [], ◌∷◌, ◌++◌, refl, ap, add-one, arith}
-use Rattle.std.specs.Prelude.{nat_eq, if◌then◌else◌}
+use Rattle.std.specs.Prelude.{◌-◌, nat_eq, if◌then◌else◌}
 use Rattle.std.specs.List.{AllByRecursion}
 use Rattle.std.proofs.lemmas.Bool.{eqb-true}
+use Rattle.std.proofs.lemmas.Bool.Decides.{nat_tests}
+use Rattle.rn_value.specs.Characters.{is_digit}
 use Rattle.rn_served.specs.Lines.{in_front, lines_of}
+
+-- a digit counts at most nine
+pub digit_units : (d : ℕ) → is_digit d ≡ true → d - 48 ≤ 9
+digit_units d h = grind (arith, nat_tests)
 
 -- a byte that is no line feed
 front : (c : ℕ) (bytes line : List ℕ) (lines : List (List ℕ)) → c ≢ 10 →

@@ -12,9 +12,6 @@ returns-then-digits_length-bytes c = (
 pub returns-then-not-are_plain : goal.returns-then-not-are_plain
 returns-then-not-are_plain c = ((λ f. absurd (false≢true f)), (λ p. c.if-not-are_plain.ensures ∙ (numeral_digits p).1))
 
-pub number_up_to-requires-clause-digits : goal.number_up_to-requires-clause-digits
-number_up_to-requires-clause-digits c = all_digits c.args.bytes.now (omega arith)
-
 pub returns-in-Some : goal.returns-in-Some
 returns-in-Some c =
     spelled_same 18446744073709551615 c.in-Some.spelled c.args.number c.args.bytes.now (omega arith) (sym c.if-not-are_plain.ensures) (all_digits c.args.bytes.now (omega arith)) c.in-Some.ensures.exact

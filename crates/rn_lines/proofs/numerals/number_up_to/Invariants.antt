@@ -1,6 +1,4 @@
-use Rattle.std.proofs.Common.{◌≡◌, ◌≤◌, IsTrue, drop}
-use Rattle.std.specs.List.{list_all}
-use Rattle.rn_value.specs.Characters.{is_digit}
+use Rattle.std.proofs.Common.{◌≡◌, ◌≤◌, drop}
 use Rattle.rn_lines.specs.Reading.{number_after}
 use Rattle.rn_lines.proofs.numerals.number_up_to.Given as goal
 
@@ -9,5 +7,4 @@ abbrev pub invariant-loop-digit : goal.invariant-loop-digit
 invariant-loop-digit l = record {
   spelled : number_after l.number (drop l.digit-index l.digits) ≡ number_after 0 l.digits;
   low : l.number ≤ l.most;
-  digits : IsTrue (list_all is_digit (drop l.digit-index l.digits));
 }

@@ -6,8 +6,7 @@ use Rattle.std.proofs.lemmas.List.{drop_more}
 use Rattle.rn_items.proofs.Bools.{both_true}
 use Rattle.rn_value.specs.Characters.{is_digit}
 use Rattle.rn_lines.specs.Reading.{number_after}
-use Rattle.rn_lines.proofs.Digits.{digit_units}
-use Rattle.rn_served.proofs.LineReading.{more_nines, nines_low}
+use Rattle.rn_served.proofs.LineReading.{digit_units, more_nines, nines_low}
 use Rattle.rn_served.proofs.reading.number_of.Goals as goal
 
 pub overflow_mul-number : goal.overflow_mul-number
