@@ -10,5 +10,5 @@ mod record;
 pub use entries::{put_binding, put_entry};
 pub use first::write_first;
 pub use marks::put_marks;
-pub use naming::first_names;
+pub use naming::{first_names, push_made};
 pub use record::{write_run, write_told};

@@ -44,7 +44,7 @@ fn push_by(alloc: Global, system: &System, node: &Node, names: &mut Names) -> Re
 }
 
 /// Adds the names of the instances that a binding makes.
-pub(crate) fn push_made(
+pub fn push_made(
     alloc: Global,
     system: &System,
     binding: &Binding,
