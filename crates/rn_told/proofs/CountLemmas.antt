@@ -5,9 +5,8 @@ use Rattle.std.proofs.lemmas.Bool.Decides.{nat_tests}
 use Rattle.rn_model.specs.declared.log.MarkLine.{MarkLine}
 use Rattle.rn_lookup.specs.declared.refusal.Refusal.{Refusal}
 use Rattle.rn_lookup.specs.declared.refusal.Refusal.TheVariants.{Name}
-use Rattle.rn_lookup.specs.Faults.{mark_fault}
 use Rattle.rn_told.specs.Called.{BadAt, count_of_called, stop_fault, nodes_fault}
-use Rattle.rn_told.specs.Marks.{Marked, marked, told_mark, fault_of_mark, mark_then, marked_then, marks_from}
+use Rattle.rn_told.specs.Marks.{Marked, marked, told_mark, counted_after, fault_of_mark, mark_then, marked_then, marks_from}
 use Rattle.rn_value.specs.declared.value.Value.{Value}
 use Rattle.rn_model.specs.declared.system.System.{System}
 use Rattle.rn_lines.specs.NodeText.{NodeSaid}
@@ -97,30 +96,31 @@ prints_few system made step worker lines vs e is =
     subst (AreAllPrinted (length lines)) (sym is) (prints_few_from system made step worker lines)
 
 -- marks are no more than the lines
-marks_few_from : (system : System) (made : List ℕ) (lines : List (Option LineSaid)) →
-    length (marks_from system made lines).0 ≤ length lines
-marks_few_from system made [] = omega arith
-marks_few_from system made (line ∷ lines) =
-    by (marked line) (marks_few_from system made lines)
+marks_few_from : (format : ℕ) (system : System) (made : List ℕ) (held : ℕ) (lines : List (Option LineSaid)) →
+    length (marks_from format system made held lines).0 ≤ length lines
+marks_few_from format system made held [] = omega arith
+marks_few_from format system made held (line ∷ lines) =
+    by (marked line) (λ more. marks_few_from format system made more lines)
   where
-    rest : List MarkLine × Option Refusal
-    rest = marks_from system made lines
+    then_few : (m : MarkLine) (o : Option Refusal) (rest : List MarkLine × Option Refusal) →
+        length rest.0 ≤ length lines → length (mark_then m o rest).0 ≤ length (line ∷ lines)
+    then_few m (Some refusal) rest few = omega arith
+    then_few m None rest few = omega (arith, few)
 
-    then_few : (m : MarkLine) (o : Option Refusal) → length rest.0 ≤ length lines →
-        length (mark_then m o rest).0 ≤ length (line ∷ lines)
-    then_few m (Some refusal) few = omega arith
-    then_few m None few = omega (arith, few)
-
-    by : (o : Option Marked) → length rest.0 ≤ length lines →
-        length (marked_then system made o rest).0 ≤ length (line ∷ lines)
+    by : (o : Option Marked) → ((more : ℕ) → length (marks_from format system made more lines).0 ≤ length lines) →
+        length (marked_then format system made held o (λ more. marks_from format system made more lines)).0
+        ≤ length (line ∷ lines)
     by None few = omega arith
     by (Some m) few =
-        then_few (told_mark system m) (fault_of_mark system made m (mark_fault system m.inst m.place m.tokens)) few
+        then_few (told_mark system m) (fault_of_mark format system made held m)
+        (marks_from format system made (counted_after format held m.items) lines)
+        (few (counted_after format held m.items))
 
-pub marks_few : (system : System) (made : List ℕ) (lines : List (Option LineSaid)) (ms : List MarkLine)
-    (o : Option Refusal) → (ms, o) ≡ marks_from system made lines → length ms ≤ length lines
-marks_few system made lines ms o is =
-    subst (λ read. length read.0 ≤ length lines) (sym is) (marks_few_from system made lines)
+pub marks_few : (format : ℕ) (system : System) (made : List ℕ) (held : ℕ) (lines : List (Option LineSaid))
+    (ms : List MarkLine) (o : Option Refusal) → (ms, o) ≡ marks_from format system made held lines →
+    length ms ≤ length lines
+marks_few format system made held lines ms o is =
+    subst (λ read. length read.0 ≤ length lines) (sym is) (marks_few_from format system made held lines)
 
 -- a bad line among nodes is no later than the nodes
 abbrev IsEarly : ℕ → Option BadAt → Type 0

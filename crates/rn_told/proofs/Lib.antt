@@ -1,5 +1,11 @@
 mod CountLemmas
 mod DueLemmas
+mod GroupedItems
+mod GroupedLines
+mod GroupedMarks
+mod GroupedNodes
+mod GroupedRuns
+mod HeldValues
 mod LineLemmas
 mod MakerLemmas
 mod NodeLemmas
@@ -12,6 +18,7 @@ mod SameReading
 mod SequenceLemmas
 mod SpelledBindings
 mod SpelledLines
+mod SpelledMarks
 mod SpelledNodes
 mod SpelledRuns
 mod WrittenBack

@@ -1,6 +1,7 @@
 -- Runs, entry by entry.
-use Rattle.std.proofs.Common.{◌≡◌, ℕ, ◌+◌, ◌≤◌, List, [], ◌∷◌, ◌++◌, length, refl, sym, ap, subst, arith}
-use Rattle.std.specs.Prelude.{All, Option, Result, Ok, Err}
+use Rattle.std.proofs.Common.{◌≡◌, ℕ, zero, suc, ◌+◌, ◌≤◌, List, [], ◌∷◌, ◌++◌, length, take, drop, refl, sym, ap, subst, arith}
+use Rattle.std.specs.Prelude.{All, Option, Some, None, Result, Ok, Err, bytes_eq}
+use Rattle.std.proofs.lemmas.Option.{cond_some}
 use Rattle.std.proofs.lemmas.List.Elements.{All-weaker}
 use Rattle.rn_model.specs.declared.system.System.{System}
 use Rattle.rn_model.specs.declared.log.Entry.{Entry}
@@ -9,11 +10,13 @@ use Rattle.rn_model.specs.Good.{Good, IsGoodNet}
 use Rattle.rn_lines.specs.LineText.{LineSaid}
 use Rattle.rn_lookup.specs.Tables.{AreFew}
 use Rattle.rn_lookup.specs.declared.refusal.Refusal.{Refusal}
+use Rattle.rn_lookup.specs.declared.refusal.Refusal.TheVariants.{Form, Name, Step, Many}
+use Rattle.rn_record.specs.RecordText.{header_text}
 use Rattle.rn_told.specs.Lines.{lines_in}
-use Rattle.rn_told.specs.Runs.{Verdict, with_entry, Tells, first_made, TellsRecord}
+use Rattle.rn_told.specs.Runs.{Verdict, with_entry, Tells, TellsAfter, TellsRecord, bytes_after, first_line, first_made}
 use Rattle.rn_told.specs.RunsAhead.{with_entries, FaultTells, RecordTells}
 use Rattle.rn_told.specs.declared.fault.RecordFault.{RecordFault}
-use Rattle.rn_told.specs.declared.fault.RecordFault.TheVariants.{Q1, Q2, Q3, NoMemory}
+use Rattle.rn_told.specs.declared.fault.RecordFault.TheVariants.{Q1, Q2, Q3, Q4, NoMemory}
 use Rattle.rn_model.specs.declared.log.Told.{Told}
 
 -- the parts of the nets of a good system can be counted
@@ -40,14 +43,14 @@ pub one_more : (es : List Entry) (e : Entry) (v : Verdict) →
 one_more [] e v = refl
 one_more (x ∷ es) e v = ap (with_entry x) (one_more es e v)
 
--- Between two entries: what the lines that are left tell, after the entries so far, is what the
--- record tells; and the lines can be numbered.
-pub record IsSoFar (system : System) (bytes : List ℕ) (entries : List Entry) (made : List ℕ)
-    (step line : ℕ) (lines : List (Option LineSaid)) : Type 0 where
-  pub tells : (v : Verdict) → Tells system made step line lines v →
-      TellsRecord system bytes (with_entries entries v)
-  pub few : line + length lines ≤ length (lines_in bytes) + 1
-  pub early : step ≤ line
+-- Between two entries: what the lines that are left tell, after the entries so far, is what all
+-- lines tell, the first with this number; and the lines can be numbered.
+pub record IsSoFar (format : ℕ) (system : System) (first : ℕ) (all : List (Option LineSaid))
+    (entries : List Entry) (made : List ℕ) (step line : ℕ) (lines : List (Option LineSaid)) : Type 0 where
+  pub tells : (v : Verdict) → Tells format system made step line lines v →
+      Tells format system (first_made system) 1 first all (with_entries entries v)
+  pub few : line + length lines ≤ length all + first
+  pub early : step ≤ line + 1
 
 -- what a fault tells by itself it tells after entries
 pub fault_tells : (es : List Entry) (line : ℕ) (refusal : Refusal) (fault : RecordFault) →
@@ -63,30 +66,66 @@ record_tells T w (Ok told) t is = subst T (sym is) t
 record_tells T w (Err (Q1 line)) t is = subst T (sym is) t
 record_tells T w (Err (Q2 line)) t is = subst T (sym is) t
 record_tells T w (Err (Q3 line)) t is = subst T (sym is) t
+record_tells T w (Err (Q4 line)) t is = subst T (sym is) t
 record_tells T w (Err NoMemory) t is = tt
 
--- at the start of a record
-pub none_read : (system : System) (bytes made : List ℕ) → made ≡ first_made system →
-    IsSoFar system bytes [] made 1 1 (lines_in bytes)
-none_read system bytes made is = record {
-  tells = λ v told. subst (λ m. Tells system m 1 1 (lines_in bytes) v) is told;
+-- at the start
+pub none_read : (format : ℕ) (system : System) (first : ℕ) (lines : List (Option LineSaid))
+    (made : List ℕ) → made ≡ first_made system → IsSoFar format system first lines [] made 1 first lines
+none_read format system first lines made is = record {
+  tells = λ v told. subst (λ m. Tells format system m 1 first lines v) is told;
   few = omega arith;
   early = omega arith;
 }
 
 -- after one more firing
-pub one_read : (system : System) (bytes : List ℕ) (es more : List Entry) (made all : List ℕ)
-    (step line count : ℕ) (lines rest : List (Option LineSaid)) (entry : Entry) →
-    IsSoFar system bytes es made step line lines →
-    ((v : Verdict) → Tells system all (step + 1) (line + count) rest v →
-    Tells system made step line lines (with_entry entry v))
+pub one_read : (format : ℕ) (system : System) (first : ℕ) (whole : List (Option LineSaid))
+    (es more : List Entry) (made all : List ℕ) (step line count : ℕ)
+    (lines rest : List (Option LineSaid)) (entry : Entry) →
+    IsSoFar format system first whole es made step line lines →
+    ((v : Verdict) → Tells format system all (step + 1) (line + count) rest v →
+    Tells format system made step line lines (with_entry entry v))
     × (1 ≤ count) × (count + length rest ≤ length lines) →
-    more ≡ es ++ entry ∷ [] → IsSoFar system bytes more all (step + 1) (line + count) rest
-one_read system bytes es more made all step line count lines rest entry so_far on is = record {
+    more ≡ es ++ entry ∷ [] →
+    IsSoFar format system first whole more all (step + 1) (line + count) rest
+one_read format system first whole es more made all step line count lines rest entry so_far on is = record {
   tells = λ v told.
-      subst (λ xs. TellsRecord system bytes (with_entries xs v)) (sym is)
-      (subst (TellsRecord system bytes) (sym (one_more es entry v))
+      subst (λ xs. Tells format system (first_made system) 1 first whole (with_entries xs v)) (sym is)
+      (subst (Tells format system (first_made system) 1 first whole) (sym (one_more es entry v))
       (so_far.tells (with_entry entry v) (on.0 v told)));
   few = let a = so_far.few in let b = on.2 in omega (arith, a, b);
   early = let a = so_far.early in let b = on.1 in omega (arith, a, b);
 }
+
+-- What the lines after the name of the format tell, the record tells; without that name its first line
+-- is bad.
+pub after_named : (format : ℕ) (system : System) (bytes rest : List ℕ) (result : Result Told RecordFault) →
+    Some rest ≡ bytes_after (header_text format) bytes →
+    RecordTells (Tells format system (first_made system) 1 (first_line format) (lines_in rest)) result →
+    RecordTells (TellsRecord system format bytes) result
+after_named format system bytes rest (Ok told) is t =
+    subst (λ o. TellsAfter format system o (Verdict.tells told.entries told.marks)) is t
+after_named format system bytes rest (Err (Q1 line)) is t =
+    subst (λ o. TellsAfter format system o (Verdict.bad line Form)) is t
+after_named format system bytes rest (Err (Q2 line)) is t =
+    subst (λ o. TellsAfter format system o (Verdict.bad line Name)) is t
+after_named format system bytes rest (Err (Q3 line)) is t =
+    subst (λ o. TellsAfter format system o (Verdict.bad line Step)) is t
+after_named format system bytes rest (Err (Q4 line)) is t =
+    subst (λ o. TellsAfter format system o (Verdict.bad line Many)) is t
+after_named format system bytes rest (Err NoMemory) is t = tt
+
+pub not_named : (format : ℕ) (system : System) (bytes : List ℕ) →
+    None ≡ bytes_after (header_text format) bytes → TellsRecord system format bytes (Verdict.bad 1 Form)
+not_named format system bytes is = subst (λ o. TellsAfter format system o (Verdict.bad 1 Form)) is refl
+
+-- and they are no more bytes
+drop_short : (n : ℕ) (xs : List ℕ) → length (drop n xs) ≤ length xs
+drop_short zero xs = omega arith
+drop_short (suc n) [] = omega arith
+drop_short (suc n) (x ∷ xs) = let few = drop_short n xs in omega (arith, few)
+
+pub rest_short : (front bytes rest : List ℕ) → Some rest ≡ bytes_after front bytes → length rest ≤ length bytes
+rest_short front bytes rest is =
+    let same = (cond_some (bytes_eq (take (length front) bytes) front) (drop (length front) bytes) rest (sym is)).1 in
+    subst (λ xs. length xs ≤ length bytes) same (drop_short (length front) bytes)

@@ -1,24 +1,18 @@
--- The bytes that tell a run are its text.
-use Rattle.std.proofs.Common.{◌≡◌, ℕ, suc, ◌+◌, ◌≤◌, Bool, true, false, cond, List, [], ◌∷◌, ◌++◌, length, map, refl, sym, ap, ◌∙◌, subst, append_assoc, arith, drop}
-use Rattle.std.specs.Prelude.{Option, Some, None, ◌&&◌, not, nat_eq, nat_lt, codes, count_by, bytes_eq, flat_map, slice_get, unwrap_or, is_some}
+-- The bytes that tell a run are its text, and its marks name what its firings made.
+use Rattle.std.proofs.Common.{◌≡◌, ℕ, suc, ◌+◌, ◌≤◌, Bool, true, false, cond, List, [], ◌∷◌, ◌++◌, length, refl, sym, ap, ◌∙◌, subst, append_assoc, arith, take, drop}
+use Rattle.std.specs.Prelude.{Option, Some, None, ◌&&◌, not, nat_eq, nat_lt, codes, count_by, bytes_eq, flat_map, is_some}
 use Rattle.std.specs.List.{AllByRecursion, prefix_len}
-use Rattle.std.specs.Option.{option_map_or}
 use Rattle.std.proofs.lemmas.Bool.Decides.{nat_tests}
 use Rattle.std.proofs.lemmas.Bool.{false≢true}
 use Rattle.std.proofs.lemmas.List.Elements.{All-from_recursion}
 use Rattle.std.proofs.lemmas.List.Sums.{sum_by-cons}
 use Rattle.std.proofs.lemmas.Slice.Eq.{bytes_eq-Decides}
 use Rattle.std.specs.Cmp.Lexicographic.{pointwise}
-use Rattle.std.proofs.lemmas.List.{append-nil}
-use Rattle.std.proofs.lemmas.Option.{same_Some}
-use Rattle.rn_items.proofs.Bools.{and_left, and_right}
-use Rattle.rn_value.specs.declared.value.InstRef.TheVariants.{Old}
-use Rattle.rn_value.specs.declared.value.Kind.TheVariants as Kind
+use Rattle.std.proofs.lemmas.List.{append-nil, take-append-drop}
+use Rattle.std.proofs.lemmas.Option.{cond_some, same_Some}
+use Rattle.rn_items.proofs.Bools.{and_right}
 use Rattle.rn_value.specs.declared.value.Value.{Value}
-use Rattle.rn_value.specs.Text.{value_text}
 use Rattle.rn_model.specs.declared.system.System.{System}
-use Rattle.rn_model.specs.declared.system.Net.{Net}
-use Rattle.rn_model.specs.declared.system.Place.{Place}
 use Rattle.rn_model.specs.declared.binding.Binding.{Binding}
 use Rattle.rn_model.specs.declared.log.Entry.{Entry}
 use Rattle.rn_model.specs.declared.log.Entry.TheVariants.{Fire, End}
@@ -30,32 +24,31 @@ use Rattle.rn_model.specs.Good.{Good}
 use Rattle.rn_model.specs.Limits.{most_workers}
 use Rattle.rn_model.specs.Runs as Run
 use Rattle.rn_model.specs.Runs.{entries_of}
-use Rattle.rn_model.specs.Systems.{net_at, empty_net}
-use Rattle.rn_lines.specs.LineText.{LeadSaid, Token, LineSaid, AreTokens, IsLead, IsLine, ending_text}
+use Rattle.rn_model.specs.Systems.{empty_net}
+use Rattle.rn_lines.specs.LineText.{LeadSaid, Token, LineSaid, IsLead, IsLine, ending_text}
 use Rattle.rn_lines.specs.NodeText.{NodeSaid}
 use Rattle.rn_lines.specs.declared.lines.Ending.{Ending}
 use Rattle.rn_lines.specs.declared.lines.Ending.TheVariants as Ends
 use Rattle.rn_lookup.specs.declared.refusal.Refusal.{Refusal}
 use Rattle.rn_lookup.specs.declared.refusal.Refusal.TheVariants.{Form, Name, Step}
-use Rattle.rn_lookup.specs.Faults.{has_place, mark_fault, tokens_fault}
-use Rattle.rn_lookup.specs.Found.{number_from, net_named, names_net, name_nets, net_said, place_said, place_named, is_called, are_called, tokens_are_called, node_is_called}
-use Rattle.rn_model.specs.NodeText.{instance_text}
-use Rattle.rn_record.specs.RecordText.{binding_text, end_text, entry_text, entries_text, fault_line, firing_lead, first_names, mark_text, names_after, names_at_end, names_past, place_name, printed_line, token_text}
+use Rattle.rn_lookup.specs.Found.{number_from, net_named, name_nets, are_called, node_is_called}
+use Rattle.rn_record.specs.RecordText.{binding_text, end_text, entry_text, entries_text, fault_line, firing_lead, first_names, header_text, mark_text, names_after, names_at_end, names_past, printed_line}
 use Rattle.rn_told.specs.Bindings.{told_binding}
 use Rattle.rn_told.specs.Called.{BadAt, count_of_called, nodes_fault, stop_fault}
 use Rattle.rn_told.specs.Firings.{FiringRead, after_nodes, firing_by, firing_read, made_with, with_prints}
-use Rattle.rn_told.specs.Laws.{OneSpelling, TellsWholeRuns}
+use Rattle.rn_told.specs.Laws.{OneSpelling, TellsWholeRuns, ToldMarksAreNamed}
 use Rattle.rn_told.specs.Lines.{lines_in}
-use Rattle.rn_told.specs.Marks.{Marked, fault_of_mark, mark_then, marked, marked_then, marks_from, told_mark}
+use Rattle.rn_told.specs.Marks.{marks_from}
 use Rattle.rn_told.specs.Nodes.{is_step, Placed, Stop, binding_lines}
 use Rattle.rn_told.specs.Prints.{PrintsEnd, judged_print, print_by, print_fault, print_then, printed, prints_from}
-use Rattle.rn_told.specs.Runs.{Verdict, Opening, Tells, first_made, after_fault, end_read, fault_by, fault_read, opening, opening_of, with_entry, with_marks}
+use Rattle.rn_told.specs.Runs.{Verdict, Opening, Tells, TellsAfter, bytes_after, first_line, first_made, after_fault, end_read, fault_by, fault_read, opening, opening_of, with_entry, with_marks}
 use Rattle.rn_told.specs.declared.role.Role.{Role}
 use Rattle.rn_told.specs.declared.role.Role.TheVariants.{Firing, Fault}
 use Rattle.rn_told.proofs.SpelledBindings.{binding_spelled, names_more, role_lead}
 use Rattle.rn_told.proofs.NumberedAgain.{other_path}
+use Rattle.rn_told.proofs.SpelledMarks.{MarksNamed, marks_spelled}
 use Rattle.rn_told.proofs.SpelledLines.{Spell, lead_text, lines_spelled}
-use Rattle.rn_told.proofs.SpelledNodes.{has_name, instance_spelled, names_for, unfaulty, value_spelled}
+use Rattle.rn_told.proofs.SpelledNodes.{has_name, names_for, unfaulty, value_spelled}
 
 -- Printed values.
 module _ (system : System) (all : List ℕ) (step worker : ℕ) where
@@ -138,98 +131,6 @@ module _ (system : System) (all : List ℕ) (step worker : ℕ) where
   prints_spelled [] outs left bytes e spell = over_spelled [] left outs bytes e spell
   prints_spelled (line ∷ lines) outs left bytes e spell =
       by_print line lines (prints_spelled lines) (printed line) refl outs left bytes e spell
-
--- Marks.
-abbrev no_place : Place
-no_place = record { name = []; kind = Kind.Tuple []; initial = []; max = None }
-
-place_by : (o : Option Place) → option_map_or (λ p. p.name) o [] ≡ (unwrap_or o no_place).name
-place_by None = refl
-place_by (Some p) = refl
-
-module _ (system : System) (all : List ℕ) where
-  abbrev names : List (List ℕ)
-  names = names_for system all
-
-  abbrev marks_text : List MarkLine → List ℕ
-  marks_text = flat_map (mark_text 1 system names)
-
-  tokens_spelled : {tokens : List Token} {a : List ℕ} → AreTokens tokens a → tokens_are_called system all tokens ≡ true →
-      a ≡ flat_map (token_text names) (map (λ t. t.value) tokens)
-  tokens_spelled AreTokens.none called = refl
-  tokens_spelled (AreTokens.some {text = text} {rest = rest} {v = v} {named = named} {tokens = tokens} is others) called =
-      let first = value_spelled system all v named text is (and_left (are_called system all named) (tokens_are_called system all tokens) called) in
-      let later = tokens_spelled others (and_right (are_called system all named) (tokens_are_called system all tokens) called) in
-      ap (λ t. 32 ∷ (t ++ rest)) first.1 ∙ ap (λ r. 32 ∷ (value_text v names ++ r)) later
-
-  marked_is : (line : Option LineSaid) (m : Marked) → marked line ≡ Some m → line ≡ Some (LineSaid.holds m.inst m.place m.tokens)
-  marked_is (Some (LineSaid.holds inst place tokens)) m e =
-      ap (λ m. Some (LineSaid.holds m.inst m.place m.tokens)) (same_Some (record { inst = inst; place = place; tokens = tokens }) m e)
-  marked_is line m e = absurd (let no : ⊥ = cc in no)
-
-  called_fine : (m : Marked) (o : Option Refusal) → fault_of_mark system all m o ≡ None →
-      (o ≡ None) × (is_called system all m.inst && tokens_are_called system all m.tokens ≡ true)
-  called_fine m (Some refusal) e = absurd (let no : ⊥ = cc in no)
-  called_fine m None e = (refl, by (is_called system all m.inst && tokens_are_called system all m.tokens) e)
-    where
-      by : (b : Bool) → cond b None (Some Name) ≡ None → b ≡ true
-      by true e = refl
-      by false e = absurd (let no : ⊥ = cc in no)
-
-  mark_spelled : (m : Marked) (lines : List (Option LineSaid)) (bytes : List ℕ) →
-      fault_of_mark system all m (mark_fault system m.inst m.place m.tokens) ≡ None →
-      Spell (Some (LineSaid.holds m.inst m.place m.tokens) ∷ lines) bytes →
-      (rest : List ℕ) × Spell lines rest × (bytes ≡ mark_text 1 system names (told_mark system m) ++ rest)
-  mark_spelled m lines bytes fine (text, rest, IsLine.holds {inst = inst} {place = place} {a = a} {b = b} {t = t} {tokens = tokens} is_inst is_name are, is, spell) =
-      let f = called_fine m (mark_fault system inst place (t ∷ tokens)) fine in
-      let net : Net = net_at system (net_said system inst) in
-      let there = unfaulty (has_place system inst place) Name (tokens_fault system _ (t ∷ tokens)) f.0 in
-      let net_is : net.name ≡ inst.name =
-      has_name (λ net. net.name) inst.name system.nets empty_net (and_left (names_net system inst) (is_some (place_named net place)) there.0) in
-      let place_is : place_name net (place_said system inst place) ≡ place =
-      place_by (slice_get net.places (place_said system inst place))
-      ∙ has_name (λ p. p.name) place net.places no_place (and_right (names_net system inst) (is_some (place_named net place)) there.0) in
-      let values = tokens_spelled are (and_right (is_called system all inst) (tokens_are_called system all (t ∷ tokens)) f.1) in
-      let tokens_text = flat_map (token_text names) (map (λ t. t.value) (t ∷ tokens)) in (
-        rest,
-        spell,
-        is
-            ∙ ap (λ x. (x ++ (46 ∷ (place ++ b))) ++ 10 ∷ rest) (instance_spelled is_inst)
-            ∙ ap (λ x. (instance_text inst.name (Old inst.number) ++ (46 ∷ (place ++ x))) ++ 10 ∷ rest) values
-            ∙ ap (λ x. (instance_text x (Old inst.number) ++ (46 ∷ (place ++ tokens_text))) ++ 10 ∷ rest) (sym net_is)
-            ∙ ap (λ x. (instance_text net.name (Old inst.number) ++ (46 ∷ (x ++ tokens_text))) ++ 10 ∷ rest) (sym place_is)
-            ∙ simp append_assoc,
-      )
-
-  abbrev SpellMarks : List (Option LineSaid) → Type 0
-  SpellMarks lines = (marks : List MarkLine) (bytes : List ℕ) → marks_from system all lines ≡ (marks, None) → Spell lines bytes →
-      bytes ≡ marks_text marks
-
-  mark_on : (line : Option LineSaid) (lines : List (Option LineSaid)) (m : Marked) → line ≡ Some (LineSaid.holds m.inst m.place m.tokens) →
-      SpellMarks lines → (o : Option Refusal) → fault_of_mark system all m (mark_fault system m.inst m.place m.tokens) ≡ o →
-      (marks : List MarkLine) (bytes : List ℕ) → mark_then (told_mark system m) o (marks_from system all lines) ≡ (marks, None) →
-      Spell (line ∷ lines) bytes → bytes ≡ marks_text marks
-  mark_on line lines m is more (Some refusal) fault marks bytes e spell =
-      absurd (let end = ap (λ r. r.1) e in let no : ⊥ = cc in no)
-  mark_on line lines m is more None fault marks bytes e spell =
-      let read : List MarkLine × Option Refusal = marks_from system all lines in
-      let are : told_mark system m ∷ read.0 ≡ marks = ap (λ r. r.0) e in
-      let end : read.1 ≡ None = ap (λ r. r.1) e in
-      let one = mark_spelled m lines bytes fault (subst (λ l. Spell (l ∷ lines) bytes) is spell) in
-      let rest = more read.0 one.0 (ap (λ s. (read.0, s)) end) one.1 in
-      one.2 ∙ ap (λ t. mark_text 1 system names (told_mark system m) ++ t) rest ∙ ap marks_text are
-
-  by_mark : (line : Option LineSaid) (lines : List (Option LineSaid)) → SpellMarks lines → (o : Option Marked) → marked line ≡ o →
-      (marks : List MarkLine) (bytes : List ℕ) → marked_then system all o (marks_from system all lines) ≡ (marks, None) →
-      Spell (line ∷ lines) bytes → bytes ≡ marks_text marks
-  by_mark line lines more None is marks bytes e spell = absurd (let end = ap (λ r. r.1) e in let no : ⊥ = cc in no)
-  by_mark line lines more (Some m) is marks bytes e spell =
-      mark_on line lines m (marked_is line m is) more (fault_of_mark system all m (mark_fault system m.inst m.place m.tokens)) refl marks bytes e spell
-
-  marks_spelled : (lines : List (Option LineSaid)) → SpellMarks lines
-  marks_spelled [] marks bytes e spell = spell ∙ ap marks_text (ap (λ r. r.0) e)
-  marks_spelled (line ∷ lines) marks bytes e spell =
-      by_mark line lines (marks_spelled lines) (marked line) refl marks bytes e spell
 
 -- Where no line of a binding is bad, its nodes are whole and name what is there.
 all_pass : {X : Type 0} (p : X → Bool) (xs : List X) → length xs ≤ prefix_len p xs → AllByRecursion (λ x. p x ≡ true) xs
@@ -343,42 +244,50 @@ module _ (system : System) (made : List ℕ) (step worker : ℕ) where
       by None is e = by_stop lines bytes (Read lines).1 entry all count rest refl is spell e
 
 -- Ends.
-module _ (system : System) (made : List ℕ) where
+module _ (format : ℕ) (system : System) (made : List ℕ) where
   abbrev Ended : Ending → List ℕ → List Entry → List MarkLine → Type 0
   Ended ending bytes es ms =
       (reason : Reason) × (es ≡ End reason ∷ [])
       × (ending_text ending ++ 10 ∷ bytes
-      ≡ end_text system (names_for system made) reason ++ flat_map (mark_text 1 system (names_for system made)) ms)
+      ≡ end_text system (names_for system made) reason ++ flat_map (mark_text format system (names_for system made)) ms)
+      × MarksNamed (names_for system made) ms
 
   -- the end and the marks that lines tell
   marks_told : (reason : Reason) (line : ℕ) (lines : List (Option LineSaid)) (bytes : List ℕ) (es : List Entry) (ms : List MarkLine) →
-      with_marks reason line (marks_from system made lines) ≡ Verdict.tells es ms → Spell lines bytes →
-      (es ≡ End reason ∷ []) × (bytes ≡ flat_map (mark_text 1 system (names_for system made)) ms)
-  marks_told reason line lines bytes es ms e spell = by (marks_from system made lines).0 (marks_from system made lines).1 refl e
+      with_marks reason line (marks_from format system made 0 lines) ≡ Verdict.tells es ms → Spell lines bytes →
+      (es ≡ End reason ∷ []) × (bytes ≡ flat_map (mark_text format system (names_for system made)) ms)
+      × MarksNamed (names_for system made) ms
+  marks_told reason line lines bytes es ms e spell = by (marks_from format system made 0 lines).0 (marks_from format system made 0 lines).1 refl e
     where
-      by : (marks : List MarkLine) (o : Option Refusal) → marks_from system made lines ≡ (marks, o) →
+      by : (marks : List MarkLine) (o : Option Refusal) → marks_from format system made 0 lines ≡ (marks, o) →
           with_marks reason line (marks, o) ≡ Verdict.tells es ms →
-          (es ≡ End reason ∷ []) × (bytes ≡ flat_map (mark_text 1 system (names_for system made)) ms)
+          (es ≡ End reason ∷ []) × (bytes ≡ flat_map (mark_text format system (names_for system made)) ms)
+          × MarksNamed (names_for system made) ms
       by marks (Some r) is e = absurd (let no : ⊥ = cc in no)
       by marks None is e =
           let entries : End reason ∷ [] ≡ es = cc in
           let same : marks ≡ ms = cc in
-          (sym entries, marks_spelled system made lines marks bytes is spell ∙ ap (flat_map (mark_text 1 system (names_for system made))) same)
+          let spelled = marks_spelled format system made lines 0 marks bytes is spell in (
+            sym entries,
+            spelled.0 ∙ ap (flat_map (mark_text format system (names_for system made))) same,
+            subst (MarksNamed (names_for system made)) same spelled.1,
+          )
 
   plain_end : (ending : Ending) (reason : Reason) (line : ℕ) (lines : List (Option LineSaid)) (bytes : List ℕ) (es : List Entry) (ms : List MarkLine) →
       ending_text ending ++ 10 ∷ [] ≡ end_text system (names_for system made) reason →
-      with_marks reason line (marks_from system made lines) ≡ Verdict.tells es ms → Spell lines bytes → Ended ending bytes es ms
+      with_marks reason line (marks_from format system made 0 lines) ≡ Verdict.tells es ms → Spell lines bytes → Ended ending bytes es ms
   plain_end ending reason line lines bytes es ms text e spell =
       let told = marks_told reason line lines bytes es ms e spell in (
         reason,
         told.0,
         sym (append_assoc (ending_text ending) (10 ∷ []) bytes) ∙ ap (λ t. t ++ bytes) text
             ∙ ap (λ t. end_text system (names_for system made) reason ++ t) told.1,
+        told.2,
       )
 
   fault_end : (ending : Ending) (cause : FaultKind) (line : ℕ) (lines : List (Option LineSaid)) (bytes : List ℕ) (es : List Entry) (ms : List MarkLine) →
       ending_text ending ++ 10 ∷ [] ≡ fault_line cause →
-      fault_read system made line cause lines ≡ Verdict.tells es ms → Spell lines bytes → Ended ending bytes es ms
+      fault_read format system made line cause lines ≡ Verdict.tells es ms → Spell lines bytes → Ended ending bytes es ms
   fault_end ending cause line lines bytes es ms text e spell = by (nodes_fault system whole read) refl e
     where
       read : List Placed × Stop
@@ -387,26 +296,27 @@ module _ (system : System) (made : List ℕ) where
       whole : List ℕ
       whole = made_with system made read
 
-      by : (o : Option BadAt) → nodes_fault system whole read ≡ o → fault_by system made line cause read o ≡ Verdict.tells es ms → Ended ending bytes es ms
+      by : (o : Option BadAt) → nodes_fault system whole read ≡ o → fault_by format system made line cause read o ≡ Verdict.tells es ms → Ended ending bytes es ms
       by (Some b) is e = absurd (let no : ⊥ = cc in no)
       by None is e =
           let fine = fine_binding system whole made Fault lines bytes refl is spell in
           let b = told_binding system (length made) read.0 in
           let names = names_for system made in
           let reason : Reason = Reason.Fault cause b in
-          let after : with_marks reason (line + length read.0) (marks_from system made fine.0) ≡ Verdict.tells es ms =
-          ap (after_fault system made line cause read.0) (sym fine.2) ∙ e in
+          let after : with_marks reason (line + length read.0) (marks_from format system made 0 fine.0) ≡ Verdict.tells es ms =
+          ap (after_fault format system made line cause read.0) (sym fine.2) ∙ e in
           let told = marks_told reason (line + length read.0) fine.0 fine.1 es ms after fine.3 in
           let lines_text = binding_text system names (codes "! ") b in (
             reason,
             told.0,
             sym (append_assoc (ending_text ending) (10 ∷ []) bytes) ∙ ap (λ t. t ++ bytes) text
                 ∙ ap (λ t. fault_line cause ++ t) (fine.4 ∙ ap (λ t. lines_text ++ t) told.1)
-                ∙ sym (append_assoc (fault_line cause) lines_text (flat_map (mark_text 1 system names) ms)),
+                ∙ sym (append_assoc (fault_line cause) lines_text (flat_map (mark_text format system names) ms)),
+            told.2,
           )
 
   end_spelled : (ending : Ending) (line : ℕ) (lines : List (Option LineSaid)) (bytes : List ℕ) (es : List Entry) (ms : List MarkLine) →
-      end_read system made line ending lines ≡ Verdict.tells es ms → Spell lines bytes → Ended ending bytes es ms
+      end_read format system made line ending lines ≡ Verdict.tells es ms → Spell lines bytes → Ended ending bytes es ms
   end_spelled Ends.Dead line lines bytes es ms e spell = plain_end Ends.Dead Reason.Dead line lines bytes es ms refl e spell
   end_spelled Ends.Steps line lines bytes es ms e spell = plain_end Ends.Steps Reason.Steps line lines bytes es ms refl e spell
   end_spelled Ends.Memory line lines bytes es ms e spell = plain_end Ends.Memory Reason.Memory line lines bytes es ms refl e spell
@@ -427,7 +337,7 @@ end_line ending (line ∷ lines) bytes is spell = text (subst (λ l. Spell (l �
     text (t, rest, IsLine.ends, whole, spell) = (rest, spell, whole)
 
 -- One entry more.
-entries_more : (entry : Entry) (v : Verdict) (es : List Entry) (ms : List MarkLine) → with_entry entry v ≡ Verdict.tells es ms →
+pub entries_more : (entry : Entry) (v : Verdict) (es : List Entry) (ms : List MarkLine) → with_entry entry v ≡ Verdict.tells es ms →
     (others : List Entry) × (v ≡ Verdict.tells others ms) × (es ≡ entry ∷ others)
 entries_more entry (Verdict.tells others marks) es ms e =
     let entries : entry ∷ others ≡ es = cc in
@@ -436,34 +346,42 @@ entries_more entry (Verdict.tells others marks) es ms e =
 entries_more entry (Verdict.bad line r) es ms e = absurd (let no : ⊥ = cc in no)
 
 -- The text of a run, after some instances were made.
-abbrev pub run_text : System → List (List ℕ) → ℕ → List Entry → List MarkLine → List ℕ
-run_text system names step es ms =
-    entries_text system names step es ++ flat_map (mark_text 1 system (names_at_end system names es)) ms
+abbrev pub run_text : ℕ → System → List (List ℕ) → ℕ → List Entry → List MarkLine → List ℕ
+run_text format system names step es ms =
+    entries_text system names step es ++ flat_map (mark_text format system (names_at_end system names es)) ms
 
-run_spelled : (system : System) (made : List ℕ) (step line : ℕ) (lines : List (Option LineSaid)) (v : Verdict) →
-    Tells system made step line lines v → (es : List Entry) (ms : List MarkLine) (bytes : List ℕ) → v ≡ Verdict.tells es ms →
-    Spell lines bytes → bytes ≡ run_text system (names_for system made) step es ms
-run_spelled system made step line lines v (Tells.stray p) es ms bytes e spell = absurd (let no : ⊥ = cc in no)
-run_spelled system made step line lines v (Tells.broken p r) es ms bytes e spell = absurd (let no : ⊥ = cc in no)
-run_spelled system made step line lines v (Tells.ended {e = ending} p) es ms bytes e spell =
+-- bytes are the text of a run, whose marks name instances that have names at its end
+abbrev IsRun : ℕ → System → List (List ℕ) → ℕ → List Entry → List MarkLine → List ℕ → Type 0
+IsRun format system names step es ms bytes =
+    (bytes ≡ run_text format system names step es ms) × MarksNamed (names_at_end system names es) ms
+
+run_spelled : (format : ℕ) (system : System) (made : List ℕ) (step line : ℕ) (lines : List (Option LineSaid)) (v : Verdict) →
+    Tells format system made step line lines v → (es : List Entry) (ms : List MarkLine) (bytes : List ℕ) → v ≡ Verdict.tells es ms →
+    Spell lines bytes → IsRun format system (names_for system made) step es ms bytes
+run_spelled format system made step line lines v (Tells.stray p) es ms bytes e spell = absurd (let no : ⊥ = cc in no)
+run_spelled format system made step line lines v (Tells.broken p r) es ms bytes e spell = absurd (let no : ⊥ = cc in no)
+run_spelled format system made step line lines v (Tells.ended {e = ending} p) es ms bytes e spell =
     let first = end_line ending lines bytes p spell in
-    let ended = end_spelled system made ending (line + 1) (drop 1 lines) first.0 es ms e first.1 in
+    let ended = end_spelled format system made ending (line + 1) (drop 1 lines) first.0 es ms e first.1 in
     let names = names_for system made in
-    let marks = flat_map (mark_text 1 system names) ms in
+    let marks = flat_map (mark_text format system names) ms in
+    let text : bytes ≡ run_text format system names step (End ended.0 ∷ []) ms =
     first.2 ∙ ended.2
-    ∙ ap (λ t. t ++ marks) (sym (append-nil (end_text system names ended.0)))
-    ∙ ap (λ xs. run_text system names step xs ms) (sym ended.1)
-run_spelled system made step line lines v (Tells.fired {all = all} {worker = worker} {count = count} {rest = rest} {entry = entry} {v = w} p r t) es ms bytes e spell =
+    ∙ ap (λ t. t ++ marks) (sym (append-nil (end_text system names ended.0))) in
+    subst (λ xs. IsRun format system names step xs ms bytes) (sym ended.1) (text, ended.3)
+run_spelled format system made step line lines v (Tells.fired {all = all} {worker = worker} {count = count} {rest = rest} {entry = entry} {v = w} p r t) es ms bytes e spell =
     let more = entries_more entry w es ms e in
     let one = firing_spelled system made step worker lines bytes entry all count rest r spell in
-    let later = run_spelled system all (step + 1) (line + count) rest w t more.0 ms one.0 more.1 one.1 in
+    let later = run_spelled format system all (step + 1) (line + count) rest w t more.0 ms one.0 more.1 one.1 in
     let names = names_for system made in
+    let text : bytes ≡ run_text format system names step (entry ∷ more.0) ms =
     one.2
-    ∙ ap (λ x. entry_text system names step entry ++ x) later
-    ∙ ap (λ ns. entry_text system names step entry ++ run_text system ns (step + 1) more.0 ms) one.3
+    ∙ ap (λ x. entry_text system names step entry ++ x) later.0
+    ∙ ap (λ ns. entry_text system names step entry ++ run_text format system ns (step + 1) more.0 ms) one.3
     ∙ sym (append_assoc (entry_text system names step entry) (entries_text system (names_past system names entry) (step + 1) more.0)
-    (flat_map (mark_text 1 system (names_at_end system (names_past system names entry) more.0)) ms))
-    ∙ ap (λ xs. run_text system names step xs ms) (sym more.2)
+    (flat_map (mark_text format system (names_at_end system (names_past system names entry) more.0)) ms)) in
+    subst (λ xs. IsRun format system names step xs ms bytes) (sym more.2)
+    (text, subst (λ ns. MarksNamed (names_at_end system ns more.0) ms) one.3 later.1)
 
 -- There is a net with a name that is counted.
 none_named : {X : Type 0} (name : X → List ℕ) (word : List ℕ) (k : ℕ) (xs : List X) → is_some (number_from name k xs word) ≡ false →
@@ -496,12 +414,45 @@ main_there system good = by (is_some (net_named system (codes "main"))) refl
         let one = good.main in
         absurd (let no : ⊥ = omega (arith, none, one) in no)
 
-pub one_spelling : OneSpelling
-one_spelling system bytes es ms good told =
+-- the lines after the name of the format
+lines_text : (format : ℕ) (system : System) (line : ℕ) (bytes : List ℕ) (es : List Entry) (ms : List MarkLine) → Good system →
+    Tells format system (first_made system) 1 line (lines_in bytes) (Verdict.tells es ms) → IsRun format system first_names 1 es ms bytes
+lines_text format system line bytes es ms good told =
     let names : names_for system (first_made system) ≡ first_names =
     ap (λ name. name ∷ []) (has_name (λ net. net.name) (codes "main") system.nets empty_net (main_there system good)) in
-    run_spelled system (first_made system) 1 1 (lines_in bytes) (Verdict.tells es ms) told es ms bytes refl (lines_spelled bytes)
-    ∙ ap (λ ns. run_text system ns 1 es ms) names
+    subst (λ ns. IsRun format system ns 1 es ms bytes) names
+    (run_spelled format system (first_made system) 1 line (lines_in bytes) (Verdict.tells es ms) told es ms bytes refl (lines_spelled bytes))
+
+-- the name of the format
+named : (front bytes rest : List ℕ) → bytes_after front bytes ≡ Some rest → bytes ≡ front ++ rest
+named front bytes rest e =
+    let start : List ℕ = take (length front) bytes in
+    let tests = cond_some (bytes_eq start front) (drop (length front) bytes) rest e in
+    sym (take-append-drop (length front) bytes)
+    ∙ ap (λ f. f ++ drop (length front) bytes) ((bytes_eq-Decides start front).0 tests.0)
+    ∙ ap (λ r. front ++ r) tests.1
+
+-- what is told after it
+pub told_after : (format : ℕ) (system : System) (o : Option (List ℕ)) (es : List Entry) (ms : List MarkLine) →
+    TellsAfter format system o (Verdict.tells es ms) →
+    (rest : List ℕ) × (o ≡ Some rest) × Tells format system (first_made system) 1 (first_line format) (lines_in rest) (Verdict.tells es ms)
+told_after format system (Some rest) es ms told = (rest, refl, told)
+told_after format system None es ms told = absurd (let no : ⊥ = cc in no)
+
+pub one_spelling : OneSpelling
+one_spelling system format bytes es ms good is told =
+    let after = told_after format system (bytes_after (header_text format) bytes) es ms told in
+    let header = header_text format in
+    let entries = entries_text system first_names 1 es in
+    let marks = flat_map (mark_text format system (names_at_end system first_names es)) ms in
+    named header bytes after.0 after.1
+    ∙ ap (λ t. header ++ t) (lines_text format system (first_line format) after.0 es ms good after.2).0
+    ∙ sym (append_assoc header entries marks)
+
+pub marks_named : ToldMarksAreNamed
+marks_named system format bytes es ms good is told =
+    let after = told_after format system (bytes_after (header_text format) bytes) es ms told in
+    (lines_text format system (first_line format) after.0 es ms good after.2).1
 
 -- Whole runs.
 fires_with : (line : Option LineSaid) (worker : ℕ) → opening line ≡ Opening.firing worker →
@@ -529,19 +480,19 @@ abbrev IsWhole : List Entry → Type 0
 IsWhole es = (fired : List Run.Firing) × (reason : Reason) × (es ≡ entries_of fired (Some reason))
     × AllByRecursion (λ f. HasWorker f.worker) fired
 
-run_whole : (system : System) (made : List ℕ) (step line : ℕ) (lines : List (Option LineSaid)) (v : Verdict) →
-    Tells system made step line lines v → (es : List Entry) (ms : List MarkLine) (bytes : List ℕ) → v ≡ Verdict.tells es ms →
+run_whole : (format : ℕ) (system : System) (made : List ℕ) (step line : ℕ) (lines : List (Option LineSaid)) (v : Verdict) →
+    Tells format system made step line lines v → (es : List Entry) (ms : List MarkLine) (bytes : List ℕ) → v ≡ Verdict.tells es ms →
     Spell lines bytes → IsWhole es
-run_whole system made step line lines v (Tells.stray p) es ms bytes e spell = absurd (let no : ⊥ = cc in no)
-run_whole system made step line lines v (Tells.broken p r) es ms bytes e spell = absurd (let no : ⊥ = cc in no)
-run_whole system made step line lines v (Tells.ended {e = ending} p) es ms bytes e spell =
+run_whole format system made step line lines v (Tells.stray p) es ms bytes e spell = absurd (let no : ⊥ = cc in no)
+run_whole format system made step line lines v (Tells.broken p r) es ms bytes e spell = absurd (let no : ⊥ = cc in no)
+run_whole format system made step line lines v (Tells.ended {e = ending} p) es ms bytes e spell =
     let first = end_line ending lines bytes p spell in
-    let ended = end_spelled system made ending (line + 1) (drop 1 lines) first.0 es ms e first.1 in
+    let ended = end_spelled format system made ending (line + 1) (drop 1 lines) first.0 es ms e first.1 in
     ([], ended.0, ended.1, tt)
-run_whole system made step line lines v (Tells.fired {all = all} {worker = worker} {count = count} {rest = rest} {entry = entry} {v = w} p r t) es ms bytes e spell =
+run_whole format system made step line lines v (Tells.fired {all = all} {worker = worker} {count = count} {rest = rest} {entry = entry} {v = w} p r t) es ms bytes e spell =
     let more = entries_more entry w es ms e in
     let one = firing_spelled system made step worker lines bytes entry all count rest r spell in
-    let later = run_whole system all (step + 1) (line + count) rest w t more.0 ms one.0 more.1 one.1 in
+    let later = run_whole format system all (step + 1) (line + count) rest w t more.0 ms one.0 more.1 one.1 in
     let f : Run.Firing = record { worker = worker; binding = one.4.1; outs = one.4.0 } in (
       f ∷ later.0,
       later.1,
@@ -550,6 +501,8 @@ run_whole system made step line lines v (Tells.fired {all = all} {worker = worke
     )
 
 pub whole_runs : TellsWholeRuns
-whole_runs system bytes es ms told =
-    let whole = run_whole system (first_made system) 1 1 (lines_in bytes) (Verdict.tells es ms) told es ms bytes refl (lines_spelled bytes) in
+whole_runs system format bytes es ms is told =
+    let after = told_after format system (bytes_after (header_text format) bytes) es ms told in
+    let whole =
+    run_whole format system (first_made system) 1 (first_line format) (lines_in after.0) (Verdict.tells es ms) after.2 es ms after.0 refl (lines_spelled after.0) in
     (whole.0, whole.1, whole.2, All-from_recursion (λ f. HasWorker f.worker) whole.0 whole.3)

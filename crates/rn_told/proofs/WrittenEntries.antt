@@ -39,7 +39,7 @@ use Rattle.rn_told.proofs.SpelledNodes.{names_for}
 use Rattle.rn_told.proofs.WrittenBindings.{nets_of}
 use Rattle.rn_told.proofs.WrittenFirings.{BindingRead, IsAt, all_few, all_real, binding_read, names_same}
 use Rattle.rn_told.proofs.WrittenLines.{line_then}
-use Rattle.rn_told.proofs.WrittenMarks.{IsRightMark, marks_read}
+use Rattle.rn_told.proofs.WrittenMarks.{IsRightMark, Remain, marks_read}
 use Rattle.rn_told.proofs.WrittenPrints.{prints_read}
 
 all_pass : {X : Type 0} (p : X → Bool) (xs : List X) → AllByRecursion (λ x. p x ≡ true) xs → prefix_len p xs ≡ length xs
@@ -63,8 +63,8 @@ EndsAs system depth (Reason.Fault cause b) m = Enabled system m b depth
 EndsAs system depth _ m = ⊤
 
 -- What lines tell between entries; and they begin with no printed value.
-pub record RunTold (system : System) (made : List ℕ) (step line : ℕ) (lines : List (Option LineSaid)) (v : Verdict) : Type 0 where
-  pub tells : Tells system made step line lines v
+pub record RunTold (format : ℕ) (system : System) (made : List ℕ) (step line : ℕ) (lines : List (Option LineSaid)) (v : Verdict) : Type 0 where
+  pub tells : Tells format system made step line lines v
   pub quiet : (all : List ℕ) (k worker : ℕ) → prints_from system all k worker lines ≡ ([], PrintsEnd.over lines)
 
 module _ (system : System) (m : Marking) (made : List ℕ) (depth : ℕ) (good : Good system) (at : IsAt system m made) where
@@ -131,34 +131,35 @@ module _ (system : System) (m : Marking) (made : List ℕ) (depth : ℕ) (good :
         ∙ ap (λ t. FiringRead.fired (Fire worker t outs) all (length r.nodes + length outs) (lines_in rest)) r.told
 
   -- The end.
-  module _ (step line : ℕ) (marks : List MarkLine) (right : AllByRecursion (IsRightMark system good made at.real at.few) marks) where
+  module _ (format step line : ℕ) (marks : List MarkLine) (right : AllByRecursion (IsRightMark system good made at.real at.few) marks)
+      (enough : Remain format 0 marks) where
     abbrev marks_text : List ℕ
-    marks_text = flat_map (mark_text 1 system names) marks
+    marks_text = flat_map (mark_text format system names) marks
 
     abbrev Ended : List ℕ → Reason → Type 0
-    Ended text reason = RunTold system made step line (lines_in text) (Verdict.tells (End reason ∷ []) marks)
+    Ended text reason = RunTold format system made step line (lines_in text) (Verdict.tells (End reason ∷ []) marks)
 
     ended : (e : Ending) (rest : List ℕ) (reason : Reason) →
-        end_read system made (line + 1) e (lines_in rest) ≡ Verdict.tells (End reason ∷ []) marks → Ended (ending_text e ++ 10 ∷ rest) reason
+        end_read format system made (line + 1) e (lines_in rest) ≡ Verdict.tells (End reason ∷ []) marks → Ended (ending_text e ++ 10 ∷ rest) reason
     ended e rest reason is =
-        subst (λ ls. RunTold system made step line ls (Verdict.tells (End reason ∷ []) marks)) (sym (line_then IsLine.ends rest))
-        (subst (RunTold system made step line (Some (LineSaid.ends e) ∷ lines_in rest)) is
+        subst (λ ls. RunTold format system made step line ls (Verdict.tells (End reason ∷ []) marks)) (sym (line_then IsLine.ends rest))
+        (subst (RunTold format system made step line (Some (LineSaid.ends e) ∷ lines_in rest)) is
         (record { tells = Tells.ended refl; quiet = λ all k worker. refl }))
 
-    marks_told : (reason : Reason) (k : ℕ) → with_marks reason k (marks_from system made (lines_in marks_text)) ≡ Verdict.tells (End reason ∷ []) marks
-    marks_told reason k = ap (with_marks reason k) (marks_read system good made at.real at.few marks right)
+    marks_told : (reason : Reason) (k : ℕ) → with_marks reason k (marks_from format system made 0 (lines_in marks_text)) ≡ Verdict.tells (End reason ∷ []) marks
+    marks_told reason k = ap (with_marks reason k) (marks_read system good made at.real at.few format 0 marks right enough)
 
     fault_told : (cause : FaultKind) (k : ℕ) (b : Binding) → Enabled system m b depth → HasLines system names b → HasReadableValues b →
-        fault_read system made k cause (lines_in (binding_text system names (codes "! ") b ++ marks_text))
+        fault_read format system made k cause (lines_in (binding_text system names (codes "! ") b ++ marks_text))
         ≡ Verdict.tells (End (Reason.Fault cause b) ∷ []) marks
     fault_told cause k b enabled lines readable =
         let r = binding_read system m made depth good at b enabled lines readable Roles.Fault tt marks_text in
         let all : List ℕ = made ++ nets_of system b.nodes in
         let left : List (Option LineSaid) = lines_in marks_text in
         let whole : List Placed × Stop = (r.nodes, Stop.whole left) in
-        ap (λ x. fault_by system made k cause x (nodes_fault system (made_with system made x) x)) r.whole
-        ∙ ap (λ ns. fault_by system made k cause whole (nodes_fault system ns whole)) r.nets
-        ∙ ap (fault_by system made k cause whole) (no_fault system all r.nodes left r.called)
+        ap (λ x. fault_by format system made k cause x (nodes_fault system (made_with system made x) x)) r.whole
+        ∙ ap (λ ns. fault_by format system made k cause whole (nodes_fault system ns whole)) r.nets
+        ∙ ap (fault_by format system made k cause whole) (no_fault system all r.nodes left r.called)
         ∙ marks_told (Reason.Fault cause (told_binding system (length made) r.nodes)) (k + length r.nodes)
         ∙ ap (λ t. Verdict.tells (End (Reason.Fault cause t) ∷ []) marks) r.told
 

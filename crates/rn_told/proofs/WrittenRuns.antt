@@ -26,19 +26,19 @@ use Rattle.rn_model.proofs.EachElement.{each_weaker}
 use Rattle.rn_model.proofs.MarkingsOfRuns.{firings_keep_markings, found_is_there}
 use Rattle.rn_model.proofs.SoundAfter.{firings_keep_tokens_sound}
 use Rattle.rn_lookup.specs.Found.{net_of_made}
-use Rattle.rn_record.specs.RecordText.{entry_text, entries_text, first_names, mark_text, names_after, names_at_end}
+use Rattle.rn_record.specs.RecordText.{IsFormat, entry_text, entries_text, first_names, header_text, mark_text, names_after, names_at_end}
 use Rattle.rn_record.specs.Writable.{HasLines, HaveEntries}
 use Rattle.rn_told.specs.Laws.{TextsTell}
 use Rattle.rn_told.specs.Lines.{lines_in}
 use Rattle.rn_told.specs.Readable.{IsReadable, IsReadableEntry}
-use Rattle.rn_told.specs.Runs.{Tells, Verdict, first_made}
+use Rattle.rn_told.specs.Runs.{Tells, TellsAfter, Verdict, bytes_after, first_line, first_made}
 use Rattle.rn_told.proofs.SpelledNodes.{names_for}
 use Rattle.rn_told.proofs.SpelledRuns.{run_text}
 use Rattle.rn_told.proofs.WrittenBack.{net_made_next, net_still_made}
 use Rattle.rn_told.proofs.WrittenBindings.{nets_of}
 use Rattle.rn_told.proofs.WrittenEntries.{EndsAs, RunTold, begins_quiet, count_of, end_told, firing_told, opens}
 use Rattle.rn_told.proofs.WrittenFirings.{IsAt, all_few, all_real, count_all, names_same}
-use Rattle.rn_told.proofs.WrittenMarks.{IsRightMark}
+use Rattle.rn_told.proofs.WrittenMarks.{IsRightMark, Remain, holds_few}
 use Rattle.rn_told.proofs.WrittenValues.{IsNet}
 use Rattle.rn_told.proofs.WrittenStart.{at_first, first_named}
 
@@ -103,7 +103,7 @@ module _ (system : System) (good : Good system) (m : Marking) (made : List ℕ) 
   right_marks (line ∷ marks) are readable named =
       (right_mark line are.0 readable.0 named.0, right_marks marks are.1 readable.1 named.1)
 
-module _ (system : System) (depth : ℕ) (good : Good system) (marks : List MarkLine) (reason : Reason) where
+module _ (format : ℕ) (system : System) (depth : ℕ) (good : Good system) (marks : List MarkLine) (reason : Reason) (enough : Remain format 0 marks) where
   -- what is known of a run that goes on, whose instances so far have these names
   record GoesOn (names : List (List ℕ)) (fs : List Firing) : Type 0 where
     entries : HaveEntries system names (entries_of fs (Some reason))
@@ -145,10 +145,10 @@ module _ (system : System) (depth : ℕ) (good : Good system) (marks : List Mark
       AllByRecursion (IsMarkOf system (end_from system step m fs)) marks →
       AllByRecursion (λ line. All IsReadable line.values) marks →
       AllByRecursion IsReadableEntry (entries_of fs (Some reason)) → GoesOn (names_for system made) fs →
-      RunTold system made step line (lines_in (run_text system (names_for system made) step (entries_of fs (Some reason)) marks))
+      RunTold format system made step line (lines_in (run_text format system (names_for system made) step (entries_of fs (Some reason)) marks))
       (Verdict.tells (entries_of fs (Some reason)) marks)
   run_told [] step line m made at run ends are readable printable on =
-      end_told system m made depth good at step line marks (right_marks system good m made at marks are readable on.named) reason
+      end_told system m made depth good at format step line marks (right_marks system good m made at marks are readable on.named) enough reason
       ends on.entries.0 printable.0
   run_told (f ∷ fs) step line m made at (fires, run) ends are readable printable on =
       let es : List Entry = entries_of fs (Some reason) in
@@ -158,9 +158,9 @@ module _ (system : System) (depth : ℕ) (good : Good system) (marks : List Mark
       let same = names_same system m made depth good at f.binding fires.enabled here.0 in
       let more : GoesOn (names_for system all) fs =
       subst (λ ns. GoesOn ns fs) same (record { entries = on.entries.1; named = on.named }) in
-      let rest : List ℕ = run_text system (names_for system all) (step + 1) es marks in
+      let rest : List ℕ = run_text format system (names_for system all) (step + 1) es marks in
       let printed = recursion_from_All IsReadable f.outs printable.0.1 in
-      let next : (line : ℕ) → RunTold system all (step + 1) line (lines_in rest) (Verdict.tells es marks) =
+      let next : (line : ℕ) → RunTold format system all (step + 1) line (lines_in rest) (Verdict.tells es marks) =
       λ line. run_told fs (step + 1) line (after_firing system step m f) all (next_at step m made at f fires here.0)
       (subst (λ k. RunFrom system depth k (after_firing system step m f) fs) (one_more step) run)
       (subst (λ k. EndsAs system depth reason (end_from system k (after_firing system step m f) fs)) (one_more step) ends)
@@ -169,13 +169,13 @@ module _ (system : System) (depth : ℕ) (good : Good system) (marks : List Mark
       let count = count_of system m made depth good at step f.worker fires.worker.0 fires.worker.1 f.binding f.outs fires.enabled here.0 printable.0.0 printed here.1 rest in
       let told = firing_told system m made depth good at step f.worker fires.worker.0 fires.worker.1 f.binding f.outs fires.enabled here.0 printable.0.0 printed here.1 rest
       ((next line).quiet all step f.worker) in
-      let text : run_text system names step (entries_of (f ∷ fs) (Some reason)) marks
+      let text : run_text format system names step (entries_of (f ∷ fs) (Some reason)) marks
       ≡ entry_text system names step (Fire f.worker f.binding f.outs) ++ rest =
       append_assoc (entry_text system names step (Fire f.worker f.binding f.outs))
       (entries_text system (names_after system names f.binding) (step + 1) es)
-      (flat_map (mark_text 1 system (names_at_end system (names_after system names f.binding) es)) marks)
-      ∙ ap (λ ns. entry_text system names step (Fire f.worker f.binding f.outs) ++ run_text system ns (step + 1) es marks) same in
-      subst (λ t. RunTold system made step line (lines_in t) (Verdict.tells (entries_of (f ∷ fs) (Some reason)) marks)) (sym text)
+      (flat_map (mark_text format system (names_at_end system (names_after system names f.binding) es)) marks)
+      ∙ ap (λ ns. entry_text system names step (Fire f.worker f.binding f.outs) ++ run_text format system ns (step + 1) es marks) same in
+      subst (λ t. RunTold format system made step line (lines_in t) (Verdict.tells (entries_of (f ∷ fs) (Some reason)) marks)) (sym text)
       (record {
         tells = Tells.fired
             (opens system m made depth good at step f.worker fires.worker.0 fires.worker.1 f.binding f.outs fires.enabled here.0 printable.0.0 printed here.1 rest)
@@ -193,18 +193,33 @@ ends_enabled system options fs Reason.Steps e = tt
 ends_enabled system options fs Reason.Memory e = tt
 ends_enabled system options fs (Reason.Fault cause b) e = e.0
 
+-- the name of the format stands first
+pub name_stands : (format : ℕ) (bytes : List ℕ) → IsFormat format → bytes_after (header_text format) (header_text format ++ bytes) ≡ Some bytes
+name_stands format bytes is = elim is as (λ _. bytes_after (header_text format) (header_text format ++ bytes) ≡ Some bytes) [
+  | inl one ↦ subst (λ k. bytes_after (header_text k) (header_text k ++ bytes) ≡ Some bytes) (sym one) refl
+  | inr two ↦ subst (λ k. bytes_after (header_text k) (header_text k ++ bytes) ≡ Some bytes) (sym two) refl
+]
+
 pub texts_tell : TextsTell
-texts_tell system options fired reason marks good log live has readable =
+texts_tell system format options fired reason marks good is log live has readable few =
     let es : List Entry = entries_of fired (Some reason) in
+    let enough = holds_few format marks few in
     let same = first_named system good in
-    let on : GoesOn system options.depth good marks reason first_names fired = record {
+    let header = header_text format in
+    let entries = entries_text system first_names 1 es in
+    let text = run_text format system first_names 1 es marks in
+    let marks_text = flat_map (mark_text format system (names_at_end system first_names es)) marks in
+    let on : GoesOn format system options.depth good marks reason enough first_names fired = record {
       entries = has.entries;
       named = recursion_from_All (λ line. All (AreNamed (names_at_end system first_names es)) line.values) marks has.marks;
     } in
-    subst (λ ns. Tells system (first_made system) 1 1 (lines_in (run_text system ns 1 es marks)) (Verdict.tells es marks)) same
-    (run_told system options.depth good marks reason fired 1 1 (initial_marking system) (first_made system) (at_first system good) log.run
+    let told : Tells format system (first_made system) 1 (first_line format) (lines_in text) (Verdict.tells es marks) =
+    subst (λ ns. Tells format system (first_made system) 1 (first_line format) (lines_in (run_text format system ns 1 es marks)) (Verdict.tells es marks)) same
+    (run_told format system options.depth good marks reason enough fired 1 (first_line format) (initial_marking system) (first_made system) (at_first system good) log.run
     (ends_enabled system options fired reason log.ends)
     (recursion_from_All (IsMarkOf system (end_of system fired)) marks live.each)
     (recursion_from_All (λ line. All IsReadable line.values) marks readable.marks)
     (recursion_from_All IsReadableEntry es readable.entries)
-    (subst (λ ns. GoesOn system options.depth good marks reason ns fired) (sym same) on)).tells
+    (subst (λ ns. GoesOn format system options.depth good marks reason enough ns fired) (sym same) on)).tells in
+    subst (λ bytes. TellsAfter format system (bytes_after header bytes) (Verdict.tells es marks)) (sym (append_assoc header entries marks_text))
+    (subst (λ o. TellsAfter format system o (Verdict.tells es marks)) (sym (name_stands format text is)) told)

@@ -4,14 +4,14 @@ use Rattle.rn_model.specs.declared.log.Entry.{Entry}
 use Rattle.rn_model.specs.declared.log.Entry.TheVariants.{End}
 use Rattle.rn_model.specs.declared.log.Told.{Told}
 use Rattle.rn_lines.specs.LineText.{LineSaid}
-use Rattle.rn_lookup.specs.declared.refusal.Refusal.TheVariants.{Form, Name, Step}
+use Rattle.rn_lookup.specs.declared.refusal.Refusal.TheVariants.{Form, Name, Step, Many}
 use Rattle.rn_told.specs.Lines.{lines_in}
 use Rattle.rn_told.specs.Runs.{Verdict, with_entry, Opening, opening_of, Tells}
 use Rattle.rn_model.specs.declared.system.System.{System}
 use Rattle.rn_told.specs.declared.entries.EntryRead.{EntryRead}
 use Rattle.rn_told.specs.declared.entries.EntryRead.TheVariants.{Fired, Over}
 use Rattle.rn_told.specs.declared.fault.RecordFault.{RecordFault}
-use Rattle.rn_told.specs.declared.fault.RecordFault.TheVariants.{Q1, Q2, Q3, NoMemory}
+use Rattle.rn_told.specs.declared.fault.RecordFault.TheVariants.{Q1, Q2, Q3, Q4, NoMemory}
 use Rattle.rn_told.specs.declared.opening.Opens.{Opens}
 use Rattle.rn_told.specs.declared.opening.Opens.TheVariants.{Firing, Ending, Neither}
 use Rattle.rn_told.specs.declared.ends.EndRead.{EndRead}
@@ -22,6 +22,7 @@ abbrev pub FaultTells : (Verdict → Type 0) → RecordFault → Type 0
 FaultTells T (Q1 line) = T (Verdict.bad line Form)
 FaultTells T (Q2 line) = T (Verdict.bad line Name)
 FaultTells T (Q3 line) = T (Verdict.bad line Step)
+FaultTells T (Q4 line) = T (Verdict.bad line Many)
 FaultTells T NoMemory = ⊤
 
 -- what the code says of what begins
@@ -44,14 +45,14 @@ with_entries (entry ∷ entries) v = with_entry entry (with_entries entries v)
 
 -- What the code says of an entry, whose first line has this number, with the nets of the instances
 -- made before it and after it: whatever is told after a firing is told with it.
-abbrev pub EntryTells : System → List ℕ → ℕ → ℕ → List (Option LineSaid) → List ℕ → EntryRead →
+abbrev pub EntryTells : ℕ → System → List ℕ → ℕ → ℕ → List (Option LineSaid) → List ℕ → EntryRead →
     Type 0
-EntryTells system made step line lines all (Fired entry count rest) =
-    ((v : Verdict) → Tells system all (step + 1) (line + count) (lines_in rest.now) v →
-    Tells system made step line lines (with_entry entry v))
+EntryTells format system made step line lines all (Fired entry count rest) =
+    ((v : Verdict) → Tells format system all (step + 1) (line + count) (lines_in rest.now) v →
+    Tells format system made step line lines (with_entry entry v))
     × (1 ≤ count) × (count + length (lines_in rest.now) ≤ length lines)
-EntryTells system made step line lines all (Over end) =
-    Tells system made step line lines (end_verdict end)
+EntryTells format system made step line lines all (Over end) =
+    Tells format system made step line lines (end_verdict end)
 
 -- What the code says of a record: a run with its marks, or what its fault tells.
 abbrev pub RecordTells : (Verdict → Type 0) → Result Told RecordFault → Type 0

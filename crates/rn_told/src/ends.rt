@@ -34,6 +34,7 @@ fn with_marks(
     alloc: Global,
     system: &System,
     directory: &Directory,
+    format: u32,
     made: &[u32],
     line: u32,
     reason: Reason,
@@ -42,10 +43,10 @@ fn with_marks(
     requires directory { IsDirectoryOf system.now directory.now }
     requires few { line + length (lines_in bytes.now) < 2 ^ 32 }
     ensures { IfOk result (λ read.
-        with_marks reason line (marks_from system.now made.now (lines_in bytes.now))
+        with_marks reason line (marks_from format system.now made.now 0 (lines_in bytes.now))
         ≡ end_verdict read) }
 {
-    let read = read_marks(alloc, system, directory, made, bytes)?;
+    let read = read_marks(alloc, system, directory, format, made, bytes)?;
     match read.refusal {
         None => Ok(EndRead::Told(reason, read.marks)),
         Some(refusal) => Ok(EndRead::Bad(line + read.marks.len() as u32, refusal)),
@@ -57,6 +58,7 @@ fn fault_on(
     alloc: Global,
     system: &System,
     directory: &Directory,
+    format: u32,
     made: &[u32],
     line: u32,
     cause: FaultKind,
@@ -66,13 +68,13 @@ fn fault_on(
     requires good { Good system.now }
     requires directory { IsDirectoryOf system.now directory.now }
     requires few { line + length nodes.now + length (lines_in rest.now) < 2 ^ 32 }
-    ensures { IfOk result (λ read. after_fault system.now made.now line cause
+    ensures { IfOk result (λ read. after_fault format system.now made.now line cause
         (map placed nodes.now) (Stop.whole (lines_in rest.now)) ≡ end_verdict read) }
 {
     let binding = told_binding(alloc, system, made.len(), nodes)?;
     let reason = Reason::Fault(cause, binding);
     let line = line + nodes.len() as u32;
-    with_marks(alloc, system, directory, made, line, reason, rest)
+    with_marks(alloc, system, directory, format, made, line, reason, rest)
 }
 
 /// The line of what is wrong with a binding whose first line has this number.
@@ -88,6 +90,7 @@ fn read_fault(
     alloc: Global,
     system: &System,
     directory: &Directory,
+    format: u32,
     made: &[u32],
     line: u32,
     cause: FaultKind,
@@ -97,7 +100,7 @@ fn read_fault(
     requires directory { IsDirectoryOf system.now directory.now }
     requires few { line + length (lines_in bytes.now) < 2 ^ 32 }
     ensures { IfOk result (λ read.
-        fault_read system.now made.now line cause (lines_in bytes.now) ≡ end_verdict read) }
+        fault_read format system.now made.now line cause (lines_in bytes.now) ≡ end_verdict read) }
 {
     let read = read_nodes(alloc, system, directory, Role::Fault, bytes)?;
     let mut all = Vec::from_slice(alloc, made)?;
@@ -119,6 +122,7 @@ fn read_fault(
         alloc,
         system,
         directory,
+        format,
         made,
         line,
         cause,
@@ -132,6 +136,7 @@ pub(crate) fn read_end(
     alloc: Global,
     system: &System,
     directory: &Directory,
+    format: u32,
     made: &[u32],
     line: u32,
     ending: Ending,
@@ -141,17 +146,51 @@ pub(crate) fn read_end(
     requires directory { IsDirectoryOf system.now directory.now }
     requires few { line + length (lines_in bytes.now) < 2 ^ 32 }
     ensures { IfOk result (λ read.
-        end_read system.now made.now line ending (lines_in bytes.now) ≡ end_verdict read) }
+        end_read format system.now made.now line ending (lines_in bytes.now) ≡ end_verdict read) }
 {
     match ending {
-        Ending::Dead => with_marks(alloc, system, directory, made, line, Reason::Dead, bytes),
-        Ending::Steps => with_marks(alloc, system, directory, made, line, Reason::Steps, bytes),
-        Ending::Memory => with_marks(alloc, system, directory, made, line, Reason::Memory, bytes),
+        Ending::Dead => {
+            with_marks(
+                alloc,
+                system,
+                directory,
+                format,
+                made,
+                line,
+                Reason::Dead,
+                bytes,
+            )
+        }
+        Ending::Steps => {
+            with_marks(
+                alloc,
+                system,
+                directory,
+                format,
+                made,
+                line,
+                Reason::Steps,
+                bytes,
+            )
+        }
+        Ending::Memory => {
+            with_marks(
+                alloc,
+                system,
+                directory,
+                format,
+                made,
+                line,
+                Reason::Memory,
+                bytes,
+            )
+        }
         Ending::ActionFault => {
             read_fault(
                 alloc,
                 system,
                 directory,
+                format,
                 made,
                 line,
                 FaultKind::Action,
@@ -163,6 +202,7 @@ pub(crate) fn read_end(
                 alloc,
                 system,
                 directory,
+                format,
                 made,
                 line,
                 FaultKind::Instances,

@@ -32,6 +32,7 @@ pub(crate) fn next_entry<'a>(
     alloc: Global,
     system: &System,
     directory: &Directory,
+    format: u32,
     made: &mut Vec<u32>,
     step: u64,
     line: u32,
@@ -40,14 +41,23 @@ pub(crate) fn next_entry<'a>(
     requires good { Good system.now }
     requires directory { IsDirectoryOf system.now directory.now }
     requires few { line + length (lines_in bytes.now) < 2 ^ 32 }
-    ensures { IfOk result (λ read. EntryTells system.now made.old.items step line
+    ensures { IfOk result (λ read. EntryTells format system.now made.old.items step line
         (lines_in bytes.now) made.new.items read) }
 {
     let worker = match next_opening(alloc, bytes)? {
         Opens::Firing(worker) => worker,
         Opens::Ending(ending, rest) => {
             let made = made.as_slice();
-            let end = read_end(alloc, system, directory, made, line + 1, ending, rest)?;
+            let end = read_end(
+                alloc,
+                system,
+                directory,
+                format,
+                made,
+                line + 1,
+                ending,
+                rest,
+            )?;
             return Ok(EntryRead::Over(end));
         }
         Opens::Neither => return Ok(EntryRead::Over(EndRead::Bad(line, Refusal::Form))),

@@ -17,6 +17,10 @@ pub enum RecordFault {
     /// It has another step than its entry.
     Q3(u32),
 
+    /// In format 2: the values of the marks up to this line are more than 67,108,864, each counted
+    /// as often as it stands there.
+    Q4(u32),
+
     NoMemory,
 }
 

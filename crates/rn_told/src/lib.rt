@@ -9,6 +9,7 @@ mod ends;
 mod entries;
 mod fault;
 mod firings;
+mod items;
 mod judging;
 mod laws;
 mod level;

@@ -1,8 +1,11 @@
 //! Whole records.
-ghost use Rattle.std.specs.Prelude.{◌≡◌, ◌≤◌, length, codes, unwrap_or};
+ghost use Rattle.std.specs.Prelude.{◌≡◌, ◌≤◌, ◌+◌, length, codes, option_map, unwrap_or};
 ghost use Rattle.rn_model.specs.Good.{Good};
 ghost use Rattle.rn_lookup.specs.Found.{net_named};
-ghost use Rattle.rn_told.specs.Runs.{TellsRecord, Verdict, longest_record};
+ghost use Rattle.rn_record.specs.RecordText.{IsFormat, header_text};
+ghost use Rattle.rn_told.specs.Lines.{lines_in};
+ghost use Rattle.rn_told.specs.Runs.{Tells, TellsRecord, Verdict, longest_record};
+ghost use Rattle.rn_told.specs.Runs.{bytes_after, first_line, first_made};
 ghost use Rattle.rn_told.specs.RunsAhead.{FaultTells, RecordTells, end_verdict, with_entries};
 
 use crate::ends::EndRead;
@@ -33,6 +36,7 @@ fn fault_at(line: u32, refusal: Refusal) -> RecordFault
         Refusal::Form => RecordFault::Q1(line),
         Refusal::Name => RecordFault::Q2(line),
         Refusal::Step => RecordFault::Q3(line),
+        Refusal::Many => RecordFault::Q4(line),
         Refusal::Memory => RecordFault::NoMemory,
     }
 }
@@ -55,6 +59,52 @@ fn told(mut entries: Vec<Entry>, end: EndRead) -> Result<Told, RecordFault>
     }
 }
 
+/// The bytes after the name of the format, where it stands there.
+fn after_name(format: u32, bytes: &[u8]) -> Option<&[u8]>
+    ensures { option_map (λ rest. rest.now) result ≡ bytes_after (header_text format) bytes.now }
+{
+    if format == 1 {
+        return Some(bytes);
+    }
+    bytes.strip_prefix(b"run 2\n".as_slice())
+}
+
+/// What lines tell, the first with this number.
+fn read_lines(
+    alloc: Global,
+    system: &System,
+    format: u32,
+    first: u32,
+    bytes: &[u8],
+) -> Result<Told, RecordFault>
+    requires good { Good system.now }
+    requires low { first ≤ 2 }
+    requires few { length bytes.now ≤ longest_record }
+    ensures { RecordTells
+        (Tells format system.now (first_made system.now) 1 first (lines_in bytes.now)) result }
+{
+    let directory = Directory::new(alloc, system)?;
+    let mut made = Vec::new(alloc);
+    made.push(main_net(system))?;
+    let mut entries = Vec::new(alloc);
+    let mut step = 1;
+    let mut line = first;
+    let mut rest = bytes;
+    loop {
+        match next_entry(
+            alloc, system, &directory, format, &mut made, step, line, rest,
+        )? {
+            EntryRead::Fired(entry, count, after) => {
+                entries.push(entry)?;
+                step += 1;
+                line += count as u32;
+                rest = after;
+            }
+            EntryRead::Over(end) => return told(entries, end),
+        }
+    }
+}
+
 /// What a record tells: its firings, its end, and the marks after it; or its first bad line.
 ///
 /// ```text
@@ -71,28 +121,24 @@ fn told(mut entries: Vec<Entry>, end: EndRead) -> Result<Told, RecordFault>
 /// creations that they are. A line that names an instance that isn't made, or that has another net,
 /// is refused as `Q2`.
 ///
+/// In format 2 the first line is `run 2`, and of equal values side by side a mark has one, with their
+/// number, as in `main[1].q 5*3`.
+///
 /// The bytes are at most 64 MiB.
-pub fn read_record(alloc: Global, system: &System, bytes: &[u8]) -> Result<Told, RecordFault>
+pub fn read_record(
+    alloc: Global,
+    system: &System,
+    format: u32,
+    bytes: &[u8],
+) -> Result<Told, RecordFault>
     requires good { Good system.now }
+    requires format { IsFormat format }
     requires few { length bytes.now ≤ longest_record }
-    ensures { RecordTells (TellsRecord system.now bytes.now) result }
+    ensures { RecordTells (TellsRecord system.now format bytes.now) result }
 {
-    let directory = Directory::new(alloc, system)?;
-    let mut made = Vec::new(alloc);
-    made.push(main_net(system))?;
-    let mut entries = Vec::new(alloc);
-    let mut step = 1;
-    let mut line = 1;
-    let mut rest = bytes;
-    loop {
-        match next_entry(alloc, system, &directory, &mut made, step, line, rest)? {
-            EntryRead::Fired(entry, count, after) => {
-                entries.push(entry)?;
-                step += 1;
-                line += count as u32;
-                rest = after;
-            }
-            EntryRead::Over(end) => return told(entries, end),
-        }
-    }
+    let Some(rest) = after_name(format, bytes) else {
+        return Err(RecordFault::Q1(1));
+    };
+    let first = if format == 1 { 1 } else { 2 };
+    read_lines(alloc, system, format, first, rest)
 }

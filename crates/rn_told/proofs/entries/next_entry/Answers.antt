@@ -17,11 +17,11 @@ returns-in-Ending c =
     let rest = lines_in c.in-Ending.rest.now in
     let ending = c.in-Ending.ending in
     let opens = subst (OpensWith lines) c.in-Ending.is c.in_ok-worker.ensures in
-    let read : end_read system made (c.args.line + 1) ending (drop 1 lines) ≡ end_verdict c.in_ok-end-in-Ending.end
-    = ap (end_read system made (c.args.line + 1) ending) opens.1
-    ∙ ap (λ m. end_read system m (c.args.line + 1) ending rest) (sym c.as_slice-made.ensures.value)
+    let read : end_read c.args.format system made (c.args.line + 1) ending (drop 1 lines) ≡ end_verdict c.in_ok-end-in-Ending.end
+    = ap (end_read c.args.format system made (c.args.line + 1) ending) opens.1
+    ∙ ap (λ m. end_read c.args.format system m (c.args.line + 1) ending rest) (sym c.as_slice-made.ensures.value)
     ∙ c.in_ok-end-in-Ending.ensures in
-    subst (Tells system made c.args.step c.args.line lines) read (Tells.ended opens.0)
+    subst (Tells c.args.format system made c.args.step c.args.line lines) read (Tells.ended opens.0)
 
 pub returns-in-Neither : goal.returns-in-Neither
 returns-in-Neither c =
@@ -58,4 +58,4 @@ returns-in-Broken c =
     = subst (OpensWith lines) c.in-Firing.is c.in_ok-worker.ensures in
     let read : firing_read c.args.system.now made c.args.step c.in-Firing.worker lines ≡ FiringRead.broken (bad_at c.in-Broken.bad)
     = subst (ReadsFiring (firing_read c.args.system.now made c.args.step c.in-Firing.worker lines) c.read_firing.new.made.items) c.in-Broken.is c.in_ok-entry.ensures in
-    subst (Tells c.args.system.now made c.args.step c.args.line lines) (sym c.bad_line.ensures) (Tells.broken opens read)
+    subst (Tells c.args.format c.args.system.now made c.args.step c.args.line lines) (sym c.bad_line.ensures) (Tells.broken opens read)

@@ -1,12 +1,13 @@
-use Rattle.rn_told.specs.Lines.{lines_in}
-use Rattle.rn_told.specs.Runs.{first_made}
-use Rattle.rn_told.proofs.SameReading.{tells_one}
-use Rattle.rn_told.proofs.SpelledRuns.{one_spelling, whole_runs}
+use Rattle.rn_record.specs.RecordText.{header_text}
+use Rattle.rn_told.specs.Runs.{bytes_after}
+use Rattle.rn_told.proofs.GroupedRuns.{records_migrate}
+use Rattle.rn_told.proofs.SameReading.{told_one}
+use Rattle.rn_told.proofs.SpelledRuns.{marks_named, one_spelling, whole_runs}
 use Rattle.rn_told.proofs.WrittenRuns.{texts_tell}
 use Rattle.rn_told.proofs.laws.record_laws.Goals as goal
 
 pub returns-clause-reading : goal.returns-clause-reading
-returns-clause-reading c = λ system bytes. tells_one system (first_made system) 1 1 (lines_in bytes)
+returns-clause-reading c = λ system format bytes v w is. told_one format system (bytes_after (header_text format) bytes) v w
 
 pub returns-clause-spelling : goal.returns-clause-spelling
 returns-clause-spelling c = one_spelling
@@ -16,3 +17,9 @@ returns-clause-whole c = whole_runs
 
 pub returns-clause-texts : goal.returns-clause-texts
 returns-clause-texts c = texts_tell
+
+pub returns-clause-named : goal.returns-clause-named
+returns-clause-named c = marks_named
+
+pub returns-clause-migrate : goal.returns-clause-migrate
+returns-clause-migrate c = records_migrate
