@@ -1,10 +1,10 @@
 -- Tokens are one system at most, and a text spells one at most.
-use Rattle.std.proofs.Common.{◌≡◌, inl, inr, List, [], ◌∷◌, ◌++◌, refl, sym, ◌∙◌, ap, subst, arith}
+use Rattle.std.proofs.Common.{◌≡◌, ℕ, inl, inr, List, [], ◌∷◌, ◌++◌, refl, sym, ◌∙◌, ap, subst, arith}
 use Rattle.std.specs.Prelude.{Option, Some, None}
 use Rattle.rn_notation.specs.declared.token.Token.{Token}
 use Rattle.rn_notation.specs.declared.token.TokenKind.{TokenKind}
 use Rattle.rn_notation.specs.Laws.{OneReading}
-use Rattle.rn_inscript.specs.Laws.{OneInscription}
+use Rattle.rn_inscript.specs.Laws.{OneExpression, OneInscription}
 use Rattle.rn_inscript.specs.Signs.{close_brace, open_brace, open_paren, close_paren, colon, equals}
 use Rattle.rn_inscript.specs.Inscriptions.{name_at}
 use Rattle.rn_inscript.specs.declared.inscriptions.PName.{PName}
@@ -21,15 +21,15 @@ use Rattle.rn_net.specs.declared.plain.PMax.{PMax}
 use Rattle.rn_net.specs.Words.{semicolon, net_word, trans_word, var_word, place_word, channel_word, max_name}
 use Rattle.rn_net.specs.Kinds.{IsKind, AreListed, kind_at}
 use Rattle.rn_net.specs.Nets.{IsChannel, AreMoreNames, AreVars, AreInitial, IsPlace, AreInscriptions, AreParts, AreItems, IsSystem, max_of}
-use Rattle.rn_net.specs.Lists.{IsInscriptionUpTo}
+use Rattle.rn_net.specs.Lists.{AreInscribedUpTo}
 use Rattle.rn_net.specs.Parts.{IsNetPart, IsItem, IsInitialUpTo, IsPlaceEnd, AreNames, with_part, with_item}
 use Rattle.rn_net.specs.Laws.{OneSystem, OneSpelled}
 use Rattle.rn_net.proofs.Sorts.{tell}
 use Rattle.rn_net.proofs.Rows.{row_up_to}
 use Rattle.rn_net.proofs.DeclarationPhrases.{channel_sort, channel_open, channel_kinds, channel_end, channel-only, name_row, vars_sort, vars_names, vars_kind, vars_end, vars-only, rest_with, max_number, EndForms, end-split, PlaceOn, place_on, place_kind, place_end, place_sort, place-only}
-use Rattle.rn_net.proofs.NetPhrases.{inscriptions-apart, inscriptions_sort, transition_inside, transition_open, transition_sort, transition-only, parts-split, parts-apart, net_inside, net_open, net_sort, net-only, item-begins}
-use Rattle.rn_net.proofs.Systems.{items-split}
-use Rattle.rn_net.proofs.InscriptionReading.{one_up_to_semicolon}
+use Rattle.rn_net.proofs.NetPhrases.{inscriptions-apart, inscriptions-split, inscriptions_sort, transition_inside, transition_open, transition_sort, transition-only, parts-split, parts-apart, net_inside, net_open, net_sort, net-only, item-begins}
+use Rattle.rn_net.proofs.Systems.{items-split, no-header}
+use Rattle.rn_net.proofs.InscriptionReading.{one_statement}
 use Rattle.rn_net.proofs.OnePhrase.{Same, One, differ, NoComma, OneRow, one_done, one_kind_then, one_name_then, one_number_then, one_then, one_up_to, one_kind, one_listed, one-constants}
 
 -- tokens don't begin with two words
@@ -127,101 +127,115 @@ one-place = one_kind_then place_word (λ w. _) (λ w. one_name_then (λ n. (plac
 one_place : One IsPlace
 one_place ts r q a b x y = one-place ts r q a b (place-only ts a r x) (place-only ts b q y)
 
+-- tokens are one inscription and one expression at most
+abbrev pub Law : Type 0
+Law = OneInscription × OneExpression
+
 -- the tokens go on with a closing brace
 abbrev Closes : List Token → Type 0
 Closes ts = (t : Token) × (us : List Token) × (ts ≡ t ∷ us) × (t.kind ≡ close_brace)
 
 -- transitions
-no_inscription : {ts mid : List Token} {i : PInscription} → Closes ts → IsInscriptionUpTo ts i mid → ⊥
-no_inscription {mid = mid} {i = i} c x = inscriptions-apart (subst (λ us. IsInscriptionUpTo us i mid) c.2 x) c.3
+no_inscription : (notation : ℕ) {ts mid : List Token} {is : List PInscription} → Closes ts → AreInscribedUpTo notation ts is mid → ⊥
+no_inscription notation {mid = mid} {is = is} c x = inscriptions-apart notation (subst (λ us. AreInscribedUpTo notation us is mid) c.2 x) c.3
 
-one-inscriptions : OneInscription → {a b c : List PInscription} {ts r q : List Token} → AreInscriptions a ts b r → AreInscriptions a ts c q → Closes r → Closes q → Same b c r q
-one-inscriptions law AreInscriptions.no_more_inscriptions AreInscriptions.no_more_inscriptions e f = (refl, refl)
-one-inscriptions law AreInscriptions.no_more_inscriptions (AreInscriptions.more_inscriptions x h m) e f = absurd (no_inscription e (_, _, _, _, refl, x, h, refl))
-one-inscriptions law (AreInscriptions.more_inscriptions x h m) AreInscriptions.no_more_inscriptions e f = absurd (no_inscription f (_, _, _, _, refl, x, h, refl))
-one-inscriptions law {a = a} {c = c} {q = q} (AreInscriptions.more_inscriptions {t = t} {ts = ts} {mid = mid} {form = form} x h m) (AreInscriptions.more_inscriptions {mid = end} {form = other} y k n) e f =
-    let s = one_up_to_semicolon law {i = record { form = form; spot = t.spot }} {j = record { form = other; spot = t.spot }} (_, _, _, _, refl, x, h, refl) (_, _, _, _, refl, y, k, refl) in
-    one-inscriptions law m (subst (λ us. AreInscriptions (a ++ record { form = form; spot = t.spot } ∷ []) us c q) (sym s.1) (subst (λ i. AreInscriptions (a ++ i ∷ []) end c q) (sym s.0) n)) e f
+ends-inscriptions : (notation : ℕ) {a c : List PInscription} {ts q : List Token} → AreInscriptions notation a ts c q → Closes ts → Same a c ts q
+ends-inscriptions notation y e = elim (inscriptions-split notation y) [ inl d ↦ (sym d.0, sym d.1) | inr g ↦ absurd (no_inscription notation e g.2) ]
 
-one-transition : OneInscription → One transition_sort.is
-one-transition law = one_kind_then trans_word (λ w. _) (λ w.
-    one_name_then (λ n. (transition_open n).is) (λ n.
-    one_kind_then open_brace (λ b. (transition_inside n).is) (λ b.
-    one_then inscriptions_sort.is (λ all. _) (λ ts r q a b x y.
-    let s = one-inscriptions law x.2 y.2 (x.3.0, r, x.3.1, x.3.2) (y.3.0, q, y.3.1, y.3.2) in
+-- what comes before a semicolon, and then the others
+next_inscriptions : Law → (notation : ℕ) {a b c : List PInscription} {ts mid q : List Token} → AreInscribedUpTo notation ts b mid → AreInscriptions notation a ts c q → Closes q → AreInscriptions notation (a ++ b) mid c q
+next_inscriptions law notation {a = a} {b = b} {c = c} {ts = ts} {mid = mid} {q = q} x y f = elim (inscriptions-split notation y) as (λ w. AreInscriptions notation (a ++ b) mid c q) [
+  | inl d ↦ absurd (no_inscription notation (subst Closes d.1 f) x)
+  | inr g ↦ let s = one_statement law.0 law.1 notation x g.2 in
+      subst (λ us. AreInscriptions notation (a ++ b) us c q) (sym s.1) (subst (λ is. AreInscriptions notation (a ++ is) g.1 c q) (sym s.0) g.3)
+]
+
+one-inscriptions : Law → (notation : ℕ) {a b c : List PInscription} {ts r q : List Token} → AreInscriptions notation a ts b r → AreInscriptions notation a ts c q → Closes r → Closes q → Same b c r q
+one-inscriptions law notation AreInscriptions.no_more_inscriptions y e f = ends-inscriptions notation y e
+one-inscriptions law notation (AreInscriptions.more_inscriptions {more = more} x h m) y e f = one-inscriptions law notation m (next_inscriptions law notation (_, _, x, (_, refl, h, refl)) y f) e f
+
+one-transition : Law → (notation : ℕ) → One (transition_sort notation).is
+one-transition law notation = one_kind_then trans_word (λ w. _) (λ w.
+    one_name_then (λ n. (transition_open notation n).is) (λ n.
+    one_kind_then open_brace (λ b. (transition_inside notation n).is) (λ b.
+    one_then (inscriptions_sort notation).is (λ all. _) (λ ts r q a b x y.
+    let s = one-inscriptions law notation x.2 y.2 (x.3.0, r, x.3.1, x.3.2) (y.3.0, q, y.3.1, y.3.2) in
     (x.3.3 ∙ s.0 ∙ sym y.3.3, let d = s.1 in let e = x.3.1 in let f = y.3.1 in cc)) (λ all. one_done _))))
 
 -- parts of nets
-one_part : OneInscription → One IsNetPart
-one_part law ts r q (Part.Vars a) (Part.Vars b) x y = let s = one_vars ts r q a b x y in (ap Part.Vars s.0, s.1)
-one_part law ts r q (Part.Place a) (Part.Place b) x y = let s = one_place ts r q a b x y in (ap Part.Place s.0, s.1)
-one_part law ts r q (Part.Transition a) (Part.Transition b) x y = let s = one-transition law ts r q a b (transition-only ts a r x) (transition-only ts b q y) in (ap Part.Transition s.0, s.1)
-one_part law ts r q (Part.Vars a) (Part.Place b) x y = let i = vars-only ts a r x in let j = place-only ts b q y in absurd (two_words i.2 j.2 i.3 j.3 (λ e. omega (arith, e)))
-one_part law ts r q (Part.Vars a) (Part.Transition b) x y = let i = vars-only ts a r x in let j = transition-only ts b q y in absurd (two_words i.2 j.2 i.3 j.3 (λ e. omega (arith, e)))
-one_part law ts r q (Part.Place a) (Part.Vars b) x y = let i = place-only ts a r x in let j = vars-only ts b q y in absurd (two_words i.2 j.2 i.3 j.3 (λ e. omega (arith, e)))
-one_part law ts r q (Part.Place a) (Part.Transition b) x y = let i = place-only ts a r x in let j = transition-only ts b q y in absurd (two_words i.2 j.2 i.3 j.3 (λ e. omega (arith, e)))
-one_part law ts r q (Part.Transition a) (Part.Vars b) x y = let i = transition-only ts a r x in let j = vars-only ts b q y in absurd (two_words i.2 j.2 i.3 j.3 (λ e. omega (arith, e)))
-one_part law ts r q (Part.Transition a) (Part.Place b) x y = let i = transition-only ts a r x in let j = place-only ts b q y in absurd (two_words i.2 j.2 i.3 j.3 (λ e. omega (arith, e)))
+one_part : Law → (notation : ℕ) → One (IsNetPart notation)
+one_part law notation ts r q (Part.Vars a) (Part.Vars b) x y = let s = one_vars ts r q a b x y in (ap Part.Vars s.0, s.1)
+one_part law notation ts r q (Part.Place a) (Part.Place b) x y = let s = one_place ts r q a b x y in (ap Part.Place s.0, s.1)
+one_part law notation ts r q (Part.Transition a) (Part.Transition b) x y = let s = one-transition law notation ts r q a b (transition-only notation ts a r x) (transition-only notation ts b q y) in (ap Part.Transition s.0, s.1)
+one_part law notation ts r q (Part.Vars a) (Part.Place b) x y = let i = vars-only ts a r x in let j = place-only ts b q y in absurd (two_words i.2 j.2 i.3 j.3 (λ e. omega (arith, e)))
+one_part law notation ts r q (Part.Vars a) (Part.Transition b) x y = let i = vars-only ts a r x in let j = transition-only notation ts b q y in absurd (two_words i.2 j.2 i.3 j.3 (λ e. omega (arith, e)))
+one_part law notation ts r q (Part.Place a) (Part.Vars b) x y = let i = place-only ts a r x in let j = vars-only ts b q y in absurd (two_words i.2 j.2 i.3 j.3 (λ e. omega (arith, e)))
+one_part law notation ts r q (Part.Place a) (Part.Transition b) x y = let i = place-only ts a r x in let j = transition-only notation ts b q y in absurd (two_words i.2 j.2 i.3 j.3 (λ e. omega (arith, e)))
+one_part law notation ts r q (Part.Transition a) (Part.Vars b) x y = let i = transition-only notation ts a r x in let j = vars-only ts b q y in absurd (two_words i.2 j.2 i.3 j.3 (λ e. omega (arith, e)))
+one_part law notation ts r q (Part.Transition a) (Part.Place b) x y = let i = transition-only notation ts a r x in let j = place-only ts b q y in absurd (two_words i.2 j.2 i.3 j.3 (λ e. omega (arith, e)))
 
-no_part : {ts : List Token} (mid : List Token) (p : Part) → Closes ts → IsNetPart ts p mid → ⊥
-no_part mid p c x = parts-apart c.0 c.1 mid p (subst (λ us. IsNetPart us p mid) c.2 x) c.3
+no_part : (notation : ℕ) {ts : List Token} (mid : List Token) (p : Part) → Closes ts → IsNetPart notation ts p mid → ⊥
+no_part notation mid p c x = parts-apart notation c.0 c.1 mid p (subst (λ us. IsNetPart notation us p mid) c.2 x) c.3
 
-ends-parts : {n b : PNet} {ts q : List Token} → AreParts n ts b q → Closes ts → Same n b ts q
-ends-parts y e = elim (parts-split y) [ inl d ↦ (sym d.0, sym d.1) | inr g ↦ absurd (no_part g.1 g.0 e g.2) ]
+ends-parts : (notation : ℕ) {n b : PNet} {ts q : List Token} → AreParts notation n ts b q → Closes ts → Same n b ts q
+ends-parts notation y e = elim (parts-split notation y) [ inl d ↦ (sym d.0, sym d.1) | inr g ↦ absurd (no_part notation g.1 g.0 e g.2) ]
 
 -- a part, and then the others
-next_part : OneInscription → {n b : PNet} {ts mid q : List Token} (p : Part) → IsNetPart ts p mid → AreParts n ts b q → Closes q → AreParts (with_part n p) mid b q
-next_part law {n = n} {b = b} {ts = ts} {mid = mid} {q = q} p x y f = elim (parts-split y) as (λ w. AreParts (with_part n p) mid b q) [
-  | inl d ↦ absurd (no_part mid p (subst Closes d.1 f) x)
-  | inr g ↦ let s = one_part law ts mid g.1 p g.0 x g.2 in
-      subst (λ us. AreParts (with_part n p) us b q) (sym s.1) (subst (λ o. AreParts (with_part n o) g.1 b q) (sym s.0) g.3)
+next_part : Law → (notation : ℕ) {n b : PNet} {ts mid q : List Token} (p : Part) → IsNetPart notation ts p mid → AreParts notation n ts b q → Closes q → AreParts notation (with_part n p) mid b q
+next_part law notation {n = n} {b = b} {ts = ts} {mid = mid} {q = q} p x y f = elim (parts-split notation y) as (λ w. AreParts notation (with_part n p) mid b q) [
+  | inl d ↦ absurd (no_part notation mid p (subst Closes d.1 f) x)
+  | inr g ↦ let s = one_part law notation ts mid g.1 p g.0 x g.2 in
+      subst (λ us. AreParts notation (with_part n p) us b q) (sym s.1) (subst (λ o. AreParts notation (with_part n o) g.1 b q) (sym s.0) g.3)
 ]
 
-one-parts : OneInscription → {n a b : PNet} {ts r q : List Token} → AreParts n ts a r → AreParts n ts b q → Closes r → Closes q → Same a b r q
-one-parts law AreParts.no_more_parts y e f = ends-parts y e
-one-parts law (AreParts.and_vars {more = more} x m) y e f = one-parts law m (next_part law (Part.Vars more) x y f) e f
-one-parts law (AreParts.and_place {place = p} x m) y e f = one-parts law m (next_part law (Part.Place p) x y f) e f
-one-parts law (AreParts.and_transition {transition = t} x m) y e f = one-parts law m (next_part law (Part.Transition t) x y f) e f
+one-parts : Law → (notation : ℕ) {n a b : PNet} {ts r q : List Token} → AreParts notation n ts a r → AreParts notation n ts b q → Closes r → Closes q → Same a b r q
+one-parts law notation AreParts.no_more_parts y e f = ends-parts notation y e
+one-parts law notation (AreParts.and_vars {more = more} x m) y e f = one-parts law notation m (next_part law notation (Part.Vars more) x y f) e f
+one-parts law notation (AreParts.and_place {place = p} x m) y e f = one-parts law notation m (next_part law notation (Part.Place p) x y f) e f
+one-parts law notation (AreParts.and_transition {transition = t} x m) y e f = one-parts law notation m (next_part law notation (Part.Transition t) x y f) e f
 
 -- nets
-one-net : OneInscription → One net_sort.is
-one-net law = one_kind_then net_word (λ w. _) (λ w.
-    one_name_then (λ n. (net_open n).is) (λ n.
-    one_kind_then open_brace (λ b. (net_inside n).is) (λ b ts r q a c x y.
-    let s = one-parts law x.2 y.2 (x.3.0, r, x.3.1, x.3.2) (y.3.0, q, y.3.1, y.3.2) in
+one-net : Law → (notation : ℕ) → One (net_sort notation).is
+one-net law notation = one_kind_then net_word (λ w. _) (λ w.
+    one_name_then (λ n. (net_open notation n).is) (λ n.
+    one_kind_then open_brace (λ b. (net_inside notation n).is) (λ b ts r q a c x y.
+    let s = one-parts law notation x.2 y.2 (x.3.0, r, x.3.1, x.3.2) (y.3.0, q, y.3.1, y.3.2) in
     (x.3.3 ∙ s.0 ∙ sym y.3.3, let d = s.1 in let e = x.3.1 in let f = y.3.1 in cc))))
 
 -- items, up to the end
-one_item : OneInscription → One IsItem
-one_item law ts r q (Item.Channel a) (Item.Channel b) x y = let s = one_channel ts r q a b x y in (ap Item.Channel s.0, s.1)
-one_item law ts r q (Item.Net a) (Item.Net b) x y = let s = one-net law ts r q a b (net-only ts a r x) (net-only ts b q y) in (ap Item.Net s.0, s.1)
-one_item law ts r q (Item.Channel a) (Item.Net b) x y = let i = channel-only ts a r x in let j = net-only ts b q y in absurd (two_words i.2 j.2 i.3 j.3 (λ e. omega (arith, e)))
-one_item law ts r q (Item.Net a) (Item.Channel b) x y = let i = net-only ts a r x in let j = channel-only ts b q y in absurd (two_words i.2 j.2 i.3 j.3 (λ e. omega (arith, e)))
+one_item : Law → (notation : ℕ) → One (IsItem notation)
+one_item law notation ts r q (Item.Channel a) (Item.Channel b) x y = let s = one_channel ts r q a b x y in (ap Item.Channel s.0, s.1)
+one_item law notation ts r q (Item.Net a) (Item.Net b) x y = let s = one-net law notation ts r q a b (net-only notation ts a r x) (net-only notation ts b q y) in (ap Item.Net s.0, s.1)
+one_item law notation ts r q (Item.Channel a) (Item.Net b) x y = let i = channel-only ts a r x in let j = net-only notation ts b q y in absurd (two_words i.2 j.2 i.3 j.3 (λ e. omega (arith, e)))
+one_item law notation ts r q (Item.Net a) (Item.Channel b) x y = let i = net-only notation ts a r x in let j = channel-only ts b q y in absurd (two_words i.2 j.2 i.3 j.3 (λ e. omega (arith, e)))
 
-no_item : {ts : List Token} (mid : List Token) (i : Item) → ts ≡ [] → IsItem ts i mid → ⊥
-no_item {ts = ts} mid i is x = let y = item-begins ts mid i x in let e = y.2 in cc
+no_item : (notation : ℕ) {ts : List Token} (mid : List Token) (i : Item) → ts ≡ [] → IsItem notation ts i mid → ⊥
+no_item notation {ts = ts} mid i is x = let y = item-begins notation ts mid i x in let e = y.2 in cc
 
-next_item : OneInscription → {p b : Plain} {ts mid : List Token} (i : Item) → IsItem ts i mid → AreItems p ts b → AreItems (with_item p i) mid b
-next_item law {p = p} {b = b} {ts = ts} {mid = mid} i x y = elim (items-split y) as (λ w. AreItems (with_item p i) mid b) [
-  | inl d ↦ absurd (no_item mid i d.0 x)
-  | inr g ↦ let s = one_item law ts mid g.1 i g.0 x g.2 in
-      subst (λ us. AreItems (with_item p i) us b) (sym s.1) (subst (λ o. AreItems (with_item p o) g.1 b) (sym s.0) g.3)
+next_item : Law → (notation : ℕ) {p b : Plain} {ts mid : List Token} (i : Item) → IsItem notation ts i mid → AreItems notation p ts b → AreItems notation (with_item p i) mid b
+next_item law notation {p = p} {b = b} {ts = ts} {mid = mid} i x y = elim (items-split notation y) as (λ w. AreItems notation (with_item p i) mid b) [
+  | inl d ↦ absurd (no_item notation mid i d.0 x)
+  | inr g ↦ let s = one_item law notation ts mid g.1 i g.0 x g.2 in
+      subst (λ us. AreItems notation (with_item p i) us b) (sym s.1) (subst (λ o. AreItems notation (with_item p o) g.1 b) (sym s.0) g.3)
 ]
 
-ends-items : {p b : Plain} {ts : List Token} → AreItems p ts b → ts ≡ [] → p ≡ b
-ends-items y e = elim (items-split y) [ inl d ↦ sym d.1 | inr g ↦ absurd (no_item g.1 g.0 e g.2) ]
+ends-items : (notation : ℕ) {p b : Plain} {ts : List Token} → AreItems notation p ts b → ts ≡ [] → p ≡ b
+ends-items notation y e = elim (items-split notation y) [ inl d ↦ sym d.1 | inr g ↦ absurd (no_item notation g.1 g.0 e g.2) ]
 
-one-items : OneInscription → {p a b : Plain} {ts : List Token} → AreItems p ts a → AreItems p ts b → a ≡ b
-one-items law AreItems.no_more_items y = ends-items y refl
-one-items law (AreItems.and_channel {channel = c} x m) y = one-items law m (next_item law (Item.Channel c) x y)
-one-items law (AreItems.and_net {net = n} x m) y = one-items law m (next_item law (Item.Net n) x y)
+one-items : Law → (notation : ℕ) {p a b : Plain} {ts : List Token} → AreItems notation p ts a → AreItems notation p ts b → a ≡ b
+one-items law notation AreItems.no_more_items y = ends-items notation y refl
+one-items law notation (AreItems.and_channel {channel = c} x m) y = one-items law notation m (next_item law notation (Item.Channel c) x y)
+one-items law notation (AreItems.and_net {net = n} x m) y = one-items law notation m (next_item law notation (Item.Net n) x y)
 
-pub one_system : OneInscription → OneSystem
+pub one_system : Law → OneSystem
 one_system law tokens p q x y = by x y
   where
     by : {ts : List Token} {a b : Plain} → IsSystem ts a → IsSystem ts b → a ≡ b
-    by (IsSystem.system x) (IsSystem.system y) = one-items law x y
+    by (IsSystem.first x) (IsSystem.first y) = one-items law 1 x y
+    by (IsSystem.first x) (IsSystem.second h k c y) = absurd (no-header 1 x h)
+    by (IsSystem.second h k c x) (IsSystem.first y) = absurd (no-header 1 y h)
+    by (IsSystem.second h k c x) (IsSystem.second i l d y) = one-items law 2 x y
 
-pub one_text : OneInscription → OneReading → OneSpelled
+pub one_text : Law → OneReading → OneSpelled
 one_text law one bytes p q x y =
     one_system law x.tokens p q x.system (subst (λ ts. IsSystem ts q) (one bytes y.tokens x.tokens y.read x.read) y.system)

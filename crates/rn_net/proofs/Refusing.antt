@@ -16,7 +16,7 @@ use Rattle.rn_net.specs.Levels.Region.{between}
 use Rattle.rn_net.specs.Nets.{IsSystem}
 use Rattle.rn_net.specs.Refusals.{IsBeginning, IsStopped, IsDeep, AreFine, AreTokensOf, IsRefused, Answers, refusal_of}
 use Rattle.rn_net.specs.Answers.{Reason, Settles}
-use Rattle.rn_net.proofs.InscriptionReading.{append-nil, split-at}
+use Rattle.rn_net.proofs.Openings.{append-nil, split-at}
 use Rattle.rn_net.proofs.Settling.{Ends, stopped-ends, deep-ends, not-on, ends-fine, spelled-alone, settled_read, unless_memory}
 
 -- two tokens at which reading ends are one

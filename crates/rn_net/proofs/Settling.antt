@@ -12,7 +12,7 @@ use Rattle.rn_notation.specs.Reading.{Tokens, FirstFault, IsSlice}
 use Rattle.rn_notation.specs.declared.token.Spot.{Spot}
 use Rattle.rn_notation.specs.declared.token.Token.{Token}
 use Rattle.rn_notation.specs.declared.token.TokenKind.{TokenKind}
-use Rattle.rn_notation.specs.declared.token.TokenKind.TheVariants.{Name, Word, Number, Text, Sign}
+use Rattle.rn_notation.specs.declared.token.TokenKind.TheVariants.{Number}
 use Rattle.rn_notation.specs.declared.token.LexFault.{LexFault}
 use Rattle.rn_inscript.specs.Stages.{BeginAlike, IsNext, HasNoNext}
 use Rattle.rn_net.specs.declared.plain.Plain.{Plain}
@@ -20,32 +20,25 @@ use Rattle.rn_net.specs.declared.refusal.Refusal.{Refusal}
 use Rattle.rn_net.specs.declared.refusal.Refusal.TheVariants as R
 use Rattle.rn_net.specs.Levels.{Region, IsShallow, region_after, is_too_deep, after}
 use Rattle.rn_net.specs.Levels.Region.{between}
-use Rattle.rn_net.specs.Nets.{AreItems, plain_of, IsSystem}
+use Rattle.rn_net.specs.Nets.{IsSystem}
 use Rattle.rn_net.specs.Progress.{HaveNaturals}
 use Rattle.rn_net.specs.Texts.{Spells}
 use Rattle.rn_net.specs.Refusals.{IsBeginning, IsStopped, IsDeep, AreFine, IsRefused, IsReason, Answers, refusal_of}
 use Rattle.rn_net.specs.Answers.{Top, Halts, Sinks, Reason, Settles, unfinished_of}
-use Rattle.rn_net.proofs.InscriptionReading.{append-nil}
-use Rattle.rn_net.proofs.NetPhrases.{item_sort}
-use Rattle.rn_net.proofs.Systems.{is-system, items-split, no-item, begins-with}
-
-system-items : {ts : List Token} {p : Plain} → IsSystem ts p → AreItems (plain_of [] []) ts p
-system-items (IsSystem.system x) = x
-
-system-some : {ts : List Token} {p : Plain} → IsSystem ts p → ts ≡ [] → ⊥
-system-some (IsSystem.system x) e = cc
-
-pub whole_system : (tokens : List Token) (p : Plain) → Top tokens [] p → (tokens ≡ [] → ⊥) → IsSystem tokens p
-whole_system tokens p s some = is-system tokens p (subst (λ us. AreItems (plain_of [] []) us p) (sym s.whole) (s.on [] p AreItems.no_more_items)) some
+use Rattle.rn_net.proofs.Openings.{append-nil}
+use Rattle.rn_net.proofs.Systems.{items-split, no-item}
 
 pub one_system : (tokens : List Token) (p q : Plain) → Top tokens [] p → IsSystem tokens q → q ≡ p
-one_system tokens p q s x = elim (items-split {p = p} {e = q} {ts = []} (s.only [] q tt (subst (λ us. AreItems (plain_of [] []) us q) s.whole (system-items x)))) as (λ w. q ≡ p) [
+one_system tokens p q s x = elim (items-split p.notation {p = p} {e = q} {ts = []} (s.only [] q tt (subst (λ us. IsSystem us q) s.whole x))) as (λ w. q ≡ p) [
   | inl d ↦ d.1
-  | inr g ↦ absurd (no-item g.0 g.1 g.2)
+  | inr g ↦ absurd (no-item p.notation g.0 g.1 g.2)
 ]
 
-pub fine : (tokens : List Token) (p : Plain) → Top tokens [] p → AreFine tokens
-fine tokens p s = (subst IsBeginning (sym s.whole) (begins-with s [] item_sort.ends), subst (IsShallow between) (sym (s.whole ∙ append-nil s.taken)) s.within)
+shallow : (tokens : List Token) (p : Plain) → Top tokens [] p → IsShallow between tokens
+shallow tokens p s = subst (IsShallow between) (sym (s.whole ∙ append-nil s.taken)) s.within
+
+pub fine : (tokens : List Token) (p : Plain) → Top tokens [] p × IsSystem tokens p → AreFine tokens
+fine tokens p s = (([], p, subst (λ us. IsSystem us p) (sym (append-nil tokens)) s.1), shallow tokens p s.0)
 
 -- what is left after the tokens taken
 left-of : (tokens before left : List Token) (k : ℕ) → tokens ≡ before ++ left → k ≡ length before → drop k tokens ≡ left
@@ -58,7 +51,7 @@ halts_at tokens k t h next = record {
   left = drop (k + 1) tokens;
   parts = h.parts ∙ ap (λ us. h.before ++ us) here;
   begins = h.begins;
-  none = λ b. h.none (t ∷ b.0) b.1 (subst (λ us. BeginAlike us (t ∷ b.0)) (sym here) refl) (λ e. absurd (let f = e in cc)) (subst (λ us. AreItems (plain_of [] []) us b.1) (append_assoc h.before (t ∷ []) b.0) (system-items b.2));
+  none = λ b. h.none (t ∷ b.0) b.1 (subst (λ us. BeginAlike us (t ∷ b.0)) (sym here) refl) (λ e. absurd (let f = e in cc)) (subst (λ us. IsSystem us b.1) (append_assoc h.before (t ∷ []) b.0) b.2);
   within = h.within;
   stands = refl;
 }
@@ -69,7 +62,7 @@ halts_at tokens k t h next = record {
 pub halts_end : (tokens : List Token) (k : ℕ) → Halts tokens k → HasNoNext tokens k → AreFine tokens × ((p : Plain) → IsSystem tokens p → ⊥)
 halts_end tokens k h none = (
   (subst IsBeginning same h.begins, subst (IsShallow between) same h.within),
-  λ p x. h.none [] p tt (λ e. here) (subst (λ us. AreItems (plain_of [] []) us p) (h.parts ∙ ap (λ us. h.before ++ us) here) (system-items x)),
+  λ p x. h.none [] p tt (λ e. here) (subst (λ us. IsSystem us p) (h.parts ∙ ap (λ us. h.before ++ us) here) x),
 )
   where
     here : h.left ≡ []
@@ -158,11 +151,8 @@ pub settles_unfinished : (tokens : List Token) (fault : Option LexFault) (end : 
 settles_unfinished tokens (Some f) end r is x none = subst (λ s. Settles tokens (Some f) end (Err s)) (sym is) (settles_fault tokens (Some f) end f refl x)
 settles_unfinished tokens None end r is x none = subst (λ s. Settles tokens None end (Err s)) (sym is) (inr (inr (inr (refl, refl, x, none))))
 
-pub settles_empty : (tokens : List Token) (fault : Option LexFault) (end : Spot) (r : Refusal) (p : Plain) → tokens ≡ [] → r ≡ unfinished_of fault end → Top tokens [] p → Settles tokens fault end (Err r)
-settles_empty tokens fault end r p none is s = settles_unfinished tokens fault end r is (fine tokens p s) (λ q x. system-some x none)
-
-pub settles_whole : (tokens : List Token) (fault : Option LexFault) (end : Spot) (p : Plain) → (tokens ≡ [] → ⊥) → fault ≡ None → Top tokens [] p → Settles tokens fault end (Ok p)
-settles_whole tokens fault end p some none s = (none, whole_system tokens p s some, (λ q x. one_system tokens p q s x), (fine tokens p s).1)
+pub settles_whole : (tokens : List Token) (fault : Option LexFault) (end : Spot) (p : Plain) → fault ≡ None → Top tokens [] p × IsSystem tokens p → Settles tokens fault end (Ok p)
+settles_whole tokens fault end p none s = (none, s.1, (λ q x. one_system tokens p q s.0 x), (fine tokens p s).1)
 
 -- what is refused once is refused for one reason, and isn't spelled
 pub begins-front : (a b : List Token) → IsBeginning (a ++ b) → IsBeginning a

@@ -1,14 +1,12 @@
 -- How the stages of a reading follow one another.
-use Rattle.std.proofs.Common.{◌≡◌, ℕ, ◌+◌, ◌<◌, ◌≤◌, true, false, List, [], ◌∷◌, ◌++◌, length, drop, refl, sym, ◌∙◌, ap, subst, append_assoc, arith}
+use Rattle.std.proofs.Common.{◌≡◌, ℕ, ◌+◌, ◌≤◌, true, false, List, [], ◌∷◌, ◌++◌, length, drop, refl, sym, ◌∙◌, ap, subst, append_assoc, arith}
 use Rattle.std.specs.Prelude.{Result, Ok, Err}
 use Rattle.std.specs.Result.{IsErrAnd}
 use Rattle.std.proofs.lemmas.Result.{err_from_is_err_and}
 use Rattle.rn_notation.specs.declared.token.Token.{Token}
-use Rattle.rn_notation.specs.declared.token.TokenKind.{TokenKind}
 use Rattle.rn_inscript.specs.declared.fault.InscriptFault.{InscriptFault}
 use Rattle.rn_inscript.specs.declared.fault.InscriptFault.TheVariants as Fault
-use Rattle.rn_inscript.specs.Stages.{Phrases, Then, Done, BeginAlike, CanEnd, IsNext, IsNextKind}
-use Rattle.rn_inscript.specs.NextNames.{IsNotNextKind}
+use Rattle.rn_inscript.specs.Stages.{Phrases, Then, BeginAlike, CanEnd, IsNext}
 use Rattle.std.proofs.Math.ListN.{length-drop}
 use Rattle.rn_net.specs.Levels.{Region, IsShallow, region_after, is_too_deep, after}
 use Rattle.rn_net.specs.Progress.{Sort, Stage, IsStuck, IsTooFar, Fails, Reads, done}
@@ -74,6 +72,50 @@ take {X = X} {others = others} {first = first} {t = t} Z s small on only = recor
   only = λ ts e rest alike x. only ts e rest alike (s.only (t ∷ ts) e rest refl (subst (λ us. X us e rest) (append_assoc s.taken (t ∷ []) ts) x));
   within = shallow-append first s.taken (t ∷ []) s.within (subst (λ r. is_too_deep r t.kind ≡ false) (sym s.count) small, tt);
   count = region-append first s.taken (t ∷ []) ∙ ap (λ r. after r t.kind) s.count;
+}
+
+-- some tokens are taken at once
+pub take_all : {A : Type 0} {X : Phrases A} {Y : Sort A} {start mid left : List Token} {first now last : Region} (Z : Sort A) (some : List Token) →
+    Stage X start first Y mid now → mid ≡ some ++ left → IsShallow now some → region_after now some ≡ last →
+    ((ts : List Token) (e : A) (rest : List Token) → Z.is ts e rest → Y.is (some ++ ts) e rest) →
+    ((ts : List Token) (e : A) (rest : List Token) → BeginAlike left ts → Y.is (some ++ ts) e rest → Z.is ts e rest) →
+    Stage X start first Z left last
+take_all {X = X} {left = left} {first = first} Z some s parts small there on only = record {
+  taken = s.taken ++ some;
+  whole = s.whole ∙ ap (λ us. s.taken ++ us) parts ∙ sym (append_assoc s.taken some left);
+  on = λ ts e rest z. subst (λ us. X us e rest) (sym (append_assoc s.taken some ts)) (s.on (some ++ ts) e rest (on ts e rest z));
+  only = λ ts e rest alike x. only ts e rest alike (s.only (some ++ ts) e rest (subst (λ us. BeginAlike us (some ++ ts)) (sym parts) (alike-append some left ts alike)) (subst (λ us. X us e rest) (append_assoc s.taken some ts) x));
+  within = shallow-append first s.taken some s.within (subst (λ r. IsShallow r some) (sym s.count) small);
+  count = region-append first s.taken some ∙ ap (λ r. region_after r some) s.count ∙ there;
+}
+
+-- some tokens begin what is left, and with the next they don't
+pub stuck_all : {A : Type 0} {X : Phrases A} {Y : Sort A} {start mid left : List Token} {first now : Region} (some : List Token) →
+    Stage X start first Y mid now → mid ≡ some ++ left → IsShallow now some → CanEnd (λ ts. Y.is (some ++ ts)) →
+    ((ts : List Token) (e : A) (rest : List Token) → BeginAlike left ts → Y.is (some ++ ts) e rest → ⊥) →
+    IsStuck X start first left
+stuck_all {X = X} {left = left} {first = first} some s parts small end none = record {
+  taken = s.taken ++ some;
+  whole = s.whole ∙ ap (λ us. s.taken ++ us) parts ∙ sym (append_assoc s.taken some left);
+  begins = (end.0, end.1, λ rest. subst (λ us. X us end.1 rest) (sym (append_assoc s.taken some (end.0 ++ rest))) (s.on (some ++ (end.0 ++ rest)) end.1 rest (end.2 rest)));
+  none = λ ts e rest alike x. none ts e rest alike (s.only (some ++ ts) e rest (subst (λ us. BeginAlike us (some ++ ts)) (sym parts) (alike-append some left ts alike)) (subst (λ us. X us e rest) (append_assoc s.taken some ts) x));
+  within = shallow-append first s.taken some s.within (subst (λ r. IsShallow r some) (sym s.count) small);
+}
+
+-- some tokens begin what is left, and the next can follow and is too deep
+pub far_all : {A : Type 0} {X : Phrases A} {Y : Sort A} {start mid others : List Token} {first now : Region} {t : Token} (some : List Token) →
+    Stage X start first Y mid now → mid ≡ some ++ t ∷ others → IsShallow now some → CanEnd (λ ts. Y.is (some ++ t ∷ ts)) →
+    is_too_deep (region_after now some) t.kind ≡ true →
+    IsTooFar X start first (t ∷ others)
+far_all {X = X} {others = others} {first = first} {t = t} some s parts small end far = record {
+  taken = s.taken ++ some;
+  token = t;
+  others = others;
+  next = refl;
+  whole = s.whole ∙ ap (λ us. s.taken ++ us) parts ∙ sym (append_assoc s.taken some (t ∷ others));
+  begins = (end.0, end.1, λ rest. subst (λ us. X us end.1 rest) (sym (append_assoc s.taken some (t ∷ (end.0 ++ rest)))) (s.on (some ++ t ∷ (end.0 ++ rest)) end.1 rest (end.2 rest)));
+  within = shallow-append first s.taken some s.within (subst (λ r. IsShallow r some) (sym s.count) small);
+  deep = subst (λ r. is_too_deep r t.kind ≡ true) (ap (λ r. region_after r some) (sym s.count) ∙ sym (region-append first s.taken some)) far;
 }
 
 -- nothing that is left goes on so

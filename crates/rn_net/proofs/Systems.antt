@@ -1,96 +1,116 @@
 -- How the items of a text follow one another.
-use Rattle.std.proofs.Common.{◌≡◌, ℕ, ◌+◌, ◌-◌, ◌<◌, ◌≤◌, ◌⊎◌, inl, inr, true, false, List, [], ◌∷◌, ◌++◌, length, drop, refl, sym, ◌∙◌, ap, subst, append_assoc, arith}
-use Rattle.std.proofs.lemmas.List.{length-append}
-use Rattle.std.specs.Prelude.{Result, Ok, Err}
-use Rattle.std.specs.Result.{IsErrAnd}
-use Rattle.std.proofs.lemmas.Result.{err_from_is_err_and}
+use Rattle.std.proofs.Common.{◌≡◌, ℕ, ◌<◌, ◌⊎◌, inl, inr, true, List, [], ◌∷◌, ◌++◌, length, drop, refl, sym, ◌∙◌, ap, subst, append_assoc, arith}
+use Rattle.std.proofs.lemmas.List.{length-append, length-drop}
 use Rattle.rn_notation.specs.declared.token.Token.{Token}
 use Rattle.rn_inscript.specs.Stages.{BeginAlike, CanEnd}
 use Rattle.rn_inscript.specs.declared.fault.InscriptFault.{InscriptFault}
 use Rattle.rn_inscript.specs.declared.fault.InscriptFault.TheVariants as Fault
 use Rattle.rn_net.specs.declared.plain.Plain.{Plain}
 use Rattle.rn_net.specs.declared.part.Item.{Item}
-use Rattle.rn_net.specs.Levels.{Region, IsShallow, region_after, is_too_deep}
+use Rattle.rn_net.specs.Levels.{IsShallow, region_after, is_too_deep}
 use Rattle.rn_net.specs.Levels.Region.{between}
-use Rattle.rn_net.specs.Nets.{AreItems, plain_of, IsSystem}
+use Rattle.rn_net.specs.Nets.{AreItems, IsSystem}
 use Rattle.rn_net.specs.Parts.{IsItem, with_item}
-use Rattle.rn_net.specs.Progress.{Stage, IsStuck, IsTooFar, Fails, done}
+use Rattle.rn_net.specs.Progress.{Stage, Fails, done}
 use Rattle.rn_net.specs.Refusals.{IsBeginning}
-use Rattle.rn_net.specs.Answers.{Top, Halts, Sinks, ItemsAnswer}
+use Rattle.rn_net.specs.Answers.{Top, Ends, IsBare}
+use Rattle.rn_net.specs.Words.{notation_name, channel_word, net_word}
 use Rattle.rn_net.proofs.Steps.{alike-append, region-append, shallow-append}
-use Rattle.rn_net.proofs.NetPhrases.{item-begins, item_sort}
+use Rattle.rn_net.proofs.NetPhrases.{item-begins}
+use Rattle.rn_net.proofs.Sorts.{tell_apart}
 
-items-on : {ts mid : List Token} (i : Item) {p e : Plain} → IsItem ts i mid → AreItems (with_item p i) mid e → AreItems p ts e
+pub items-on : {ts mid : List Token} (i : Item) {p e : Plain} → IsItem p.notation ts i mid → AreItems p.notation (with_item p i) mid e → AreItems p.notation p ts e
 items-on (Item.Channel channel) x rest = AreItems.and_channel x rest
 items-on (Item.Net net) x rest = AreItems.and_net x rest
 
-abbrev pub Split : Plain → List Token → Plain → Type 0
-Split p ts e = ((ts ≡ []) × (e ≡ p)) ⊎ ((i : Item) × (mid : List Token) × IsItem ts i mid × AreItems (with_item p i) mid e)
+abbrev pub Split : ℕ → Plain → List Token → Plain → Type 0
+Split notation p ts e = ((ts ≡ []) × (e ≡ p)) ⊎ ((i : Item) × (mid : List Token) × IsItem notation ts i mid × AreItems notation (with_item p i) mid e)
 
-pub items-split : {p e : Plain} {ts : List Token} → AreItems p ts e → Split p ts e
-items-split (AreItems.no_more_items) = inl (refl, refl)
-items-split (AreItems.and_channel {channel = channel} x rest) = inr (Item.Channel channel, _, x, rest)
-items-split (AreItems.and_net {net = net} x rest) = inr (Item.Net net, _, x, rest)
+pub items-split : (notation : ℕ) {p e : Plain} {ts : List Token} → AreItems notation p ts e → Split notation p ts e
+items-split notation (AreItems.no_more_items) = inl (refl, refl)
+items-split notation (AreItems.and_channel {channel = channel} x rest) = inr (Item.Channel channel, _, x, rest)
+items-split notation (AreItems.and_net {net = net} x rest) = inr (Item.Net net, _, x, rest)
 
-pub no-item : (i : Item) (rest : List Token) → IsItem [] i rest → ⊥
-no-item i rest x = let y = item-begins [] rest i x in let e = y.2 in cc
+pub no-item : (notation : ℕ) (i : Item) (rest : List Token) → IsItem notation [] i rest → ⊥
+no-item notation i rest x = let y = item-begins notation [] rest i x in let e = y.2 in cc
 
--- tokens that begin with an item are a system's
-pub is-system : (ts : List Token) (p : Plain) → AreItems (plain_of [] []) ts p → (ts ≡ [] → ⊥) → IsSystem ts p
-is-system [] p x some = absurd (some refl)
-is-system (t ∷ ts) p x some = IsSystem.system x
-
-pub top_begin : (tokens : List Token) → Top tokens (drop 0 tokens) (plain_of [] [])
-top_begin tokens = record {
-  taken = [];
-  whole = refl;
-  on = λ ts p x. x;
-  only = λ ts p alike x. x;
-  within = tt;
-  count = refl;
-}
-
-pub top_read : {tokens mid left : List Token} {p : Plain} {i : Item} → Top tokens mid p → Stage IsItem mid between (done i) left between → Top tokens left (with_item p i)
-top_read {tokens = tokens} {mid = mid} {left = left} {p = p} {i = i} s x = record {
-  taken = s.taken ++ x.taken;
-  whole = s.whole ∙ ap (λ us. s.taken ++ us) x.whole ∙ sym (append_assoc s.taken x.taken left);
-  on = λ ts e y. subst (λ us. AreItems (plain_of [] []) us e) (sym (append_assoc s.taken x.taken ts)) (s.on (x.taken ++ ts) e (items-on i (x.on ts i ts (refl, refl)) y));
-  only = λ ts e alike y.
-      let z = s.only (x.taken ++ ts) e (subst (λ us. BeginAlike us (x.taken ++ ts)) (sym x.whole) (alike-append x.taken left ts alike)) (subst (λ us. AreItems (plain_of [] []) us e) (append_assoc s.taken x.taken ts) y) in
-      elim (items-split {p = p} {e = e} {ts = x.taken ++ ts} z) as (λ w. AreItems (with_item p i) ts e) [
-        | inl d ↦ absurd (no-item i ts (subst (λ us. IsItem us i ts) d.0 (x.on ts i ts (refl, refl))))
-        | inr g ↦ let d = x.only ts g.0 g.1 alike g.2 in subst (λ us. AreItems (with_item p i) us e) d.1 (subst (λ j. AreItems (with_item p j) g.1 e) d.0 g.3)
-      ];
-  within = shallow-append between s.taken x.taken s.within (subst (λ r. IsShallow r x.taken) (sym s.count) x.within);
-  count = region-append between s.taken x.taken ∙ ap (λ r. region_after r x.taken) s.count ∙ x.count;
-}
+-- no channel or net begins with a name
+pub no-header : (notation : ℕ) {p e : Plain} {t : Token} {ts : List Token} → AreItems notation p (t ∷ ts) e → t.kind ≡ notation_name → ⊥
+no-header notation {t = t} {ts = ts} y h = elim (items-split notation y) as (λ w. ⊥) [
+  | inl d ↦ (let e = d.0 in cc)
+  | inr g ↦
+      let w = item-begins notation (t ∷ ts) g.1 g.0 g.2 in
+      let same : t ≡ w.0 = let e = w.2 in cc in
+      elim w.3 as (λ v. ⊥) [
+        | inl e ↦ tell_apart notation_name channel_word (sym h ∙ ap (λ u. u.kind) same ∙ e) (λ d. omega (arith, d))
+        | inr e ↦ tell_apart notation_name net_word (sym h ∙ ap (λ u. u.kind) same ∙ e) (λ d. omega (arith, d))
+      ]
+]
 
 nothing : (a b : List Token) → a ++ b ≡ [] → b ≡ []
 nothing [] b e = e
 nothing (x ∷ a) b e = absurd cc
 
+not-nothing : (a b : List Token) → (a ≡ [] → ⊥) → a ++ b ≡ [] → ⊥
+not-nothing [] b some e = some refl
+not-nothing (x ∷ a) b some e = let f = e in cc
+
+-- an item is read
+pub top_read : {tokens mid left : List Token} {p : Plain} {i : Item} → Top tokens mid p → Stage (IsItem p.notation) mid between (done i) left between → Top tokens left (with_item p i)
+top_read {tokens = tokens} {mid = mid} {left = left} {p = p} {i = i} s x = record {
+  taken = s.taken ++ x.taken;
+  whole = s.whole ∙ ap (λ us. s.taken ++ us) x.whole ∙ sym (append_assoc s.taken x.taken left);
+  on = λ ts e more y. subst (λ us. IsSystem us e) (sym (append_assoc s.taken x.taken ts)) (s.on (x.taken ++ ts) e (λ n. more (nothing x.taken ts n)) (items-on i (x.on ts i ts (refl, refl)) (kept i y)));
+  only = λ ts e alike y.
+      let z = s.only (x.taken ++ ts) e (subst (λ us. BeginAlike us (x.taken ++ ts)) (sym x.whole) (alike-append x.taken left ts alike)) (subst (λ us. IsSystem us e) (append_assoc s.taken x.taken ts) y) in
+      kept-back i (elim (items-split p.notation {p = p} {e = e} {ts = x.taken ++ ts} z) as (λ w. AreItems p.notation (with_item p i) ts e) [
+        | inl d ↦ absurd (no-item p.notation i ts (subst (λ us. IsItem p.notation us i ts) d.0 (x.on ts i ts (refl, refl))))
+        | inr g ↦ let d = x.only ts g.0 g.1 alike g.2 in subst (λ us. AreItems p.notation (with_item p i) us e) d.1 (subst (λ j. AreItems p.notation (with_item p j) g.1 e) d.0 g.3)
+      ]);
+  within = shallow-append between s.taken x.taken s.within (subst (λ r. IsShallow r x.taken) (sym s.count) x.within);
+  count = region-append between s.taken x.taken ∙ ap (λ r. region_after r x.taken) s.count ∙ x.count;
+}
+  where
+    kept : {ts : List Token} {e : Plain} (i : Item) → AreItems (with_item p i).notation (with_item p i) ts e → AreItems p.notation (with_item p i) ts e
+    kept (Item.Channel channel) y = y
+    kept (Item.Net net) y = y
+
+    kept-back : {ts : List Token} {e : Plain} (i : Item) → AreItems p.notation (with_item p i) ts e → AreItems (with_item p i).notation (with_item p i) ts e
+    kept-back (Item.Channel channel) y = y
+    kept-back (Item.Net net) y = y
+
+-- the last item is read
+pub top_last : {tokens mid left : List Token} {p : Plain} {i : Item} → Top tokens mid p → Stage (IsItem p.notation) mid between (done i) left between → left ≡ [] → Top tokens [] (with_item p i) × IsSystem tokens (with_item p i)
+top_last {tokens = tokens} {mid = mid} {left = left} {p = p} {i = i} s x none = (
+  subst (λ us. Top tokens us (with_item p i)) none (top_read s x),
+  subst (λ us. IsSystem us (with_item p i)) (sym (s.whole ∙ ap (λ us. s.taken ++ us) (x.whole ∙ ap (λ us. x.taken ++ us) none)))
+      (s.on (x.taken ++ []) (with_item p i) (λ e. no-item p.notation i [] (subst (λ us. IsItem p.notation us i []) e (x.on [] i [] (refl, refl)))) (items-on i (x.on [] i [] (refl, refl)) AreItems.no_more_items)),
+)
+
 -- what is taken, and then what an item can go on with, is a beginning
-pub begins-with : {tokens mid : List Token} {p : Plain} (s : Top tokens mid p) (ts : List Token) → CanEnd (λ us. IsItem (ts ++ us)) → IsBeginning (s.taken ++ ts)
+pub begins-with : {tokens mid : List Token} {p : Plain} (s : Top tokens mid p) (ts : List Token) → CanEnd (λ us. IsItem p.notation (ts ++ us)) → IsBeginning (s.taken ++ ts)
 begins-with {p = p} s ts end =
-    let item : IsItem (ts ++ (end.0 ++ [])) end.1 [] = end.2 [] in
-    let all = s.on (ts ++ (end.0 ++ [])) (with_item p end.1) (items-on end.1 item AreItems.no_more_items) in (
+    let item : IsItem p.notation (ts ++ (end.0 ++ [])) end.1 [] = end.2 [] in (
       end.0 ++ [],
       with_item p end.1,
-      is-system ((s.taken ++ ts) ++ (end.0 ++ [])) (with_item p end.1) (subst (λ us. AreItems (plain_of [] []) us (with_item p end.1)) (sym (append_assoc s.taken ts (end.0 ++ []))) all) (λ e.
-          no-item end.1 [] (subst (λ us. IsItem us end.1 []) (nothing s.taken (ts ++ (end.0 ++ [])) (sym (append_assoc s.taken ts (end.0 ++ [])) ∙ e)) item)),
+      subst (λ us. IsSystem us (with_item p end.1)) (sym (append_assoc s.taken ts (end.0 ++ [])))
+          (s.on (ts ++ (end.0 ++ [])) (with_item p end.1) (λ e. no-item p.notation end.1 [] (subst (λ us. IsItem p.notation us end.1 []) e item)) (items-on end.1 item AreItems.no_more_items)),
     )
 
-pub top_fails : {tokens mid : List Token} {p : Plain} (e : InscriptFault) → (mid ≡ [] → ⊥) → Top tokens mid p → Fails IsItem mid between (length tokens) e → ItemsAnswer tokens (Err e)
-top_fails {tokens = tokens} {mid = mid} {p = p} (Fault.P2 k) more s f = let x = f.1 in record {
+pub top_fails : {tokens mid : List Token} {p : Plain} (e : InscriptFault) → IsBare tokens mid → Top tokens mid p → Fails (IsItem p.notation) mid between (length tokens) e → Ends tokens e
+top_fails {tokens = tokens} {mid = mid} {p = p} (Fault.P2 k) bare s f = let x = f.1 in record {
   before = s.taken ++ x.taken;
   left = f.0;
   parts = parts;
   stands = (let a = ap length parts in let b = length-append (s.taken ++ x.taken) f.0 in omega (arith, a, b, f.2));
   begins = begins-with s x.taken x.begins;
   none = λ ts e alike ends y.
-      let z = s.only (x.taken ++ ts) e (subst (λ us. BeginAlike us (x.taken ++ ts)) (sym x.whole) (alike-append x.taken f.0 ts alike)) (subst (λ us. AreItems (plain_of [] []) us e) (append_assoc s.taken x.taken ts) y) in
-      elim (items-split {p = p} {e = e} {ts = x.taken ++ ts} z) as (λ w. ⊥) [
-        | inl d ↦ more (x.whole ∙ ap (λ us. x.taken ++ us) (ends (nothing x.taken ts d.0)) ∙ ap (λ us. x.taken ++ us) (sym (nothing x.taken ts d.0)) ∙ d.0)
+      let z = s.only (x.taken ++ ts) e (subst (λ us. BeginAlike us (x.taken ++ ts)) (sym x.whole) (alike-append x.taken f.0 ts alike)) (subst (λ us. IsSystem us e) (append_assoc s.taken x.taken ts) y) in
+      elim (items-split p.notation {p = p} {e = e} {ts = x.taken ++ ts} z) as (λ w. ⊥) [
+        | inl d ↦
+            let none : ts ≡ [] = nothing x.taken ts d.0 in
+            let same : f.0 ≡ ts = ends none ∙ sym none in
+            bare (x.whole ∙ ap (λ us. x.taken ++ us) same ∙ d.0) e (subst (λ us. IsSystem us e) (ap (λ us. (s.taken ++ x.taken) ++ us) (sym same) ∙ sym parts) y)
         | inr g ↦ x.none ts g.0 g.1 alike g.2
       ];
   within = shallow-append between s.taken x.taken s.within (subst (λ r. IsShallow r x.taken) (sym s.count) x.within);
@@ -98,17 +118,33 @@ top_fails {tokens = tokens} {mid = mid} {p = p} (Fault.P2 k) more s f = let x = 
   where
     parts : tokens ≡ (s.taken ++ f.1.taken) ++ f.0
     parts = s.whole ∙ ap (λ us. s.taken ++ us) f.1.whole ∙ sym (append_assoc s.taken f.1.taken f.0)
-top_fails {tokens = tokens} {mid = mid} {p = p} (Fault.P5 k) more s f = let x = f.1 in record {
+top_fails {tokens = tokens} {mid = mid} {p = p} (Fault.P5 k) bare s f = let x = f.1 in record {
   before = s.taken ++ x.taken;
   token = x.token;
   left = x.others;
   parts = parts ∙ ap (λ us. (s.taken ++ x.taken) ++ us) x.next;
   stands = (let a = ap length parts in let b = length-append (s.taken ++ x.taken) f.0 in omega (arith, a, b, f.2));
-  begins = subst IsBeginning (sym (append_assoc s.taken x.taken (x.token ∷ []))) (begins-with s (x.taken ++ x.token ∷ []) (x.begins.0, x.begins.1, λ rest. subst (λ us. IsItem us x.begins.1 rest) (sym (append_assoc x.taken (x.token ∷ []) (x.begins.0 ++ rest))) (x.begins.2 rest)));
+  begins = subst IsBeginning (sym (append_assoc s.taken x.taken (x.token ∷ []))) (begins-with s (x.taken ++ x.token ∷ []) (x.begins.0, x.begins.1, λ rest. subst (λ us. IsItem p.notation us x.begins.1 rest) (sym (append_assoc x.taken (x.token ∷ []) (x.begins.0 ++ rest))) (x.begins.2 rest)));
   within = shallow-append between s.taken x.taken s.within (subst (λ r. IsShallow r x.taken) (sym s.count) x.within);
   deep = subst (λ r. is_too_deep r x.token.kind ≡ true) (ap (λ r. region_after r x.taken) (sym s.count) ∙ sym (region-append between s.taken x.taken)) x.deep;
 }
   where
     parts : tokens ≡ (s.taken ++ f.1.taken) ++ f.0
     parts = s.whole ∙ ap (λ us. s.taken ++ us) f.1.whole ∙ sym (append_assoc s.taken f.1.taken f.0)
-top_fails Fault.NoMemory more s f = tt
+top_fails Fault.NoMemory bare s f = tt
+
+-- an item leaves the notation
+pub same_notation : (p : Plain) (i : Item) → (with_item p i).notation ≡ p.notation
+same_notation p (Item.Channel channel) = refl
+same_notation p (Item.Net net) = refl
+
+-- where an index is at the end, or isn't
+none-of : (ts : List Token) → length ts ≡ 0 → ts ≡ []
+none-of [] h = refl
+none-of (t ∷ ts) h = absurd (omega (arith, h))
+
+pub at_end : (tokens : List Token) (at : ℕ) → at ≡ length tokens → drop at tokens ≡ []
+at_end tokens at h = none-of (drop at tokens) (omega (arith, h, length-drop at tokens))
+
+pub not_bare : (tokens : List Token) (at : ℕ) → at < length tokens → IsBare tokens (drop at tokens)
+not_bare tokens at h = λ none p x. let e : length (drop at tokens) ≡ 0 = ap length none in omega (arith, e, h, length-drop at tokens)

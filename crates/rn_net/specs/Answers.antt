@@ -1,5 +1,6 @@
 -- How far a text is read in items, and how that ends. This only connects the reader to the grammar.
-use Rattle.std.specs.Prelude.{◌≡◌, ℕ, ◌+◌, ◌≤◌, true, List, [], ◌∷◌, ◌++◌, length, Result, Ok, Err, Option, Some, None, ◌⊎◌}
+use Rattle.std.specs.Prelude.{◌≡◌, ℕ, true, List, [], ◌∷◌, ◌++◌, length, drop, Result, Ok, Err}
+use Rattle.std.specs.Prelude.{Option, Some, None, ◌⊎◌}
 use Rattle.rn_notation.specs.declared.token.Token.{Token}
 use Rattle.rn_inscript.specs.Stages.{BeginAlike}
 use Rattle.rn_inscript.specs.declared.fault.InscriptFault.{InscriptFault}
@@ -14,15 +15,20 @@ use Rattle.rn_net.specs.declared.refusal.Refusal.TheVariants as R
 use Rattle.rn_notation.specs.declared.token.Spot.{Spot}
 use Rattle.rn_notation.specs.declared.token.LexFault.{LexFault}
 
--- some tokens were taken, up to the end of an item, and what was read is this
+-- some tokens were taken, up to the first item or the end of one, and what was read is this
 pub record Top (tokens left : List Token) (plain : Plain) : Type 0 where
   pub taken : List Token
   pub whole : tokens ≡ taken ++ left
-  pub on : (ts : List Token) (p : Plain) → AreItems plain ts p → AreItems (plain_of [] []) (taken ++ ts) p
-  pub only : (ts : List Token) (p : Plain) → BeginAlike left ts →
-      AreItems (plain_of [] []) (taken ++ ts) p → AreItems plain ts p
+  pub on : (ts : List Token) (p : Plain) → (ts ≡ [] → ⊥) → AreItems plain.notation plain ts p →
+      IsSystem (taken ++ ts) p
+  pub only : (ts : List Token) (p : Plain) → BeginAlike left ts → IsSystem (taken ++ ts) p →
+      AreItems plain.notation plain ts p
   pub within : IsShallow between taken
   pub count : region_after between taken ≡ between
+
+-- where no tokens are left, they are no system
+abbrev pub IsBare : List Token → List Token → Type 0
+IsBare tokens left = left ≡ [] → (p : Plain) → IsSystem tokens p → ⊥
 
 -- the tokens up to an index are a beginning, and with the next they are none
 pub record Halts (tokens : List Token) (k : ℕ) : Type 0 where
@@ -32,7 +38,7 @@ pub record Halts (tokens : List Token) (k : ℕ) : Type 0 where
   pub stands : k ≡ length before
   pub begins : IsBeginning before
   pub none : (ts : List Token) (p : Plain) → BeginAlike left ts → (ts ≡ [] → left ≡ []) →
-      AreItems (plain_of [] []) (before ++ ts) p → ⊥
+      IsSystem (before ++ ts) p → ⊥
   pub within : IsShallow between before
 
 -- the token at an index is a beginning's with those before it, and the first that is too deep
@@ -46,11 +52,21 @@ pub record Sinks (tokens : List Token) (k : ℕ) : Type 0 where
   pub within : IsShallow between before
   pub deep : is_too_deep (region_after between before) token.kind ≡ true
 
-abbrev pub ItemsAnswer : List Token → Result Plain InscriptFault → Type 0
-ItemsAnswer tokens (Ok plain) = Top tokens [] plain
-ItemsAnswer tokens (Err (Fault.P2 k)) = Halts tokens k
-ItemsAnswer tokens (Err (Fault.P5 k)) = Sinks tokens k
-ItemsAnswer tokens (Err Fault.NoMemory) = Unit {0}
+-- what is said of tokens that begin no system, or not one without a token that is too deep
+abbrev pub Ends : List Token → InscriptFault → Type 0
+Ends tokens (Fault.P2 k) = Halts tokens k
+Ends tokens (Fault.P5 k) = Sinks tokens k
+Ends tokens Fault.NoMemory = Unit {0}
+
+-- what comes before the items is taken, or isn't there
+abbrev pub HeaderAnswer : List Token → Result (ℕ × ℕ) InscriptFault → Type 0
+HeaderAnswer tokens (Ok (notation, at)) =
+    Top tokens (drop at tokens) (plain_of notation [] []) × IsBare tokens (drop at tokens)
+HeaderAnswer tokens (Err fault) = Ends tokens fault
+
+abbrev pub SystemAnswer : List Token → Result Plain InscriptFault → Type 0
+SystemAnswer tokens (Ok plain) = Top tokens [] plain × IsSystem tokens plain
+SystemAnswer tokens (Err fault) = Ends tokens fault
 
 -- what the tokens, the fault after them and the end of a text say of it
 abbrev pub Reason : List Token → Option LexFault → Spot → Refusal → Type 0

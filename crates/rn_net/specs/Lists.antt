@@ -1,16 +1,17 @@
--- Kinds, constants and inscriptions up to the sign after them. This only connects the readers to the grammar.
-use Rattle.std.specs.Prelude.{◌≡◌, List, [], ◌∷◌}
-use Rattle.rn_notation.specs.declared.token.Token.{Token}
+-- Kinds, constants and inscriptions up to the sign after them. This only connects the readers to
+-- the grammar.
+use Rattle.std.specs.Prelude.{ℕ, List, []}
 use Rattle.rn_notation.specs.declared.token.TokenKind.{TokenKind}
 use Rattle.rn_inscript.specs.Stages.{Phrases, Then, Takes}
 use Rattle.rn_net.specs.declared.kinds.PKind.{PKind}
 use Rattle.rn_net.specs.declared.constants.PConst.{PConst}
-use Rattle.rn_inscript.specs.declared.inscriptions.PInscribed.{PInscribed}
+use Rattle.rn_inscript.specs.declared.exprs.PExpr.{PExpr}
 use Rattle.rn_inscript.specs.declared.inscriptions.PInscription.{PInscription}
-use Rattle.rn_inscript.specs.Inscriptions.{IsInscribed}
+use Rattle.rn_inscript.specs.Expressions.{IsMoreExprs}
 use Rattle.rn_net.specs.Words.{semicolon}
 use Rattle.rn_net.specs.Kinds.{AreKinds}
 use Rattle.rn_net.specs.Constants.{AreConstants}
+use Rattle.rn_net.specs.Nets.{AreInscribed}
 
 abbrev pub AreKindsUpTo : TokenKind → Phrases (List PKind)
 AreKindsUpTo close = Then AreKinds (λ kinds. Takes close kinds)
@@ -18,8 +19,10 @@ AreKindsUpTo close = Then AreKinds (λ kinds. Takes close kinds)
 abbrev pub AreConstantsUpTo : TokenKind → Phrases (List PConst)
 AreConstantsUpTo close = Then AreConstants (λ constants. Takes close constants)
 
--- an inscription and the semicolon after it
-abbrev pub IsInscriptionUpTo : Phrases PInscription
-IsInscriptionUpTo ts i rest = (t : Token) × (us : List Token) × (u : Token) × (form : PInscribed) ×
-    (ts ≡ t ∷ us) × IsInscribed (t ∷ us) form (u ∷ rest) × (u.kind ≡ semicolon)
-    × (i ≡ record { form = form; spot = t.spot })
+-- what stands before a semicolon in a transition, and the semicolon
+abbrev pub AreInscribedUpTo : ℕ → Phrases (List PInscription)
+AreInscribedUpTo notation = Then (AreInscribed notation) (λ all. Takes semicolon all)
+
+-- the other inscriptions of an arc, each after a comma, and the semicolon after them
+abbrev pub AreFurtherUpTo : Phrases (List PExpr)
+AreFurtherUpTo = Then (IsMoreExprs []) (λ all. Takes semicolon all)

@@ -1,14 +1,18 @@
 -- Whole net texts. Each fact is about the tokens from somewhere on, as with kinds.
-use Rattle.std.specs.Prelude.{◌≡◌, ℕ, ℤ, List, [], ◌∷◌, ◌++◌, map, Option, Some, None}
+use Rattle.std.specs.Prelude.{◌≡◌, ℕ, ℤ, pos, List, [], ◌∷◌, ◌++◌, map, Option, Some, None}
 use Rattle.rn_notation.specs.declared.token.Token.{Token}
 use Rattle.rn_notation.specs.declared.token.Spot.{Spot}
 use Rattle.rn_notation.specs.declared.token.TokenKind.TheVariants.{Name, Number}
+use Rattle.rn_model.specs.declared.system.ArcKind.{ArcKind}
+use Rattle.rn_inscript.specs.declared.exprs.PExpr.{PExpr, out-PExpr}
 use Rattle.rn_inscript.specs.declared.inscriptions.PName.{PName}
 use Rattle.rn_inscript.specs.declared.inscriptions.PInscribed.{PInscribed}
+use Rattle.rn_inscript.specs.declared.inscriptions.PInscribed.TheVariants as I
 use Rattle.rn_inscript.specs.declared.inscriptions.PInscription.{PInscription}
+use Rattle.rn_inscript.specs.Expressions.{IsExpr, IsMoreExprs}
 use Rattle.rn_inscript.specs.Inscriptions.{IsInscribed, name_at}
 use Rattle.rn_inscript.specs.Signs.{open_brace, close_brace, open_paren, close_paren}
-use Rattle.rn_inscript.specs.Signs.{comma, colon, equals}
+use Rattle.rn_inscript.specs.Signs.{comma, colon, equals, arc_of}
 use Rattle.rn_net.specs.declared.kinds.PKind.{PKind}
 use Rattle.rn_net.specs.declared.kinds.PKindForm.TheVariants as K
 use Rattle.rn_net.specs.declared.constants.PConst.{PConst}
@@ -20,7 +24,7 @@ use Rattle.rn_net.specs.declared.plain.PPlace.{PPlace}
 use Rattle.rn_net.specs.declared.plain.PMax.{PMax}
 use Rattle.rn_net.specs.declared.plain.PTransition.{PTransition}
 use Rattle.rn_net.specs.Words.{semicolon, net_word, place_word, trans_word, channel_word, var_word}
-use Rattle.rn_net.specs.Words.{max_name}
+use Rattle.rn_net.specs.Words.{max_name, notation_name}
 use Rattle.rn_net.specs.Kinds.{IsKind, kind_at}
 use Rattle.rn_net.specs.Kinds as Kinds
 use Rattle.rn_net.specs.Constants.{AreConstants}
@@ -46,8 +50,17 @@ abbrev pub net_of : PName → List PVar → List PPlace → List PTransition →
 net_of name vars places transitions =
     record { name = name; vars = vars; places = places; transitions = transitions }
 
-abbrev pub plain_of : List PChannel → List PNet → Plain
-plain_of channels nets = record { channels = channels; nets = nets }
+abbrev pub plain_of : ℕ → List PChannel → List PNet → Plain
+plain_of notation channels nets =
+    record { notation = notation; channels = channels; nets = nets }
+
+-- an arc of this kind and place with this inscription
+abbrev pub arc_with : ArcKind → PName → Spot → PExpr → PInscription
+arc_with kind place spot e = record { form = I.Arc kind place (Some e); spot = spot }
+
+-- another arc of this kind and place, whose spot is that of its inscription
+abbrev pub further_arc : ArcKind → PName → PExpr → PInscription
+further_arc kind place e = arc_with kind place (out-PExpr e).spot e
 
 -- `channel c(int,text);`
 pub data IsChannel : List Token → PChannel → List Token → Type 0 where
@@ -102,68 +115,86 @@ pub data IsPlace : List Token → PPlace → List Token → Type 0 where
       IsCapacity mid max us → AreInitial us initial (v ∷ rest) → v.kind ≡ semicolon →
       IsPlace (t ∷ u ∷ ts) (place_of (name_at u.spot name) kind initial max) rest
 
--- inscriptions after those so far, each with a semicolon after it
-pub data AreInscriptions :
+-- What stands before a semicolon in a transition. It is an inscription or, in notation 2, an arc
+-- with several inscriptions, which stands for as many arcs.
+pub data AreInscribed (notation : ℕ) : List Token → List PInscription → List Token → Type 0 where
+  one : {t : Token} {ts rest : List Token} {form : PInscribed} →
+      IsInscribed (t ∷ ts) form rest →
+      AreInscribed notation (t ∷ ts) (record { form = form; spot = t.spot } ∷ []) rest
+  several : {t u v : Token} {ts mid rest : List Token} {kind : ArcKind} {p : List ℕ} {e : PExpr}
+      {more : List PExpr} →
+      notation ≡ 2 → arc_of t.kind ≡ Some kind → u.kind ≡ Name p → v.kind ≡ colon →
+      IsExpr ts e mid → IsMoreExprs [] mid more rest →
+      AreInscribed notation (t ∷ u ∷ v ∷ ts)
+      (arc_with kind (name_at u.spot p) t.spot e
+      ∷ map (further_arc kind (name_at u.spot p)) more) rest
+
+-- inscriptions after those so far, with semicolons after them
+pub data AreInscriptions (notation : ℕ) :
     List PInscription → List Token → List PInscription → List Token → Type 0 where
   no_more_inscriptions : {all : List PInscription} {rest : List Token} →
-      AreInscriptions all rest all rest
-  more_inscriptions : {t u : Token} {ts mid rest : List Token} {before all : List PInscription}
-      {form : PInscribed} →
-      IsInscribed (t ∷ ts) form (u ∷ mid) → u.kind ≡ semicolon →
-      AreInscriptions (before ++ record { form = form; spot = t.spot } ∷ []) mid all rest →
-      AreInscriptions before (t ∷ ts) all rest
+      AreInscriptions notation all rest all rest
+  more_inscriptions : {u : Token} {ts mid rest : List Token} {before more all : List PInscription} →
+      AreInscribed notation ts more (u ∷ mid) → u.kind ≡ semicolon →
+      AreInscriptions notation (before ++ more) mid all rest →
+      AreInscriptions notation before ts all rest
 
 -- `trans t { in p: x; out q: x; }`
-pub data IsTransition : List Token → PTransition → List Token → Type 0 where
+pub data IsTransition (notation : ℕ) : List Token → PTransition → List Token → Type 0 where
   transition : {t u v w : Token} {ts rest : List Token} {name : List ℕ}
       {inscriptions : List PInscription} →
       t.kind ≡ trans_word → u.kind ≡ Name name → v.kind ≡ open_brace →
-      AreInscriptions [] ts inscriptions (w ∷ rest) → w.kind ≡ close_brace →
-      IsTransition (t ∷ u ∷ v ∷ ts) (transition_of (name_at u.spot name) inscriptions) rest
+      AreInscriptions notation [] ts inscriptions (w ∷ rest) → w.kind ≡ close_brace →
+      IsTransition notation (t ∷ u ∷ v ∷ ts)
+      (transition_of (name_at u.spot name) inscriptions) rest
 
 -- the parts of a net after those so far: variables, places and transitions in any order
-pub data AreParts : PNet → List Token → PNet → List Token → Type 0 where
-  no_more_parts : {net : PNet} {rest : List Token} → AreParts net rest net rest
+pub data AreParts (notation : ℕ) : PNet → List Token → PNet → List Token → Type 0 where
+  no_more_parts : {net : PNet} {rest : List Token} → AreParts notation net rest net rest
   and_vars : {ts mid rest : List Token} {name : PName} {vars more : List PVar}
       {places : List PPlace} {transitions : List PTransition} {net : PNet} →
       AreVars ts more mid →
-      AreParts (net_of name (vars ++ more) places transitions) mid net rest →
-      AreParts (net_of name vars places transitions) ts net rest
+      AreParts notation (net_of name (vars ++ more) places transitions) mid net rest →
+      AreParts notation (net_of name vars places transitions) ts net rest
   and_place : {ts mid rest : List Token} {name : PName} {vars : List PVar}
       {places : List PPlace} {place : PPlace} {transitions : List PTransition} {net : PNet} →
       IsPlace ts place mid →
-      AreParts (net_of name vars (places ++ place ∷ []) transitions) mid net rest →
-      AreParts (net_of name vars places transitions) ts net rest
+      AreParts notation (net_of name vars (places ++ place ∷ []) transitions) mid net rest →
+      AreParts notation (net_of name vars places transitions) ts net rest
   and_transition : {ts mid rest : List Token} {name : PName} {vars : List PVar}
       {places : List PPlace} {transitions : List PTransition} {transition : PTransition}
       {net : PNet} →
-      IsTransition ts transition mid →
-      AreParts (net_of name vars places (transitions ++ transition ∷ [])) mid net rest →
-      AreParts (net_of name vars places transitions) ts net rest
+      IsTransition notation ts transition mid →
+      AreParts notation (net_of name vars places (transitions ++ transition ∷ [])) mid net rest →
+      AreParts notation (net_of name vars places transitions) ts net rest
 
 -- `net n { }` with the parts of the net between the braces
-pub data IsNet : List Token → PNet → List Token → Type 0 where
+pub data IsNet (notation : ℕ) : List Token → PNet → List Token → Type 0 where
   net : {t u v w : Token} {ts rest : List Token} {name : List ℕ} {parts : PNet} →
       t.kind ≡ net_word → u.kind ≡ Name name → v.kind ≡ open_brace →
-      AreParts (net_of (name_at u.spot name) [] [] []) ts parts (w ∷ rest) →
+      AreParts notation (net_of (name_at u.spot name) [] [] []) ts parts (w ∷ rest) →
       w.kind ≡ close_brace →
-      IsNet (t ∷ u ∷ v ∷ ts) parts rest
+      IsNet notation (t ∷ u ∷ v ∷ ts) parts rest
 
 -- the channels and nets after those so far, in any order, up to the end
-pub data AreItems : Plain → List Token → Plain → Type 0 where
-  no_more_items : {plain : Plain} → AreItems plain [] plain
+pub data AreItems (notation : ℕ) : Plain → List Token → Plain → Type 0 where
+  no_more_items : {plain : Plain} → AreItems notation plain [] plain
   and_channel : {ts mid : List Token} {channels : List PChannel} {channel : PChannel}
       {nets : List PNet} {plain : Plain} →
       IsChannel ts channel mid →
-      AreItems (plain_of (channels ++ channel ∷ []) nets) mid plain →
-      AreItems (plain_of channels nets) ts plain
+      AreItems notation (plain_of notation (channels ++ channel ∷ []) nets) mid plain →
+      AreItems notation (plain_of notation channels nets) ts plain
   and_net : {ts mid : List Token} {channels : List PChannel} {nets : List PNet} {net : PNet}
       {plain : Plain} →
-      IsNet ts net mid →
-      AreItems (plain_of channels (nets ++ net ∷ [])) mid plain →
-      AreItems (plain_of channels nets) ts plain
+      IsNet notation ts net mid →
+      AreItems notation (plain_of notation channels (nets ++ net ∷ [])) mid plain →
+      AreItems notation (plain_of notation channels nets) ts plain
 
--- These tokens are a system, which has at least one channel or net.
+-- These tokens are a system, which has at least one channel or net. In notation 2 it comes after
+-- `notation 2;`, where `notation` is a name, and no reserved word.
 pub data IsSystem : List Token → Plain → Type 0 where
-  system : {t : Token} {ts : List Token} {plain : Plain} →
-      AreItems (plain_of [] []) (t ∷ ts) plain → IsSystem (t ∷ ts) plain
+  first : {t : Token} {ts : List Token} {plain : Plain} →
+      AreItems 1 (plain_of 1 [] []) (t ∷ ts) plain → IsSystem (t ∷ ts) plain
+  second : {t u v w : Token} {ts : List Token} {plain : Plain} →
+      t.kind ≡ notation_name → u.kind ≡ Number (pos 2) → v.kind ≡ semicolon →
+      AreItems 2 (plain_of 2 [] []) (w ∷ ts) plain → IsSystem (t ∷ u ∷ v ∷ w ∷ ts) plain

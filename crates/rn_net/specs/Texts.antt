@@ -1,5 +1,5 @@
 -- Texts and the systems that they spell.
-use Rattle.std.specs.Prelude.{ℕ, ◌≤◌, List, length}
+use Rattle.std.specs.Prelude.{ℕ, ◌≡◌, ◌≤◌, ◌⊎◌, List, length}
 use Rattle.rn_notation.specs.Limits.{longest_net_text}
 use Rattle.rn_notation.specs.Reading.{Tokens}
 use Rattle.rn_notation.specs.declared.token.Token.{Token}
@@ -7,6 +7,10 @@ use Rattle.rn_net.specs.declared.plain.Plain.{Plain}
 use Rattle.rn_net.specs.Levels.{IsShallow}
 use Rattle.rn_net.specs.Levels.Region.{between}
 use Rattle.rn_net.specs.Nets.{IsSystem}
+
+-- there are two notations
+abbrev pub IsNotation : ℕ → Type 0
+IsNotation notation = (notation ≡ 1) ⊎ (notation ≡ 2)
 
 -- The bytes spell this system: they are no longer than a net text may be, and they are tokens,
 -- without a fault, that are the system. None of the tokens opens level 65 or is the 257th operator

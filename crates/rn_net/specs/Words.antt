@@ -12,6 +12,10 @@ semicolon = Sign sign.SEMICOLON
 abbrev pub max_name : TokenKind
 max_name = Name (codes "max")
 
+-- `notation`, which is no reserved word
+abbrev pub notation_name : TokenKind
+notation_name = Name (codes "notation")
+
 abbrev pub net_word : TokenKind
 net_word = Word word.NET
 

@@ -1,14 +1,16 @@
 //! Laws of net texts, as the contract of a function that does nothing.
-ghost use Rattle.rn_net.specs.Laws.{OneSpelled, OneSystem, SpelledIsNotRefused};
+ghost use Rattle.rn_net.specs.Laws.{OneSpelled, OneSystem, SpelledInNotation, SpelledIsNotRefused};
 
 use rn_inscript::reading_laws;
 use rn_notation::token_laws;
 
-/// Tokens are one system at most, and a text spells one at most and is then refused for no reason.
+/// Tokens are one system at most, and a text spells one at most, in one of two notations, and is then
+/// refused for no reason.
 pub fn net_laws()
     ensures one_system { OneSystem }
     ensures one_text { OneSpelled }
     ensures not_refused { SpelledIsNotRefused }
+    ensures notations { SpelledInNotation }
 {
     token_laws();
     reading_laws();

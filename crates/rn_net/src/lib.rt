@@ -5,6 +5,7 @@ mod constant_reader;
 mod constants;
 mod cursor;
 mod declaration_reader;
+mod inscription_reader;
 mod kind_reader;
 mod kinds;
 mod laws;

@@ -1,64 +1,22 @@
 //! Reading transitions, nets and the items of a text.
 ghost use Rattle.std.specs.Prelude.{◌≡◌, ℕ, ◌+◌, ◌≤◌, length, IfOk};
-ghost use Rattle.rn_inscript.specs.Signs.{close_brace};
-ghost use Rattle.rn_inscript.specs.NextNames.{IsNotNextKind};
 ghost use Rattle.rn_inscript.specs.Stages.{IsNextKind};
 ghost use Rattle.rn_net.specs.Levels.Region.{between};
-ghost use Rattle.rn_net.specs.Lists.{IsInscriptionUpTo};
 ghost use Rattle.rn_net.specs.Nets.{IsTransition, IsNet};
-ghost use Rattle.rn_net.specs.Parts.{IsNetPart, IsItem, with_part, AreInscriptionsUpTo, ArePartsUpTo};
+ghost use Rattle.rn_net.specs.Parts.{IsNetPart, IsItem, with_part, ArePartsUpTo};
 ghost use Rattle.rn_net.specs.Progress.{Reads, Moves, HaveNaturals};
 ghost use Rattle.rn_net.specs.Words.{trans_word, net_word};
 
 use crate::cursor::{expect_name, expect_sign, past_sign, past_word};
 use crate::declaration_reader::{channel, place, vars};
+use crate::inscription_reader::inscriptions_up_to;
 use crate::part::{Item, Part};
-use crate::plain::{PInscriptions, PNet, PPlace, PTransition, PVars};
-use rn_inscript::{InscriptFault, PInscription, PName, read_transition_inscription, reading_laws};
+use crate::plain::{PNet, PPlace, PTransition, PVars};
+use rn_inscript::{InscriptFault, PName};
 use rn_items::Items;
 use rn_notation::{Tokens, sign, word};
 use rn_value::NoMemory;
 use std::alloc::Global;
-
-/// An inscription and the semicolon after it.
-fn inscription(
-    alloc: Global,
-    tokens: &Tokens,
-    at: usize,
-) -> Result<(PInscription, usize), InscriptFault>
-    requires inside { at ≤ length tokens.now }
-    requires other { IsNotNextKind tokens.now at close_brace }
-    ensures moved { Moves tokens.now (at + 1) result }
-    ensures reads { Reads IsInscriptionUpTo tokens.now at between between result }
-{
-    reading_laws();
-    let (inscription, after) = read_transition_inscription(alloc, tokens, at)?;
-    let (_, end) = expect_sign(tokens, after, sign::SEMICOLON)?;
-    Ok((inscription, end))
-}
-
-/// Inscriptions, up to and past the closing brace.
-fn inscriptions_up_to(
-    alloc: Global,
-    tokens: &Tokens,
-    at: usize,
-) -> Result<(PInscriptions, usize), InscriptFault>
-    requires { at ≤ length tokens.now }
-    ensures moved { Moves tokens.now at result }
-    ensures reads { Reads AreInscriptionsUpTo tokens.now at between between result }
-{
-    let mut all = Vec::new(alloc);
-    let mut now = at;
-    'inscriptions: loop {
-        if let Some((_, end)) = past_sign(tokens, now, sign::RIGHT_BRACE) {
-            all.shrink_to_fit();
-            return Ok((Items::from_vec(all), end));
-        }
-        let (more, after) = inscription(alloc, tokens, now)?;
-        all.push(more)?;
-        now = after;
-    }
-}
 
 /// `trans t { in p: x; }`, of which the word is next.
 fn transition(
@@ -66,24 +24,30 @@ fn transition(
     tokens: &Tokens,
     at: usize,
     start: usize,
+    notation: u32,
 ) -> Result<(PTransition, usize), InscriptFault>
     requires next { IsNextKind tokens.now at trans_word }
     requires start { start ≡ at + 1 }
     ensures moved { Moves tokens.now (at + 1) result }
-    ensures reads { Reads IsTransition tokens.now at between between result }
+    ensures reads { Reads (IsTransition notation) tokens.now at between between result }
 {
     let (name, after_name) = expect_name(alloc, tokens, start)?;
     let (_, inside) = expect_sign(tokens, after_name, sign::LEFT_BRACE)?;
-    let (inscriptions, end) = inscriptions_up_to(alloc, tokens, inside)?;
+    let (inscriptions, end) = inscriptions_up_to(alloc, tokens, inside, notation)?;
     Ok((PTransition { name, inscriptions }, end))
 }
 
 /// One declaration of a net.
-fn part(alloc: Global, tokens: &Tokens, at: usize) -> Result<(Part, usize), InscriptFault>
+fn part(
+    alloc: Global,
+    tokens: &Tokens,
+    at: usize,
+    notation: u32,
+) -> Result<(Part, usize), InscriptFault>
     requires inside { at ≤ length tokens.now }
     requires naturals { HaveNaturals tokens.now }
     ensures moved { Moves tokens.now (at + 1) result }
-    ensures reads { Reads IsNetPart tokens.now at between between result }
+    ensures reads { Reads (IsNetPart notation) tokens.now at between between result }
 {
     if let Some((_, start)) = past_word(tokens, at, word::VAR) {
         let (more, end) = vars(alloc, tokens, at, start)?;
@@ -94,7 +58,7 @@ fn part(alloc: Global, tokens: &Tokens, at: usize) -> Result<(Part, usize), Insc
         return Ok((Part::Place(more), end));
     }
     if let Some((_, start)) = past_word(tokens, at, word::TRANS) {
-        let (more, end) = transition(alloc, tokens, at, start)?;
+        let (more, end) = transition(alloc, tokens, at, start, notation)?;
         return Ok((Part::Transition(more), end));
     }
     Err(InscriptFault::P2(at))
@@ -157,11 +121,12 @@ fn parts_up_to(
     tokens: &Tokens,
     at: usize,
     name: PName,
+    notation: u32,
 ) -> Result<(PNet, usize), InscriptFault>
     requires inside { at ≤ length tokens.now }
     requires naturals { HaveNaturals tokens.now }
     ensures moved { Moves tokens.now at result }
-    ensures reads { Reads (ArePartsUpTo name) tokens.now at between between result }
+    ensures reads { Reads (ArePartsUpTo notation name) tokens.now at between between result }
 {
     let mut net = PNet {
         name,
@@ -174,7 +139,7 @@ fn parts_up_to(
         if let Some((_, end)) = past_sign(tokens, now, sign::RIGHT_BRACE) {
             return Ok((net, end));
         }
-        let (more, after) = part(alloc, tokens, now)?;
+        let (more, after) = part(alloc, tokens, now, notation)?;
         net = with_part(net, more)?;
         now = after;
     }
@@ -186,16 +151,17 @@ fn net(
     tokens: &Tokens,
     at: usize,
     start: usize,
+    notation: u32,
 ) -> Result<(PNet, usize), InscriptFault>
     requires naturals { HaveNaturals tokens.now }
     requires next { IsNextKind tokens.now at net_word }
     requires start { start ≡ at + 1 }
     ensures moved { Moves tokens.now (at + 1) result }
-    ensures reads { Reads IsNet tokens.now at between between result }
+    ensures reads { Reads (IsNet notation) tokens.now at between between result }
 {
     let (name, after_name) = expect_name(alloc, tokens, start)?;
     let (_, inside) = expect_sign(tokens, after_name, sign::LEFT_BRACE)?;
-    parts_up_to(alloc, tokens, inside, name)
+    parts_up_to(alloc, tokens, inside, name, notation)
 }
 
 /// One channel or net.
@@ -203,18 +169,19 @@ pub(crate) fn item(
     alloc: Global,
     tokens: &Tokens,
     at: usize,
+    notation: u32,
 ) -> Result<(Item, usize), InscriptFault>
     requires inside { at ≤ length tokens.now }
     requires naturals { HaveNaturals tokens.now }
     ensures moved { Moves tokens.now (at + 1) result }
-    ensures reads { Reads IsItem tokens.now at between between result }
+    ensures reads { Reads (IsItem notation) tokens.now at between between result }
 {
     if let Some((_, start)) = past_word(tokens, at, word::CHANNEL) {
         let (more, end) = channel(alloc, tokens, at, start)?;
         return Ok((Item::Channel(more), end));
     }
     if let Some((_, start)) = past_word(tokens, at, word::NET) {
-        let (more, end) = net(alloc, tokens, at, start)?;
+        let (more, end) = net(alloc, tokens, at, start, notation)?;
         return Ok((Item::Net(more), end));
     }
     Err(InscriptFault::P2(at))

@@ -10,9 +10,10 @@ pub type PChannels = Items<PChannel>;
 
 pub type PNets = Items<PNet>;
 
-/// What a net text says: its channels and its nets.
+/// What a net text says: its notation, which is 1 or 2, its channels and its nets.
 #[derive(Debug, Drop)]
 pub struct Plain {
+    pub notation: u32,
     pub channels: PChannels,
     pub nets: PNets,
 }

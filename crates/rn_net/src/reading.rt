@@ -1,6 +1,6 @@
 //! Reading a net text.
 ghost use Rattle.std.specs.Prelude.{◌≡◌, ◌≤◌, IfErr, IfOk};
-ghost use Rattle.rn_net.specs.Answers.{ItemsAnswer, Settles, unfinished_of};
+ghost use Rattle.rn_net.specs.Answers.{SystemAnswer, Settles, unfinished_of};
 ghost use Rattle.rn_net.specs.Refusals.{Answers, IsReason, IsRefused, refusal_of};
 ghost use Rattle.rn_net.specs.declared.plain.Plain.{Plain as System};
 ghost use Rattle.rn_net.specs.declared.refusal.Refusal.{Refusal as Why};
@@ -9,7 +9,7 @@ ghost use Rattle.rn_net.specs.Texts.{Spells};
 use crate::cursor::next;
 use crate::plain::Plain;
 use crate::refusal::Refusal;
-use crate::system_reader::items;
+use crate::system_reader::system;
 use rn_inscript::InscriptFault;
 use rn_notation::limits::LONGEST_NET_TEXT;
 use rn_notation::{LexFault, Lexed, Spot, lex, token_laws};
@@ -36,9 +36,9 @@ fn unfinished(lexed: &Lexed) -> Refusal
     }
 }
 
-/// Why a text is refused of whose tokens no items were read.
+/// Why a text is refused of whose tokens no system was read.
 fn refused(lexed: &Lexed, fault: InscriptFault) -> Refusal
-    requires { ItemsAnswer lexed.now.tokens (Err fault) }
+    requires { SystemAnswer lexed.now.tokens (Err fault) }
     ensures { Settles lexed.now.tokens lexed.now.fault lexed.now.end (Err result) }
 {
     match fault {
@@ -56,19 +56,14 @@ fn refused(lexed: &Lexed, fault: InscriptFault) -> Refusal
 
 /// The answer for a text, from its tokens and what was read of them.
 fn settled(lexed: &Lexed, read: Result<Plain, InscriptFault>) -> Result<Plain, Refusal>
-    requires { ItemsAnswer lexed.now.tokens read }
+    requires { SystemAnswer lexed.now.tokens read }
     ensures { Settles lexed.now.tokens lexed.now.fault lexed.now.end result }
 {
     match read {
-        Ok(plain) => {
-            if lexed.tokens.is_empty() {
-                return Err(unfinished(lexed));
-            }
-            match lexed.fault {
-                Some(fault) => Err(refusal_of(fault)),
-                None => Ok(plain),
-            }
-        }
+        Ok(plain) => match lexed.fault {
+            Some(fault) => Err(refusal_of(fault)),
+            None => Ok(plain),
+        },
         Err(fault) => Err(refused(lexed, fault)),
     }
 }
@@ -90,6 +85,6 @@ pub fn read_system(alloc: Global, bytes: &[u8]) -> Result<Plain, Refusal>
         return Err(Refusal::P6(Spot { line: 1, column: 1 }));
     }
     let lexed = lex(alloc, bytes)?;
-    let read = items(alloc, &lexed.tokens);
+    let read = system(alloc, &lexed.tokens);
     settled(&lexed, read)
 }

@@ -1,13 +1,8 @@
-use Rattle.std.proofs.Common.{rules, ◌≡◌, ℕ, ◌+◌, ◌≤◌, length, drop, List, [], ◌∷◌, ◌++◌, refl, sym, ◌∙◌, ap, subst, arith, inl, inr}
-use Rattle.rn_notation.specs.declared.token.TokenKind.TheVariants as Kind
-use Rattle.rn_inscript.specs.declared.fault.InscriptFault.TheVariants as Fault
-use Rattle.rn_inscript.specs.Signs.{open_brace, close_brace, open_paren, close_paren, comma, colon, equals}
-use Rattle.rn_net.specs.Words.{semicolon}
-use Rattle.rn_net.specs.Levels.Region.{between, declaring}
-use Rattle.rn_net.specs.Progress.{Stage, done}
-use Rattle.rn_net.proofs.Steps.{failed, failed_as, same_end, whole_reads}
-use Rattle.rn_net.proofs.Sorts.{kind_read, kind_stuck, name_fails, then_read, then_fails}
-use Rattle.rn_net.proofs.KindPhrases as KP
+use Rattle.std.proofs.Common.{◌≡◌, length, drop, [], refl, sym, subst, arith}
+use Rattle.rn_net.specs.Levels.Region.{between}
+use Rattle.rn_net.specs.Progress.{Stage}
+use Rattle.rn_net.proofs.Steps.{failed}
+use Rattle.rn_net.proofs.Sorts.{then_read, then_fails}
 use Rattle.rn_net.specs.Parts.{ArePartsUpTo, with_part}
 use Rattle.rn_net.specs.Nets.{net_of}
 use Rattle.rn_net.proofs.Steps.{begin}
@@ -15,22 +10,22 @@ use Rattle.rn_net.proofs.NetPhrases.{parts, part_sort, many_on, many_next, many_
 use Rattle.rn_net.proofs.net_reader.parts_up_to.Goals as goal
 
 pub returns-in-Some-clause-reads : goal.returns-in-Some-clause-reads
-returns-in-Some-clause-reads c = many_close parts c.args.tokens.now c.parts.now _ between c.parts.invariant.reads c.in-Some.ensures.0 c.in-Some.ensures.1 refl refl
+returns-in-Some-clause-reads c = many_close (parts c.args.notation) c.args.tokens.now c.parts.now _ between c.parts.invariant.reads c.in-Some.ensures.0 c.in-Some.ensures.1 refl refl
 
 pub returns-in_err-more-clause-reads : goal.returns-in_err-more-clause-reads
-returns-in_err-more-clause-reads c = failed (ArePartsUpTo c.args.name) c.args.tokens.now c.args.at between between c.from_residual.result c.in_err-more.field-0.0 c.from_residual.ensures.1
-    (then_fails part_sort (λ a. many_on parts (with_part c.parts.net a)) (length c.args.tokens.now) c.in_err-more.field-0.0 (many_next parts c.args.tokens.now c.parts.now c.parts.invariant.reads c.in_default.ensures) c.in_err-more.ensures.reads)
+returns-in_err-more-clause-reads c = failed (ArePartsUpTo c.args.notation c.args.name) c.args.tokens.now c.args.at between between c.from_residual.result c.in_err-more.field-0.0 c.from_residual.ensures.1
+    (then_fails (part_sort c.args.notation) (λ a. many_on (parts c.args.notation) (with_part c.parts.net a)) (length c.args.tokens.now) c.in_err-more.field-0.0 (many_next (parts c.args.notation) c.args.tokens.now c.parts.now c.parts.invariant.reads c.in_default.ensures) c.in_err-more.ensures.reads)
 
 pub parts-preserved : goal.parts-preserved
 parts-preserved c = record {
   moved = (omega (arith, c.in_ok-more.ensures.moved.0, c.parts.invariant.moved.0), c.in_ok-more.ensures.moved.1);
-  reads = subst (λ all. Stage (ArePartsUpTo c.args.name) (drop c.args.at c.args.tokens.now) between (many_on parts all) (drop c.in_ok-more.after c.args.tokens.now) between) (sym c.in_ok-net.ensures)
-      (then_read part_sort (λ a. many_on parts (with_part c.parts.net a)) (many_next parts c.args.tokens.now c.parts.now c.parts.invariant.reads c.in_default.ensures) c.in_ok-more.ensures.reads);
+  reads = subst (λ all. Stage (ArePartsUpTo c.args.notation c.args.name) (drop c.args.at c.args.tokens.now) between (many_on (parts c.args.notation) all) (drop c.in_ok-more.after c.args.tokens.now) between) (sym c.in_ok-net.ensures)
+      (then_read (part_sort c.args.notation) (λ a. many_on (parts c.args.notation) (with_part c.parts.net a)) (many_next (parts c.args.notation) c.args.tokens.now c.parts.now c.parts.invariant.reads c.in_default.ensures) c.in_ok-more.ensures.reads);
 }
 
 pub parts-init : goal.parts-init
 parts-init c = record {
   moved = (omega arith, c.requires.inside);
-  reads = subst (λ n. Stage (ArePartsUpTo c.args.name) (drop c.args.at c.args.tokens.now) between (many_on parts n) (drop c.args.at c.args.tokens.now) between) (let h : net_of c.args.name [] [] [] ≡ net_of c.args.name c.new.result c.new-2.result c.new-3.result = cc (c.new.ensures, c.new-2.ensures, c.new-3.ensures) in h)
-      (begin (many_on parts (net_of c.args.name [] [] [])) (drop c.args.at c.args.tokens.now) between (λ ts e rest x. x) (λ ts e rest alike x. x));
+  reads = subst (λ n. Stage (ArePartsUpTo c.args.notation c.args.name) (drop c.args.at c.args.tokens.now) between (many_on (parts c.args.notation) n) (drop c.args.at c.args.tokens.now) between) (let h : net_of c.args.name [] [] [] ≡ net_of c.args.name c.new.result c.new-2.result c.new-3.result = cc (c.new.ensures, c.new-2.ensures, c.new-3.ensures) in h)
+      (begin (many_on (parts c.args.notation) (net_of c.args.name [] [] [])) (drop c.args.at c.args.tokens.now) between (λ ts e rest x. x) (λ ts e rest alike x. x));
 }

@@ -1,14 +1,14 @@
-use Rattle.std.proofs.Common.{◌≡◌, ◌+◌, ◌≤◌, ◌-◌, List, length, ℕ, drop}
+use Rattle.std.proofs.Common.{◌≤◌, ◌-◌, length, drop}
 use Rattle.rn_net.specs.Levels.Region.{between}
 use Rattle.rn_net.specs.Progress.{Stage}
-use Rattle.rn_net.specs.Parts.{AreInscriptionsUpTo, ArePartsUpTo}
+use Rattle.rn_net.specs.Parts.{ArePartsUpTo}
 use Rattle.rn_net.proofs.NetPhrases.{parts, many_on}
 use Rattle.rn_net.proofs.net_reader.parts_up_to.Given as goal
 
 abbrev pub invariant-parts : goal.invariant-parts
 invariant-parts l = record {
   moved : (l.fn.at ≤ l.now) × (l.now ≤ length l.tokens);
-  reads : Stage (ArePartsUpTo l.fn.name) (drop l.fn.at l.tokens) between (many_on parts l.net) (drop l.now l.tokens) between;
+  reads : Stage (ArePartsUpTo l.notation l.fn.name) (drop l.fn.at l.tokens) between (many_on (parts l.notation) l.net) (drop l.now l.tokens) between;
 }
 
 abbrev pub decreases-parts : goal.decreases-parts

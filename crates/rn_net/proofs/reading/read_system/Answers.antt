@@ -1,4 +1,4 @@
-use Rattle.std.proofs.Common.{rules, ◌≡◌, ℕ, ◌+◌, ◌<◌, ◌≤◌, length, List, [], refl, sym, ◌∙◌, ap, subst, arith, inl, inr}
+use Rattle.std.proofs.Common.{arith}
 use Rattle.rn_net.specs.Refusals.{IsRefused}
 use Rattle.rn_net.proofs.Settling.{naturals, settled_refused, settled_read, settled_reads, long_reads}
 use Rattle.rn_net.proofs.Refusing.{settled_refuses, long_refuses}
@@ -7,8 +7,8 @@ use Rattle.rn_net.proofs.reading.read_system.Goals as goal
 pub returns-then-bytes-gt-LONGEST_NET_TEXT-clause-refused : goal.returns-then-bytes-gt-LONGEST_NET_TEXT-clause-refused
 returns-then-bytes-gt-LONGEST_NET_TEXT-clause-refused c = IsRefused.too_long c.if-bytes-gt-LONGEST_NET_TEXT.true
 
-pub items-read-requires : goal.items-read-requires
-items-read-requires c = naturals c.args.bytes.now c.in_ok-lexed.lexed.tokens c.in_ok-lexed.ensures.slices
+pub system-read-requires : goal.system-read-requires
+system-read-requires c = naturals c.args.bytes.now c.in_ok-lexed.lexed.tokens c.in_ok-lexed.ensures.slices
 
 pub returns-clause-read : goal.returns-clause-read
 returns-clause-read c = settled_read c.args.bytes.now c.in_ok-lexed.lexed.tokens c.in_ok-lexed.lexed.fault c.in_ok-lexed.lexed.end c.settled.result (omega arith) c.in_ok-lexed.ensures.tokens c.settled.ensures

@@ -1,0 +1,21 @@
+-- The notation of a system is one of two.
+use Rattle.std.proofs.Common.{◌≡◌, ℕ, List, inl, inr, refl}
+use Rattle.rn_notation.specs.declared.token.Token.{Token}
+use Rattle.rn_net.specs.declared.plain.Plain.{Plain}
+use Rattle.rn_net.specs.Laws.{SpelledInNotation}
+use Rattle.rn_net.specs.Nets.{AreItems, IsSystem}
+use Rattle.rn_net.specs.Texts.{IsNotation}
+
+-- items don't change it
+of_items : {notation : ℕ} {before plain : Plain} {ts : List Token} → AreItems notation before ts plain →
+    before.notation ≡ notation → plain.notation ≡ notation
+of_items AreItems.no_more_items same = same
+of_items (AreItems.and_channel is more) same = of_items more refl
+of_items (AreItems.and_net is more) same = of_items more refl
+
+of_system : {ts : List Token} {plain : Plain} → IsSystem ts plain → IsNotation plain.notation
+of_system (IsSystem.first items) = inl (of_items items refl)
+of_system (IsSystem.second name number semicolon items) = inr (of_items items refl)
+
+pub spelled_in_notation : SpelledInNotation
+spelled_in_notation bytes plain spells = of_system spells.system
