@@ -1,17 +1,17 @@
 -- Tokens of inscriptions beside those of a text that has more parentheses: they open no level more.
-use Rattle.std.proofs.Common.{◌≡◌, ℕ, ◌+◌, ◌≤◌, Bool, true, false, not, ◌&&◌, ◌||◌, List, [], ◌∷◌, length, drop, ◌⊎◌, inl, inr, refl, sym, ap, ◌∙◌, subst, arith, nat_eq, nat_le, if◌then◌else◌}
+use Rattle.std.proofs.Common.{◌≡◌, ℕ, zero, suc, ◌+◌, ◌-◌, ◌≤◌, Bool, true, false, not, ◌&&◌, ◌||◌, List, [], ◌∷◌, length, drop, ◌⊎◌, inl, inr, refl, sym, ap, ◌∙◌, subst, arith, nat_eq, nat_le, if◌then◌else◌}
 use Rattle.std.proofs.Math.Bool.{and-false, or-false}
 use Rattle.std.proofs.lemmas.Bool.Decides.{nat_tests}
 use Rattle.std.proofs.lemmas.Grind.{common_steps}
 use Rattle.rn_notation.specs.declared.token.Token.{Token}
 use Rattle.rn_notation.specs.declared.token.TokenKind.{TokenKind}
 use Rattle.rn_notation.specs.declared.token.TokenKind.TheVariants.{Name, Word, Number, Text, Sign}
-use Rattle.rn_inscript.specs.Signs.{open_paren, close_paren, open_bracket, close_bracket, colon}
-use Rattle.rn_inscript.specs.Levels.{Level, bracket, negative, Count, opens, closes, is_minus, is_paren, is_operator, ends_operand, without_minuses, levels_at, opens_level, after_token, goes_too_far}
+use Rattle.rn_inscript.specs.Signs.{open_paren, close_paren, open_bracket, close_bracket, comma, colon}
+use Rattle.rn_inscript.specs.Levels.{Level, bracket, negative, Count, at_first, opens, closes, is_minus, is_paren, is_operator, ends_operand, without_minuses, levels_at, opens_level, after_token, goes_too_far}
 use Rattle.rn_inscript.specs.Stages.{ready, ended}
 use Rattle.rn_net.specs.Words.{semicolon}
-use Rattle.rn_net.specs.Levels.{is_semicolon, after, IsShallow}
-use Rattle.rn_net.specs.Levels.Region.{between, inscribing}
+use Rattle.rn_net.specs.Levels.{is_semicolon, is_comma, open_after, after, IsShallow}
+use Rattle.rn_net.specs.Levels.Region.{inscribing}
 
 -- where a token stands: where an operand has to begin, right after an opening bracket, or where an
 -- operand has ended
@@ -32,11 +32,37 @@ is_operand (Sign k) = false
 is_operand (Word k) = nat_eq k 17
 is_operand _ = true
 
--- The second tokens are the first up to a semicolon, but for parentheses that are left out, and for
--- `: []` before the semicolon. Of each bracket that is open it is told whether both have it.
+-- what ends an inscription: a semicolon, or a comma and another inscription
+abbrev pub EndsOne : TokenKind → Type 0
+EndsOne kind = (kind ≡ semicolon) ⊎ (kind ≡ comma)
+
+-- the tokens begin with that
+abbrev pub EndsHere : List Token → Type 0
+EndsHere ts = (t : Token) × (us : List Token) × (ts ≡ t ∷ us) × EndsOne t.kind
+
+-- where an inscription has ended, its count no longer matters
+pub any_count : (c d : Count) (ts : List Token) → EndsHere ts → IsShallow (inscribing 0 c) ts →
+    IsShallow (inscribing 0 d) ts
+any_count c d ts (t, us, e, kind) h =
+    let here = subst (IsShallow (inscribing 0 c)) e h in
+    subst (IsShallow (inscribing 0 d)) (sym e) (elim kind [
+      | inl is ↦ by semicolon is refl refl here
+      | inr is ↦ by comma is refl refl here
+    ])
+  where
+    by : (kind : TokenKind) → t.kind ≡ kind →
+        after (inscribing 0 d) kind ≡ after (inscribing 0 c) kind → goes_too_far d kind ≡ false →
+        IsShallow (inscribing 0 c) (t ∷ us) → IsShallow (inscribing 0 d) (t ∷ us)
+    by kind is same near h =
+        let here = subst (λ kind. IsShallow (after (inscribing 0 c) kind) us) is h.1 in
+        subst (λ kind. (goes_too_far d kind ≡ false) × IsShallow (after (inscribing 0 d) kind) us) (sym is)
+        (near, subst (λ r. IsShallow r us) (sym same) here)
+
+-- The second tokens are the first up to their end, but for parentheses that are left out, and for
+-- `: []` before the end. Of each bracket that is open it is told whether both have it. What comes
+-- from the end on is given.
 pub data LeftOut (ending later : List Token) : Stand → List Bool → List Token → List Token → Type 0 where
-  done : {t u : Token} → t.kind ≡ semicolon → u.kind ≡ semicolon →
-      LeftOut ending later at_end [] (t ∷ ending) (u ∷ later)
+  done : EndsHere ending → EndsHere later → LeftOut ending later at_end [] ending later
   operand : {s : List Bool} {t u : Token} {ts us : List Token} →
       u.kind ≡ t.kind → is_operand t.kind ≡ true → LeftOut ending later at_end s ts us →
       LeftOut ending later at_operand s (t ∷ ts) (u ∷ us)
@@ -176,18 +202,22 @@ record Operand (kind : TokenKind) (L : List Level) (o : ℕ) : Type 0 where
   pub next : after_token (ready L o) kind ≡ ended L o
   pub near : goes_too_far (ready L o) kind ≡ false
   pub goes_on : is_semicolon kind ≡ false
+  pub no_comma : is_comma kind ≡ false
+  pub depth : (n : ℕ) → open_after n kind ≡ n
 
 operand_kind : (kind : TokenKind) (L : List Level) (o : ℕ) → is_operand kind ≡ true → Operand kind L o
 operand_kind (Sign k) L o h = absurd (let no : ⊥ = cc in no)
-operand_kind (Word k) L o h = record { next = rw h refl; near = refl; goes_on = refl }
-operand_kind (Name s) L o h = record { next = refl; near = refl; goes_on = refl }
-operand_kind (Number n) L o h = record { next = refl; near = refl; goes_on = refl }
-operand_kind (Text s) L o h = record { next = refl; near = refl; goes_on = refl }
+operand_kind (Word k) L o h = record { next = rw h refl; near = refl; goes_on = refl; no_comma = refl; depth = λ n. refl }
+operand_kind (Name s) L o h = record { next = refl; near = refl; goes_on = refl; no_comma = refl; depth = λ n. refl }
+operand_kind (Number n) L o h = record { next = refl; near = refl; goes_on = refl; no_comma = refl; depth = λ n. refl }
+operand_kind (Text s) L o h = record { next = refl; near = refl; goes_on = refl; no_comma = refl; depth = λ n. refl }
 
 record Opening (kind : TokenKind) (L : List Level) (o : ℕ) : Type 0 where
   pub next : after_token (ready L o) kind ≡ ready (bracket ∷ L) o
   pub far : goes_too_far (ready L o) kind ≡ nat_le 64 (length L)
   pub goes_on : is_semicolon kind ≡ false
+  pub no_comma : is_comma kind ≡ false
+  pub depth : (n : ℕ) → open_after n kind ≡ suc n
 
 opening_kind : (kind : TokenKind) (L : List Level) (o : ℕ) → opens kind ≡ true → Opening kind L o
 opening_kind (Sign k) L o h =
@@ -197,6 +227,8 @@ opening_kind (Sign k) L o h =
       next = rw (h, no_end, no_operator) refl;
       far = rw (h, no_operator) (or-false (nat_le 64 (length L)));
       goes_on = grind (arith, nat_tests, common_steps);
+      no_comma = grind (arith, nat_tests, common_steps);
+      depth = λ n. rw h (let one : n + 1 ≡ suc n = omega arith in one);
     }
 opening_kind (Word k) L o h = absurd (let no : ⊥ = cc in no)
 opening_kind (Name s) L o h = absurd (let no : ⊥ = cc in no)
@@ -210,16 +242,21 @@ record Closing (kind : TokenKind) : Type 0 where
   pub no_minus : is_minus kind ≡ false
   pub no_operator : is_operator kind ≡ false
   pub goes_on : is_semicolon kind ≡ false
+  pub no_comma : is_comma kind ≡ false
+  pub depth : (n : ℕ) → open_after (suc n) kind ≡ n
 
 closing_kind : (kind : TokenKind) → closes kind ≡ true → Closing kind
-closing_kind (Sign k) h = record {
-  no_opening = grind (arith, nat_tests, common_steps);
-  end = h;
-  no_paren = grind (arith, nat_tests, common_steps);
-  no_minus = grind (arith, nat_tests, common_steps);
-  no_operator = grind (arith, nat_tests, common_steps);
-  goes_on = grind (arith, nat_tests, common_steps);
-}
+closing_kind (Sign k) h =
+    let no_open : opens (Sign k) ≡ false = grind (arith, nat_tests, common_steps) in record {
+      no_opening = no_open;
+      end = h;
+      no_paren = grind (arith, nat_tests, common_steps);
+      no_minus = grind (arith, nat_tests, common_steps);
+      no_operator = grind (arith, nat_tests, common_steps);
+      goes_on = grind (arith, nat_tests, common_steps);
+      no_comma = grind (arith, nat_tests, common_steps);
+      depth = λ n. rw (no_open, h) (let one : suc n - 1 ≡ n = omega arith in one);
+    }
 closing_kind (Word k) h = absurd (let no : ⊥ = cc in no)
 closing_kind (Name s) h = absurd (let no : ⊥ = cc in no)
 closing_kind (Number n) h = absurd (let no : ⊥ = cc in no)
@@ -244,27 +281,126 @@ signed : {s : List Bool} {L M : List Level} (b : Bool) → Covers s L M →
 signed true c = Covers.minuses c
 signed false c = c
 
+-- how many brackets are open in the second tokens
+abbrev pub kept_brackets : List Bool → ℕ
+kept_brackets [] = 0
+kept_brackets (true ∷ s) = suc (kept_brackets s)
+kept_brackets (false ∷ s) = kept_brackets s
+
+-- without a bracket, minuses are all that is open
+only_minuses : {s : List Bool} {L M : List Level} → Covers s L M → kept_brackets s ≡ 0 →
+    Covers s L []
+only_minuses Covers.none h = Covers.none
+only_minuses (Covers.kept c) h = absurd (let no : ⊥ = omega (arith, h) in no)
+only_minuses (Covers.alone c) h = Covers.alone (only_minuses c h)
+only_minuses (Covers.minuses c) h = Covers.minus (only_minuses c h)
+only_minuses (Covers.minus c) h = Covers.minus (only_minuses c h)
+
 -- the first tokens end, and where what comes after both is within the limits, so are the second
-abbrev Ends : List Token → List Token → Count → List Token → Type 0
-Ends ending later d us =
-    IsShallow between ending × (IsShallow between later → IsShallow (inscribing d) us)
+abbrev Ends : List Token → List Token → ℕ → Count → List Token → Type 0
+Ends ending later n d us =
+    IsShallow (inscribing 0 at_first) ending
+    × (IsShallow (inscribing 0 at_first) later → IsShallow (inscribing n d) us)
 
-came : (c e : Count) (kind : TokenKind) (ts : List Token) → is_semicolon kind ≡ false →
-    after_token c kind ≡ e → IsShallow (after (inscribing c) kind) ts → IsShallow (inscribing e) ts
-came c e kind ts goes_on next h =
-    let region : after (inscribing c) kind ≡ inscribing (after_token c kind) = rw goes_on refl in
-    subst (λ r. IsShallow r ts) (region ∙ ap inscribing next) h
+region : (n m : ℕ) (c e : Count) (kind : TokenKind) → is_semicolon kind ≡ false →
+    is_comma kind ≡ false → open_after n kind ≡ m → after_token c kind ≡ e →
+    after (inscribing n c) kind ≡ inscribing m e
+region n m c e kind goes_on no_comma depth next =
+    let here : after (inscribing n c) kind ≡ inscribing (open_after n kind) (after_token c kind) =
+    rw (goes_on, no_comma) refl in
+    here ∙ ap (λ n. inscribing n (after_token c kind)) depth ∙ ap (inscribing m) next
 
-goes : (ending later : List Token) (d e : Count) (t u : Token) (us : List Token) → u.kind ≡ t.kind →
-    is_semicolon t.kind ≡ false → goes_too_far d t.kind ≡ false → after_token d t.kind ≡ e →
-    Ends ending later e us → Ends ending later d (u ∷ us)
-goes ending later d e t u us same goes_on near next (first, second) = (
+came : (n m : ℕ) (c e : Count) (kind : TokenKind) (ts : List Token) → is_semicolon kind ≡ false →
+    is_comma kind ≡ false → open_after n kind ≡ m → after_token c kind ≡ e →
+    IsShallow (after (inscribing n c) kind) ts → IsShallow (inscribing m e) ts
+came n m c e kind ts goes_on no_comma depth next h =
+    subst (λ r. IsShallow r ts) (region n m c e kind goes_on no_comma depth next) h
+
+goes_to : (ending later : List Token) (n m : ℕ) (d e : Count) (t u : Token) (us : List Token) →
+    u.kind ≡ t.kind → goes_too_far d t.kind ≡ false →
+    after (inscribing n d) t.kind ≡ inscribing m e →
+    Ends ending later m e us → Ends ending later n d (u ∷ us)
+goes_to ending later n m d e t u us same near next (first, second) = (
   first,
-  λ h.
-      let region : after (inscribing d) t.kind ≡ inscribing (after_token d t.kind) = rw goes_on refl in
-      subst (λ kind. (goes_too_far d kind ≡ false) × IsShallow (after (inscribing d) kind) us)
-      (sym same) (near, subst (λ r. IsShallow r us) (sym (region ∙ ap inscribing next)) (second h)),
+  λ h. subst (λ kind. (goes_too_far d kind ≡ false) × IsShallow (after (inscribing n d) kind) us)
+      (sym same) (near, subst (λ r. IsShallow r us) (sym next) (second h)),
 )
+
+goes : (ending later : List Token) (n m : ℕ) (d e : Count) (t u : Token) (us : List Token) →
+    u.kind ≡ t.kind → is_semicolon t.kind ≡ false → is_comma t.kind ≡ false →
+    goes_too_far d t.kind ≡ false → open_after n t.kind ≡ m → after_token d t.kind ≡ e →
+    Ends ending later m e us → Ends ending later n d (u ∷ us)
+goes ending later n m d e t u us same goes_on no_comma near depth next =
+    goes_to ending later n m d e t u us same near (region n m d e t.kind goes_on no_comma depth next)
+
+-- past a comma: outside of all brackets the count begins anew
+outside : (c : Count) (kind : TokenKind) → is_semicolon kind ≡ false → is_comma kind ≡ true →
+    after (inscribing 0 c) kind ≡ inscribing 0 at_first
+outside c kind goes_on is = rw (goes_on, is) refl
+
+within : (n : ℕ) (c e : Count) (kind : TokenKind) → is_semicolon kind ≡ false →
+    is_comma kind ≡ true → open_after (suc n) kind ≡ suc n → after_token c kind ≡ e →
+    after (inscribing (suc n) c) kind ≡ inscribing (suc n) e
+within n c e kind goes_on is depth next =
+    let apart : nat_eq (suc n) 0 ≡ false = grind (arith, nat_tests, common_steps) in
+    let here : after (inscribing (suc n) c) kind ≡ inscribing (open_after (suc n) kind) (after_token c kind) =
+    rw (goes_on, is, apart) refl in
+    here ∙ ap (λ n. inscribing n (after_token c kind)) depth ∙ ap (inscribing (suc n)) next
+
+same_open : {kind : TokenKind} (n : ℕ) → Plain kind → open_after n kind ≡ n
+same_open n is = rw (is.no_opening, is.no_closing) refl
+
+-- past a comma, an operator or a word
+past_plain : (ending later : List Token) (s : List Bool) (c d : Count) (t u : Token)
+    (ts us : List Token) (L M : List Level) (o p : ℕ) → u.kind ≡ t.kind → Plain t.kind →
+    after_token c t.kind ≡ ready L o → after_token d t.kind ≡ ready M p →
+    goes_too_far d t.kind ≡ false → Covers s L M → p ≤ o →
+    IsShallow (after (inscribing (length s) c) t.kind) ts →
+    ((L M : List Level) (o p : ℕ) → Covers s L M → p ≤ o →
+    IsShallow (inscribing (length s) (ready L o)) ts →
+    Ends ending later (kept_brackets s) (ready M p) us) →
+    Ends ending later (kept_brackets s) d (u ∷ us)
+past_plain ending later s c d t u ts us L M o p same is first second near covers few h go =
+    by (is_comma t.kind) refl
+  where
+    as_few : 0 ≤ 0
+    as_few = omega arith
+
+    at_comma : is_comma t.kind ≡ true → (s : List Bool) (n : ℕ) → kept_brackets s ≡ n →
+        Covers s L M → IsShallow (after (inscribing (length s) c) t.kind) ts →
+        ((L M : List Level) (o p : ℕ) → Covers s L M → p ≤ o →
+        IsShallow (inscribing (length s) (ready L o)) ts →
+        Ends ending later (kept_brackets s) (ready M p) us) →
+        Ends ending later n d (u ∷ us)
+    at_comma here [] zero k covers h go =
+        goes_to ending later 0 0 d at_first t u us same near (outside d t.kind is.goes_on here)
+        (go [] [] 0 0 Covers.none as_few
+        (subst (λ r. IsShallow r ts) (outside c t.kind is.goes_on here) h))
+    at_comma here [] (suc n) k covers h go = absurd (let no : ⊥ = omega (arith, k) in no)
+    at_comma here (b ∷ s) zero k covers h go =
+        let n = length s in
+        let x = go L [] o 0 (only_minuses covers k) (let low : 0 ≤ o = omega arith in low)
+        (subst (λ r. IsShallow r ts)
+        (within n c (ready L o) t.kind is.goes_on here (same_open (suc n) is) first) h) in
+        goes_to ending later 0 0 d at_first t u us same near (outside d t.kind is.goes_on here)
+        (subst (λ n. Ends ending later n at_first us) k x)
+    at_comma here (b ∷ s) (suc m) k covers h go =
+        let n = length s in
+        let x = go L M o p covers few
+        (subst (λ r. IsShallow r ts)
+        (within n c (ready L o) t.kind is.goes_on here (same_open (suc n) is) first) h) in
+        goes_to ending later (suc m) (suc m) d (ready M p) t u us same near
+        (within m d (ready M p) t.kind is.goes_on here (same_open (suc m) is) second)
+        (subst (λ n. Ends ending later n (ready M p) us) k x)
+
+    by : (b : Bool) → is_comma t.kind ≡ b → Ends ending later (kept_brackets s) d (u ∷ us)
+    by true here = at_comma here s (kept_brackets s) refl covers h go
+    by false here =
+        let n = length s in
+        let m = kept_brackets s in
+        goes ending later m m d (ready M p) t u us same is.goes_on here near (same_open m is) second
+        (go L M o p covers few
+        (came n n c (ready L o) t.kind ts is.goes_on here (same_open n is) first h))
 
 prefixed : {kind : TokenKind} (L : List Level) (o : ℕ) → Plain kind →
     after_token (ready L o) kind
@@ -293,71 +429,98 @@ closing_near kind c h =
 -- Where the first tokens open no level too many, and are not too many operators, the second neither
 -- do nor are.
 pub shallow : {ending later ts us : List Token} {at : Stand} {s : List Bool} {c d : Count} →
-    LeftOut ending later at s ts us → Matches at s c d → IsShallow (inscribing c) ts →
-    Ends ending later d us
+    LeftOut ending later at s ts us → Matches at s c d → IsShallow (inscribing (length s) c) ts →
+    Ends ending later (kept_brackets s) d us
 shallow {ending = ending} {later = later} (LeftOut.done a b) (Matches.ends {L = L} {M = M} {o = o} {p = p} c f) h = (
-  subst (λ kind. IsShallow (after (inscribing (ended L o)) kind) ending) a h.1,
-  λ x. subst
-      (λ kind. (goes_too_far (ended M p) kind ≡ false) × IsShallow (after (inscribing (ended M p)) kind) later)
-      (sym b) (refl, x),
+  any_count (ended L o) at_first ending a h,
+  λ x. any_count at_first (ended M p) later b x,
 )
-shallow (LeftOut.operand {t = t} {u = u} same is x) (Matches.operands {L = L} {M = M} {o = o} {p = p} c f) h =
+shallow (LeftOut.operand {s = s} {t = t} {u = u} same is x) (Matches.operands {L = L} {M = M} {o = o} {p = p} c f) h =
+    let n = length s in
+    let m = kept_brackets s in
     let a = operand_kind t.kind L o is in
     let b = operand_kind t.kind M p is in
-    goes _ _ (ready M p) _ t u _ same b.goes_on b.near b.next (shallow x (Matches.ends (without c) f) (came (ready L o) _ t.kind _ a.goes_on a.next h.1))
-shallow (LeftOut.leading {t = t} {u = u} same is x) (Matches.operands {L = L} {M = M} {o = o} {p = p} c f) h =
+    goes _ _ m m (ready M p) _ t u _ same b.goes_on b.no_comma b.near (b.depth m) b.next
+    (shallow x (Matches.ends (without c) f)
+    (came n n (ready L o) _ t.kind _ a.goes_on a.no_comma (a.depth n) a.next h.1))
+shallow (LeftOut.leading {s = s} {t = t} {u = u} {ts = ts} {us = us} same is x) (Matches.operands {L = L} {M = M} {o = o} {p = p} c f) h =
     let a = plain t.kind is in
-    goes _ _ (ready M p) _ t u _ same a.goes_on
+    past_plain _ _ s (ready L o) (ready M p) t u ts us _ _ _ _ same a (prefixed L o a) (prefixed M p a)
     (nearer (opens_level (ready L o) t.kind) (is_operator t.kind) (length M) (length L) o p (no_longer c) f h.0)
-    (prefixed M p a)
-    (shallow x
-    (Matches.operands (signed (is_minus t.kind && true) c) (pushed (is_operator t.kind) o p f))
-    (came (ready L o) _ t.kind _ a.goes_on (prefixed L o a) h.1))
-shallow (LeftOut.joining {t = t} {u = u} same is x) (Matches.ends {L = L} {M = M} {o = o} {p = p} c f) h =
+    (signed (is_minus t.kind && true) c) (pushed (is_operator t.kind) o p f) h.1
+    (λ L M o p c f h. shallow x (Matches.operands c f) h)
+shallow (LeftOut.joining {s = s} {t = t} {u = u} {ts = ts} {us = us} same is x) (Matches.ends {L = L} {M = M} {o = o} {p = p} c f) h =
     let a = plain t.kind is in
     let small : length (levels_at (ended M p) t.kind) ≤ length (levels_at (ended L o) t.kind) =
     rw (a.no_paren) (no_longer c) in
-    goes _ _ (ended M p) _ t u _ same a.goes_on
+    past_plain _ _ s (ended L o) (ended M p) t u ts us _ _ _ _ same a (infixed L o a) (infixed M p a)
     (nearer (opens_level (ended L o) t.kind) (is_operator t.kind) (length (levels_at (ended M p) t.kind))
     (length (levels_at (ended L o) t.kind)) o p small f h.0)
-    (infixed M p a)
-    (shallow x (Matches.operands c (pushed (is_operator t.kind) o p f))
-    (came (ended L o) _ t.kind _ a.goes_on (infixed L o a) h.1))
-shallow (LeftOut.opening {t = t} {u = u} same is x) (Matches.operands {L = L} {M = M} {o = o} {p = p} c f) h =
+    c (pushed (is_operator t.kind) o p f) h.1
+    (λ L M o p c f h. shallow x (Matches.operands c f) h)
+shallow (LeftOut.opening {s = s} {t = t} {u = u} same is x) (Matches.operands {L = L} {M = M} {o = o} {p = p} c f) h =
+    let n = length s in
+    let m = kept_brackets s in
     let a = opening_kind t.kind L o is in
     let b = opening_kind t.kind M p is in
-    goes _ _ (ready M p) _ t u _ same b.goes_on (b.far ∙ low 64 (length M) (length L) (no_longer c) (sym a.far ∙ h.0)) b.next
-    (shallow x (Matches.brackets c f) (came (ready L o) _ t.kind _ a.goes_on a.next h.1))
-shallow (LeftOut.calling {t = t} {u = u} {v = v} {w = w} {ts = ts} {us = us} i j k l x) (Matches.operands {L = L} {M = M} {o = o} {p = p} c f) h =
-    let named : IsShallow (inscribing (ended L o)) (u ∷ ts) =
-    came (ready L o) _ t.kind (u ∷ ts) (ap is_semicolon i) (ap (after_token (ready L o)) i) h.1 in
+    goes _ _ m (suc m) (ready M p) _ t u _ same b.goes_on b.no_comma
+    (b.far ∙ low 64 (length M) (length L) (no_longer c) (sym a.far ∙ h.0)) (b.depth m) b.next
+    (shallow x (Matches.brackets c f)
+    (came n (suc n) (ready L o) _ t.kind _ a.goes_on a.no_comma (a.depth n) a.next h.1))
+shallow (LeftOut.calling {s = s} {t = t} {u = u} {v = v} {w = w} {ts = ts} {us = us} i j k l x) (Matches.operands {L = L} {M = M} {o = o} {p = p} c f) h =
+    let n = length s in
+    let m = kept_brackets s in
+    let named : IsShallow (inscribing n (ended L o)) (u ∷ ts) =
+    came n n (ready L o) _ t.kind (u ∷ ts) (ap is_semicolon i) (ap is_comma i) (ap (open_after n) i)
+    (ap (after_token (ready L o)) i) h.1 in
     let near : goes_too_far (ended L o) open_paren ≡ false = sym (ap (goes_too_far (ended L o)) j) ∙ named.0 in
-    goes _ _ (ready M p) _ v v (w ∷ us) refl (ap is_semicolon k) (ap (goes_too_far (ready M p)) k) (ap (after_token (ready M p)) k)
-    (goes _ _ (ended M p) _ w w _ refl (ap is_semicolon l)
+    let one : (k : ℕ) → k + 1 ≡ suc k = λ k. omega arith in
+    goes _ _ m m (ready M p) _ v v (w ∷ us) refl (ap is_semicolon k) (ap is_comma k)
+    (ap (goes_too_far (ready M p)) k) (ap (open_after m) k) (ap (after_token (ready M p)) k)
+    (goes _ _ m (suc m) (ended M p) _ w w _ refl (ap is_semicolon l) (ap is_comma l)
     (ap (goes_too_far (ended M p)) l
     ∙ nearer true false (length M) (length L) o p (no_longer c) f near)
-    (ap (after_token (ended M p)) l)
-    (shallow x (Matches.brackets c f) (came (ended L o) _ u.kind _ (ap is_semicolon j) (ap (after_token (ended L o)) j) named.1)))
+    (ap (open_after m) l ∙ one m) (ap (after_token (ended M p)) l)
+    (shallow x (Matches.brackets c f)
+    (came n (suc n) (ended L o) _ u.kind _ (ap is_semicolon j) (ap is_comma j)
+    (ap (open_after n) j ∙ one n) (ap (after_token (ended L o)) j) named.1)))
 shallow (LeftOut.inside x) (Matches.brackets c f) h = shallow x (Matches.operands (Covers.kept c) f) h
-shallow (LeftOut.empty {t = t} {u = u} same is x) (Matches.brackets {L = L} {M = M} {o = o} {p = p} c f) h =
+shallow (LeftOut.empty {s = s} {t = t} {u = u} same is x) (Matches.brackets {L = L} {M = M} {o = o} {p = p} c f) h =
+    let n = length s in
+    let m = kept_brackets s in
     let a = closing_kind t.kind is in
-    goes _ _ (ready (bracket ∷ M) p) _ t u _ same a.goes_on (closing_near t.kind (ready (bracket ∷ M) p) is) (closed_ready t.kind M p is)
-    (shallow x (Matches.ends (without c) f) (came (ready (bracket ∷ L) o) _ t.kind _ a.goes_on (closed_ready t.kind L o is) h.1))
-shallow (LeftOut.closing {t = t} {u = u} same is x) (Matches.ends {L = L} {M = M} {o = o} {p = p} c f) h =
+    goes _ _ (suc m) m (ready (bracket ∷ M) p) _ t u _ same a.goes_on a.no_comma
+    (closing_near t.kind (ready (bracket ∷ M) p) is) (a.depth m) (closed_ready t.kind M p is)
+    (shallow x (Matches.ends (without c) f)
+    (came (suc n) n (ready (bracket ∷ L) o) _ t.kind _ a.goes_on a.no_comma (a.depth n)
+    (closed_ready t.kind L o is) h.1))
+shallow (LeftOut.closing {s = s} {t = t} {u = u} same is x) (Matches.ends {L = L} {M = M} {o = o} {p = p} c f) h =
+    let n = length s in
+    let m = kept_brackets s in
     let a = closing_kind t.kind is in
-    goes _ _ (ended M p) _ t u _ same a.goes_on (closing_near t.kind (ended M p) is) (closed_ended t.kind M p is) (elim (closed_both c) [
-      | inl both ↦ shallow x (Matches.ends (without both) f) (came (ended L o) _ t.kind _ a.goes_on (closed_ended t.kind L o is) h.1)
+    goes _ _ (suc m) m (ended M p) _ t u _ same a.goes_on a.no_comma
+    (closing_near t.kind (ended M p) is) (a.depth m) (closed_ended t.kind M p is) (elim (closed_both c) [
+      | inl both ↦
+          shallow x (Matches.ends (without both) f)
+          (came (suc n) n (ended L o) _ t.kind _ a.goes_on a.no_comma (a.depth n)
+          (closed_ended t.kind L o is) h.1)
       | inr n ↦ absurd (not-newest L n)
     ])
-shallow (LeftOut.opening_alone {t = t} i x) (Matches.operands {L = L} {o = o} c f) h =
+shallow (LeftOut.opening_alone {s = s} {t = t} i x) (Matches.operands {L = L} {o = o} c f) h =
+    let n = length s in
+    let one : n + 1 ≡ suc n = omega arith in
     shallow x (Matches.operands (Covers.alone c) f)
-    (came (ready L o) _ t.kind _ (ap is_semicolon i) (ap (after_token (ready L o)) i) h.1)
+    (came n (suc n) (ready L o) _ t.kind _ (ap is_semicolon i) (ap is_comma i)
+    (ap (open_after n) i ∙ one) (ap (after_token (ready L o)) i) h.1)
 shallow (LeftOut.closing_alone {s = s} {t = t} i x) (Matches.ends {L = L} {M = M} {o = o} c f) h =
+    let n = length s in
+    let less : suc n - 1 ≡ n = omega arith in
     elim (closed_one c) [
       | inl one ↦
           shallow x
           (Matches.ends (subst (Covers s (without_minuses (drop 1 (without_minuses L)))) (without-twice M) (without one)) f)
-          (came (ended L o) _ t.kind _ (ap is_semicolon i) (ap (after_token (ended L o)) i) h.1)
+          (came (suc n) n (ended L o) _ t.kind _ (ap is_semicolon i) (ap is_comma i)
+          (ap (open_after (suc n)) i ∙ less) (ap (after_token (ended L o)) i) h.1)
       | inr n ↦ absurd (not-newest L n)
     ]
 shallow (LeftOut.nothing_said {u = u} {v = v} {w = w} {us = us} i j k x) (Matches.ends {L = L} {M = M} {o = o} {p = p} c f) h =
@@ -366,10 +529,12 @@ shallow (LeftOut.nothing_said {u = u} {v = v} {w = w} {us = us} i j k x) (Matche
       | inl e ↦ e
       | inr n ↦ absurd (not-newest M n)
     ] in
-    goes _ _ (ended M p) _ u u (v ∷ w ∷ us) refl (ap is_semicolon i) (ap (goes_too_far (ended M p)) i) (ap (after_token (ended M p)) i)
-    (goes _ _ (ready N p) _ v v (w ∷ us) refl (ap is_semicolon j)
+    goes _ _ 0 0 (ended M p) _ u u (v ∷ w ∷ us) refl (ap is_semicolon i) (ap is_comma i)
+    (ap (goes_too_far (ended M p)) i) (ap (open_after 0) i) (ap (after_token (ended M p)) i)
+    (goes _ _ 0 1 (ready N p) _ v v (w ∷ us) refl (ap is_semicolon j) (ap is_comma j)
     (ap (goes_too_far (ready N p)) j ∙ ap (λ K. goes_too_far (ready K p) open_bracket) none)
-    (ap (after_token (ready N p)) j)
-    (goes _ _ (ready (bracket ∷ N) p) _ w w _ refl (ap is_semicolon k) (ap (goes_too_far (ready (bracket ∷ N) p)) k)
+    (ap (open_after 0) j) (ap (after_token (ready N p)) j)
+    (goes _ _ 1 0 (ready (bracket ∷ N) p) _ w w _ refl (ap is_semicolon k) (ap is_comma k)
+    (ap (goes_too_far (ready (bracket ∷ N) p)) k) (ap (open_after 1) k)
     (ap (after_token (ready (bracket ∷ N) p)) k)
     (shallow x (Matches.ends (subst (Covers [] (without_minuses L)) (sym (without-twice M)) c) f) h)))

@@ -16,6 +16,7 @@ pub mod SpelledConditions
 pub mod SpelledInscriptions
 pub mod Lines
 pub mod SpelledNets
+pub mod SpelledTransitions
 pub mod SpelledSystems
 pub mod SameTexts
 pub mod ReadBack

@@ -1,20 +1,22 @@
 -- The canonical text of a system that some text spells is read back.
-use Rattle.std.proofs.Common.{◌≡◌, ℕ, ◌≤◌, List, [], ◌∷◌, ◌++◌, length, refl, sym, ap, ◌∙◌, subst}
+use Rattle.std.proofs.Common.{◌≡◌, ℕ, ◌≤◌, List, [], ◌∷◌, ◌++◌, length, inr, refl, sym, ap, ◌∙◌, subst}
 use Rattle.rn_notation.specs.Limits.{longest_net_text}
 use Rattle.rn_notation.specs.Tokens.{IsToken}
 use Rattle.rn_notation.specs.Reading.{Piece, gap, token, ArePieces, tokens_after, Tokens}
 use Rattle.rn_notation.specs.declared.token.Token.{Token}
 use Rattle.rn_notation.specs.declared.token.TokenKind.{TokenKind}
 use Rattle.rn_net.specs.declared.plain.Plain.{Plain}
+use Rattle.rn_net.specs.Nets.{plain_of}
 use Rattle.rn_net.specs.Texts.{Spells}
 use Rattle.rn_net.specs.Laws.{OneSpelled, SpelledIsNotRefused}
-use Rattle.rn_print.specs.Nets.{canonical_text}
+use Rattle.rn_print.specs.Nets.{canonical_text, in_notation}
 use Rattle.rn_print.specs.SameButSpots.{SameButSpots, unplaced}
-use Rattle.rn_print.specs.Laws.{TextsAreReadBack, SpotsDoNotCount, TextsAreFixed, TextsTellApart, WhatIsReadIsSame, TextsAreNotRefused}
+use Rattle.rn_print.specs.Laws.{TextsAreReadBack, SpotsDoNotCount, TextsAreFixed, TextsTellApart, WhatIsReadIsSame, TextsAreNotRefused, MigratedTextsAreRead}
+use Rattle.rn_print.specs.ReadingBack.{SpellsButSpots}
 use Rattle.rn_print.proofs.Trees.{tokens_in, tokens_whole}
 use Rattle.rn_print.proofs.Atoms.{Legal}
 use Rattle.rn_print.proofs.SpelledExpressions.{AllLegal}
-use Rattle.rn_print.proofs.SpelledSystems.{reads_back}
+use Rattle.rn_print.proofs.SpelledSystems.{IsNotation, notation_of, reads_back}
 use Rattle.rn_print.proofs.SameTexts.{same_text}
 
 -- the tokens of a text are legal
@@ -37,27 +39,42 @@ tokens_legal : {text : List ℕ} {tokens : List Token} → Tokens text tokens �
 tokens_legal {text = text} t =
     subst AllLegal (sym t.among) (pieces_legal [] text t.pieces [] t.stand)
 
-spelled : (bytes : List ℕ) (p : Plain) → Spells bytes p →
-    length (canonical_text p) ≤ longest_net_text →
-    (q : Plain) × Spells (canonical_text p) q × SameButSpots q p
-spelled bytes p is fits =
-    let r = reads_back is.system (tokens_legal is.read) is.within in (
+-- a text that spells a plain form, and the same form in either notation
+spelled : (bytes : List ℕ) (p : Plain) → Spells bytes p → (notation : ℕ) → IsNotation notation →
+    length (canonical_text (plain_of notation p.channels p.nets)) ≤ longest_net_text →
+    SpellsButSpots (canonical_text (plain_of notation p.channels p.nets))
+    (plain_of notation p.channels p.nets)
+spelled bytes p is notation known fits =
+    let text = canonical_text (plain_of notation p.channels p.nets) in
+    let r = reads_back is.system (tokens_legal is.read) is.within notation known in (
       r.other,
       record {
         tokens = tokens_in [] r.tree [];
         fits = fits;
-        read = tokens_whole r.tree (canonical_text p) r.spells r.stands;
+        read = tokens_whole r.tree text r.spells r.stands;
         system = r.system;
         within = r.within;
       },
       r.same,
     )
 
+-- what spells a plain form spells what is the same but for spots
+moved : (p q : Plain) → SameButSpots p q →
+    (length (canonical_text p) ≤ longest_net_text → SpellsButSpots (canonical_text p) p) →
+    length (canonical_text q) ≤ longest_net_text → SpellsButSpots (canonical_text q) q
+moved p q same spells fits =
+    let e : canonical_text p ≡ canonical_text q = same_text p q same in
+    let r = spells (subst (λ text. length text ≤ longest_net_text) (sym e) fits) in
+    (r.0, subst (λ text. Spells text r.0) e r.1, r.2 ∙ same)
+
 pub texts_are_read_back : TextsAreReadBack
 texts_are_read_back plain (bytes, (p, is, same)) fits =
-    let e : canonical_text p ≡ canonical_text plain = same_text p plain same in
-    let r = spelled bytes p is (subst (λ text. length text ≤ longest_net_text) (sym e) fits) in
-    (r.0, subst (λ text. Spells text r.0) e r.1, r.2 ∙ same)
+    moved p plain same (spelled bytes p is p.notation (notation_of is.system)) fits
+
+pub migrated_texts_are_read : MigratedTextsAreRead
+migrated_texts_are_read plain (bytes, (p, is, same)) fits =
+    moved (in_notation 2 p) (in_notation 2 plain) (ap (in_notation 2) same)
+    (spelled bytes p is 2 (inr refl)) fits
 
 pub spots_do_not_count : SpotsDoNotCount
 spots_do_not_count = same_text

@@ -1,5 +1,5 @@
 -- The canonical text doesn't depend on spots.
-use Rattle.std.proofs.Common.{◌≡◌, ℕ, List, [], ◌∷◌, ◌++◌, map, refl, sym, ap, ◌∙◌, subst}
+use Rattle.std.proofs.Common.{◌≡◌, ℕ, ◌&&◌, nat_eq, if◌then◌else◌, List, [], ◌∷◌, ◌++◌, map, refl, sym, ap, ◌∙◌, subst}
 use Rattle.std.specs.Prelude.{codes, Option, Some, None, option_map}
 use Rattle.std.specs.List.{flat_map, join_by, AllByRecursion}
 use Rattle.rn_notation.specs.declared.token.Spot.{Spot}
@@ -39,7 +39,7 @@ use Rattle.rn_print.specs.Constants.{constant_text}
 use Rattle.rn_print.specs.Expressions.{Operand, form_step, expr_step, operand_text, expr_text, exprs_text, row}
 use Rattle.rn_print.specs.Conditions.{cond_text, simple_text, comparison, all_step}
 use Rattle.rn_print.specs.Inscriptions.{inscribed_text, after_place, arc_word}
-use Rattle.rn_print.specs.Nets.{channel_text, var_text, capacity_text, initial_text, place_text, inscription_line, transition_text, net_text, canonical_text}
+use Rattle.rn_print.specs.Nets.{channel_text, var_text, capacity_text, initial_text, place_text, go_together, goes_on, added_text, following_text, later_text, inscriptions_text, transition_text, net_text, notation_text, canonical_text}
 use Rattle.rn_print.specs.SameButSpots.{first_spot, kind_unplaced, constant_unplaced, expr_unplaced, cond_unplaced, simple_unplaced, inscribed_unplaced, inscription_unplaced, channel_unplaced, var_unplaced, max_unplaced, place_unplaced, transition_unplaced, net_unplaced, unplaced, SameButSpots}
 use Rattle.rn_print.proofs.SpelledKinds as Kinds
 use Rattle.rn_print.proofs.SpelledConstants as Constants
@@ -356,31 +356,66 @@ place_same p =
     ∙ ap (λ t. start ++ kind_text p.kind ++ capacity_text p.max ++ t ++ codes ";\n")
     (initial_same p.initial)
 
-line_same : (i : PInscription) → inscription_line (inscription_unplaced i) ≡ inscription_line i
-line_same i = ap (λ t. codes "    " ++ t ++ codes ";\n") (inscribed_same i.form)
+together_same : (f g : PInscribed) →
+    go_together (inscribed_unplaced f) (inscribed_unplaced g) ≡ go_together f g
+together_same (I.Arc kind place (Some e)) (I.Arc other name (Some f)) = refl
+together_same _ _ = refl
 
-transition_same : (t : PTransition) → transition_text (transition_unplaced t) ≡ transition_text t
-transition_same t =
+added_same : (f : PInscribed) → added_text (inscribed_unplaced f) ≡ added_text f
+added_same (I.Arc kind place (Some e)) = ap (λ t. codes ", " ++ t) (expr_texts e)
+added_same _ = refl
+
+following_same : (notation : ℕ) (i j : PInscription) →
+    following_text notation (inscription_unplaced i) (inscription_unplaced j)
+    ≡ following_text notation i j
+following_same notation i j =
+    let added = added_text (inscribed_unplaced j.form) in
+    let line = codes ";\n    " ++ inscribed_text (inscribed_unplaced j.form) in
+    ap (λ b. if nat_eq notation 2 && b then added else line) (together_same i.form j.form)
+    ∙ ap (λ t. if goes_on notation i j then t else line) (added_same j.form)
+    ∙ ap (λ t. if goes_on notation i j then added_text j.form else codes ";\n    " ++ t) (inscribed_same j.form)
+
+later_same : (notation : ℕ) (i : PInscription) (items : List PInscription) →
+    later_text notation (inscription_unplaced i) (map inscription_unplaced items)
+    ≡ later_text notation i items
+later_same notation i [] = refl
+later_same notation i (j ∷ items) =
+    ap (λ t. t ++ later_text notation (inscription_unplaced j) (map inscription_unplaced items))
+    (following_same notation i j)
+    ∙ ap (λ t. following_text notation i j ++ t) (later_same notation j items)
+
+inscriptions_same : (notation : ℕ) (items : List PInscription) →
+    inscriptions_text notation (map inscription_unplaced items) ≡ inscriptions_text notation items
+inscriptions_same notation [] = refl
+inscriptions_same notation (i ∷ items) =
+    ap (λ t. codes "    " ++ t ++ later_text notation (inscription_unplaced i) (map inscription_unplaced items))
+    (inscribed_same i.form)
+    ∙ ap (λ t. codes "    " ++ inscribed_text i.form ++ t) (later_same notation i items)
+
+transition_same : (notation : ℕ) (t : PTransition) →
+    transition_text notation (transition_unplaced t) ≡ transition_text notation t
+transition_same notation t =
     ap (λ lines. codes "  trans " ++ t.name.text ++ codes " {\n" ++ lines ++ codes "  }\n")
-    (joins inscription_line inscription_unplaced t.inscriptions line_same)
+    (inscriptions_same notation t.inscriptions)
 
-net_same : (n : PNet) → net_text (net_unplaced n) ≡ net_text n
-net_same n =
+net_same : (notation : ℕ) (n : PNet) → net_text notation (net_unplaced n) ≡ net_text notation n
+net_same notation n =
     let start = codes "net " ++ n.name.text ++ codes " {\n" in
     ap (λ t. start ++ t ++ flat_map place_text (map place_unplaced n.places)
-    ++ flat_map transition_text (map transition_unplaced n.transitions) ++ codes "}\n")
+    ++ flat_map (transition_text notation) (map transition_unplaced n.transitions) ++ codes "}\n")
     (joins var_text var_unplaced n.vars var_same)
     ∙ ap (λ t. start ++ flat_map var_text n.vars ++ t
-    ++ flat_map transition_text (map transition_unplaced n.transitions) ++ codes "}\n")
+    ++ flat_map (transition_text notation) (map transition_unplaced n.transitions) ++ codes "}\n")
     (joins place_text place_unplaced n.places place_same)
     ∙ ap (λ t. start ++ flat_map var_text n.vars ++ flat_map place_text n.places ++ t ++ codes "}\n")
-    (joins transition_text transition_unplaced n.transitions transition_same)
+    (joins (transition_text notation) transition_unplaced n.transitions (transition_same notation))
 
 unplaced_same : (p : Plain) → canonical_text (unplaced p) ≡ canonical_text p
 unplaced_same p =
-    ap (λ t. t ++ flat_map net_text (map net_unplaced p.nets))
+    ap (λ t. notation_text p.notation ++ t ++ flat_map (net_text p.notation) (map net_unplaced p.nets))
     (joins channel_text channel_unplaced p.channels channel_same)
-    ∙ ap (λ t. flat_map channel_text p.channels ++ t) (joins net_text net_unplaced p.nets net_same)
+    ∙ ap (λ t. notation_text p.notation ++ flat_map channel_text p.channels ++ t)
+    (joins (net_text p.notation) net_unplaced p.nets (net_same p.notation))
 
 pub same_text : (p q : Plain) → SameButSpots p q → canonical_text p ≡ canonical_text q
 same_text p q is = sym (unplaced_same p) ∙ ap canonical_text is ∙ unplaced_same q

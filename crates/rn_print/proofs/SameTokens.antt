@@ -1,13 +1,11 @@
 -- Tokens of declarations beside those of a text: the same but for minuses, so that they open no
 -- level more.
-use Rattle.std.proofs.Common.{◌≡◌, ℕ, ◌+◌, ◌-◌, Bool, true, false, List, ◌∷◌, refl, sym, subst}
-use Rattle.std.specs.Prelude.{if◌then◌else◌}
+use Rattle.std.proofs.Common.{◌≡◌, ℕ, false, List, ◌∷◌, refl, sym, subst}
 use Rattle.rn_notation.specs.declared.token.Token.{Token}
 use Rattle.rn_notation.specs.declared.token.TokenKind.{TokenKind}
 use Rattle.rn_inscript.specs.Signs.{minus}
-use Rattle.rn_inscript.specs.Levels.{opens, closes}
 use Rattle.rn_net.specs.Words.{semicolon}
-use Rattle.rn_net.specs.Levels.{is_semicolon, after, is_too_deep, IsShallow}
+use Rattle.rn_net.specs.Levels.{is_semicolon, open_after, after, is_too_deep, IsShallow}
 use Rattle.rn_net.specs.Levels.Region.{between, declaring}
 
 -- The second tokens are the first up to a semicolon, but for minuses that are left out.
@@ -19,20 +17,9 @@ pub data SameTokens (ending later : List Token) : List Token → List Token → 
   minus_alone : {t : Token} {ts us : List Token} → t.kind ≡ minus → SameTokens ending later ts us →
       SameTokens ending later (t ∷ ts) us
 
--- the brackets that are open after a token
-abbrev open_after : ℕ → TokenKind → ℕ
-open_after n kind = if opens kind then n + 1 else if closes kind then n - 1 else n
-
 stays : (n : ℕ) (kind : TokenKind) → is_semicolon kind ≡ false →
     after (declaring n) kind ≡ declaring (open_after n kind)
-stays n kind goes_on = rw goes_on (by (opens kind) (closes kind))
-  where
-    by : (a b : Bool) →
-        (if a then declaring (n + 1) else if b then declaring (n - 1) else declaring n)
-        ≡ declaring (if a then n + 1 else if b then n - 1 else n)
-    by true b = refl
-    by false true = refl
-    by false false = refl
+stays n kind goes_on = rw goes_on refl
 
 -- the first tokens end, and where what comes after both is within the limits, so are the second
 pub shallow : {ending later ts us : List Token} → SameTokens ending later ts us → (n : ℕ) →

@@ -70,7 +70,7 @@ arc_number FlexOutput = 10
 arc_number Inhibit = 11
 arc_number Clear = 12
 
-abbrev arc_bytes : ArcKind → List ℕ
+abbrev pub arc_bytes : ArcKind → List ℕ
 arc_bytes Input = codes "in"
 arc_bytes Output = codes "out"
 arc_bytes Test = codes "test"
@@ -81,14 +81,14 @@ arc_bytes Inhibit = codes "inhibit"
 arc_bytes Clear = codes "clear"
 
 -- the word of an arc: it stands, it is written so, it is the arc's, and it is no operand
-abbrev ArcWord : ArcKind → Type 0
+abbrev pub ArcWord : ArcKind → Type 0
 ArcWord kind =
     WordSpaced (arc_number kind) (arc_bytes kind)
     × (bytes_in (word_tree (arc_number kind) (arc_bytes kind)) ≡ arc_word kind)
     × (arc_of (Word (arc_number kind)) ≡ Some kind)
     × (is_plain (Word (arc_number kind)) ≡ true)
 
-word_of_arc : (kind : ArcKind) → ArcWord kind
+pub word_of_arc : (kind : ArcKind) → ArcWord kind
 unfolding reserved_words
 word_of_arc Input = (λ rest. IsToken.word refl refl refl, refl, refl, refl)
 word_of_arc Output = (λ rest. IsToken.word refl refl refl, refl, refl, refl)

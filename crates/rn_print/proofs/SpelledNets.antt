@@ -1,11 +1,6 @@
 -- Where some tokens stand for a declaration, a net or a system, its text is read back.
-use Rattle.std.proofs.Common.{◌≡◌, ℕ, ℤ, pos, ◌≤◌, false, List, [], ◌∷◌, ◌++◌, map, refl, sym, ap, ◌∙◌, subst, append_assoc, arith}
+use Rattle.std.proofs.Common.{◌≡◌, ℕ, ℤ, pos, ◌≤◌, List, [], ◌∷◌, ◌++◌, map, refl, sym, ap, ◌∙◌, subst}
 use Rattle.std.specs.Prelude.{codes, Option, Some, None, option_map}
-use Rattle.std.specs.List.{AllByRecursion}
-use Rattle.std.proofs.Math.Bool.{and-false}
-use Rattle.std.proofs.lemmas.Bool.Decides.{nat_tests}
-use Rattle.std.proofs.lemmas.Grind.{common_steps}
-use Rattle.std.proofs.lemmas.List.{append-nil}
 use Rattle.rn_value.specs.Words.{reserved_words}
 use Rattle.rn_value.specs.Text.{numeral}
 use Rattle.rn_notation.specs.Words.{greatest_number}
@@ -13,49 +8,36 @@ use Rattle.rn_notation.specs.Tokens.{IsGap, IsToken}
 use Rattle.rn_notation.specs.Reading.{gap, token, token_after}
 use Rattle.rn_notation.specs.declared.token.Spot.{Spot}
 use Rattle.rn_notation.specs.declared.token.Token.{Token}
-use Rattle.rn_notation.specs.declared.token.TokenKind.{TokenKind}
-use Rattle.rn_model.specs.declared.system.ArcKind.{ArcKind}
-use Rattle.rn_model.specs.declared.system.ArcKind.TheVariants.{Input, Output, Test, Reserve}
-use Rattle.rn_model.specs.declared.system.ArcKind.TheVariants.{FlexInput, FlexOutput, Inhibit}
-use Rattle.rn_model.specs.declared.system.ArcKind.TheVariants.{Clear}
-use Rattle.rn_inscript.specs.declared.exprs.PForm.{PForm}
-use Rattle.rn_inscript.specs.Levels.{at_first, after_token, opens_level, is_operator}
-use Rattle.rn_net.specs.Levels.{IsShallow, after, begun_by, is_semicolon}
-use Rattle.rn_net.specs.Levels.Region.{between, inscribing, declaring}
-use Rattle.rn_notation.specs.declared.token.TokenKind.TheVariants.{Name, Word, Number, Text, Sign}
+use Rattle.rn_net.specs.Levels.{IsShallow, after, is_semicolon}
+use Rattle.rn_net.specs.Levels.Region.{between, declaring}
+use Rattle.rn_notation.specs.declared.token.TokenKind.TheVariants.{Name, Word, Number}
 use Rattle.rn_inscript.specs.declared.inscriptions.PName.{PName}
-use Rattle.rn_inscript.specs.declared.inscriptions.PInscribed.{PInscribed}
-use Rattle.rn_inscript.specs.declared.inscriptions.PInscription.{PInscription}
-use Rattle.rn_inscript.specs.Signs.{comma, colon, minus, equals, open_brace, open_bracket, open_paren, close_paren, this_word, guard_word, action_word, target_of}
-use Rattle.rn_inscript.specs.Expressions.{IsExpr, IsProduct, IsUnary, IsPrimary}
-use Rattle.rn_inscript.specs.Inscriptions.{name_at, IsInscribed}
+use Rattle.rn_inscript.specs.Signs.{comma, colon, equals, close_paren}
+use Rattle.rn_inscript.specs.Inscriptions.{name_at}
 use Rattle.rn_net.specs.declared.kinds.PKind.{PKind}
 use Rattle.rn_net.specs.declared.constants.PConst.{PConst}
 use Rattle.rn_net.specs.declared.plain.PChannel.{PChannel}
 use Rattle.rn_net.specs.declared.plain.PVar.{PVar}
 use Rattle.rn_net.specs.declared.plain.PPlace.{PPlace}
 use Rattle.rn_net.specs.declared.plain.PMax.{PMax}
-use Rattle.rn_net.specs.declared.plain.PTransition.{PTransition}
 use Rattle.rn_net.specs.Words.{semicolon, max_name}
 use Rattle.rn_net.specs.Constants.{IsConstant, AreConstants, AreMoreConstants}
-use Rattle.rn_net.specs.Nets.{channel_of, var_of, max_of, place_of, transition_of, IsChannel, AreMoreNames, AreVars, IsKindOfPlace, IsCapacity, AreInitial, IsPlace, AreInscriptions, IsTransition}
+use Rattle.rn_net.specs.Nets.{channel_of, var_of, max_of, place_of, IsChannel, AreMoreNames, AreVars, IsKindOfPlace, IsCapacity, AreInitial, IsPlace}
 use Rattle.rn_print.specs.Kinds.{kind_text}
 use Rattle.rn_print.specs.Constants.{constant_text}
-use Rattle.rn_print.specs.Nets.{channel_text, var_text, capacity_text, initial_text, place_text, inscription_line, transition_text}
-use Rattle.rn_print.specs.SameButSpots.{kind_unplaced, constant_unplaced, name_unplaced, inscription_unplaced, channel_unplaced, var_unplaced, max_unplaced, place_unplaced, transition_unplaced, first_spot}
-use Rattle.rn_print.proofs.LeftOut.{LeftOut, Covers, Matches}
-use Rattle.rn_print.proofs.LeftOut as Left
+use Rattle.rn_print.specs.Nets.{channel_text, var_text, capacity_text, initial_text, place_text}
+use Rattle.rn_print.specs.SameButSpots.{kind_unplaced, constant_unplaced, name_unplaced, channel_unplaced, var_unplaced, max_unplaced, place_unplaced}
 use Rattle.rn_print.proofs.SameTokens.{SameTokens, shallow}
 use Rattle.rn_print.proofs.Beside.{Follows, Same, declared}
 use Rattle.rn_print.proofs.Trees.{Tree, nothing, piece, both, bytes_in, tokens_in, Stands, Stops, Reads}
-use Rattle.rn_print.proofs.Atoms.{Legal, spaced, spaced_stands, name_stands, number_stands, comma_stands, semicolon_stands, equals_stands, open_paren_stands, close_paren_stands, open_brace_stands, close_brace_stands}
+use Rattle.rn_print.proofs.Atoms.{Legal, spaced, spaced_stands, name_stands, number_stands, comma_stands, semicolon_stands, equals_stands, open_paren_stands, close_paren_stands, open_brace_stands}
 use Rattle.rn_print.proofs.Separated.{Phrases, Separator, Listed, some}
-use Rattle.rn_print.proofs.Lines.{Line, Sequence, sequence}
+use Rattle.rn_print.proofs.Lines.{Line}
 use Rattle.rn_print.proofs.ExpressionBack.{sign_tree}
 use Rattle.rn_print.proofs.SpelledExpressions.{Some_back}
 use Rattle.rn_print.proofs.SpelledKinds.{KindBack, PlaceKind, kinds_back}
 use Rattle.rn_print.proofs.SpelledConstants.{ConstantBack, constant_rows}
-use Rattle.rn_print.proofs.SpelledInscriptions.{word_tree, WordSpaced, word_stands, name_tree, colon_tree, colon_space_stands, arc_number, kind_of_arc, LegalName, InscribedBack}
+use Rattle.rn_print.proofs.SpelledInscriptions.{word_tree, WordSpaced, word_stands, name_tree, colon_tree, colon_space_stands, LegalName}
 
 -- blanks, and the ends of lines
 abbrev pub blanks : Tree
@@ -91,10 +73,6 @@ var_stands rest = IsToken.word refl refl refl
 place_stands : WordSpaced 1 (codes "place")
 unfolding reserved_words
 place_stands rest = IsToken.word refl refl refl
-
-trans_stands : WordSpaced 2 (codes "trans")
-unfolding reserved_words
-trans_stands rest = IsToken.word refl refl refl
 
 -- channels
 abbrev pub ChannelBack : PChannel → Type 0
@@ -371,211 +349,3 @@ place_back name k max items w ts mid left ending is ends r capacity initial with
       },
       (stays [] [] [] (token_after [] colon []) w [] refl ends).0,
     )
-
--- A token begins an inscription: it is in a region of its own from there on.
-abbrev Leads : TokenKind → Type 0
-Leads kind = (begun_by kind ≡ inscribing (after_token at_first kind)) × (is_semicolon kind ≡ false)
-
-abbrev Begins : List Token → Type 0
-Begins ts = (t : Token) × (us : List Token) × (ts ≡ t ∷ us) × Leads t.kind
-
-begins : (t : Token) (us : List Token) (kind : TokenKind) → t.kind ≡ kind → Leads kind →
-    Begins (t ∷ us)
-begins t us kind is h = (t, us, refl, subst Leads (sym is) h)
-
-primary_begins : {ts rest : List Token} {e : _} → IsPrimary ts e rest → Begins ts
-primary_begins (IsPrimary.number {n = n} is) = begins _ _ (Number n) is (refl, refl)
-primary_begins (IsPrimary.text {s = s} is) = begins _ _ (Text s) is (refl, refl)
-primary_begins (IsPrimary.name {s = s} is) = begins _ _ (Name s) is (refl, refl)
-primary_begins (IsPrimary.this is) = begins _ _ this_word is (refl, refl)
-primary_begins (IsPrimary.step is a b) = begins _ _ (Name (codes "step")) is (refl, refl)
-primary_begins (IsPrimary.tuple is x) = begins _ _ open_bracket is (refl, refl)
-primary_begins (IsPrimary.list is x) = begins _ _ open_brace is (refl, refl)
-primary_begins (IsPrimary.list_with_tail is x a y b) = begins _ _ open_brace is (refl, refl)
-primary_begins (IsPrimary.parentheses is x a) = begins _ _ open_paren is (refl, refl)
-
-unary_begins : {ts rest : List Token} {e : _} → IsUnary ts e rest → Begins ts
-unary_begins (IsUnary.negative is x) = begins _ _ minus is (refl, refl)
-unary_begins (IsUnary.primary x) = primary_begins x
-
-product_begins : {ts rest : List Token} {e : _} → IsProduct ts e rest → Begins ts
-product_begins (IsProduct.product x m) = unary_begins x
-
-expr_begins : {ts rest : List Token} {e : _} → IsExpr ts e rest → Begins ts
-expr_begins (IsExpr.sum x m) = product_begins x
-
-arc_leads : (kind : ArcKind) → Leads (Word (arc_number kind))
-arc_leads Input = (refl, refl)
-arc_leads Output = (refl, refl)
-arc_leads Test = (refl, refl)
-arc_leads Reserve = (refl, refl)
-arc_leads FlexInput = (refl, refl)
-arc_leads FlexOutput = (refl, refl)
-arc_leads Inhibit = (refl, refl)
-arc_leads Clear = (refl, refl)
-
-target_leads : (kind : TokenKind) (form : PForm) → target_of kind ≡ Some form → Leads kind
-target_leads (Name s) form h = (refl, refl)
-target_leads (Word k) form h =
-    let number : k ≡ 17 = grind (arith, nat_tests, common_steps) in
-    subst (λ k. Leads (Word k)) (sym number) (refl, refl)
-target_leads (Number n) form h = (refl, refl)
-target_leads (Text s) form h = (refl, refl)
-target_leads (Sign k) form h = absurd (let no : ⊥ = cc in no)
-
-form_begins : {ts rest : List Token} {form : PInscribed} → IsInscribed ts form rest → Begins ts
-form_begins (IsInscribed.plain_arc {t = t} {kind = kind} is a) =
-    begins t _ (Word (arc_number kind)) (kind_of_arc t.kind kind is) (arc_leads kind)
-form_begins (IsInscribed.arc {t = t} {kind = kind} is a b x) =
-    begins t _ (Word (arc_number kind)) (kind_of_arc t.kind kind is) (arc_leads kind)
-form_begins (IsInscribed.guard is x) = begins _ _ guard_word is (refl, refl)
-form_begins (IsInscribed.print is a x) = begins _ _ action_word is (refl, refl)
-form_begins (IsInscribed.set is a b x) = begins _ _ action_word is (refl, refl)
-form_begins (IsInscribed.uplink is x) = begins _ _ colon is (refl, refl)
-form_begins (IsInscribed.creation {x = x} is a b d) = begins _ _ (Name x) is (refl, refl)
-form_begins (IsInscribed.downlink {t = t} {form = form} is a x) =
-    (t, _, refl, target_leads t.kind form is)
-form_begins (IsInscribed.equality x is y) = expr_begins x
-
-goes_on : (kind : TokenKind) → Leads kind → after (inscribing at_first) kind ≡ begun_by kind
-goes_on kind h =
-    let e : after (inscribing at_first) kind ≡ inscribing (after_token at_first kind) = rw h.1 refl in
-    e ∙ sym h.0
-
--- the limits of a statement that is an inscription are those of the inscription
-enters : {ts rest : List Token} {form : PInscribed} → IsInscribed ts form rest →
-    IsShallow between ts → IsShallow (inscribing at_first) ts
-enters x h =
-    let b = form_begins x in
-    let kind = b.0.kind in
-    let here = subst (IsShallow between) b.2 h in
-    subst (IsShallow (inscribing at_first)) (sym b.2) (
-      rw (and-false (opens_level at_first kind), and-false (is_operator kind)) refl,
-      subst (λ r. IsShallow r b.1) (sym (goes_on kind b.3)) here.1,
-    )
-
-leaves : {ts rest : List Token} {form : PInscribed} → IsInscribed ts form rest →
-    IsShallow (inscribing at_first) ts → IsShallow between ts
-leaves x h =
-    let b = form_begins x in
-    let here = subst (IsShallow (inscribing at_first)) b.2 h in
-    subst (IsShallow between) (sym b.2)
-    (refl, subst (λ r. IsShallow r b.1) (goes_on b.0.kind b.3) here.1)
-
--- an inscription with its semicolon
-pub record IsLine (ts : List Token) (i : PInscription) (rest : List Token) : Type 0 where
-  pub first : Token
-  pub others : List Token
-  pub end : Token
-  pub begins : ts ≡ first ∷ others
-  pub form : IsInscribed (first ∷ others) i.form (end ∷ rest)
-  pub ends : end.kind ≡ semicolon
-  pub spot : first.spot ≡ i.spot
-
-abbrev pub LineBack : PInscription → Type 0
-LineBack i = Line IsLine inscription_unplaced i (inscription_line i)
-
-pub line_back : (form : PInscribed) (s : Spot) (w : Token) (ts ending : List Token) →
-    IsInscribed ts form (w ∷ ending) → w.kind ≡ semicolon → InscribedBack form ts (w ∷ ending) →
-    IsShallow between ts → LineBack (record { form = form; spot = s }) × IsShallow between ending
-line_back form s w ts ending is ends r within =
-    let stays = λ (before : List ℕ) (u : Token) (rest : List Token) (h : u.kind ≡ semicolon).
-    Left.shallow (r.beside before (ending, rest) (u ∷ rest) (LeftOut.done ends h))
-    (Matches.operands Covers.none (let none : 0 ≤ 0 = omega arith in none)) (enters is within) in (
-      record {
-        tree = both (both (both blanks blanks) r.tree) ended;
-        spells = ap (λ t. codes "    " ++ t ++ codes ";\n") r.spells;
-        stands = λ rest.
-            let end = codes ";\n" ++ rest in (
-              (
-                (blanks_stand (codes "  " ++ (bytes_in r.tree ++ end)), blanks_stand (bytes_in r.tree ++ end)),
-                r.stands end refl,
-              ),
-              ended_stands rest,
-            );
-        means = λ before rest.
-            let u = token_after (before ++ (codes "    " ++ bytes_in r.tree)) semicolon (codes ";") in
-            let m = r.means (before ++ codes "    ") (u ∷ rest) in
-            let b = form_begins m.1 in (
-              record { form = m.0; spot = b.0.spot },
-              record {
-                first = b.0;
-                others = b.1;
-                end = u;
-                begins = b.2;
-                form = subst (λ ts. IsInscribed ts m.0 (u ∷ rest)) b.2 m.1;
-                ends = refl;
-                spot = refl;
-              },
-              ap (λ f. record { form = f; spot = first_spot }) m.2,
-            );
-        shallow = λ before rest h.
-            let u = token_after (before ++ (codes "    " ++ bytes_in r.tree)) semicolon (codes ";") in
-            let m = r.means (before ++ codes "    ") (u ∷ rest) in
-            let p = stays (before ++ codes "    ") u rest refl in leaves m.1 (p.1 h);
-      },
-      (stays [] w [] ends).0,
-    )
-
-lines_are : {ts rest : List Token} {items : List PInscription} (before : List PInscription) →
-    Sequence IsLine ts items rest → AreInscriptions before ts (before ++ items) rest
-lines_are {ts = ts} before Sequence.done =
-    subst (λ all. AreInscriptions before ts all ts) (sym (append-nil before))
-    AreInscriptions.no_more_inscriptions
-lines_are {rest = rest} before (Sequence.next {mid = mid} {item = i} {items = items} l more) =
-    let whole : record { form = i.form; spot = l.first.spot } ≡ i =
-    ap (λ s. record { form = i.form; spot = s }) l.spot in
-    let later = subst (λ all. AreInscriptions (before ++ i ∷ []) mid all rest)
-    (append_assoc before (i ∷ []) items) (lines_are (before ++ i ∷ []) more) in
-    subst (λ ts. AreInscriptions before ts (before ++ i ∷ items) rest) (sym l.begins)
-    (AreInscriptions.more_inscriptions l.form l.ends
-    (subst (λ j. AreInscriptions (before ++ j ∷ []) mid (before ++ i ∷ items) rest) (sym whole) later))
-
--- transitions
-abbrev pub TransitionBack : PTransition → Type 0
-TransitionBack t = Line IsTransition transition_unplaced t (transition_text t)
-
-pub transition_back : (name : PName) (items : List PInscription) → LegalName name →
-    AllByRecursion LineBack items → TransitionBack (transition_of name items)
-transition_back name items is each =
-    let r = sequence IsLine inscription_unplaced inscription_line items each in
-    let word = both blanks (word_tree 2 (codes "trans")) in
-    let close = both (both blanks (sign_tree 1 (codes "}"))) line_end in record {
-      tree = both (both (both (both word (name_tree name.text)) opened) r.tree) close;
-      spells =
-          ap (λ t. codes "  trans " ++ name.text ++ codes " {\n" ++ t ++ codes "  }\n") r.spells;
-      stands = λ rest.
-          let end = codes "  }\n" ++ rest in
-          let lines = bytes_in r.tree ++ end in (
-            (
-              (
-                (
-                  (
-                    blanks_stand (codes "trans " ++ (name.text ++ (codes " {\n" ++ lines))),
-                    word_stands 2 (codes "trans") (name.text ++ (codes " {\n" ++ lines)) trans_stands,
-                  ),
-                  name_stands name.text (codes " {\n" ++ lines) is refl,
-                ),
-                opened_stands lines,
-              ),
-              r.stands end,
-            ),
-            (
-              (blanks_stand (codes "}\n" ++ rest), close_brace_stands (codes "\n" ++ rest)),
-              IsGap.blank refl,
-            ),
-          );
-      means = λ before rest.
-          let u = token_after (before ++ codes "  trans ") (Name name.text) name.text in
-          let front = (codes "  trans " ++ name.text) ++ codes " {\n" in
-          let w = token_after ((before ++ (front ++ bytes_in r.tree)) ++ codes "  ") (Sign 1) (codes "}") in
-          let m = r.means (before ++ front) (w ∷ rest) in (
-            transition_of (name_at u.spot name.text) m.0,
-            IsTransition.transition refl refl refl (lines_are [] m.1) refl,
-            ap (λ items. transition_of (name_unplaced name) items) m.2,
-          );
-      shallow = λ before rest h.
-          let front = (codes "  trans " ++ name.text) ++ codes " {\n" in
-          let w = token_after ((before ++ (front ++ bytes_in r.tree)) ++ codes "  ") (Sign 1) (codes "}") in
-          (refl, (refl, (refl, r.shallow (before ++ front) (w ∷ rest) (refl, h))));
-    }

@@ -1,20 +1,20 @@
 -- Where some tokens stand for a net or a system, its text is read back.
-use Rattle.std.proofs.Common.{◌≡◌, ℕ, List, [], ◌∷◌, ◌++◌, map, refl, sym, ap, ◌∙◌, subst, append_assoc}
+use Rattle.std.proofs.Common.{◌≡◌, ℕ, pos, ◌≤◌, ◌⊎◌, inl, inr, List, [], ◌∷◌, ◌++◌, map, refl, sym, ap, ◌∙◌, subst, append_assoc, arith}
 use Rattle.std.specs.Prelude.{codes, Option}
 use Rattle.std.specs.List.{flat_map, AllByRecursion}
 use Rattle.std.proofs.lemmas.List.{append-nil}
 use Rattle.rn_value.specs.Words.{reserved_words}
 use Rattle.rn_notation.specs.Tokens.{IsGap, IsToken}
-use Rattle.rn_notation.specs.Reading.{token_after}
+use Rattle.rn_notation.specs.Reading.{gap, token, token_after}
+use Rattle.rn_notation.specs.Words.{greatest_number}
 use Rattle.rn_notation.specs.declared.token.Spot.{Spot}
 use Rattle.rn_notation.specs.declared.token.Token.{Token}
 use Rattle.rn_notation.specs.declared.token.TokenKind.{TokenKind}
-use Rattle.rn_notation.specs.declared.token.TokenKind.TheVariants.{Name, Sign}
+use Rattle.rn_notation.specs.declared.token.TokenKind.TheVariants.{Name, Number, Sign}
 use Rattle.rn_inscript.specs.declared.inscriptions.PName.{PName}
-use Rattle.rn_inscript.specs.declared.inscriptions.PInscription.{PInscription}
 use Rattle.rn_inscript.specs.Signs.{comma, colon, open_paren, open_brace, close_brace}
 use Rattle.rn_inscript.specs.Inscriptions.{name_at}
-use Rattle.rn_net.specs.Words.{semicolon, net_word, place_word, trans_word, channel_word, var_word}
+use Rattle.rn_net.specs.Words.{semicolon, net_word, place_word, trans_word, channel_word, var_word, notation_name}
 use Rattle.rn_net.specs.declared.kinds.PKind.{PKind}
 use Rattle.rn_net.specs.declared.constants.PConst.{PConst}
 use Rattle.rn_net.specs.declared.plain.Plain.{Plain}
@@ -24,77 +24,83 @@ use Rattle.rn_net.specs.declared.plain.PPlace.{PPlace}
 use Rattle.rn_net.specs.declared.plain.PMax.{PMax}
 use Rattle.rn_net.specs.declared.plain.PTransition.{PTransition}
 use Rattle.rn_net.specs.declared.plain.PNet.{PNet}
-use Rattle.rn_net.specs.Nets.{var_of, net_of, plain_of, IsChannel, AreMoreNames, AreVars, IsKindOfPlace, IsCapacity, AreInitial, IsPlace, AreInscriptions, IsTransition, AreParts, IsNet, AreItems, IsSystem}
+use Rattle.rn_net.specs.Nets.{var_of, net_of, plain_of, IsChannel, AreMoreNames, AreVars, IsKindOfPlace, IsCapacity, AreInitial, IsPlace, IsTransition, AreParts, IsNet, AreItems, IsSystem}
 use Rattle.rn_print.specs.Nets.{channel_text, var_text, place_text, transition_text, net_text, canonical_text}
 use Rattle.rn_print.specs.SameButSpots.{name_unplaced, channel_unplaced, var_unplaced, place_unplaced, transition_unplaced, net_unplaced, unplaced}
-use Rattle.rn_net.specs.Levels.{Region, IsShallow, after}
+use Rattle.rn_net.specs.Levels.{IsShallow, after}
 use Rattle.rn_net.specs.Levels.Region.{between, declaring}
-use Rattle.rn_print.proofs.Trees.{Tree, both, bytes_in, tokens_in, Stands}
-use Rattle.rn_print.proofs.Atoms.{name_stands, close_brace_stands}
+use Rattle.rn_print.proofs.Trees.{Tree, piece, both, bytes_in, tokens_in, Stands}
+use Rattle.rn_print.proofs.Atoms.{Legal, name_stands, close_brace_stands}
 use Rattle.rn_print.proofs.Lines.{Line, Sequence, sequence}
 use Rattle.rn_print.proofs.ExpressionBack.{sign_tree}
 use Rattle.rn_print.proofs.SpelledExpressions.{AllLegal, legal}
 use Rattle.rn_print.proofs.SpelledKinds.{KindBack, PlaceKind, kind_back, listed_kinds, given_kind, absent_kind}
 use Rattle.rn_print.proofs.SpelledConstants.{constants_back}
-use Rattle.rn_print.proofs.SpelledInscriptions.{word_tree, WordSpaced, word_stands, name_tree, LegalName, form_back}
-use Rattle.rn_print.proofs.SpelledNets.{opened, opened_stands, line_end, ChannelBack, channel_back, IsVar, VarBack, var_back, kind_ends, PlaceBack, CapacityBack, no_capacity, capacity_back, InitialBack, no_initial, initial_back, place_back, LineBack, line_back, TransitionBack, transition_back}
+use Rattle.rn_print.proofs.SpelledInscriptions.{word_tree, WordSpaced, word_stands, name_tree, LegalName}
+use Rattle.rn_print.proofs.SpelledNets.{opened, opened_stands, line_end, ended, ended_stands, ChannelBack, channel_back, IsVar, VarBack, var_back, kind_ends, PlaceBack, CapacityBack, no_capacity, capacity_back, InitialBack, no_initial, initial_back, place_back}
+use Rattle.rn_print.proofs.SpelledTransitions.{all_push, all_join, past, TransitionBack, transition_line, lines_parts}
 
 net_stands : WordSpaced 0 (codes "net")
 unfolding reserved_words
 net_stands rest = IsToken.word refl refl refl
 
 -- sequences of declarations are parts of a net
-vars_are : {ts mid rest : List Token} {items vars : List PVar} {name : PName} {places : List PPlace}
+vars_are : {notation : ℕ} {ts mid rest : List Token} {items vars : List PVar} {name : PName} {places : List PPlace}
     {transitions : List PTransition} {net : PNet} → Sequence IsVar ts items mid →
-    AreParts (net_of name (vars ++ items) places transitions) mid net rest →
-    AreParts (net_of name vars places transitions) ts net rest
-vars_are {mid = mid} {rest = rest} {vars = vars} {name = name} {places = places} {transitions = transitions} {net = net} Sequence.done parts =
-    subst (λ vars. AreParts (net_of name vars places transitions) mid net rest) (append-nil vars) parts
-vars_are {mid = mid} {rest = rest} {vars = vars} {name = name} {places = places} {transitions = transitions} {net = net} (Sequence.next {item = v} {items = items} x more) parts =
+    AreParts notation (net_of name (vars ++ items) places transitions) mid net rest →
+    AreParts notation (net_of name vars places transitions) ts net rest
+vars_are {notation = notation} {mid = mid} {rest = rest} {vars = vars} {name = name} {places = places} {transitions = transitions} {net = net} Sequence.done parts =
+    subst (λ vars. AreParts notation (net_of name vars places transitions) mid net rest) (append-nil vars) parts
+vars_are {notation = notation} {mid = mid} {rest = rest} {vars = vars} {name = name} {places = places} {transitions = transitions} {net = net} (Sequence.next {item = v} {items = items} x more) parts =
     AreParts.and_vars x (vars_are more
-    (subst (λ vars. AreParts (net_of name vars places transitions) mid net rest)
+    (subst (λ vars. AreParts notation (net_of name vars places transitions) mid net rest)
     (sym (append_assoc vars (v ∷ []) items)) parts))
 
-places_are : {ts mid rest : List Token} {items places : List PPlace} {name : PName} {vars : List PVar}
+places_are : {notation : ℕ} {ts mid rest : List Token} {items places : List PPlace} {name : PName} {vars : List PVar}
     {transitions : List PTransition} {net : PNet} → Sequence IsPlace ts items mid →
-    AreParts (net_of name vars (places ++ items) transitions) mid net rest →
-    AreParts (net_of name vars places transitions) ts net rest
-places_are {mid = mid} {rest = rest} {places = places} {name = name} {vars = vars} {transitions = transitions} {net = net} Sequence.done parts =
-    subst (λ places. AreParts (net_of name vars places transitions) mid net rest) (append-nil places) parts
-places_are {mid = mid} {rest = rest} {places = places} {name = name} {vars = vars} {transitions = transitions} {net = net} (Sequence.next {item = p} {items = items} x more) parts =
+    AreParts notation (net_of name vars (places ++ items) transitions) mid net rest →
+    AreParts notation (net_of name vars places transitions) ts net rest
+places_are {notation = notation} {mid = mid} {rest = rest} {places = places} {name = name} {vars = vars} {transitions = transitions} {net = net} Sequence.done parts =
+    subst (λ places. AreParts notation (net_of name vars places transitions) mid net rest) (append-nil places) parts
+places_are {notation = notation} {mid = mid} {rest = rest} {places = places} {name = name} {vars = vars} {transitions = transitions} {net = net} (Sequence.next {item = p} {items = items} x more) parts =
     AreParts.and_place x (places_are more
-    (subst (λ places. AreParts (net_of name vars places transitions) mid net rest)
+    (subst (λ places. AreParts notation (net_of name vars places transitions) mid net rest)
     (sym (append_assoc places (p ∷ []) items)) parts))
 
-transitions_are : {ts mid rest : List Token} {items transitions : List PTransition} {name : PName}
-    {vars : List PVar} {places : List PPlace} {net : PNet} → Sequence IsTransition ts items mid →
-    AreParts (net_of name vars places (transitions ++ items)) mid net rest →
-    AreParts (net_of name vars places transitions) ts net rest
-transitions_are {mid = mid} {rest = rest} {transitions = transitions} {name = name} {vars = vars} {places = places} {net = net} Sequence.done parts =
-    subst (λ transitions. AreParts (net_of name vars places transitions) mid net rest)
+transitions_are : {notation : ℕ} {ts mid rest : List Token} {items transitions : List PTransition} {name : PName}
+    {vars : List PVar} {places : List PPlace} {net : PNet} → Sequence (IsTransition notation) ts items mid →
+    AreParts notation (net_of name vars places (transitions ++ items)) mid net rest →
+    AreParts notation (net_of name vars places transitions) ts net rest
+transitions_are {notation = notation} {mid = mid} {rest = rest} {transitions = transitions} {name = name} {vars = vars} {places = places} {net = net} Sequence.done parts =
+    subst (λ transitions. AreParts notation (net_of name vars places transitions) mid net rest)
     (append-nil transitions) parts
-transitions_are {mid = mid} {rest = rest} {transitions = transitions} {name = name} {vars = vars} {places = places} {net = net} (Sequence.next {item = t} {items = items} x more) parts =
+transitions_are {notation = notation} {mid = mid} {rest = rest} {transitions = transitions} {name = name} {vars = vars} {places = places} {net = net} (Sequence.next {item = t} {items = items} x more) parts =
     AreParts.and_transition x (transitions_are more
-    (subst (λ transitions. AreParts (net_of name vars places transitions) mid net rest)
+    (subst (λ transitions. AreParts notation (net_of name vars places transitions) mid net rest)
     (sym (append_assoc transitions (t ∷ []) items)) parts))
 
--- the text of the net is read back
-abbrev NetBack : PNet → Type 0
-NetBack n = Line IsNet net_unplaced n (net_text n)
+-- what holds of each element in a list
+all_map : {A : Type 0} (P Q : A → Type 0) (xs : List A) → ((x : A) → P x → Q x) →
+    AllByRecursion P xs → AllByRecursion Q xs
+all_map P Q [] f all = tt
+all_map P Q (x ∷ xs) f (here, all) = (f x here, all_map P Q xs f all)
 
--- the texts of its parts are
-record PartsBack (net : PNet) : Type 0 where
+-- the texts of the parts of a net are read back
+record NetBack (net : PNet) : Type 0 where
   pub name : LegalName net.name
   pub vars : AllByRecursion VarBack net.vars
   pub places : AllByRecursion PlaceBack net.places
   pub transitions : AllByRecursion TransitionBack net.transitions
 
-net_back : (net : PNet) → PartsBack net → NetBack net
-net_back net back =
+net_line : (notation : ℕ) (net : PNet) → NetBack net →
+    Line (IsNet notation) net_unplaced net (net_text notation net)
+net_line notation net back =
     let name = net.name.text in
     let v = sequence IsVar var_unplaced var_text net.vars back.vars in
     let p = sequence IsPlace place_unplaced place_text net.places back.places in
-    let r = sequence IsTransition transition_unplaced transition_text net.transitions back.transitions in
+    let r = sequence (IsTransition notation) transition_unplaced (transition_text notation) net.transitions
+    (all_map TransitionBack (λ t. Line (IsTransition notation) transition_unplaced t (transition_text notation t))
+    net.transitions (transition_line notation) back.transitions) in
     let head = both (both (word_tree 0 (codes "net")) (name_tree name)) opened in
     let close = both (sign_tree 1 (codes "}")) line_end in
     let start = codes "net " ++ name ++ codes " {\n" in record {
@@ -160,22 +166,6 @@ net_back net back =
           );
     }
 
--- lists of which each element is so
-all_push : {A : Type 0} (P : A → Type 0) (xs : List A) (y : A) → AllByRecursion P xs → P y →
-    AllByRecursion P (xs ++ y ∷ [])
-all_push P [] y all is = (is, tt)
-all_push P (x ∷ xs) y (here, all) is = (here, all_push P xs y all is)
-
-all_join : {A : Type 0} (P : A → Type 0) (xs ys : List A) → AllByRecursion P xs →
-    AllByRecursion P ys → AllByRecursion P (xs ++ ys)
-all_join P [] ys all more = more
-all_join P (x ∷ xs) ys (here, all) more = (here, all_join P xs ys all more)
-
--- past a token of a kind
-past : (r : Region) (t : Token) (ts : List Token) (kind : TokenKind) → t.kind ≡ kind →
-    IsShallow r (t ∷ ts) → IsShallow (after r kind) ts
-past r t ts kind is h = subst (λ kind. IsShallow (after r kind) ts) is h.1
-
 -- past the word, the name and the opening bracket of a channel, a net or a transition
 past_heading : (t u v : Token) (ts : List Token) (i k : TokenKind) (name : List ℕ) → t.kind ≡ i →
     u.kind ≡ Name name → v.kind ≡ k → IsShallow between (t ∷ u ∷ v ∷ ts) →
@@ -237,25 +227,16 @@ one_place (IsPlace.place {t = t} {u = u} {v = v} {ts = ts} {mid = mid} {us = us}
     (past (declaring 0) u ts (Name name) a (past between t (u ∷ ts) place_word is s)) in
     (r.0, q.1.1, r.1)
 
-lines_back : {before items : List PInscription} {ts rest : List Token} →
-    AreInscriptions before ts items rest → AllByRecursion LineBack before → AllLegal ts →
-    IsShallow between ts → AllByRecursion LineBack items × AllLegal rest × IsShallow between rest
-lines_back AreInscriptions.no_more_inscriptions back h s = (back, h, s)
-lines_back (AreInscriptions.more_inscriptions {t = t} {u = u} {ts = ts} {mid = mid} {before = before} {form = form} x e m) back h s =
-    let p = form_back x h in
-    let r = line_back form t.spot u (t ∷ ts) mid x e p.0 s in
-    lines_back m
-    (all_push LineBack before (record { form = form; spot = t.spot }) back r.0) p.1.1 r.1
+one_transition : {notation : ℕ} {ts rest : List Token} {t : PTransition} →
+    IsTransition notation ts t rest → AllLegal ts → IsShallow between ts →
+    TransitionBack t × AllLegal rest × IsShallow between rest
+one_transition (IsTransition.transition {t = t} {u = u} {v = v} {w = w} {ts = ts} {rest = rest} {name = name} is a b m e) h s =
+    let p = lines_parts m tt h.1.1.1 (past_heading t u v ts trans_word open_brace name is a b s) in
+    ((legal a h.1.0, p.0), p.1.1, past between w rest close_brace e p.2)
 
-one_transition : {ts rest : List Token} {t : PTransition} → IsTransition ts t rest → AllLegal ts →
-    IsShallow between ts → TransitionBack t × AllLegal rest × IsShallow between rest
-one_transition (IsTransition.transition {t = t} {u = u} {v = v} {w = w} {ts = ts} {rest = rest} {name = name} {inscriptions = items} is a b m e) h s =
-    let p = lines_back m tt h.1.1.1 (past_heading t u v ts trans_word open_brace name is a b s) in
-    (transition_back (name_at u.spot name) items (legal a h.1.0) p.0, p.1.1, past between w rest close_brace e p.2)
-
-parts_back : {start net : PNet} {ts rest : List Token} → AreParts start ts net rest →
-    PartsBack start → AllLegal ts → IsShallow between ts →
-    PartsBack net × AllLegal rest × IsShallow between rest
+parts_back : {notation : ℕ} {start net : PNet} {ts rest : List Token} →
+    AreParts notation start ts net rest → NetBack start → AllLegal ts → IsShallow between ts →
+    NetBack net × AllLegal rest × IsShallow between rest
 parts_back AreParts.no_more_parts back h s = (back, h, s)
 parts_back (AreParts.and_vars {vars = vars} {more = more} x m) back h s =
     let p = vars_back x h s in
@@ -282,13 +263,13 @@ parts_back (AreParts.and_transition {transitions = transitions} {transition = t}
       transitions = all_push TransitionBack transitions t back.transitions p.0;
     }) p.1 p.2
 
-one_net : {ts rest : List Token} {net : PNet} → IsNet ts net rest → AllLegal ts →
+one_net : {notation : ℕ} {ts rest : List Token} {net : PNet} → IsNet notation ts net rest → AllLegal ts →
     IsShallow between ts → NetBack net × AllLegal rest × IsShallow between rest
 one_net (IsNet.net {t = t} {u = u} {v = v} {w = w} {ts = ts} {rest = rest} {name = name} {parts = net} is a b m e) h s =
     let p = parts_back m
     (record { name = legal a h.1.0; vars = tt; places = tt; transitions = tt }) h.1.1.1
     (past_heading t u v ts net_word open_brace name is a b s) in
-    (net_back net p.0, p.1.1, past between w rest close_brace e p.2)
+    (p.0, p.1.1, past between w rest close_brace e p.2)
 
 one_channel : {ts rest : List Token} {c : PChannel} → IsChannel ts c rest → AllLegal ts →
     IsShallow between ts → ChannelBack c × AllLegal rest × IsShallow between rest
@@ -303,8 +284,8 @@ record PlainBack (plain : Plain) : Type 0 where
   pub channels : AllByRecursion ChannelBack plain.channels
   pub nets : AllByRecursion NetBack plain.nets
 
-items_back : {start plain : Plain} {ts : List Token} → AreItems start ts plain → PlainBack start →
-    AllLegal ts → IsShallow between ts → PlainBack plain
+items_back : {notation : ℕ} {start plain : Plain} {ts : List Token} →
+    AreItems notation start ts plain → PlainBack start → AllLegal ts → IsShallow between ts → PlainBack plain
 items_back AreItems.no_more_items back h s = back
 items_back (AreItems.and_channel {channels = channels} {channel = c} x m) back h s =
     let p = one_channel x h s in
@@ -327,72 +308,144 @@ not_nil : {A : Type 0} (xs : List A) (x : A) → xs ++ x ∷ [] ≡ [] → ⊥
 not_nil [] x e = cc
 not_nil (y ∷ xs) x e = cc
 
-stays : {start plain : Plain} {ts : List Token} → AreItems start ts plain → HasItem start →
-    HasItem plain
+stays : {notation : ℕ} {start plain : Plain} {ts : List Token} →
+    AreItems notation start ts plain → HasItem start → HasItem plain
 stays AreItems.no_more_items some = some
 stays (AreItems.and_channel {channels = channels} {channel = c} x m) some =
     stays m (λ e f. not_nil channels c e)
 stays (AreItems.and_net {nets = nets} {net = net} x m) some = stays m (λ e f. not_nil nets net f)
 
-has_item : {tokens : List Token} {plain : Plain} → IsSystem tokens plain → HasItem plain
-has_item (IsSystem.system (AreItems.and_channel {channels = channels} {channel = c} x m)) =
+some_item : {notation : ℕ} {t : Token} {ts : List Token} {start plain : Plain} →
+    AreItems notation start (t ∷ ts) plain → HasItem plain
+some_item (AreItems.and_channel {channels = channels} {channel = c} x m) =
     stays m (λ e f. not_nil channels c e)
-has_item (IsSystem.system (AreItems.and_net {nets = nets} {net = net} x m)) =
+some_item (AreItems.and_net {nets = nets} {net = net} x m) =
     stays m (λ e f. not_nil nets net f)
 
-system_back : {tokens : List Token} {plain : Plain} → IsSystem tokens plain → AllLegal tokens →
-    IsShallow between tokens → PlainBack plain
-system_back (IsSystem.system m) h s = items_back m (record { channels = tt; nets = tt }) h s
+-- the notation of what is read stays
+abbrev pub IsNotation : ℕ → Type 0
+IsNotation notation = (notation ≡ 1) ⊎ (notation ≡ 2)
+
+notation_stays : {notation : ℕ} {start plain : Plain} {ts : List Token} →
+    AreItems notation start ts plain → start.notation ≡ notation → plain.notation ≡ notation
+notation_stays AreItems.no_more_items is = is
+notation_stays (AreItems.and_channel x m) is = notation_stays m refl
+notation_stays (AreItems.and_net x m) is = notation_stays m refl
+
+-- what is known of a system that some tokens stand for
+record Known (plain : Plain) : Type 0 where
+  pub back : PlainBack plain
+  pub some : HasItem plain
+
+known : {tokens : List Token} {plain : Plain} → IsSystem tokens plain → AllLegal tokens →
+    IsShallow between tokens → Known plain
+known (IsSystem.first m) h s = record {
+  back = items_back m (record { channels = tt; nets = tt }) h s;
+  some = some_item m;
+}
+known (IsSystem.second {t = t} {u = u} {v = v} {w = w} {ts = ts} is a b m) h s =
+    let one = past between t (u ∷ v ∷ w ∷ ts) notation_name is s in
+    let two = past (after between notation_name) u (v ∷ w ∷ ts) (Number (pos 2)) a one in
+    let three = past (after (after between notation_name) (Number (pos 2))) v (w ∷ ts) semicolon b two in
+    record {
+      back = items_back m (record { channels = tt; nets = tt }) h.1.1.1 three;
+      some = some_item m;
+    }
+
+pub notation_of : {tokens : List Token} {plain : Plain} → IsSystem tokens plain →
+    IsNotation plain.notation
+notation_of (IsSystem.first m) = inl (notation_stays m refl)
+notation_of (IsSystem.second is a b m) = inr (notation_stays m refl)
 
 -- sequences of channels and nets are a system
-channels_are : {ts mid : List Token} {items channels : List PChannel} {nets : List PNet}
+channels_are : {notation : ℕ} {ts mid : List Token} {items channels : List PChannel} {nets : List PNet}
     {plain : Plain} → Sequence IsChannel ts items mid →
-    AreItems (plain_of (channels ++ items) nets) mid plain →
-    AreItems (plain_of channels nets) ts plain
-channels_are {mid = mid} {channels = channels} {nets = nets} {plain = plain} Sequence.done m =
-    subst (λ channels. AreItems (plain_of channels nets) mid plain) (append-nil channels) m
-channels_are {mid = mid} {channels = channels} {nets = nets} {plain = plain} (Sequence.next {item = c} {items = items} x more) m =
+    AreItems notation (plain_of notation (channels ++ items) nets) mid plain →
+    AreItems notation (plain_of notation channels nets) ts plain
+channels_are {notation = notation} {mid = mid} {channels = channels} {nets = nets} {plain = plain} Sequence.done m =
+    subst (λ channels. AreItems notation (plain_of notation channels nets) mid plain) (append-nil channels) m
+channels_are {notation = notation} {mid = mid} {channels = channels} {nets = nets} {plain = plain} (Sequence.next {item = c} {items = items} x more) m =
     AreItems.and_channel x (channels_are more
-    (subst (λ channels. AreItems (plain_of channels nets) mid plain)
+    (subst (λ channels. AreItems notation (plain_of notation channels nets) mid plain)
     (sym (append_assoc channels (c ∷ []) items)) m))
 
-nets_are : {ts mid : List Token} {items nets : List PNet} {channels : List PChannel}
-    {plain : Plain} → Sequence IsNet ts items mid →
-    AreItems (plain_of channels (nets ++ items)) mid plain →
-    AreItems (plain_of channels nets) ts plain
-nets_are {mid = mid} {nets = nets} {channels = channels} {plain = plain} Sequence.done m =
-    subst (λ nets. AreItems (plain_of channels nets) mid plain) (append-nil nets) m
-nets_are {mid = mid} {nets = nets} {channels = channels} {plain = plain} (Sequence.next {item = n} {items = items} x more) m =
+nets_are : {notation : ℕ} {ts mid : List Token} {items nets : List PNet} {channels : List PChannel}
+    {plain : Plain} → Sequence (IsNet notation) ts items mid →
+    AreItems notation (plain_of notation channels (nets ++ items)) mid plain →
+    AreItems notation (plain_of notation channels nets) ts plain
+nets_are {notation = notation} {mid = mid} {nets = nets} {channels = channels} {plain = plain} Sequence.done m =
+    subst (λ nets. AreItems notation (plain_of notation channels nets) mid plain) (append-nil nets) m
+nets_are {notation = notation} {mid = mid} {nets = nets} {channels = channels} {plain = plain} (Sequence.next {item = n} {items = items} x more) m =
     AreItems.and_net x (nets_are more
-    (subst (λ nets. AreItems (plain_of channels nets) mid plain)
+    (subst (λ nets. AreItems notation (plain_of notation channels nets) mid plain)
     (sym (append_assoc nets (n ∷ []) items)) m))
-
-begun : {ts : List Token} {plain : Plain} → (t : Token) (us : List Token) → ts ≡ t ∷ us →
-    AreItems (plain_of [] []) ts plain → IsSystem ts plain
-begun {plain = plain} t us e m =
-    subst (λ ts. IsSystem ts plain) (sym e)
-    (IsSystem.system (subst (λ ts. AreItems (plain_of [] []) ts plain) e m))
 
 channel_begins : {ts rest : List Token} {c : PChannel} → IsChannel ts c rest →
     (t : Token) × (us : List Token) × (ts ≡ t ∷ us)
 channel_begins (IsChannel.channel is a b x e) = (_, _, refl)
 
-net_begins : {ts rest : List Token} {n : PNet} → IsNet ts n rest →
+net_begins : {notation : ℕ} {ts rest : List Token} {n : PNet} → IsNet notation ts n rest →
     (t : Token) × (us : List Token) × (ts ≡ t ∷ us)
 net_begins (IsNet.net is a b m e) = (_, _, refl)
 
-system_of : {ts mid : List Token} {cs : List PChannel} {ns : List PNet} →
-    Sequence IsChannel ts cs mid → Sequence IsNet mid ns [] → (cs ≡ [] → ns ≡ [] → ⊥) →
-    AreItems (plain_of [] []) ts (plain_of cs ns) → IsSystem ts (plain_of cs ns)
-system_of (Sequence.next x more) others some m =
-    let b = channel_begins x in begun b.0 b.1 b.2 m
-system_of Sequence.done (Sequence.next x more) some m =
-    let b = net_begins x in begun b.0 b.1 b.2 m
-system_of Sequence.done Sequence.done some m = absurd (some refl refl)
+begun : {notation : ℕ} {ts mid : List Token} {cs : List PChannel} {ns : List PNet} →
+    Sequence IsChannel ts cs mid → Sequence (IsNet notation) mid ns [] →
+    (cs ≡ [] → ns ≡ [] → ⊥) → (t : Token) × (us : List Token) × (ts ≡ t ∷ us)
+begun (Sequence.next x more) others some = channel_begins x
+begun Sequence.done (Sequence.next x more) some = net_begins x
+begun Sequence.done Sequence.done some = absurd (some refl refl)
 
 map_nil : {A B : Type 0} (f : A → B) (xs : List A) → map f xs ≡ [] → xs ≡ []
 map_nil f [] e = refl
 map_nil f (x ∷ xs) e = absurd (let no : ⊥ = cc in no)
+
+-- the channels and nets of a canonical text, wherever they begin
+record ItemsBack (notation : ℕ) (plain : Plain) : Type 0 where
+  pub tree : Tree
+  pub spells : bytes_in tree
+      ≡ flat_map channel_text plain.channels ++ flat_map (net_text notation) plain.nets
+  pub stands : Stands tree []
+  pub means : (before : List ℕ) →
+      (other : Plain) × (t : Token) × (us : List Token) × (tokens_in before tree [] ≡ t ∷ us)
+      × AreItems notation (plain_of notation [] []) (t ∷ us) other
+      × (unplaced other ≡ unplaced (plain_of notation plain.channels plain.nets))
+  pub within : (before : List ℕ) → IsShallow between (tokens_in before tree [])
+
+written : (notation : ℕ) (plain : Plain) → PlainBack plain → HasItem plain →
+    ItemsBack notation plain
+written notation plain back some =
+    let c = sequence IsChannel channel_unplaced channel_text plain.channels back.channels in
+    let n = sequence (IsNet notation) net_unplaced (net_text notation) plain.nets
+    (all_map NetBack (λ n. Line (IsNet notation) net_unplaced n (net_text notation n)) plain.nets
+    (net_line notation) back.nets) in
+    record {
+      tree = both c.tree n.tree;
+      spells =
+          ap (λ t. t ++ bytes_in n.tree) c.spells
+          ∙ ap (λ t. flat_map channel_text plain.channels ++ t) n.spells;
+      stands = (c.stands (bytes_in n.tree ++ []), n.stands []);
+      means = λ before.
+          let o = n.means (before ++ bytes_in c.tree) [] in
+          let m = c.means before (tokens_in (before ++ bytes_in c.tree) n.tree []) in
+          let b = begun m.1 o.1 (λ e f. some
+          (map_nil channel_unplaced plain.channels (sym m.2 ∙ ap (map channel_unplaced) e))
+          (map_nil net_unplaced plain.nets (sym o.2 ∙ ap (map net_unplaced) f))) in
+          let whole : AreItems notation (plain_of notation [] [])
+          (tokens_in before c.tree (tokens_in (before ++ bytes_in c.tree) n.tree []))
+          (plain_of notation m.0 o.0) =
+          channels_are m.1 (nets_are o.1 AreItems.no_more_items) in (
+            plain_of notation m.0 o.0,
+            b.0,
+            b.1,
+            b.2,
+            subst (λ ts. AreItems notation (plain_of notation [] []) ts (plain_of notation m.0 o.0)) b.2 whole,
+            ap (λ cs. plain_of notation cs (map net_unplaced o.0)) m.2
+                ∙ ap (λ ns. plain_of notation (map channel_unplaced plain.channels) ns) o.2,
+          );
+      within = λ before.
+          c.shallow before (tokens_in (before ++ bytes_in c.tree) n.tree [])
+          (n.shallow (before ++ bytes_in c.tree) [] tt);
+    }
 
 -- The canonical text of a system that some tokens within the limits stand for is such tokens of the
 -- same system but for spots.
@@ -405,29 +458,62 @@ pub record IsReadBack (plain : Plain) : Type 0 where
   pub same : unplaced other ≡ unplaced plain
   pub within : IsShallow between (tokens_in [] tree [])
 
-pub reads_back : {tokens : List Token} {plain : Plain} → IsSystem tokens plain → AllLegal tokens →
-    IsShallow between tokens → IsReadBack plain
-reads_back {plain = plain} is h s =
-    let back = system_back is h s in
-    let c = sequence IsChannel channel_unplaced channel_text plain.channels back.channels in
-    let n = sequence IsNet net_unplaced net_text plain.nets back.nets in
-    let o = n.means (bytes_in c.tree) [] in
-    let m = c.means [] (tokens_in (bytes_in c.tree) n.tree []) in
-    record {
-      tree = both c.tree n.tree;
-      spells =
-          ap (λ t. t ++ bytes_in n.tree) c.spells
-          ∙ ap (λ t. flat_map channel_text plain.channels ++ t) n.spells;
-      stands = (c.stands (bytes_in n.tree ++ []), n.stands []);
-      other = plain_of m.0 o.0;
-      system = system_of m.1 o.1
-          (λ e f. has_item is
-          (map_nil channel_unplaced plain.channels (sym m.2 ∙ ap (map channel_unplaced) e))
-          (map_nil net_unplaced plain.nets (sym o.2 ∙ ap (map net_unplaced) f)))
-          (channels_are m.1 (nets_are o.1 AreItems.no_more_items));
-      same =
-          ap (λ cs. plain_of cs (map net_unplaced o.0)) m.2
-          ∙ ap (λ ns. plain_of (map channel_unplaced plain.channels) ns) o.2;
-      within =
-          c.shallow [] (tokens_in (bytes_in c.tree) n.tree []) (n.shallow (bytes_in c.tree) [] tt);
+-- `notation 2;`
+abbrev heading : Tree
+heading =
+    both (both (name_tree (codes "notation")) (piece (gap (codes " "))))
+    (both (piece (token (Number (pos 2)) (codes "2"))) ended)
+
+notation_is_legal : Legal notation_name
+unfolding reserved_words
+notation_is_legal = (refl, refl)
+
+heading_stands : (rest : List ℕ) → Stands heading rest
+heading_stands rest =
+    let low : 2 ≤ greatest_number = omega arith in (
+      (name_stands (codes "notation") (codes " 2;\n" ++ rest) notation_is_legal refl, IsGap.blank refl),
+      (IsToken.number refl refl low, ended_stands rest),
+    )
+
+in_first : (plain : Plain) → ItemsBack 1 plain → IsReadBack (plain_of 1 plain.channels plain.nets)
+in_first plain r =
+    let m = r.means [] in record {
+      tree = r.tree;
+      spells = r.spells;
+      stands = r.stands;
+      other = m.0;
+      system = subst (λ ts. IsSystem ts m.0) (sym m.3) (IsSystem.first m.4);
+      same = m.5;
+      within = r.within [];
     }
+
+in_second : (plain : Plain) → ItemsBack 2 plain →
+    IsReadBack (plain_of 2 plain.channels plain.nets)
+in_second plain r =
+    let first = codes "notation 2;\n" in
+    let m = r.means first in
+    let t = token_after [] notation_name (codes "notation") in
+    let u = token_after (codes "notation ") (Number (pos 2)) (codes "2") in
+    let v = token_after (codes "notation 2") semicolon (codes ";") in record {
+      tree = both heading r.tree;
+      spells = ap (λ t. first ++ t) r.spells;
+      stands = (heading_stands (bytes_in r.tree ++ []), r.stands);
+      other = m.0;
+      system =
+          subst (λ ts. IsSystem (t ∷ u ∷ v ∷ ts) m.0) (sym m.3) (IsSystem.second refl refl refl m.4);
+      same = m.5;
+      within = (refl, (refl, (refl, r.within first)));
+    }
+
+-- in either notation
+pub reads_back : {tokens : List Token} {plain : Plain} → IsSystem tokens plain → AllLegal tokens →
+    IsShallow between tokens → (notation : ℕ) → IsNotation notation →
+    IsReadBack (plain_of notation plain.channels plain.nets)
+reads_back {plain = plain} is h s notation (inl one) =
+    let k = known is h s in
+    subst (λ notation. IsReadBack (plain_of notation plain.channels plain.nets)) (sym one)
+    (in_first plain (written 1 plain k.back k.some))
+reads_back {plain = plain} is h s notation (inr two) =
+    let k = known is h s in
+    subst (λ notation. IsReadBack (plain_of notation plain.channels plain.nets)) (sym two)
+    (in_second plain (written 2 plain k.back k.some))

@@ -5,9 +5,9 @@ use Rattle.rn_net.specs.declared.plain.Plain.{Plain}
 use Rattle.rn_net.specs.declared.refusal.Refusal.{Refusal}
 use Rattle.rn_net.specs.Refusals.{IsRefused}
 use Rattle.rn_net.specs.Texts.{Spells}
-use Rattle.rn_print.specs.Nets.{canonical_text}
+use Rattle.rn_print.specs.Nets.{canonical_text, in_notation}
 use Rattle.rn_print.specs.SameButSpots.{SameButSpots}
-use Rattle.rn_print.specs.ReadingBack.{IsSpelled, IsReadBack}
+use Rattle.rn_print.specs.ReadingBack.{IsSpelled, IsReadBack, SpellsButSpots}
 
 -- Where some text spells a plain form, but for its spots, its canonical text does so, unless it is
 -- longer than a net text may be.
@@ -39,3 +39,11 @@ abbrev pub TextsAreNotRefused : Type 0
 TextsAreNotRefused = (plain : Plain) (refusal : Refusal) → IsSpelled plain →
     length (canonical_text plain) ≤ longest_net_text →
     IsRefused (canonical_text plain) refusal → ⊥
+
+-- Where some text spells a plain form, but for its spots, the canonical text of the same channels
+-- and nets in notation 2, if it is no longer than a net text may be, spells these in that notation,
+-- but for their spots.
+abbrev pub MigratedTextsAreRead : Type 0
+MigratedTextsAreRead = (plain : Plain) → IsSpelled plain →
+    length (canonical_text (in_notation 2 plain)) ≤ longest_net_text →
+    SpellsButSpots (canonical_text (in_notation 2 plain)) (in_notation 2 plain)

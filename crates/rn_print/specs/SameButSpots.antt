@@ -108,14 +108,15 @@ transition_unplaced transition =
     transition_of (name_unplaced transition.name)
     (map inscription_unplaced transition.inscriptions)
 
--- of a net and of a system
+-- of a net and of a system, whose notation is kept
 abbrev pub net_unplaced : PNet → PNet
 net_unplaced net =
     net_of (name_unplaced net.name) (map var_unplaced net.vars) (map place_unplaced net.places)
     (map transition_unplaced net.transitions)
 
 abbrev pub unplaced : Plain → Plain
-unplaced plain = plain_of (map channel_unplaced plain.channels) (map net_unplaced plain.nets)
+unplaced plain =
+    plain_of plain.notation (map channel_unplaced plain.channels) (map net_unplaced plain.nets)
 
 -- the two plain forms are the same but for their spots
 abbrev pub SameButSpots : Plain → Plain → Type 0

@@ -1,6 +1,7 @@
 //! The text of inscriptions.
 ghost use Rattle.std.specs.Prelude.{◌≡◌, ◌++◌, OnOk};
 ghost use Rattle.rn_print.specs.Inscriptions.{arc_word, after_place, call_text, inscribed_text};
+ghost use Rattle.rn_print.specs.Nets.{go_together, added_text};
 
 use crate::conditions::put_cond;
 use crate::expressions::{put_expr, put_exprs};
@@ -10,18 +11,18 @@ use rn_items::NoMemory;
 use rn_model::ArcKind;
 use std::alloc::Global;
 
-fn put_arc_word(kind: ArcKind, out: &mut Vec<u8>) -> Result<(), NoMemory>
-    ensures { OnOk result (out.new.items ≡ out.old.items ++ arc_word kind) }
+fn arc_word(kind: ArcKind) -> &'static [u8]
+    ensures { result.now ≡ arc_word kind }
 {
     match kind {
-        ArcKind::Input => put(b"in ", out),
-        ArcKind::Output => put(b"out ", out),
-        ArcKind::Test => put(b"test ", out),
-        ArcKind::Reserve => put(b"reserve ", out),
-        ArcKind::FlexInput => put(b"flexin ", out),
-        ArcKind::FlexOutput => put(b"flexout ", out),
-        ArcKind::Inhibit => put(b"inhibit ", out),
-        ArcKind::Clear => put(b"clear ", out),
+        ArcKind::Input => b"in ",
+        ArcKind::Output => b"out ",
+        ArcKind::Test => b"test ",
+        ArcKind::Reserve => b"reserve ",
+        ArcKind::FlexInput => b"flexin ",
+        ArcKind::FlexOutput => b"flexout ",
+        ArcKind::Inhibit => b"inhibit ",
+        ArcKind::Clear => b"clear ",
     }
 }
 
@@ -68,7 +69,7 @@ pub(crate) fn put_inscribed(
             place,
             inscription,
         } => {
-            put_arc_word(*kind, out)?;
+            put(arc_word(*kind), out)?;
             put_text(&place.text, out)?;
             put_after_place(alloc, inscription, out)
         }
@@ -109,5 +110,42 @@ pub(crate) fn put_inscribed(
             put(b" = ", out)?;
             put_expr(alloc, b, out)
         }
+    }
+}
+
+/// Whether two inscriptions are arcs with one word and one place, each with an expression.
+pub(crate) fn go_together(before: &PInscribed, item: &PInscribed) -> bool
+    ensures { result ≡ go_together before.now item.now }
+{
+    match before {
+        PInscribed::Arc {
+            kind,
+            place,
+            inscription: Some(_),
+        } => match item {
+            PInscribed::Arc {
+                kind: other,
+                place: name,
+                inscription: Some(_),
+            } => arc_word(*kind) == arc_word(*other) && place.text == name.text,
+            _ => false,
+        },
+        _ => false,
+    }
+}
+
+/// Appends what an inscription adds to the line of the one before it.
+pub(crate) fn put_added(alloc: Global, form: &PInscribed, out: &mut Vec<u8>) -> Result<(), NoMemory>
+    ensures { OnOk result (out.new.items ≡ out.old.items ++ added_text form.now) }
+{
+    match form {
+        PInscribed::Arc {
+            inscription: Some(expr),
+            ..
+        } => {
+            put(b", ", out)?;
+            put_expr(alloc, expr, out)
+        }
+        _ => Ok(()),
     }
 }

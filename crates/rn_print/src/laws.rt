@@ -1,6 +1,7 @@
 //! Laws of canonical texts.
 ghost use Rattle.rn_print.specs.Laws.{SpotsDoNotCount, TextsAreFixed, TextsAreNotRefused};
 ghost use Rattle.rn_print.specs.Laws.{TextsAreReadBack, TextsTellApart, WhatIsReadIsSame};
+ghost use Rattle.rn_print.specs.Laws.{MigratedTextsAreRead};
 
 use rn_net::net_laws;
 
@@ -14,6 +15,7 @@ pub fn printing_laws()
     ensures texts_tell_apart { TextsTellApart }
     ensures what_is_read { WhatIsReadIsSame }
     ensures not_refused { TextsAreNotRefused }
+    ensures migrated_texts_are_read { MigratedTextsAreRead }
 {
     net_laws();
 }

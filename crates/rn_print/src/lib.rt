@@ -11,4 +11,4 @@ mod nets;
 mod pieces;
 
 pub use laws::printing_laws;
-pub use nets::print_system;
+pub use nets::{print_in, print_system};

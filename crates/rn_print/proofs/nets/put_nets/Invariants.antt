@@ -6,4 +6,4 @@ use Rattle.rn_print.proofs.nets.put_nets.Given as goal
 
 abbrev pub invariant-loop-net : goal.invariant-loop-net
 invariant-loop-net l =
-    l.out.items ≡ l.initial.out.items ++ flat_map net_text (take l.net-index l.nets)
+    l.out.items ≡ l.initial.out.items ++ flat_map (net_text l.notation) (take l.net-index l.nets)

@@ -6,4 +6,4 @@ use Rattle.rn_print.proofs.nets.put_transitions.Given as goal
 
 abbrev pub invariant-loop-transition : goal.invariant-loop-transition
 invariant-loop-transition l =
-    l.out.items ≡ l.initial.out.items ++ flat_map transition_text (take l.transition-index l.transitions)
+    l.out.items ≡ l.initial.out.items ++ flat_map (transition_text l.notation) (take l.transition-index l.transitions)
