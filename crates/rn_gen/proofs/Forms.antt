@@ -238,5 +238,5 @@ unfoldable pub workload_kinds : ℤ → Kinds
 workload_kinds z = go_kinds (done_kinds (main_kinds z (worker_kinds [])))
 
 unfoldable pub workload_form : ℤ → Stream → Plain
-workload_form z at = plain_of (go_channel at ∷ done_channel (past 6 at) ∷ [])
+workload_form z at = plain_of 1 (go_channel at ∷ done_channel (past 6 at) ∷ [])
     (main z (past 11 at) ∷ worker (past 109 at) ∷ [])

@@ -10,7 +10,7 @@ use Rattle.rn_inscript.specs.Signs.{open_paren, close_paren, close_brace}
 use Rattle.rn_net.specs.declared.kinds.PKindForm.TheVariants as K
 use Rattle.rn_net.specs.Kinds.{IsKind, AreListed, AreKinds, AreMoreKinds, kind_at}
 use Rattle.rn_net.specs.Constants.{IsConstant, AreConstants, AreMoreConstants}
-use Rattle.rn_net.specs.Nets.{IsChannel, AreMoreNames, AreVars, IsKindOfPlace, IsCapacity, AreInitial, IsPlace, AreInscriptions, IsTransition, AreParts, IsNet, AreItems, IsSystem}
+use Rattle.rn_net.specs.Nets.{IsChannel, AreMoreNames, AreVars, IsKindOfPlace, IsCapacity, AreInitial, IsPlace, AreInscribed, AreInscriptions, IsTransition, AreParts, IsNet, AreItems, IsSystem}
 use Rattle.rn_gen.proofs.Streams.{with_kinds, past}
 use Rattle.rn_gen.proofs.Forms.{Kinds, Stream, go_kinds, go_channel, done_kinds, done_channel, int_var_kinds, int_var, net_var_kinds, net_var, int_place_kinds, int_place, net_place_kinds, net_place, make_kinds, make, step_kinds, step, finish_kinds, finish, go_on_kinds, go_on, be_done_kinds, be_done, main_kinds, main, worker_kinds, worker, workload_kinds, workload_form}
 
@@ -82,76 +82,76 @@ net_place_reads p at more =
     AreInitial.none refl
 
 make_reads : (at : Stream) (more : Kinds) →
-    IsTransition (with_kinds at (make_kinds more)) (make at) (with_kinds (past 31 at) more)
+    IsTransition 1 (with_kinds at (make_kinds more)) (make at) (with_kinds (past 31 at) more)
 unfolding make_kinds make
 make_reads at more =
     IsTransition.transition refl refl refl
-    (AreInscriptions.more_inscriptions (IsInscribed.arc refl refl refl (var_alone refl)) refl
+    (AreInscriptions.more_inscriptions (AreInscribed.one (IsInscribed.arc refl refl refl (var_alone refl))) refl
     (AreInscriptions.more_inscriptions
-    (IsInscribed.guard refl (IsCond.any (IsAlternatives.alternatives
+    (AreInscribed.one (IsInscribed.guard refl (IsCond.any (IsAlternatives.alternatives
     (IsBoth.both (IsSimple.compare (var_alone refl) refl (int_alone refl)) IsMoreBoth.no_more_both)
-    IsMoreAlternatives.no_more_alternatives))) refl
-    (AreInscriptions.more_inscriptions (IsInscribed.creation refl refl refl refl) refl
+    IsMoreAlternatives.no_more_alternatives)))) refl
+    (AreInscriptions.more_inscriptions (AreInscribed.one (IsInscribed.creation refl refl refl refl)) refl
     (AreInscriptions.more_inscriptions
-    (IsInscribed.arc refl refl refl
-    (IsExpr.sum (var_product refl) (IsTerms.more_terms refl (int_product refl) IsTerms.no_more_terms)))
+    (AreInscribed.one (IsInscribed.arc refl refl refl
+    (IsExpr.sum (var_product refl) (IsTerms.more_terms refl (int_product refl) IsTerms.no_more_terms))))
     refl
-    (AreInscriptions.more_inscriptions (IsInscribed.arc refl refl refl (var_alone refl)) refl
+    (AreInscriptions.more_inscriptions (AreInscribed.one (IsInscribed.arc refl refl refl (var_alone refl))) refl
     AreInscriptions.no_more_inscriptions)))))
     refl
 
 step_reads : (at : Stream) (more : Kinds) →
-    IsTransition (with_kinds at (step_kinds more)) (step at) (with_kinds (past 21 at) more)
+    IsTransition 1 (with_kinds at (step_kinds more)) (step at) (with_kinds (past 21 at) more)
 unfolding step_kinds step
 step_reads at more =
     IsTransition.transition refl refl refl
-    (AreInscriptions.more_inscriptions (IsInscribed.arc refl refl refl (var_alone refl)) refl
+    (AreInscriptions.more_inscriptions (AreInscribed.one (IsInscribed.arc refl refl refl (var_alone refl))) refl
     (AreInscriptions.more_inscriptions
-    (IsInscribed.downlink refl refl (call_of_var refl refl refl refl)) refl
-    (AreInscriptions.more_inscriptions (IsInscribed.arc refl refl refl (var_alone refl)) refl
+    (AreInscribed.one (IsInscribed.downlink refl refl (call_of_var refl refl refl refl))) refl
+    (AreInscriptions.more_inscriptions (AreInscribed.one (IsInscribed.arc refl refl refl (var_alone refl))) refl
     AreInscriptions.no_more_inscriptions)))
     refl
 
 finish_reads : (at : Stream) (more : Kinds) →
-    IsTransition (with_kinds at (finish_kinds more)) (finish at) (with_kinds (past 15 at) more)
+    IsTransition 1 (with_kinds at (finish_kinds more)) (finish at) (with_kinds (past 15 at) more)
 unfolding finish_kinds finish
 finish_reads at more =
     IsTransition.transition refl refl refl
-    (AreInscriptions.more_inscriptions (IsInscribed.arc refl refl refl (var_alone refl)) refl
+    (AreInscriptions.more_inscriptions (AreInscribed.one (IsInscribed.arc refl refl refl (var_alone refl))) refl
     (AreInscriptions.more_inscriptions
-    (IsInscribed.downlink refl refl (call_of_none refl refl refl)) refl
+    (AreInscribed.one (IsInscribed.downlink refl refl (call_of_none refl refl refl))) refl
     AreInscriptions.no_more_inscriptions))
     refl
 
 go_on_reads : (at : Stream) (more : Kinds) →
-    IsTransition (with_kinds at (go_on_kinds more)) (go_on at) (with_kinds (past 27 at) more)
+    IsTransition 1 (with_kinds at (go_on_kinds more)) (go_on at) (with_kinds (past 27 at) more)
 unfolding go_on_kinds go_on
 go_on_reads at more =
     IsTransition.transition refl refl refl
-    (AreInscriptions.more_inscriptions (IsInscribed.uplink refl (call_of_var refl refl refl refl)) refl
-    (AreInscriptions.more_inscriptions (IsInscribed.arc refl refl refl (var_alone refl)) refl
+    (AreInscriptions.more_inscriptions (AreInscribed.one (IsInscribed.uplink refl (call_of_var refl refl refl refl))) refl
+    (AreInscriptions.more_inscriptions (AreInscribed.one (IsInscribed.arc refl refl refl (var_alone refl))) refl
     (AreInscriptions.more_inscriptions
-    (IsInscribed.guard refl (IsCond.any (IsAlternatives.alternatives
+    (AreInscribed.one (IsInscribed.guard refl (IsCond.any (IsAlternatives.alternatives
     (IsBoth.both (IsSimple.compare (var_alone refl) refl (int_alone refl)) IsMoreBoth.no_more_both)
-    IsMoreAlternatives.no_more_alternatives))) refl
+    IsMoreAlternatives.no_more_alternatives)))) refl
     (AreInscriptions.more_inscriptions
-    (IsInscribed.arc refl refl refl
-    (IsExpr.sum (var_product refl) (IsTerms.more_terms refl (int_product refl) IsTerms.no_more_terms)))
+    (AreInscribed.one (IsInscribed.arc refl refl refl
+    (IsExpr.sum (var_product refl) (IsTerms.more_terms refl (int_product refl) IsTerms.no_more_terms))))
     refl AreInscriptions.no_more_inscriptions))))
     refl
 
 be_done_reads : (at : Stream) (more : Kinds) →
-    IsTransition (with_kinds at (be_done_kinds more)) (be_done at) (with_kinds (past 14 at) more)
+    IsTransition 1 (with_kinds at (be_done_kinds more)) (be_done at) (with_kinds (past 14 at) more)
 unfolding be_done_kinds be_done
 be_done_reads at more =
     IsTransition.transition refl refl refl
-    (AreInscriptions.more_inscriptions (IsInscribed.uplink refl (call_of_none refl refl refl)) refl
-    (AreInscriptions.more_inscriptions (IsInscribed.arc refl refl refl (int_alone refl)) refl
+    (AreInscriptions.more_inscriptions (AreInscribed.one (IsInscribed.uplink refl (call_of_none refl refl refl))) refl
+    (AreInscriptions.more_inscriptions (AreInscribed.one (IsInscribed.arc refl refl refl (int_alone refl))) refl
     AreInscriptions.no_more_inscriptions))
     refl
 
 main_reads : (z : ℤ) (at : Stream) (more : Kinds) →
-    IsNet (with_kinds at (main_kinds z more)) (main z at) (with_kinds (past 98 at) more)
+    IsNet 1 (with_kinds at (main_kinds z more)) (main z at) (with_kinds (past 98 at) more)
 unfolding main_kinds main
 main_reads z at more =
     let finished = close_brace ∷ more in
@@ -175,7 +175,7 @@ main_reads z at more =
     refl
 
 worker_reads : (at : Stream) (more : Kinds) →
-    IsNet (with_kinds at (worker_kinds more)) (worker at) (with_kinds (past 57 at) more)
+    IsNet 1 (with_kinds at (worker_kinds more)) (worker at) (with_kinds (past 57 at) more)
 unfolding worker_kinds worker
 worker_reads at more =
     let finished = close_brace ∷ more in
@@ -196,7 +196,7 @@ pub workload_reads : (z : ℤ) (at : Stream) →
 unfolding workload_kinds workload_form go_kinds
 workload_reads z at =
     let nets = main_kinds z (worker_kinds []) in
-    IsSystem.system
+    IsSystem.first
     (AreItems.and_channel (go_channel_reads at (done_kinds nets))
     (AreItems.and_channel (done_channel_reads (past 6 at) nets)
     (AreItems.and_net (main_reads z (past 11 at) (worker_kinds []))

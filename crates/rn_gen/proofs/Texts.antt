@@ -90,7 +90,7 @@ make_lines =
     ∷ codes "  }"
     ∷ []
 
-make_text : (at : Stream) → transition_text (make at) ≡ lines make_lines
+make_text : (at : Stream) → transition_text 1 (make at) ≡ lines make_lines
 unfolding make make_lines
 make_text at =
     rw (
@@ -116,7 +116,7 @@ step_lines =
     ∷ codes "  }"
     ∷ []
 
-step_text : (at : Stream) → transition_text (step at) ≡ lines step_lines
+step_text : (at : Stream) → transition_text 1 (step at) ≡ lines step_lines
 unfolding step step_lines
 step_text at =
     rw (
@@ -134,7 +134,7 @@ finish_lines =
     ∷ codes "  }"
     ∷ []
 
-finish_text : (at : Stream) → transition_text (finish at) ≡ lines finish_lines
+finish_text : (at : Stream) → transition_text 1 (finish at) ≡ lines finish_lines
 unfolding finish finish_lines
 finish_text at = rw (word_text (at 6) (codes "w") 0, word_text (at 8) (codes "w") 0) refl
 
@@ -148,7 +148,7 @@ go_on_lines =
     ∷ codes "  }"
     ∷ []
 
-go_on_text : (at : Stream) → transition_text (go_on at) ≡ lines go_on_lines
+go_on_text : (at : Stream) → transition_text 1 (go_on at) ≡ lines go_on_lines
 unfolding go_on go_on_lines
 go_on_text at =
     rw (
@@ -173,7 +173,7 @@ be_done_lines =
     ∷ codes "  }"
     ∷ []
 
-be_done_text : (at : Stream) → transition_text (be_done at) ≡ lines be_done_lines
+be_done_text : (at : Stream) → transition_text 1 (be_done at) ≡ lines be_done_lines
 unfolding be_done be_done_lines
 be_done_text at = rw (int_text (at 11) 3 0, numeral_digit 3 (omega arith)) refl
 
@@ -190,7 +190,7 @@ after_word word a b c d =
     ∙ append_assoc word a (b ++ (c ++ d))
 
 main_text : (z : ℤ) (at : Stream) →
-    net_text (main z at)
+    net_text 1 (main z at)
     ≡ codes "net main {\n  var n: int;\n  var k: int;\n  var w: net;\n  place c: int = "
     ++ (whole_number z ++ lines main_lines)
 unfolding main main_lines make_lines step_lines finish_lines
@@ -211,7 +211,7 @@ worker_lines =
     codes "net worker {" ∷ codes "  var k: int;" ∷ codes "  place s: int = 0;"
     ∷ (go_on_lines ++ be_done_lines ++ codes "}" ∷ [])
 
-worker_text : (at : Stream) → net_text (worker at) ≡ lines worker_lines
+worker_text : (at : Stream) → net_text 1 (worker at) ≡ lines worker_lines
 unfolding worker worker_lines go_on_lines be_done_lines
 worker_text at =
     (λ i. codes "net worker {\n" ++ (int_var_text (codes "k") (past 3 at) i ++ [])

@@ -17,7 +17,7 @@ use Rattle.rn_model.specs.declared.system.NetArc.{NetArc}
 use Rattle.rn_model.specs.declared.system.Action.{Action}
 use Rattle.rn_model.specs.declared.system.Place.{Place}
 use Rattle.rn_model.specs.Good.{action_expr}
-use Rattle.rn_model.proofs.EachElement.{each_map, each_flat_map, each_weaker}
+use Rattle.rn_model.proofs.EachElement.{each_append, each_map, each_flat_map, each_weaker}
 use Rattle.rn_notation.specs.declared.token.Spot.{Spot}
 use Rattle.rn_notation.specs.declared.token.Token.{Token}
 use Rattle.rn_notation.specs.declared.token.TokenKind.{TokenKind}
@@ -30,7 +30,8 @@ use Rattle.rn_inscript.specs.declared.inscriptions.PInscribed.TheVariants as I
 use Rattle.rn_inscript.specs.declared.inscriptions.PInscription.{PInscription}
 use Rattle.rn_inscript.specs.Conditions.{IsCond, IsAlternatives, IsMoreAlternatives, IsBoth}
 use Rattle.rn_inscript.specs.Conditions.{IsMoreBoth, IsSimple}
-use Rattle.rn_inscript.specs.Inscriptions.{IsInscribed, IsCall, absent}
+use Rattle.rn_inscript.specs.Expressions.{IsMoreExprs}
+use Rattle.rn_inscript.specs.Inscriptions.{IsInscribed, IsCall, absent, name_at}
 use Rattle.rn_net.specs.declared.kinds.PKind.{PKind}
 use Rattle.rn_net.specs.declared.constants.PConst.{PConst, fold-roll-PConst}
 use Rattle.rn_net.specs.declared.constants.PConstForm.{PConstForm, fold-PConstForm}
@@ -48,7 +49,7 @@ use Rattle.rn_net.specs.Constants as Constants
 use Rattle.rn_net.specs.Kinds.{IsKind, AreListed, AreKinds, AreMoreKinds}
 use Rattle.rn_net.specs.Nets.{IsSystem, AreItems, IsChannel, IsNet, AreParts, AreVars, IsPlace}
 use Rattle.rn_net.specs.Nets.{AreMoreNames, IsKindOfPlace, IsCapacity, AreInitial, IsTransition}
-use Rattle.rn_net.specs.Nets.{AreInscriptions}
+use Rattle.rn_net.specs.Nets.{AreInscribed, AreInscriptions, further_arc}
 use Rattle.rn_net.specs.Texts.{Spells}
 use Rattle.rn_numbered.specs.Numbered.{value_of, value_of_form, capacity_of, Numbers}
 use Rattle.rn_numbering.specs.Numbering.{numbers_of}
@@ -292,20 +293,47 @@ place_is_fine (IsPlace.place e f x m y g) d =
 abbrev IsFineInscription : PInscription → Type 0
 IsFineInscription i = IsFineForm i.form
 
-inscriptions_are_fine : {before all : List PInscription} {ts rest : List Token} →
-    AreInscriptions before ts all rest → AllByRecursion IsFineInscription before →
+further_are_fine : {before es : List PExpr} {ts rest : List Token} → IsMoreExprs before ts es rest →
+    AllByRecursion IsFinePart before → AreFineTokens ts →
+    AllByRecursion IsFinePart es × AreFineTokens rest
+further_are_fine IsMoreExprs.no_more_exprs all d = (all, d)
+further_are_fine (IsMoreExprs.more_exprs {before = before} {e = e} is x m) all d =
+    let p = expr_is_fine x d.1 in further_are_fine m (push IsFinePart before e all p.0) p.1
+
+further_arcs_are_fine : (kind : ArcKind) (place : PName) (es : List PExpr) →
+    AllByRecursion IsFinePart es →
+    AllByRecursion IsFineInscription (map (further_arc kind place) es)
+further_arcs_are_fine kind place [] all = tt
+further_arcs_are_fine kind place (e ∷ es) all =
+    ((all.0, tt), further_arcs_are_fine kind place es all.1)
+
+statement_is_fine : {notation : ℕ} {ts rest : List Token} {all : List PInscription} →
+    AreInscribed notation ts all rest → AreFineTokens ts →
+    AllByRecursion IsFineInscription all × AreFineTokens rest
+statement_is_fine (AreInscribed.one x) d = let p = form_is_fine x d in ((p.0, tt), p.1)
+statement_is_fine
+    (AreInscribed.several {t = t} {u = u} {v = v} {kind = kind} {p = p} {more = more} second a k c x m)
+    d =
+    let first = form_is_fine (IsInscribed.arc {t = t} {u = u} {v = v} a k c x) d in
+    let others = further_are_fine m tt first.1 in (
+      (first.0, further_arcs_are_fine kind (name_at u.spot p) more others.0),
+      others.1,
+    )
+
+inscriptions_are_fine : {notation : ℕ} {before all : List PInscription} {ts rest : List Token} →
+    AreInscriptions notation before ts all rest → AllByRecursion IsFineInscription before →
     AreFineTokens ts → AllByRecursion IsFineInscription all × AreFineTokens rest
 inscriptions_are_fine AreInscriptions.no_more_inscriptions all d = (all, d)
-inscriptions_are_fine (AreInscriptions.more_inscriptions {t = t} {before = before} {form = form}
-    x e m) all d =
-    let p = form_is_fine x d in
-    inscriptions_are_fine m
-    (push IsFineInscription before (record { form = form; spot = t.spot }) all p.0) p.1.1
+inscriptions_are_fine (AreInscriptions.more_inscriptions {before = before} {more = more} x e m) all
+    d =
+    let p = statement_is_fine x d in
+    inscriptions_are_fine m (each_append IsFineInscription before more all p.0) p.1.1
 
 abbrev IsFinePTransition : PTransition → Type 0
 IsFinePTransition t = AllByRecursion IsFineInscription t.inscriptions
 
-transition_is_fine : {ts rest : List Token} {t : PTransition} → IsTransition ts t rest →
+transition_is_fine : {notation : ℕ} {ts rest : List Token} {t : PTransition} →
+    IsTransition notation ts t rest →
     AreFineTokens ts → IsFinePTransition t × AreFineTokens rest
 transition_is_fine (IsTransition.transition e f g x h) d =
     let p = inscriptions_are_fine x tt d.1.1.1 in (p.0, p.1.1)
@@ -314,7 +342,8 @@ record IsFinePNet (net : PNet) : Type 0 where
   places : AllByRecursion IsFinePlace net.places
   transitions : AllByRecursion IsFinePTransition net.transitions
 
-parts_are_fine : {before net : PNet} {ts rest : List Token} → AreParts before ts net rest →
+parts_are_fine : {notation : ℕ} {before net : PNet} {ts rest : List Token} →
+    AreParts notation before ts net rest →
     IsFinePNet before → AreFineTokens ts → IsFinePNet net × AreFineTokens rest
 parts_are_fine AreParts.no_more_parts w d = (w, d)
 parts_are_fine (AreParts.and_vars x m) w d =
@@ -334,12 +363,13 @@ parts_are_fine (AreParts.and_transition {transitions = transitions} {transition 
     })
     p.1
 
-net_is_fine : {ts rest : List Token} {net : PNet} → IsNet ts net rest → AreFineTokens ts →
+net_is_fine : {notation : ℕ} {ts rest : List Token} {net : PNet} → IsNet notation ts net rest → AreFineTokens ts →
     IsFinePNet net × AreFineTokens rest
 net_is_fine (IsNet.net e f g x h) d =
     let p = parts_are_fine x (record { places = tt; transitions = tt }) d.1.1.1 in (p.0, p.1.1)
 
-nets_are_fine : {before plain : Plain} {ts : List Token} → AreItems before ts plain →
+nets_are_fine : {notation : ℕ} {before plain : Plain} {ts : List Token} →
+    AreItems notation before ts plain →
     AllByRecursion IsFinePNet before.nets → AreFineTokens ts → AllByRecursion IsFinePNet plain.nets
 nets_are_fine AreItems.no_more_items all d = all
 nets_are_fine (AreItems.and_channel x m) all d = nets_are_fine m all (after_channel x d)
@@ -348,7 +378,8 @@ nets_are_fine (AreItems.and_net {nets = nets} {net = net} x m) all d =
 
 system_is_fine : {ts : List Token} {plain : Plain} → IsSystem ts plain → AreFineTokens ts →
     AllByRecursion IsFinePNet plain.nets
-system_is_fine (IsSystem.system x) d = nets_are_fine x tt d
+system_is_fine (IsSystem.first x) d = nets_are_fine x tt d
+system_is_fine (IsSystem.second e f g x) d = nets_are_fine x tt d.1.1.1
 
 -- The parts of a transition that an inscription gives.
 module _ (to : Numbers) where

@@ -150,7 +150,7 @@ pub system_told : (plain : Plain) (cs : List PChannel) (ns : List PNet) (found :
     k4 ≡ first_from k0 (system_faults plain)
 system_told plain cs ns found channel main k0 k1 k2 k3 k4 own_channels own_nets has_main nets_are channels_are
     told1 told2 told3 told4 =
-    let whole : List PChannel → List PNet → Plain = λ xs ys. record { channels = xs; nets = ys } in
+    let whole : List PChannel → List PNet → Plain = λ xs ys. record { notation = plain.notation; channels = xs; nets = ys } in
     let m1 : Bool → List Fault = λ b. broken_if (not b) Rule.Main text_start in
     let c2 : List Fault = channels_faults [] cs in
     let l2 : List Fault = past_limit most_channels (map (λ c. c.name.spot) cs) in

@@ -1,5 +1,5 @@
 -- The inscriptions that a text spells are well formed.
-use Rattle.std.proofs.Common.{◌≡◌, ℕ, ◌≤◌, List, [], ◌∷◌, refl, sym, subst}
+use Rattle.std.proofs.Common.{◌≡◌, ℕ, ◌≤◌, List, [], ◌∷◌, map, refl, sym, subst}
 use Rattle.std.proofs.Common.{arith}
 use Rattle.std.specs.Prelude.{Some}
 use Rattle.std.specs.List.{AllByRecursion}
@@ -22,10 +22,13 @@ use Rattle.rn_inscript.specs.declared.inscriptions.PInscribed.{PInscribed}
 use Rattle.rn_inscript.specs.declared.inscriptions.PInscribed.TheVariants as I
 use Rattle.rn_inscript.specs.declared.inscriptions.PInscription.{PInscription}
 use Rattle.rn_inscript.specs.Expressions.{at_spot, IsExpr, IsProduct, IsUnary, IsPrimary}
+use Rattle.rn_inscript.specs.Expressions.{IsMoreExprs}
 use Rattle.rn_inscript.specs.Signs.{arc_of, target_of}
-use Rattle.rn_inscript.specs.Inscriptions.{IsInscribed, IsCall, absent}
+use Rattle.rn_inscript.specs.Inscriptions.{IsInscribed, IsCall, absent, name_at}
 use Rattle.rn_net.specs.Levels.{IsShallow}
 use Rattle.rn_net.specs.Levels.Region.{between}
+use Rattle.rn_net.specs.Nets.{AreInscribed, further_arc}
+use Rattle.rn_spelled.proofs.KindDepths.{push}
 use Rattle.rn_spelled.specs.WellFormed.{exprs_of, conds_of, IsWellFormedExpr, IsShallowCond}
 use Rattle.rn_spelled.specs.WellFormed.{IsWellFormedInscription}
 use Rattle.rn_spelled.proofs.WithinLevels.{opening, closing, neither, Inscribed, AllNamed, Begins}
@@ -36,11 +39,15 @@ use Rattle.rn_spelled.proofs.ExpressionDepths.{this_fits, name_fits}
 use Rattle.rn_spelled.proofs.ConditionDepths.{CondFits, cond_fits, all_outer}
 
 -- the first token of an inscription
-begins : {k l : TokenKind} → l ≡ k → Begins k → Begins l
+pub begins : {k l : TokenKind} → l ≡ k → Begins k → Begins l
 begins e b = subst Begins (sym e) b
 
 begins_word : (k : ℕ) → 5 ≤ k → Begins (Word k)
-begins_word k h = record { starts = grind (arith, nat_tests, common_steps); goes_on = refl }
+begins_word k h = record {
+  starts = grind (arith, nat_tests, common_steps);
+  goes_on = refl;
+  no_comma = refl;
+}
 
 begins_arc : (k : TokenKind) (kind : ArcKind) → arc_of k ≡ Some kind → Begins k
 begins_arc (Word k) kind h = begins_word k (grind (arith, nat_tests, common_steps))
@@ -51,7 +58,7 @@ begins_arc (Text s) kind h = absurd (let no : ⊥ = cc in no)
 
 begins_target : (k : TokenKind) (form : PForm) → target_of k ≡ Some form → Begins k
 begins_target (Word k) form h = begins_word k (grind (arith, nat_tests, common_steps))
-begins_target (Name s) form h = record { starts = refl; goes_on = refl }
+begins_target (Name s) form h = record { starts = refl; goes_on = refl; no_comma = refl }
 begins_target (Sign k) form h = absurd (let no : ⊥ = cc in no)
 begins_target (Number n) form h = absurd (let no : ⊥ = cc in no)
 begins_target (Text s) form h = absurd (let no : ⊥ = cc in no)
@@ -62,19 +69,19 @@ FirstBegins [] = Unit {0}
 FirstBegins (t ∷ ts) = Begins t.kind
 
 primary_begins : {ts rest : List Token} {e : PExpr} → IsPrimary ts e rest → FirstBegins ts
-primary_begins (IsPrimary.number is) = begins is (record { starts = refl; goes_on = refl })
-primary_begins (IsPrimary.text is) = begins is (record { starts = refl; goes_on = refl })
-primary_begins (IsPrimary.name is) = begins is (record { starts = refl; goes_on = refl })
-primary_begins (IsPrimary.this is) = begins is (record { starts = refl; goes_on = refl })
-primary_begins (IsPrimary.step is a b) = begins is (record { starts = refl; goes_on = refl })
-primary_begins (IsPrimary.tuple is x) = begins is (record { starts = refl; goes_on = refl })
-primary_begins (IsPrimary.list is x) = begins is (record { starts = refl; goes_on = refl })
+primary_begins (IsPrimary.number is) = begins is (record { starts = refl; goes_on = refl; no_comma = refl })
+primary_begins (IsPrimary.text is) = begins is (record { starts = refl; goes_on = refl; no_comma = refl })
+primary_begins (IsPrimary.name is) = begins is (record { starts = refl; goes_on = refl; no_comma = refl })
+primary_begins (IsPrimary.this is) = begins is (record { starts = refl; goes_on = refl; no_comma = refl })
+primary_begins (IsPrimary.step is a b) = begins is (record { starts = refl; goes_on = refl; no_comma = refl })
+primary_begins (IsPrimary.tuple is x) = begins is (record { starts = refl; goes_on = refl; no_comma = refl })
+primary_begins (IsPrimary.list is x) = begins is (record { starts = refl; goes_on = refl; no_comma = refl })
 primary_begins (IsPrimary.list_with_tail is x a y b) =
-    begins is (record { starts = refl; goes_on = refl })
-primary_begins (IsPrimary.parentheses is x a) = begins is (record { starts = refl; goes_on = refl })
+    begins is (record { starts = refl; goes_on = refl; no_comma = refl })
+primary_begins (IsPrimary.parentheses is x a) = begins is (record { starts = refl; goes_on = refl; no_comma = refl })
 
 unary_begins : {ts rest : List Token} {e : PExpr} → IsUnary ts e rest → FirstBegins ts
-unary_begins (IsUnary.negative is x) = begins is (record { starts = refl; goes_on = refl })
+unary_begins (IsUnary.negative is x) = begins is (record { starts = refl; goes_on = refl; no_comma = refl })
 unary_begins (IsUnary.primary x) = primary_begins x
 
 product_begins : {ts rest : List Token} {e : PExpr} → IsProduct ts e rest → FirstBegins ts
@@ -87,14 +94,14 @@ inscription_begins : {ts rest : List Token} {form : PInscribed} → IsInscribed 
     FirstBegins ts
 inscription_begins (IsInscribed.plain_arc {t = t} {kind = kind} is a) = begins_arc t.kind kind is
 inscription_begins (IsInscribed.arc {t = t} {kind = kind} is a b x) = begins_arc t.kind kind is
-inscription_begins (IsInscribed.guard is x) = begins is (record { starts = refl; goes_on = refl })
+inscription_begins (IsInscribed.guard is x) = begins is (record { starts = refl; goes_on = refl; no_comma = refl })
 inscription_begins (IsInscribed.print is a x) =
-    begins is (record { starts = refl; goes_on = refl })
+    begins is (record { starts = refl; goes_on = refl; no_comma = refl })
 inscription_begins (IsInscribed.set is a b x) =
-    begins is (record { starts = refl; goes_on = refl })
-inscription_begins (IsInscribed.uplink is x) = begins is (record { starts = refl; goes_on = refl })
+    begins is (record { starts = refl; goes_on = refl; no_comma = refl })
+inscription_begins (IsInscribed.uplink is x) = begins is (record { starts = refl; goes_on = refl; no_comma = refl })
 inscription_begins (IsInscribed.creation is a b c) =
-    begins is (record { starts = refl; goes_on = refl })
+    begins is (record { starts = refl; goes_on = refl; no_comma = refl })
 inscription_begins (IsInscribed.downlink {t = t} {form = form} is a x) =
     begins_target t.kind form is
 inscription_begins (IsInscribed.equality x is y) = expr_begins x
@@ -189,11 +196,42 @@ form_fits (IsInscribed.equality x is y) d =
     (record { exprs = (p.0, (q.0, tt)); conds = tt }, q.1)
 
 -- from the first token of an inscription to what follows it
-pub inscribed_fits : {t : Token} {ts rest : List Token} {form : PInscribed} →
+inscribed_fits : {t : Token} {ts rest : List Token} {form : PInscribed} →
     IsInscribed (t ∷ ts) form rest → IsShallow between (t ∷ ts) → AllNamed (t ∷ ts) →
     FormFits form × Inscribed 0 rest
 inscribed_fits {t = t} {ts = ts} x h names =
     form_fits x (inscribed_first {t = t} {ts = ts} (inscription_begins x) h names)
+
+-- the other inscriptions of an arc
+further_fit : {before es : List PExpr} {ts rest : List Token} → IsMoreExprs before ts es rest →
+    AllByRecursion (ExprFits 0) before → Inscribed 0 ts →
+    AllByRecursion (ExprFits 0) es × Inscribed 0 rest
+further_fit IsMoreExprs.no_more_exprs fit d = (fit, d)
+further_fit (IsMoreExprs.more_exprs {before = before} {e = e} is x m) fit d =
+    let p = expr_fits x (inscribed_on (neither refl refl refl) is d) in
+    further_fit m (push (ExprFits 0) before e fit p.0) p.1
+
+further_arcs_fit : (kind : ArcKind) (place : PName) (es : List PExpr) →
+    AllByRecursion (ExprFits 0) es →
+    AllByRecursion (λ i. FormFits i.form) (map (further_arc kind place) es)
+further_arcs_fit kind place [] fit = tt
+further_arcs_fit kind place (e ∷ es) fit =
+    (record { exprs = (fit.0, tt); conds = tt }, further_arcs_fit kind place es fit.1)
+
+-- from the first token of what stands before a semicolon to the semicolon
+pub statement_fits : {notation : ℕ} {ts rest : List Token} {all : List PInscription} →
+    AreInscribed notation ts all rest → IsShallow between ts → AllNamed ts →
+    AllByRecursion (λ i. FormFits i.form) all × Inscribed 0 rest
+statement_fits (AreInscribed.one x) h names =
+    let p = inscribed_fits x h names in ((p.0, tt), p.1)
+statement_fits
+    (AreInscribed.several {t = t} {u = u} {v = v} {kind = kind} {p = p} {more = more} second a k c x m)
+    h names =
+    let first = inscribed_fits (IsInscribed.arc {t = t} {u = u} {v = v} a k c x) h names in
+    let others = further_fit m tt first.1 in (
+      (first.0, further_arcs_fit kind (name_at u.spot p) more others.0),
+      others.1,
+    )
 
 expr_well : (e : PExpr) → ExprFits 0 e → IsWellFormedExpr e
 expr_well e is = record {

@@ -40,10 +40,12 @@ use Rattle.rn_spelled.specs.WellFormed.{IsWellFormedNet, IsWellFormedChannel, Is
 use Rattle.rn_spelled.specs.SpelledForms.{SpelledFormsAreWellFormed}
 use Rattle.rn_spelled.proofs.WithinLevels.{opening, closing, neither, Declared, AllNamed, IsNamed}
 use Rattle.rn_spelled.proofs.WithinLevels.{declared_open, declared_on, declared_end}
-use Rattle.rn_spelled.proofs.WithinLevels.{inscribed_end, first, named}
+use Rattle.rn_spelled.proofs.WithinLevels.{inscribed_first, inscribed_on, inscribed_end, first}
+use Rattle.rn_spelled.proofs.WithinLevels.{named}
 use Rattle.rn_spelled.proofs.KindDepths.{KindFits, ConstantFits, kind_fits, listed_fit, push}
 use Rattle.rn_spelled.proofs.KindDepths.{constants_fit, tuple_fits}
-use Rattle.rn_spelled.proofs.SpelledInscriptions.{inscribed_fits, well_inscribed}
+use Rattle.rn_spelled.proofs.SpelledInscriptions.{FormFits, begins, statement_fits}
+use Rattle.rn_spelled.proofs.SpelledInscriptions.{well_inscribed}
 
 -- the tokens from the start of a statement on
 record Starts (ts : List Token) : Type 0 where
@@ -155,16 +157,18 @@ place_well (IsPlace.place {t = t} {u = u} {ts = ts} {initial = initial} e f x m 
     )
 
 -- transitions
-inscriptions_well : {before all : List PInscription} {ts rest : List Token} →
-    AreInscriptions before ts all rest → AllByRecursion IsWellFormedInscription before →
+wells : (all : List PInscription) → AllByRecursion (λ i. FormFits i.form) all →
+    AllByRecursion IsWellFormedInscription all
+wells all fit = each_weaker (λ i. FormFits i.form) IsWellFormedInscription well_inscribed all fit
+
+inscriptions_well : {notation : ℕ} {before all : List PInscription} {ts rest : List Token} →
+    AreInscriptions notation before ts all rest → AllByRecursion IsWellFormedInscription before →
     Starts ts → AllByRecursion IsWellFormedInscription all × Starts rest
 inscriptions_well AreInscriptions.no_more_inscriptions well s = (well, s)
-inscriptions_well (AreInscriptions.more_inscriptions {t = t} {before = before} {form = form} x e m)
-    well s =
-    let p = inscribed_fits x s.shallow s.names in
-    let i : PInscription = record { form = form; spot = t.spot } in
+inscriptions_well (AreInscriptions.more_inscriptions {before = before} {more = more} x e m) well s =
+    let p = statement_fits x s.shallow s.names in
     let q = inscribed_end e p.1 in
-    inscriptions_well m (push IsWellFormedInscription before i well (well_inscribed i p.0))
+    inscriptions_well m (each_append IsWellFormedInscription before more well (wells more p.0))
     (record { shallow = q.0; names = q.1 })
 
 -- from the first word of a net or transition to what stands after its brace
@@ -180,8 +184,8 @@ braced : {t : Token} {ts : List Token} → t.kind ≡ close_brace → Starts (t 
 braced {t = t} {ts = ts} e s =
     record { shallow = (first between t ts e s.shallow).1; names = s.names.1 }
 
-transition_well : {ts rest : List Token} {t : PTransition} → IsTransition ts t rest →
-    Starts ts → IsWellFormedTransition t × Starts rest
+transition_well : {notation : ℕ} {ts rest : List Token} {t : PTransition} →
+    IsTransition notation ts t rest → Starts ts → IsWellFormedTransition t × Starts rest
 transition_well
     (IsTransition.transition {t = t} {u = u} {v = v} {ts = ts} {inscriptions = all} e f g x h) s =
     let word = first between t (u ∷ v ∷ ts) e s.shallow in
@@ -200,7 +204,8 @@ record NetWell (net : PNet) : Type 0 where
   places : AllByRecursion IsWellFormedPlace net.places
   transitions : AllByRecursion IsWellFormedTransition net.transitions
 
-parts_well : {before net : PNet} {ts rest : List Token} → AreParts before ts net rest →
+parts_well : {notation : ℕ} {before net : PNet} {ts rest : List Token} →
+    AreParts notation before ts net rest →
     NetWell before → Starts ts → NetWell net × Starts rest
 parts_well AreParts.no_more_parts w s = (w, s)
 parts_well (AreParts.and_vars {vars = vars} {more = more} x m) w s =
@@ -235,7 +240,8 @@ parts_well (AreParts.and_transition {transitions = transitions} {transition = tr
     })
     p.1
 
-net_well : {ts rest : List Token} {net : PNet} → IsNet ts net rest → Starts ts →
+net_well : {notation : ℕ} {ts rest : List Token} {net : PNet} → IsNet notation ts net rest →
+    Starts ts →
     IsWellFormedNet net × Starts rest
 net_well (IsNet.net {t = t} {u = u} {v = v} {ts = ts} {parts = parts} e f g x h) s =
     let word = first between t (u ∷ v ∷ ts) e s.shallow in
@@ -256,7 +262,8 @@ record PlainWell (plain : Plain) : Type 0 where
   channels : AllByRecursion IsWellFormedChannel plain.channels
   nets : AllByRecursion IsWellFormedNet plain.nets
 
-items_well : {before plain : Plain} {ts : List Token} → AreItems before ts plain →
+items_well : {notation : ℕ} {before plain : Plain} {ts : List Token} →
+    AreItems notation before ts plain →
     PlainWell before → Starts ts → PlainWell plain
 items_well AreItems.no_more_items w s = w
 items_well (AreItems.and_channel {channels = channels} {channel = channel} x m) w s =
@@ -272,14 +279,23 @@ items_well (AreItems.and_net {nets = nets} {net = net} x m) w s =
     items_well m
     (record { channels = w.channels; nets = push IsWellFormedNet nets net w.nets p.0 }) p.1
 
+plain_well : (plain : Plain) → PlainWell plain → IsWellFormed plain
+plain_well plain w = record {
+  channels = All-from_recursion IsWellFormedChannel plain.channels w.channels;
+  nets = All-from_recursion IsWellFormedNet plain.nets w.nets;
+}
+
 system_well : {ts : List Token} {plain : Plain} → IsSystem ts plain → Starts ts →
     IsWellFormed plain
-system_well {plain = plain} (IsSystem.system x) s =
-    let w = items_well x (record { channels = tt; nets = tt }) s in
-    record {
-      channels = All-from_recursion IsWellFormedChannel plain.channels w.channels;
-      nets = All-from_recursion IsWellFormedNet plain.nets w.nets;
-    }
+system_well {plain = plain} (IsSystem.first x) s =
+    plain_well plain (items_well x (record { channels = tt; nets = tt }) s)
+system_well {plain = plain} (IsSystem.second {t = t} {u = u} {v = v} {w = w} {ts = ts} e f g x) s =
+    let begin = inscribed_first {t = t} {ts = u ∷ v ∷ w ∷ ts}
+    (begins e (record { starts = refl; goes_on = refl; no_comma = refl })) s.shallow s.names in
+    let after = inscribed_end g (inscribed_on (neither refl refl refl) f
+    (inscribed_on (neither refl refl refl) e begin)) in
+    plain_well plain (items_well x (record { channels = tt; nets = tt })
+    (record { shallow = after.0; names = after.1 }))
 
 -- the names among the tokens of a text
 token_named : {kind : TokenKind} {prefix rest : List ℕ} → IsToken kind prefix rest → IsNamed kind

@@ -1,7 +1,7 @@
 -- What a token does to the levels of a text, where brackets alone are counted.
 use Rattle.std.proofs.Common.{◌≡◌, ℕ, suc, ◌+◌, ◌-◌, ◌≤◌, Bool, true, false, not, ◌&&◌, ◌||◌, List}
 use Rattle.std.proofs.Common.{[], ◌∷◌}
-use Rattle.std.proofs.Common.{length, drop, refl, sym, ap, ◌∙◌, subst, arith, nat_le}
+use Rattle.std.proofs.Common.{length, drop, refl, sym, ap, ◌∙◌, subst, arith, nat_eq, nat_le}
 use Rattle.std.specs.Prelude.{Some, if◌then◌else◌}
 use Rattle.std.specs.List.{AllByRecursion}
 use Rattle.std.proofs.lemmas.Bool.Decides.{nat_tests}
@@ -20,8 +20,8 @@ use Rattle.rn_inscript.specs.Levels.{goes_too_far, is_paren, is_minus, is_operat
 use Rattle.rn_net.specs.Words.{semicolon}
 use Rattle.rn_net.specs.Levels.{Region}
 use Rattle.rn_net.specs.Levels.Region.{between, declaring, inscribing}
-use Rattle.rn_net.specs.Levels.{begun_by, after}
-use Rattle.rn_net.specs.Levels.{is_too_deep, is_semicolon, IsShallow}
+use Rattle.rn_net.specs.Levels.{begun_by, after, inscribed_by, inscribed_from, open_after}
+use Rattle.rn_net.specs.Levels.{is_too_deep, is_semicolon, is_comma, IsShallow}
 
 -- each name among these tokens is an identifier and no reserved word
 abbrev pub IsNamed : TokenKind → Type 0
@@ -92,8 +92,9 @@ neither a b c = record { opens_none = a; closes_none = b; goes_on = c }
 
 -- a token that begins an inscription where it is the first one
 pub record Begins (k : TokenKind) : Type 0 where
-  pub starts : begun_by k ≡ inscribing (after_token at_first k)
+  pub starts : begun_by k ≡ inscribed_from k
   pub goes_on : is_semicolon k ≡ false
+  pub no_comma : is_comma k ≡ false
 
 pub neither_sign : (k : ℕ) → 10 ≤ k → IsNeither (Sign k)
 neither_sign k h = record {
@@ -178,10 +179,12 @@ declared_on {n = n} {t = t} {ts = ts} {k = k} o e d =
 
 -- In an inscription at least so many brackets are open, and none of the tokens goes too far.
 pub record Inscribed (n : ℕ) (ts : List Token) : Type 0 where
+  pub depth : ℕ
   pub count : Count
+  pub inside : n ≤ depth
   pub around : n ≤ brackets count.levels
   pub few : n ≤ 64
-  pub shallow : IsShallow (inscribing count) ts
+  pub shallow : IsShallow (inscribing depth count) ts
   pub names : AllNamed ts
 
 opened : (c : Count) (k : TokenKind) → IsOpening k →
@@ -225,45 +228,99 @@ room_left c k o h =
     (is_operator k && nat_le 256 c.operators) (sym e ∙ h)) in
     omega (arith, small, few_brackets (levels_at c k), brackets_at c k)
 
-next_region : (c : Count) (k : TokenKind) → is_semicolon k ≡ false →
-    after (inscribing c) k ≡ inscribing (after_token c k)
-next_region c k h = rw h
+-- no comma opens or closes
+open_no_comma : (k : TokenKind) → opens k ≡ true → is_comma k ≡ false
+open_no_comma (Sign k) h = grind (arith, nat_tests)
+open_no_comma (Name s) h = refl
+open_no_comma (Number n) h = refl
+open_no_comma (Text s) h = refl
+open_no_comma (Word k) h = refl
+
+close_no_comma : (k : TokenKind) → closes k ≡ true → is_comma k ≡ false
+close_no_comma (Sign k) h = grind (arith, nat_tests)
+close_no_comma (Name s) h = refl
+close_no_comma (Number n) h = refl
+close_no_comma (Text s) h = refl
+close_no_comma (Word k) h = refl
+
+next_region : (m : ℕ) (c : Count) (k : TokenKind) → is_semicolon k ≡ false → is_comma k ≡ false →
+    after (inscribing m c) k ≡ inscribing (open_after m k) (after_token c k)
+next_region m c k h none = rw (h, none)
 
 pub inscribed_open : {n : ℕ} {t : Token} {ts : List Token} {k : TokenKind} → IsOpening k →
     t.kind ≡ k → Inscribed n (t ∷ ts) → Inscribed (n + 1) ts
 inscribed_open {t = t} {ts = ts} {k = k} o e d =
-    let f = first (inscribing d.count) t ts e d.shallow in
+    let f = first (inscribing d.depth d.count) t ts e d.shallow in
+    let deeper : open_after d.depth k ≡ d.depth + 1 = rw o.opens_one in
     record {
+      depth = open_after d.depth k;
       count = after_token d.count k;
+      inside = omega (arith, deeper, d.inside);
       around = omega (arith, opened d.count k o, d.around);
       few = omega (arith, room_left d.count k o f.0, d.around);
-      shallow = subst (λ r. IsShallow r ts) (next_region d.count k o.goes_on) f.1;
+      shallow = subst (λ r. IsShallow r ts)
+          (next_region d.depth d.count k o.goes_on (open_no_comma k o.opens_one)) f.1;
       names = d.names.1;
     }
 
 pub inscribed_close : {n : ℕ} {t : Token} {ts : List Token} {k : TokenKind} → IsClosing k →
     t.kind ≡ k → Inscribed (n + 1) (t ∷ ts) → Inscribed n ts
 inscribed_close {t = t} {ts = ts} {k = k} o e d =
-    let f = first (inscribing d.count) t ts e d.shallow in
+    let f = first (inscribing d.depth d.count) t ts e d.shallow in
+    let less : open_after d.depth k ≡ d.depth - 1 = rw (o.opens_none, o.closes_one) in
     record {
+      depth = open_after d.depth k;
       count = after_token d.count k;
+      inside = omega (arith, less, d.inside);
       around = omega (arith, closed d.count k o, d.around);
       few = omega (arith, d.few);
-      shallow = subst (λ r. IsShallow r ts) (next_region d.count k o.goes_on) f.1;
+      shallow = subst (λ r. IsShallow r ts)
+          (next_region d.depth d.count k o.goes_on (close_no_comma k o.closes_one)) f.1;
       names = d.names.1;
+    }
+
+second_true : (a b : Bool) → (a && b) ≡ true → b ≡ true
+second_true true b h = h
+second_true false b h = absurd (let no : ⊥ = cc in no)
+
+none_open : (m : ℕ) → nat_eq m 0 ≡ true → m ≡ 0
+none_open m h = grind (arith, nat_tests)
+
+-- a comma outside of all brackets begins anew, and all else goes on
+goes_on_from : (m : ℕ) (c : Count) {n : ℕ} {k : TokenKind} {ts : List Token} → IsNeither k → n ≤ m →
+    n ≤ brackets c.levels → n ≤ 64 → IsShallow (inscribed_by m c k) ts → AllNamed ts →
+    (anew : Bool) → (is_comma k && nat_eq m 0) ≡ anew → Inscribed n ts
+goes_on_from m c {n = n} {k = k} {ts = ts} o inside around few shallow names true is =
+    let none = none_open m (second_true (is_comma k) (nat_eq m 0) is) in
+    let next : inscribed_by m c k ≡ inscribing 0 at_first = rw (o.goes_on, is) in
+    record {
+      depth = 0;
+      count = at_first;
+      inside = omega (arith, inside, none);
+      around = omega (arith, inside, none);
+      few = few;
+      shallow = subst (λ r. IsShallow r ts) next shallow;
+      names = names;
+    }
+goes_on_from m c {n = n} {k = k} {ts = ts} o inside around few shallow names false is =
+    let next : inscribed_by m c k ≡ inscribing (open_after m k) (after_token c k) =
+    rw (o.goes_on, is) in
+    let same : open_after m k ≡ m = rw (o.opens_none, o.closes_none) in
+    record {
+      depth = open_after m k;
+      count = after_token c k;
+      inside = omega (arith, same, inside);
+      around = omega (arith, stayed c k o, around);
+      few = few;
+      shallow = subst (λ r. IsShallow r ts) next shallow;
+      names = names;
     }
 
 pub inscribed_on : {n : ℕ} {t : Token} {ts : List Token} {k : TokenKind} → IsNeither k →
     t.kind ≡ k → Inscribed n (t ∷ ts) → Inscribed n ts
 inscribed_on {t = t} {ts = ts} {k = k} o e d =
-    let f = first (inscribing d.count) t ts e d.shallow in
-    record {
-      count = after_token d.count k;
-      around = omega (arith, stayed d.count k o, d.around);
-      few = d.few;
-      shallow = subst (λ r. IsShallow r ts) (next_region d.count k o.goes_on) f.1;
-      names = d.names.1;
-    }
+    let f = first (inscribing d.depth d.count) t ts e d.shallow in
+    goes_on_from d.depth d.count o d.inside d.around d.few f.1 d.names.1 (is_comma k && nat_eq d.depth 0) refl
 
 never : (b : Bool) → (b && false) ≡ false
 never true = refl
@@ -279,13 +336,15 @@ at_first_near k =
 pub inscribed_first : {t : Token} {ts : List Token} → Begins t.kind →
     IsShallow between (t ∷ ts) → AllNamed (t ∷ ts) → Inscribed 0 (t ∷ ts)
 inscribed_first {t = t} {ts = ts} o h names = record {
+  depth = 0;
   count = at_first;
+  inside = omega arith;
   around = omega arith;
   few = omega arith;
   shallow = (
     at_first_near t.kind,
     subst (λ r. IsShallow r ts)
-        (o.starts ∙ sym (next_region at_first t.kind o.goes_on)) h.1,
+        (o.starts ∙ sym (next_region 0 at_first t.kind o.goes_on o.no_comma)) h.1,
   );
   names = names;
 }
@@ -293,7 +352,8 @@ inscribed_first {t = t} {ts = ts} o h names = record {
 -- the semicolon after an inscription
 pub inscribed_end : {n : ℕ} {t : Token} {ts : List Token} → t.kind ≡ semicolon →
     Inscribed n (t ∷ ts) → IsShallow between ts × AllNamed ts
-inscribed_end {t = t} {ts = ts} e d = ((first (inscribing d.count) t ts e d.shallow).1, d.names.1)
+inscribed_end {t = t} {ts = ts} e d =
+    ((first (inscribing d.depth d.count) t ts e d.shallow).1, d.names.1)
 
 -- the semicolon after a declaration
 pub declared_end : {n : ℕ} {t : Token} {ts : List Token} → t.kind ≡ semicolon →

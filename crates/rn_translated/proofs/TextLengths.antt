@@ -2,7 +2,7 @@
 use Rattle.std.proofs.Common.{◌≡◌, ℕ, zero, suc, ◌+◌, ◌-◌, ◌*◌, ◌<◌, ◌≤◌, List, [], ◌∷◌, ◌++◌, length, map, codes, refl, sym, subst, ap, ◌∙◌, arith}
 use Rattle.std.specs.Prelude.{◌≢◌, All, Bool, true, false, Some, get_or, nat_eq, nat_lt, replicate, sum_by, flat_map, if◌then◌else◌}
 use Rattle.std.proofs.lemmas.Bool.{lt-ltb}
-use Rattle.std.proofs.lemmas.List.{length-append}
+use Rattle.std.proofs.lemmas.List.{append_assoc, length-append}
 use Rattle.std.proofs.lemmas.List.Elements.{All-head, All-tail}
 use Rattle.std.proofs.lemmas.List.Sums.{sum_by-cons}
 use borrow.Author.Tests.{ne_eqb}
@@ -10,13 +10,15 @@ use Rattle.rn_model.specs.declared.system.ArcKind.{ArcKind}
 use Rattle.rn_model.specs.declared.system.ArcKind.TheVariants.{FlexInput, FlexOutput, Inhibit, Input, Output}
 use Rattle.rn_inscript.specs.declared.exprs.PForm.TheVariants as F
 use Rattle.rn_inscript.specs.declared.inscriptions.PInscribed.TheVariants as I
+use Rattle.rn_inscript.specs.declared.inscriptions.PInscription.{PInscription}
 use Rattle.rn_net.specs.declared.kinds.PKindForm.TheVariants as K
 use Rattle.rn_net.specs.declared.constants.PConstForm.TheVariants as C
 use Rattle.rn_net.specs.Kinds.{kind_at}
 use Rattle.rn_print.specs.Constants.{constant_text}
 use Rattle.rn_print.specs.Expressions.{Operand, alone, expr_text, operand_text}
 use Rattle.rn_print.specs.Kinds.{kind_text}
-use Rattle.rn_print.specs.Nets.{initial_text, inscription_line, net_text, place_text, transition_text}
+use Rattle.rn_print.specs.Inscriptions.{inscribed_text}
+use Rattle.rn_print.specs.Nets.{initial_text, inscriptions_text, later_text, net_text, place_text, transition_text}
 use Rattle.rn_print.proofs.ExpressionTexts as Expressions
 use Rattle.rn_print.proofs.SpelledConstants as Constants
 use Rattle.rn_print.proofs.SpelledKinds as Kinds
@@ -28,6 +30,27 @@ use Rattle.rn_weighted.specs.TextLength.{arc_length, black_length, initial_lengt
 use Rattle.rn_translated.specs.AcceptedLaws.{TextsHaveTheirLength}
 use Rattle.rn_translated.specs.Translation.{arc_at, black_expr, black_list, black_token, first, named, place_name, plain_arc, plain_net, plain_place, plain_transition}
 use Rattle.rn_translated.proofs.ArcDemands.{by_kind}
+
+-- an inscription on a line of its own, as all are in notation 1
+abbrev inscription_line : PInscription → List ℕ
+inscription_line i = codes "    " ++ inscribed_text i.form ++ codes ";\n"
+
+later_lines : (before : PInscription) (items : List PInscription) →
+    later_text 1 before items ≡ codes ";\n" ++ flat_map inscription_line items
+later_lines before [] = refl
+later_lines before (i ∷ items) =
+    let text = inscribed_text i.form in
+    ap (λ more. codes ";\n    " ++ text ++ more) (later_lines i items)
+    ∙ ap (λ t. codes ";\n    " ++ t)
+    (sym (append_assoc text (codes ";\n") (flat_map inscription_line items)))
+
+all_lines : (items : List PInscription) →
+    inscriptions_text 1 items ≡ flat_map inscription_line items
+all_lines [] = refl
+all_lines (i ∷ items) =
+    let text = codes "    " ++ inscribed_text i.form in
+    ap (λ more. text ++ more) (later_lines i items)
+    ∙ sym (append_assoc text (codes ";\n") (flat_map inscription_line items))
 
 -- the texts of black tokens
 black_constant : constant_text black_token ≡ codes "[]"
@@ -224,10 +247,12 @@ place_has p =
     all n i j is = omega (arith, is)
 
 transition_has : (places : List WPlace) (t : WTransition) → IsWTransition (length places) t →
-    length (transition_text (plain_transition places t))
+    length (transition_text 1 (plain_transition places t))
     ≡ transition_length (map (λ p. p.name) places) t
 transition_has places t good =
-    of_five (codes "  trans ") t.name (codes " {\n")
+    ap (λ lines. length (codes "  trans " ++ t.name ++ codes " {\n" ++ lines ++ codes "  }\n"))
+    (all_lines (map (plain_arc places) t.arcs))
+    ∙ of_five (codes "  trans ") t.name (codes " {\n")
     (flat_map inscription_line (map (plain_arc places) t.arcs)) (codes "  }\n")
     ∙ ap (λ n. 8 + length t.name + 3 + n + 4)
     (sum_each (IsWArc (length places)) (plain_arc places) inscription_line
@@ -236,18 +261,18 @@ transition_has places t good =
 pub texts_have_their_length : TextsHaveTheirLength
 texts_have_their_length net good =
     let names = map (λ (p : WPlace). p.name) net.places in
-    length-append (net_text (plain_net net)) []
+    length-append (net_text 1 (plain_net net)) []
     ∙ ap (λ n. n + 0)
     (of_seven (codes "net ") (codes "main") (codes " {\n") []
     (flat_map place_text (map plain_place net.places))
-    (flat_map transition_text (map (plain_transition net.places) net.transitions)) (codes "}\n"))
+    (flat_map (transition_text 1) (map (plain_transition net.places) net.transitions)) (codes "}\n"))
     ∙ all (length (flat_map place_text (map plain_place net.places)))
     (sum_by place_length net.places)
-    (length (flat_map transition_text (map (plain_transition net.places) net.transitions)))
+    (length (flat_map (transition_text 1) (map (plain_transition net.places) net.transitions)))
     (sum_by (transition_length names) net.transitions)
     (sum_each IsWPlace plain_place place_text place_length (λ p is. place_has p) net.places
     good.places)
-    (sum_each (IsWTransition (length net.places)) (plain_transition net.places) transition_text
+    (sum_each (IsWTransition (length net.places)) (plain_transition net.places) (transition_text 1)
     (transition_length names) (transition_has net.places) net.transitions good.transitions)
   where
     all : (i a j b : ℕ) → i ≡ a → j ≡ b → 4 + 4 + 3 + 0 + i + j + 2 + 0 ≡ 11 + a + b + 2

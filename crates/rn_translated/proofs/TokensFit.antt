@@ -134,28 +134,28 @@ inside = record { levels = bracket ∷ []; ended = true; operators = 0 }
 abbrev ended : Count
 ended = record { levels = []; ended = true; operators = 0 }
 
-shallow_within : (n : ℕ) (rest : List Token) → IsShallow (inscribing inside) rest →
-    IsShallow (inscribing inside) (more_blacks n rest)
+shallow_within : (n : ℕ) (rest : List Token) → IsShallow (inscribing 1 inside) rest →
+    IsShallow (inscribing 1 inside) (more_blacks n rest)
 shallow_within zero rest shallow = shallow
 shallow_within (suc n) rest shallow = (refl, (refl, (refl, shallow_within n rest shallow)))
 
-shallow_list : (n : ℕ) (rest : List Token) → IsShallow (inscribing ended) rest →
-    IsShallow (inscribing begun) (list_tokens n rest)
+shallow_list : (n : ℕ) (rest : List Token) → IsShallow (inscribing 0 ended) rest →
+    IsShallow (inscribing 0 begun) (list_tokens n rest)
 shallow_list zero rest shallow = (refl, (refl, shallow))
 shallow_list (suc n) rest shallow = (refl, (refl, (refl, shallow_within n _ (refl, shallow))))
 
 shallow_inscription : (more : Bool) (n : ℕ) (rest : List Token) →
-    IsShallow (inscribing ended) rest →
-    IsShallow (inscribing begun) (inscription_tokens more n rest)
+    IsShallow (inscribing 0 ended) rest →
+    IsShallow (inscribing 0 begun) (inscription_tokens more n rest)
 shallow_inscription true n rest shallow = shallow_list n rest shallow
 shallow_inscription false n rest shallow = (refl, (refl, shallow))
 
 word_begins : (more : Bool) (kind : ArcKind) → IsWArcKind kind →
-    after between (arc_word (form_kind more kind)) ≡ inscribing begun
+    after between (arc_word (form_kind more kind)) ≡ inscribing 0 begun
 word_begins true kind is =
-    by_kind (λ k. after between (arc_word (flexible k)) ≡ inscribing begun) kind is refl refl refl
+    by_kind (λ k. after between (arc_word (flexible k)) ≡ inscribing 0 begun) kind is refl refl refl
 word_begins false kind is =
-    by_kind (λ k. after between (arc_word k) ≡ inscribing begun) kind is refl refl refl
+    by_kind (λ k. after between (arc_word k) ≡ inscribing 0 begun) kind is refl refl refl
 
 shallow_arcs : (wps : List WPlace) (arcs : List WArc) (rest : List Token) →
     All (IsWArc (length wps)) arcs → IsShallow between rest →

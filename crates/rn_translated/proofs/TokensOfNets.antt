@@ -22,7 +22,7 @@ use Rattle.rn_net.specs.declared.plain.PNet.{PNet}
 use Rattle.rn_net.specs.Words.{semicolon, net_word, place_word, trans_word}
 use Rattle.rn_net.specs.Kinds.{IsKind, AreListed}
 use Rattle.rn_net.specs.Constants.{IsConstant, AreItems, AreConstants, AreMoreConstants}
-use Rattle.rn_net.specs.Nets.{IsKindOfPlace, IsCapacity, AreInitial, IsPlace, AreInscriptions, IsTransition, AreParts, IsNet, IsSystem, net_of, plain_of}
+use Rattle.rn_net.specs.Nets.{IsKindOfPlace, IsCapacity, AreInitial, IsPlace, AreInscribed, AreInscriptions, IsTransition, AreParts, IsNet, IsSystem, net_of, plain_of}
 use Rattle.rn_net.specs.Nets as Nets
 use Rattle.rn_weighted.specs.declared.weighted.Weighted.{Weighted}
 use Rattle.rn_weighted.specs.declared.weighted.WPlace.{WPlace}
@@ -175,16 +175,16 @@ arcs_tokens wps (a ∷ arcs) rest = arc_tokens wps a (arcs_tokens wps arcs rest)
 
 arcs_read : (wps : List WPlace) (arcs : List WArc) (before : List PInscription)
     (rest : List Token) → All (IsWArc (length wps)) arcs →
-    AreInscriptions before (arcs_tokens wps arcs rest) (before ++ map (plain_arc wps) arcs) rest
+    AreInscriptions 1 before (arcs_tokens wps arcs rest) (before ++ map (plain_arc wps) arcs) rest
 arcs_read wps [] before rest are =
-    subst (λ all. AreInscriptions before rest all rest) (sym (append-nil before))
+    subst (λ all. AreInscriptions 1 before rest all rest) (sym (append-nil before))
     AreInscriptions.no_more_inscriptions
 arcs_read wps (a ∷ arcs) before rest are =
     let after = arcs_tokens wps arcs rest in
-    subst (λ all. AreInscriptions before (arc_tokens wps a after) all rest)
+    subst (λ all. AreInscriptions 1 before (arc_tokens wps a after) all rest)
     (append_assoc before (plain_arc wps a ∷ []) (map (plain_arc wps) arcs))
     (AreInscriptions.more_inscriptions
-    (arc_read wps a after (All-head (IsWArc (length wps)) a arcs are)) refl
+    (AreInscribed.one (arc_read wps a after (All-head (IsWArc (length wps)) a arcs are))) refl
     (arcs_read wps arcs (before ++ plain_arc wps a ∷ []) rest
     (All-tail (IsWArc (length wps)) a arcs are)))
 
@@ -196,7 +196,7 @@ transition_tokens wps wt rest =
 
 transition : (wps : List WPlace) (wt : WTransition) (rest : List Token) →
     IsWTransition (length wps) wt →
-    IsTransition (transition_tokens wps wt rest) (plain_transition wps wt) rest
+    IsTransition 1 (transition_tokens wps wt rest) (plain_transition wps wt) rest
 transition wps wt rest is =
     IsTransition.transition refl refl refl (arcs_read wps wt.arcs [] (tok close_brace ∷ rest) is.arcs)
     refl
@@ -212,15 +212,15 @@ places_tokens (wp ∷ wps) rest = place_tokens wp (places_tokens wps rest)
 
 transitions_read : (wps : List WPlace) (name : PName) (ps : List PPlace) (wts : List WTransition)
     (before : List PTransition) (rest : List Token) → All (IsWTransition (length wps)) wts →
-    AreParts (net_of name [] ps before) (transitions_tokens wps wts rest)
+    AreParts 1 (net_of name [] ps before) (transitions_tokens wps wts rest)
     (net_of name [] ps (before ++ map (plain_transition wps) wts)) rest
 transitions_read wps name ps [] before rest are =
-    subst (λ all. AreParts (net_of name [] ps before) rest (net_of name [] ps all) rest)
+    subst (λ all. AreParts 1 (net_of name [] ps before) rest (net_of name [] ps all) rest)
     (sym (append-nil before)) AreParts.no_more_parts
 transitions_read wps name ps (wt ∷ wts) before rest are =
     let after = transitions_tokens wps wts rest in
     subst
-    (λ all. AreParts (net_of name [] ps before) (transition_tokens wps wt after)
+    (λ all. AreParts 1 (net_of name [] ps before) (transition_tokens wps wt after)
     (net_of name [] ps all) rest)
     (append_assoc before (plain_transition wps wt ∷ []) (map (plain_transition wps) wts))
     (AreParts.and_transition
@@ -230,14 +230,14 @@ transitions_read wps name ps (wt ∷ wts) before rest are =
 
 places_read : (name : PName) (wps : List WPlace) (before : List PPlace) (net : PNet)
     (mid rest : List Token) →
-    AreParts (net_of name [] (before ++ map plain_place wps) []) mid net rest →
-    AreParts (net_of name [] before []) (places_tokens wps mid) net rest
+    AreParts 1 (net_of name [] (before ++ map plain_place wps) []) mid net rest →
+    AreParts 1 (net_of name [] before []) (places_tokens wps mid) net rest
 places_read name [] before net mid rest after =
-    subst (λ ps. AreParts (net_of name [] ps []) mid net rest) (append-nil before) after
+    subst (λ ps. AreParts 1 (net_of name [] ps []) mid net rest) (append-nil before) after
 places_read name (wp ∷ wps) before net mid rest after =
     AreParts.and_place (place wp (places_tokens wps mid))
     (places_read name wps (before ++ plain_place wp ∷ []) net mid rest
-    (subst (λ ps. AreParts (net_of name [] ps []) mid net rest)
+    (subst (λ ps. AreParts 1 (net_of name [] ps []) mid net rest)
     (sym (append_assoc before (plain_place wp ∷ []) (map plain_place wps))) after))
 
 abbrev pub net_tokens : Weighted → List Token
@@ -249,7 +249,7 @@ net_tokens net =
 -- the grammar reads the translation
 pub reads : (net : Weighted) → IsWeighted net → IsSystem (net_tokens net) (translated net)
 reads net good =
-    IsSystem.system
+    IsSystem.first
     (Nets.AreItems.and_net
     (IsNet.net refl refl refl
     (places_read (named (codes "main")) net.places [] (plain_net net)

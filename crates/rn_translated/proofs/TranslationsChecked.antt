@@ -1,5 +1,5 @@
 -- The translation is checked, and its canonical text is accepted.
-use Rattle.std.proofs.Common.{[], refl, sym, ◌∙◌}
+use Rattle.std.proofs.Common.{[], inl, refl, sym, ◌∙◌}
 use Rattle.rn_net.specs.Texts.{Spells}
 use Rattle.rn_print.specs.Nets.{canonical_text}
 use Rattle.rn_print.proofs.Trees.{tokens_in, tokens_whole}
@@ -24,7 +24,7 @@ translations_are_checked net good = spots_do_not_count net (translated net) good
 
 pub translations_are_accepted : TranslationsAreAccepted
 translations_are_accepted net good fits =
-    let back = reads_back (reads net good) (are_legal net good) (are_shallow net good) in
+    let back = reads_back (reads net good) (are_legal net good) (are_shallow net good) 1 (inl refl) in
     let text = canonical_text (translated net) in
     let spelled : Spells text back.other = record {
       tokens = tokens_in [] back.tree [];

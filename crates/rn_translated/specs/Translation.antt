@@ -85,4 +85,4 @@ plain_net net = record {
 
 -- the text of this net alone
 abbrev pub translated : Weighted → Plain
-translated net = record { channels = []; nets = plain_net net ∷ [] }
+translated net = record { notation = 1; channels = []; nets = plain_net net ∷ [] }

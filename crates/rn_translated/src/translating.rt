@@ -28,6 +28,7 @@ pub fn translate(alloc: Global, net: &Weighted) -> Result<Plain, NoMemory>
     let mut nets = Vec::new(alloc);
     nets.push(main)?;
     Ok(Plain {
+        notation: 1,
         channels: Items::new(alloc),
         nets: Items::from_vec(nets),
     })
