@@ -3,7 +3,7 @@ use Rattle.std.specs.Prelude.{ℕ, ◌≡◌, ◌<◌, List, length, codes, Opti
 use Rattle.rn_notation.specs.Limits.{longest_net_text, longest_text}
 use Rattle.rn_outside.specs.Faults.{Rose}
 use Rattle.rn_words.specs.declared.command.Command.{Command}
-use Rattle.rn_words.specs.declared.command.Command.TheVariants.{Gen, GenSeeded, Replay, Session, Moves}
+use Rattle.rn_words.specs.declared.command.Command.TheVariants.{Gen, GenSeeded, Replay, Session, Moves, Migrate}
 use Rattle.rn_answer.specs.declared.answer.Answer.{Answer}
 use Rattle.rn_answer.specs.declared.stopped.Stopped.{Stopped}
 use Rattle.rn_answer.specs.declared.stopped.Stopped.TheVariants.{Refused, ReadFault, NoMemory}
@@ -17,6 +17,7 @@ longest_input (GenSeeded n options seed) = None
 longest_input (Replay options) = Some longest_text
 longest_input (Session options) = Some longest_text
 longest_input (Moves options) = Some longest_text
+longest_input Migrate = Some longest_text
 longest_input _ = Some longest_net_text
 
 -- the answer where the input is too long

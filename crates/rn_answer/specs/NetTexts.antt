@@ -28,6 +28,11 @@ pub record Accepted (bytes : List ℕ) (system : System) : Type 0 where
   pub spelled : Spells bytes plain
   pub checked : Checked plain system
 
+-- the same with the notation in which the text is
+abbrev pub AcceptedIn : ℕ → List ℕ → System → Type 0
+AcceptedIn notation bytes system =
+    (accepted : Accepted bytes system) × (accepted.plain.notation ≡ notation)
+
 -- the line of bytes that spell no system; want of memory is no reason, and has no line
 abbrev pub text_line : Refusal → List ℕ
 text_line (P1 spot) = spot_line (codes "P1") spot

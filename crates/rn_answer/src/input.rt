@@ -49,7 +49,9 @@ fn longest_input(command: &Command) -> Option<usize>
 {
     match command {
         Command::Gen(_, _) | Command::GenSeeded(_, _, _) => None,
-        Command::Replay(_) | Command::Session(_) | Command::Moves(_) => Some(LONGEST_TEXT),
+        Command::Replay(_) | Command::Session(_) | Command::Moves(_) | Command::Migrate => {
+            Some(LONGEST_TEXT)
+        }
         _ => Some(LONGEST_NET_TEXT),
     }
 }

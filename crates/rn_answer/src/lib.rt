@@ -17,7 +17,7 @@ pub use answer::{Answer, done, refused};
 pub use checking::check;
 pub use input::input_of;
 pub use lines::number_line;
-pub use net_text::{refused_at, system_of};
+pub use net_text::{AcceptedNet, checked, net_of, plain_of, refused_at, system_of};
 pub use printing::print;
 pub use status::{
     DONE, FAULTED, NET_REFUSED, NO_MEMORY, READ_FAULT, RECORD_REFUSED, WORDS_REFUSED, WRITE_FAULT,

@@ -1,10 +1,11 @@
 //! From bytes to the system of a net text, or the line of its refusal.
 ghost use Rattle.std.specs.Prelude.{◌≡◌, ℕ, List, IfOk, IfErr};
-ghost use Rattle.rn_net.specs.Texts.{Spells};
+ghost use Rattle.rn_net.specs.Texts.{IsNotation, Spells};
 ghost use Rattle.rn_model.specs.Good.{Good};
 ghost use Rattle.rn_check.specs.Checked.{Checked};
 ghost use Rattle.rn_answer.specs.Lines.{spot_line};
-ghost use Rattle.rn_answer.specs.NetTexts.{Accepted, RefusesNet, RefusesPlain, text_line, check_line};
+ghost use Rattle.rn_answer.specs.NetTexts.{Accepted, AcceptedIn, RefusesNet, RefusesPlain};
+ghost use Rattle.rn_answer.specs.NetTexts.{text_line, check_line};
 ghost use Rattle.rn_answer.specs.Refusing.{Stops, refusal};
 
 use crate::answer::refused;
@@ -13,7 +14,7 @@ use crate::status::NET_REFUSED;
 use crate::stopped::Stopped;
 use rn_check::{CheckFault, check_system};
 use rn_model::System;
-use rn_net::{Plain, Refusal, read_system};
+use rn_net::{Plain, Refusal, net_laws, read_system};
 use rn_notation::Spot;
 use std::alloc::Global;
 
@@ -69,10 +70,12 @@ fn refused_plain(alloc: Global, fault: CheckFault) -> Stopped
 
 /// The plain form that a text spells.
 #[tactic(auto, using(crate::proofs::Causes::refusals))]
-pub(crate) fn plain_of(alloc: Global, bytes: &[u8]) -> Result<Plain, Stopped>
+pub fn plain_of(alloc: Global, bytes: &[u8]) -> Result<Plain, Stopped>
     ensures spells { IfOk result (λ plain. Spells bytes.now plain) }
+    ensures notation { IfOk result (λ plain. IsNotation plain.notation) }
     ensures refused { IfErr result (Stops (RefusesNet bytes.now)) }
 {
+    net_laws();
     match read_system(alloc, bytes) {
         Ok(plain) => Ok(plain),
         Err(why) => Err(refused_text(alloc, why)),
@@ -81,7 +84,7 @@ pub(crate) fn plain_of(alloc: Global, bytes: &[u8]) -> Result<Plain, Stopped>
 
 /// The system that a plain form means.
 #[tactic(auto, using(crate::proofs::Causes::refusals))]
-pub(crate) fn checked(alloc: Global, plain: Plain) -> Result<System, Stopped>
+pub fn checked(alloc: Global, plain: Plain) -> Result<System, Stopped>
     ensures checked { IfOk result (λ system. Checked plain system) }
     ensures good { IfOk result (λ system. (text : List ℕ) → Spells text plain → Good system) }
     ensures refused { IfErr result (Stops (RefusesPlain plain)) }
@@ -90,6 +93,27 @@ pub(crate) fn checked(alloc: Global, plain: Plain) -> Result<System, Stopped>
         Ok(system) => Ok(system),
         Err(fault) => Err(refused_plain(alloc, fault)),
     }
+}
+
+/// A net text that is accepted: its system, and its notation, which is 1 or 2.
+#[derive(Debug, Drop)]
+pub struct AcceptedNet {
+    pub system: System,
+    pub notation: u32,
+}
+
+/// The system of a net text, and its notation.
+#[tactic(auto, using(crate::proofs::Causes::refusals))]
+pub fn net_of(alloc: Global, bytes: &[u8]) -> Result<AcceptedNet, Stopped>
+    ensures accepted { IfOk result (λ net. AcceptedIn net.notation bytes.now net.system) }
+    ensures good { IfOk result (λ net. Good net.system) }
+    ensures notation { IfOk result (λ net. IsNotation net.notation) }
+    ensures refused { IfErr result (Stops (RefusesNet bytes.now)) }
+{
+    let plain = plain_of(alloc, bytes)?;
+    let notation = plain.notation;
+    let system = checked(alloc, plain)?;
+    Ok(AcceptedNet { system, notation })
 }
 
 /// The system of a net text.

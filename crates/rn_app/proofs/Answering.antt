@@ -17,8 +17,8 @@ use Rattle.rn_app.specs.declared.beginning.Begun.TheVariants.{Done, Working}
 use Rattle.rn_app.specs.declared.preparing.Prepared.{Prepared}
 use Rattle.rn_app.specs.declared.preparing.Prepared.TheVariants.{Answered}
 use Rattle.rn_app.specs.Begun.{PreparesOrStops}
-use Rattle.rn_app.specs.TopCall.{Comes, IsFaultStatus, IsFine, IsNoInput, IsNoRecord, MayFault}
-use Rattle.rn_app.proofs.Causes.{IsDoneBut, Laws, RefusesRecords, fine_status, input_status, moves_refuse, record_status}
+use Rattle.rn_app.specs.TopCall.{Comes, IsFaultStatus, IsFine, IsNoInput, IsNoRecord, IsUnread, MayFault}
+use Rattle.rn_app.proofs.Causes.{IsDoneBut, Laws, RefusesRecords, fine_status, input_status, migrate_refuses, moves_refuse, record_status}
 use Rattle.rn_app.proofs.Causes.{replay_refuses, words_status}
 use Rattle.rn_app.proofs.Written.{Call, IsWritten, same_or_other, status_or_fault, write_fault_clause}
 
@@ -73,16 +73,19 @@ module _ {E : Type 0} (k : Call E) (a : Answer) (w : IsWritten k a) (laws : Laws
       let comes = subst (λ left. Comes k.words left k.left_after a) is w.comes in
       or_fault NET_REFUSED k.result (status_or_fault k a w NET_REFUSED (input_status laws k.words k.left_after bytes c a accepted wrong comes)))
 
-  refused_record : (options : Options) (c : Command) → RefusesRecords options c → WordsOk k.words c → IfSome k.left (λ bytes. IsNoRecord options bytes → (k.result ≡ RECORD_REFUSED) ⊎ IsFaultStatus k.result)
-  refused_record options c reads accepted = if_some k.left (λ bytes. IsNoRecord options bytes → (k.result ≡ RECORD_REFUSED) ⊎ IsFaultStatus k.result) (λ bytes is wrong.
+  refused_record : (P : List ℕ → Type 0) (c : Command) → RefusesRecords P c → WordsOk k.words c → IfSome k.left (λ bytes. P bytes → (k.result ≡ RECORD_REFUSED) ⊎ IsFaultStatus k.result)
+  refused_record P c reads accepted = if_some k.left (λ bytes. P bytes → (k.result ≡ RECORD_REFUSED) ⊎ IsFaultStatus k.result) (λ bytes is wrong.
       let comes = subst (λ left. Comes k.words left k.left_after a) is w.comes in
-      or_fault RECORD_REFUSED k.result (status_or_fault k a w RECORD_REFUSED (record_status laws k.words k.left_after bytes options c a reads accepted wrong comes)))
+      or_fault RECORD_REFUSED k.result (status_or_fault k a w RECORD_REFUSED (record_status laws k.words k.left_after bytes P c a reads accepted wrong comes)))
 
   pub record_clause : (options : Options) → WordsOk k.words (command.Replay options) → IfSome k.left (λ bytes. IsNoRecord options bytes → (k.result ≡ RECORD_REFUSED) ⊎ IsFaultStatus k.result)
-  record_clause options accepted = refused_record options (command.Replay options) (replay_refuses options) accepted
+  record_clause options accepted = refused_record (IsNoRecord options) (command.Replay options) (replay_refuses options) accepted
 
   pub moves_clause : (options : Options) → WordsOk k.words (command.Moves options) → IfSome k.left (λ bytes. IsNoRecord options bytes → (k.result ≡ RECORD_REFUSED) ⊎ IsFaultStatus k.result)
-  moves_clause options accepted = refused_record options (command.Moves options) (moves_refuse options) accepted
+  moves_clause options accepted = refused_record (IsNoRecord options) (command.Moves options) (moves_refuse options) accepted
+
+  pub migrate_clause : WordsOk k.words command.Migrate → IfSome k.left (λ bytes. IsUnread bytes → (k.result ≡ RECORD_REFUSED) ⊎ IsFaultStatus k.result)
+  migrate_clause accepted = refused_record IsUnread command.Migrate migrate_refuses accepted
 
   -- a net text that is refused
   pub refused_clause : a.status ≡ NET_REFUSED → (k.result ≡ NET_REFUSED) ⊎ IsFaultStatus k.result

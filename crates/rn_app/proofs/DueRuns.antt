@@ -2,6 +2,7 @@
 use Rattle.std.proofs.Common.{◌≡◌, ℕ, List, Option, Ok, Result, inr, refl, sym, subst}
 use Rattle.rn_model.specs.declared.log.Options.{Options}
 use Rattle.rn_model.specs.Good.{Good, IsInLimits}
+use Rattle.rn_record.specs.RecordText.{IsFormat}
 use Rattle.rn_words.specs.declared.command.Command.{Command}
 use Rattle.rn_words.specs.declared.command.Command.TheVariants as command
 use Rattle.rn_words.specs.Commands.{WordsOk}
@@ -21,12 +22,16 @@ use Rattle.rn_app.specs.Commands.{ComesTo}
 use Rattle.rn_app.specs.TopCall.{Comes}
 use Rattle.rn_app.proofs.WordsAndInput.{done_on, one_command}
 
--- a run of a command can be done where its system is good and the command's options are in their limits
+-- a run of a command can be done where its system is good, the command's options are in their limits,
+-- and there is its format
 pub run_due : (k c : Command) (bytes : List ℕ) (job : Job) (options : Options) → c ≡ k →
     AsksFor k bytes job → Good job.system → job.options ≡ options → IsInLimits options →
-    AsksFor c bytes job × (Good job.system × IsInLimits job.options)
-run_due k c bytes job options is asked good same limits =
-    (subst (λ x. AsksFor x bytes job) (sym is) asked, (good, subst IsInLimits (sym same) limits))
+    IsFormat job.format →
+    AsksFor c bytes job × (Good job.system × IsInLimits job.options × IsFormat job.format)
+run_due k c bytes job options is asked good same limits format = (
+  subst (λ x. AsksFor x bytes job) (sym is) asked,
+  (good, subst IsInLimits (sym same) limits, format),
+)
 
 -- where a run is due the words and the input ask for it
 pub was_due : (words : List (List ℕ)) (left left_after : Option (List ℕ)) (faults faults_after : ℕ) (r : Result Prepared Stopped) (job : Job) → r ≡ Ok (Due job) → PreparesOrStops words left left_after faults faults_after r → IsDue words left left_after job
@@ -47,6 +52,7 @@ asked_needs (command.Session options) bytes job asked = absurd asked
 asked_needs (command.Counts options) bytes job asked = absurd asked
 asked_needs (command.Moves options) bytes job asked = absurd asked
 asked_needs command.Pt bytes job asked = absurd asked
+asked_needs command.Migrate bytes job asked = absurd asked
 
 pub due_needs : ReadsWhatIsAccepted → (words : List (List ℕ)) (left left_after : Option (List ℕ)) (job : Job) (c : Command) → IsDue words left left_after job → WordsOk words c → NeedsThreads c
 due_needs law words left left_after job c due accepted =
@@ -72,6 +78,7 @@ asked_comes (command.Session options) bytes job a asked comes = absurd asked
 asked_comes (command.Counts options) bytes job a asked comes = absurd asked
 asked_comes (command.Moves options) bytes job a asked comes = absurd asked
 asked_comes command.Pt bytes job a asked comes = absurd asked
+asked_comes command.Migrate bytes job a asked comes = absurd asked
 
 pub due_comes : (words : List (List ℕ)) (left left_after : Option (List ℕ)) (job : Job) (a : Answer) → IsDue words left left_after job → JobComesTo job a → Comes words left left_after a
 due_comes words left left_after job a due comes =

@@ -19,6 +19,8 @@ use Rattle.rn_answer.specs.NetTexts.{RefusesNet}
 use Rattle.rn_commands.specs.Ends.{end_status, end_message}
 use Rattle.rn_commands.specs.Replaying.{RecordTo}
 use Rattle.rn_commands.specs.Moves.{RecordMovesTo}
+use Rattle.rn_commands.specs.Migrating.{NetMigratesTo}
+use Rattle.rn_net.specs.declared.plain.Plain.{Plain}
 use Rattle.rn_commands.specs.Runs.{RunsTo}
 use Rattle.rn_commands.specs.LeastRuns.{RunsLeastTo}
 use Rattle.rn_app.specs.Commands.{ComesTo}
@@ -63,13 +65,19 @@ pub data IsToldBy (a : Answer) : Type 0 where
   quiet : a.status ≡ DONE → a.line ≡ [] → IsToldBy a
   ended : (reason : Reason) (step : ℕ) → a.status ≡ end_status reason → a.line ≡ end_message reason step → IsToldBy a
 
-replay_told : (system : System) (options : Options) (bytes : List ℕ) (a : Answer) → RecordTo system options bytes a → IsToldBy a
-replay_told system options bytes a (RecordTo.refused line no_run) = IsToldBy.refused (inr (inr refl))
-replay_told system options bytes a (RecordTo.replayed count reason run read) = IsToldBy.quiet refl refl
+replay_told : (format : ℕ) (system : System) (options : Options) (bytes : List ℕ) (a : Answer) → RecordTo format system options bytes a → IsToldBy a
+replay_told format system options bytes a (RecordTo.refused line no_run) = IsToldBy.refused (inr (inr refl))
+replay_told format system options bytes a (RecordTo.replayed count reason run read) = IsToldBy.quiet refl refl
 
-moves_told : (system : System) (options : Options) (bytes : List ℕ) (a : Answer) → RecordMovesTo system options bytes a → IsToldBy a
-moves_told system options bytes a (RecordMovesTo.refused line no_run) = IsToldBy.refused (inr (inr refl))
-moves_told system options bytes a (RecordMovesTo.moved count reason run read text moves) = IsToldBy.quiet refl refl
+moves_told : (format : ℕ) (system : System) (options : Options) (bytes : List ℕ) (a : Answer) → RecordMovesTo format system options bytes a → IsToldBy a
+moves_told format system options bytes a (RecordMovesTo.refused line no_run) = IsToldBy.refused (inr (inr refl))
+moves_told format system options bytes a (RecordMovesTo.moved count reason run read text moves) = IsToldBy.quiet refl refl
+
+migrate_told : (plain : Plain) (system : System) (bytes net rest : List ℕ) (a : Answer) → NetMigratesTo plain system bytes net rest a → IsToldBy a
+migrate_told plain system bytes net rest a (NetMigratesTo.already second) = IsToldBy.refused (inl refl)
+migrate_told plain system bytes net rest a (NetMigratesTo.alone first all) = IsToldBy.quiet refl refl
+migrate_told plain system bytes net rest a (NetMigratesTo.unread first more line why bad) = IsToldBy.refused (inr (inr refl))
+migrate_told plain system bytes net rest a (NetMigratesTo.both first more told tells) = IsToldBy.quiet refl refl
 
 -- each thing that a command comes to is told so
 pub command_told : (c : Command) (bytes : List ℕ) (a : Answer) → ComesTo c bytes a → IsToldBy a
@@ -86,13 +94,15 @@ command_told command.Print bytes a (inr (plain, system, spells, checked, is)) = 
 command_told (command.Enabled depth) bytes a (inl (line, why, is)) = IsToldBy.refused (inl (ap (λ x. x.status) is))
 command_told (command.Enabled depth) bytes a (inr (system, found, accepted, just, is)) = IsToldBy.quiet (ap (λ x. x.status) is) (ap (λ x. x.line) is)
 command_told (command.Replay options) bytes a (net, rest, parts, inl (line, why, is)) = IsToldBy.refused (inl (ap (λ x. x.status) is))
-command_told (command.Replay options) bytes a (net, rest, parts, inr (system, accepted, told)) = replay_told system options rest a told
+command_told (command.Replay options) bytes a (net, rest, parts, inr (system, accepted, told)) = replay_told accepted.plain.notation system options rest a told
 command_told (command.Session options) bytes a (net, rest, parts, inl (line, why, is)) = IsToldBy.refused (inl (ap (λ x. x.status) is))
 command_told (command.Session options) bytes a (net, rest, parts, inr (system, accepted, (text, served, is))) = IsToldBy.quiet (ap (λ x. x.status) is) (ap (λ x. x.line) is)
 command_told (command.Counts options) bytes a (inl (line, why, is)) = IsToldBy.refused (inl (ap (λ x. x.status) is))
 command_told (command.Counts options) bytes a (inr counted) = IsToldBy.ended counted.reason (suc (length counted.counts.firings)) counted.status counted.line
 command_told (command.Moves options) bytes a (net, rest, parts, inl (line, why, is)) = IsToldBy.refused (inl (ap (λ x. x.status) is))
-command_told (command.Moves options) bytes a (net, rest, parts, inr (system, accepted, told)) = moves_told system options rest a told
+command_told (command.Moves options) bytes a (net, rest, parts, inr (system, accepted, told)) = moves_told accepted.plain.notation system options rest a told
+command_told command.Migrate bytes a (net, rest, parts, inl (line, why, is)) = IsToldBy.refused (inl (ap (λ x. x.status) is))
+command_told command.Migrate bytes a (net, rest, parts, inr (system, accepted, to)) = migrate_told accepted.plain system bytes net rest a to
 command_told command.Pt bytes a (inl refuses) = IsToldBy.refused (inl (ap (λ x. x.status) refuses.is))
 command_told command.Pt bytes a (inr translates) = IsToldBy.quiet (ap (λ x. x.status) translates.is) (ap (λ x. x.line) translates.is)
 command_told (command.Gen copies options) bytes a gens = IsToldBy.ended gens.reason (suc (length gens.firings)) gens.status gens.line

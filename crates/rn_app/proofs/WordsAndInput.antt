@@ -87,6 +87,7 @@ answers_come (command.Session options) bytes a comes = comes
 answers_come (command.Counts options) bytes a comes = comes
 answers_come (command.Moves options) bytes a comes = comes
 answers_come command.Pt bytes a comes = comes
+answers_come command.Migrate bytes a comes = comes
 
 -- and one that needs threads comes to a refusal
 threads_refuse : (c : Command) (bytes : List ℕ) (a : Answer) → NeedsThreads c → AnswersTo c bytes a → a.status ≡ NET_REFUSED
@@ -103,6 +104,7 @@ threads_refuse (command.Session options) bytes a needs comes = absurd needs
 threads_refuse (command.Counts options) bytes a needs comes = absurd needs
 threads_refuse (command.Moves options) bytes a needs comes = absurd needs
 threads_refuse command.Pt bytes a needs comes = absurd needs
+threads_refuse command.Migrate bytes a needs comes = absurd needs
 
 -- what is prepared of a command is what the words and the input come to, or a run that is due
 pub prepares : (words : List (List ℕ)) (left left_after : Option (List ℕ)) (faults faults_after : ℕ) (c : Command) (bytes : List ℕ) (r : Result Prepared Stopped) → WordsOk words c →

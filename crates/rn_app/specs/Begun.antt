@@ -1,6 +1,7 @@
 -- What is done without threads, and what is left to them.
 use Rattle.std.specs.Prelude.{ℕ, ◌≡◌, ◌≤◌, List, [], length, Option, Some, None, Result, Ok, Err, ⊤}
 use Rattle.rn_model.specs.Good.{Good, IsInLimits}
+use Rattle.rn_record.specs.RecordText.{IsFormat}
 use Rattle.rn_outside.specs.Bytes.{GivesAll}
 use Rattle.rn_outside.specs.Faults.{Rose}
 use Rattle.rn_words.specs.declared.command.Command.{Command}
@@ -10,7 +11,7 @@ use Rattle.rn_gen.specs.Workload.{workload}
 use Rattle.rn_answer.specs.declared.answer.Answer.{Answer}
 use Rattle.rn_answer.specs.declared.stopped.Stopped.{Stopped}
 use Rattle.rn_answer.specs.declared.stopped.Stopped.TheVariants.{Refused, ReadFault, NoMemory}
-use Rattle.rn_answer.specs.NetTexts.{Accepted, RefusesNet}
+use Rattle.rn_answer.specs.NetTexts.{Accepted, AcceptedIn, RefusesNet}
 use Rattle.rn_answer.specs.Refusing.{Stops}
 use Rattle.rn_answer.specs.Input.{longest_input}
 use Rattle.rn_commands.specs.declared.jobs.Job.{Job}
@@ -34,23 +35,23 @@ NeedsThreads (command.GenSeeded copies options seed) = ⊤
 NeedsThreads _ = ⊥
 
 -- The run that a command asks for on the bytes of its input. For `run` these are a net text of its
--- system, and its record is asked for; for `gen` that is the workload text, and its tally.
+-- system, and its record is asked for, in the format of the text's notation; for `gen` that is the workload text, and its tally.
 abbrev pub AsksFor : Command → List ℕ → Job → Type 0
 AsksFor (command.Run options) bytes job =
-    Accepted bytes job.system × IsAskedBy options Any Record job
+    AcceptedIn job.format bytes job.system × IsAskedBy options Any Record job
 AsksFor (command.RunLeast options) bytes job =
-    Accepted bytes job.system × IsAskedBy options Least Record job
+    AcceptedIn job.format bytes job.system × IsAskedBy options Least Record job
 AsksFor (command.RunSeeded options seed) bytes job =
-    Accepted bytes job.system × IsAskedBy options (Seeded seed) Record job
+    AcceptedIn job.format bytes job.system × IsAskedBy options (Seeded seed) Record job
 AsksFor (command.Gen copies options) bytes job =
     Accepted (workload copies) job.system × IsAskedBy options Any Tally job
 AsksFor (command.GenSeeded copies options seed) bytes job =
     Accepted (workload copies) job.system × IsAskedBy options (Seeded seed) Tally job
 AsksFor _ bytes job = ⊥
 
--- a run can be done: its system is good, and its options are within their limits
+-- a run can be done: its system is good, its options are within their limits, and there is its format
 abbrev pub CanRun : Job → Type 0
-CanRun job = Good job.system × IsInLimits job.options
+CanRun job = Good job.system × IsInLimits job.options × IsFormat job.format
 
 -- A run is due: the words give a command that asks for it on its input. All of the input was taken,
 -- and is within the limit of the command; for `gen` nothing was.

@@ -11,6 +11,7 @@ use Rattle.rn_commands.specs.Parts.{HasParts}
 use Rattle.rn_commands.specs.NetCommands.{EnabledTo, ReplayComesTo}
 use Rattle.rn_commands.specs.Workloads.{GensTo}
 use Rattle.rn_commands.specs.Moves.{MovesComeTo}
+use Rattle.rn_commands.specs.Migrating.{MigrateComesTo}
 use Rattle.rn_commands.specs.Stepping.{SessionComesTo}
 use Rattle.rn_commands.specs.Counting.{CountsTo}
 use Rattle.rn_commands.specs.Translating.{RefusesWeighted, TranslatesTo}
@@ -21,6 +22,7 @@ abbrev pub HasNetText : Command → List ℕ → List ℕ → Type 0
 HasNetText (command.Replay options) bytes net = (rest : List ℕ) × HasParts bytes net rest
 HasNetText (command.Session options) bytes net = (rest : List ℕ) × HasParts bytes net rest
 HasNetText (command.Moves options) bytes net = (rest : List ℕ) × HasParts bytes net rest
+HasNetText command.Migrate bytes net = (rest : List ℕ) × HasParts bytes net rest
 HasNetText (command.Gen copies options) bytes net = ⊥
 HasNetText (command.GenSeeded copies options seed) bytes net = ⊥
 HasNetText command.Pt bytes net = ⊥
@@ -41,3 +43,4 @@ ComesTo (command.Session options) bytes a = SessionComesTo options bytes a
 ComesTo (command.Counts options) bytes a = RefusesNet bytes a ⊎ CountsTo options bytes a
 ComesTo (command.Moves options) bytes a = MovesComeTo options bytes a
 ComesTo command.Pt bytes a = RefusesWeighted bytes a ⊎ TranslatesTo bytes a
+ComesTo command.Migrate bytes a = MigrateComesTo bytes a

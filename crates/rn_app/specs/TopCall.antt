@@ -3,9 +3,13 @@ use Rattle.std.specs.Prelude.{ℕ, ◌≡◌, ◌≢◌, ◌<◌, ◌≤◌, ◌
 use Rattle.std.specs.Prelude.{[], Err, ⊤}
 use Rattle.rn_model.specs.declared.log.Options.{Options}
 use Rattle.rn_model.specs.declared.log.Reason.{Reason}
+use Rattle.rn_model.specs.declared.log.Told.{Told}
 use Rattle.rn_model.specs.declared.system.System.{System}
 use Rattle.rn_least.specs.LeastRuns.{LeastLog}
 use Rattle.rn_notation.specs.Limits.{longest_text}
+use Rattle.rn_lookup.specs.declared.refusal.Refusal.{Refusal}
+use Rattle.rn_told.specs.Laws.{HoldsFew}
+use Rattle.rn_told.specs.Runs.{Verdict, TellsRecord}
 use Rattle.rn_weighted.specs.declared.weighted.Weighted.{Weighted}
 use Rattle.rn_pt.specs.declared.fault.PtFault.{PtFault}
 use Rattle.rn_pt.specs.Texts.{Spells, IsRefused}
@@ -21,7 +25,7 @@ use Rattle.rn_answer.specs.declared.status.TheConstants.{WORDS_REFUSED}
 use Rattle.rn_answer.specs.declared.status.TheConstants.{READ_FAULT, WRITE_FAULT, NO_MEMORY, RECORD_REFUSED}
 use Rattle.rn_answer.specs.Lines.{words_line}
 use Rattle.rn_answer.specs.Refusing.{refusal}
-use Rattle.rn_answer.specs.NetTexts.{Accepted, IsRefusedBy}
+use Rattle.rn_answer.specs.NetTexts.{Accepted, AcceptedIn, IsRefusedBy}
 use Rattle.rn_answer.specs.Input.{longest_input, IsTooLong, too_long}
 use Rattle.rn_commands.specs.Parts.{HasParts}
 use Rattle.rn_commands.specs.Replaying.{IsNoRunBy, IsRecordOfRun}
@@ -112,7 +116,8 @@ pub record WritesUnfinished (words : List (List ℕ)) (left left_after out out_a
   pub text : Appends out a.text out_after
 
 -- The bytes of a command's input aren't what it asks for: they are too many; or the net text is
--- refused; or, for `pt`, there is a reason to refuse the text of a weighted net.
+-- refused; or, for `pt`, there is a reason to refuse the text of a weighted net; or, for `migrate`, the
+-- net text is in notation 2 already.
 pub data IsNoInput : Command → List ℕ → Type 0 where
   longer : {c : Command} {bytes : List ℕ} (limit : ℕ) → longest_input c ≡ Some limit →
       limit < length bytes → IsNoInput c bytes
@@ -120,6 +125,8 @@ pub data IsNoInput : Command → List ℕ → Type 0 where
       IsRefusedBy net line → IsNoInput c bytes
   unweighted : {bytes : List ℕ} {why : PtFault} → IsRefused bytes why →
       IsNoInput command.Pt bytes
+  already : {bytes net rest : List ℕ} {system : System} → HasParts bytes net rest →
+      AcceptedIn 2 net system → IsNoInput command.Migrate bytes
 
 -- the input of `replay` or `moves` is a net text and a record that isn't the text of a run, and not too
 -- long
@@ -131,9 +138,10 @@ pub record IsNoRecord (options : Options) (bytes : List ℕ) : Type 0 where
   pub system : System
   pub accepted : Accepted net system
   pub line : List ℕ
-  pub no_run : IsNoRunBy system options record_bytes line
+  pub no_run : IsNoRunBy accepted.plain.notation system options record_bytes line
 
--- the input of `replay` or `moves` is a net text and the text of a run of it
+-- the input of `replay` or `moves` is a net text and the text of a run of it, in the format of the
+-- text's notation, with marks that aren't too many to be read
 pub record IsRecorded (options : Options) (bytes : List ℕ) : Type 0 where
   pub net : List ℕ
   pub record_bytes : List ℕ
@@ -142,7 +150,32 @@ pub record IsRecorded (options : Options) (bytes : List ℕ) : Type 0 where
   pub accepted : Accepted net system
   pub count : ℕ
   pub reason : Reason
-  pub run : IsRecordOfRun system options record_bytes count reason
+  pub run : IsRecordOfRun accepted.plain.notation system options record_bytes count reason
+  pub few : HoldsFew accepted.plain.notation run.marks
+
+-- the input of `migrate` is a net text of notation 1, a line `---`, and a record of which a line is bad,
+-- and not too long
+pub record IsUnread (bytes : List ℕ) : Type 0 where
+  pub few : length bytes ≤ longest_text
+  pub net : List ℕ
+  pub record_bytes : List ℕ
+  pub parts : HasParts bytes net record_bytes
+  pub more : net ≢ bytes
+  pub system : System
+  pub accepted : AcceptedIn 1 net system
+  pub line : ℕ
+  pub why : Refusal
+  pub bad : TellsRecord system 1 record_bytes (Verdict.bad line why)
+
+-- the input of `migrate` is a net text of notation 1, alone or with a record that tells a run
+pub record CanMigrate (bytes : List ℕ) : Type 0 where
+  pub net : List ℕ
+  pub record_bytes : List ℕ
+  pub parts : HasParts bytes net record_bytes
+  pub system : System
+  pub accepted : AcceptedIn 1 net system
+  pub read : net ≢ bytes → (told : Told)
+      × TellsRecord system 1 record_bytes (Verdict.tells told.entries told.marks)
 
 -- the input of `session` begins with an accepted net text
 pub record BeginsWithNet (bytes : List ℕ) : Type 0 where
@@ -163,8 +196,8 @@ MayFault (command.GenSeeded copies options seed) = ⊤
 MayFault _ = ⊥
 
 -- The input is what the command can do: an accepted net text, for `replay` and `moves` with the text of
--- a run of it, and for `session` with any lines. For `pt` it is the text of a weighted net. `gen` asks
--- for none.
+-- a run of it, and for `session` with any lines. For `migrate` it is in notation 1, alone or with a
+-- record that tells a run. For `pt` it is the text of a weighted net. `gen` asks for none.
 abbrev pub IsFine : Command → Option (List ℕ) → Type 0
 IsFine (command.Gen copies options) left = ⊤
 IsFine (command.GenSeeded copies options seed) left = ⊤
@@ -174,6 +207,8 @@ IsFine (command.Moves options) left = (bytes : List ℕ) × (left ≡ Some bytes
     × (length bytes ≤ longest_text) × IsRecorded options bytes
 IsFine (command.Session options) left = (bytes : List ℕ) × (left ≡ Some bytes)
     × (length bytes ≤ longest_text) × BeginsWithNet bytes
+IsFine command.Migrate left = (bytes : List ℕ) × (left ≡ Some bytes)
+    × (length bytes ≤ longest_text) × CanMigrate bytes
 IsFine command.Pt left = (bytes : List ℕ) × (left ≡ Some bytes)
     × ((net : Weighted) × Spells bytes net)
 IsFine c left = (bytes : List ℕ) × (left ≡ Some bytes) × ((system : System) × Accepted bytes system)

@@ -17,7 +17,7 @@ ghost use Rattle.rn_answer.specs.Writing.{TakesLine};
 ghost use Rattle.rn_app.specs.Begun.{IfDone, IfWorking, IsDone, IsDue, NeedsThreads};
 ghost use Rattle.rn_app.specs.TopCall.{IsStatus, IsOwnStatus, IsFaultStatus};
 ghost use Rattle.rn_app.specs.TopCall.{Writes, WritesUnfinished, FailsToWrite, FailsToTell};
-ghost use Rattle.rn_app.specs.TopCall.{IsNoInput, IsNoRecord, IsFine, MayFault, RoseOnceAtMost};
+ghost use Rattle.rn_app.specs.TopCall.{IsNoInput, IsNoRecord, IsUnread, IsFine, MayFault, RoseOnceAtMost};
 
 use crate::laws::input_laws;
 use crate::preparing::{Prepared, prepare};
@@ -99,6 +99,9 @@ pub fn begin<I: Source, O: Sink, E: Sink>(
     ensures refuses_moved { (options : Options) →
         WordsOk (map string_bytes words.now) (Command.Moves options) →
         IfSome (I.left input.old) (λ bytes. IsNoRecord options bytes →
+        IfDone result (λ status. (status ≡ RECORD_REFUSED) ⊎ IsFaultStatus status)) }
+    ensures refuses_migrated { WordsOk (map string_bytes words.now) Command.Migrate →
+        IfSome (I.left input.old) (λ bytes. IsUnread bytes →
         IfDone result (λ status. (status ≡ RECORD_REFUSED) ⊎ IsFaultStatus status)) }
 
     // Without faults, input that the command can do is done, or its run is due, unless memory runs

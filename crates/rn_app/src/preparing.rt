@@ -13,7 +13,9 @@ ghost use Rattle.rn_answer.specs.Input.{longest_input};
 ghost use Rattle.rn_app.specs.Begun.{IfAnswered, IsPrepared, NeedsThreads, PreparesOrStops};
 
 use rn_answer::{Answer, Stopped, check, command_of, input_of, print};
-use rn_commands::{Job, Pick, counts, enabled, moves, net_job, pt, replay, session, workload_job};
+use rn_commands::{
+    Job, Pick, counts, enabled, migrate, moves, net_job, pt, replay, session, workload_job,
+};
 use rn_outside::Source;
 use rn_words::{Command, words_laws};
 use std::alloc::Global;
@@ -56,6 +58,7 @@ fn work(alloc: Global, command: Command, bytes: &[u8]) -> Result<Prepared, Stopp
         Command::Counts(options) => Ok(Prepared::Answered(counts(alloc, options, bytes)?)),
         Command::Moves(options) => Ok(Prepared::Answered(moves(alloc, options, bytes)?)),
         Command::Pt => Ok(Prepared::Answered(pt(alloc, bytes)?)),
+        Command::Migrate => Ok(Prepared::Answered(migrate(alloc, bytes)?)),
     }
 }
 

@@ -21,7 +21,7 @@ ghost use Rattle.rn_answer.specs.Writing.{TakesLine};
 ghost use Rattle.rn_app.specs.TopCall.{IsStatus, IsOwnStatus, IsFaultStatus};
 ghost use Rattle.rn_app.specs.TopCall.{Writes, WritesRun, WritesLeastRun, WritesUnfinished};
 ghost use Rattle.rn_app.specs.TopCall.{FailsToWrite, FailsToTell};
-ghost use Rattle.rn_app.specs.TopCall.{IsNoInput, IsNoRecord, IsFine, MayFault, RoseOnceAtMost};
+ghost use Rattle.rn_app.specs.TopCall.{IsNoInput, IsNoRecord, IsUnread, IsFine, MayFault, RoseOnceAtMost};
 
 use crate::beginning::{Begun, begin};
 use crate::laws::input_laws;
@@ -124,6 +124,9 @@ pub fn renew_top<R: Threads + Wait + Sync, I: Source, O: Sink, E: Sink, G: Gate 
     ensures refuses_moved { (options : Options) →
         WordsOk (map string_bytes words.now) (Command.Moves options) →
         IfSome (I.left input.old) (λ bytes. IsNoRecord options bytes →
+        (result ≡ RECORD_REFUSED) ⊎ IsFaultStatus result) }
+    ensures refuses_migrated { WordsOk (map string_bytes words.now) Command.Migrate →
+        IfSome (I.left input.old) (λ bytes. IsUnread bytes →
         (result ≡ RECORD_REFUSED) ⊎ IsFaultStatus result) }
 
     // Without faults, input that the command can do is done, unless memory runs out; a net's run may

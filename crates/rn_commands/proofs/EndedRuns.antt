@@ -14,7 +14,7 @@ use Rattle.rn_fire.specs.declared.setup.Setup.{Setup}
 use Rattle.rn_fire.specs.States.{State, end_marking}
 use Rattle.rn_gen.specs.Workload.{workload}
 use Rattle.rn_answer.specs.declared.answer.Answer.{Answer}
-use Rattle.rn_answer.specs.NetTexts.{Accepted}
+use Rattle.rn_answer.specs.NetTexts.{Accepted, AcceptedIn}
 use Rattle.rn_commands.specs.Ends.{IsWrittenBy, end_message, end_status}
 use Rattle.rn_commands.specs.Runs.{IsOfWorkers, RunsTo, run_text}
 use Rattle.rn_commands.specs.Workloads.{CountsLive, GensTo, IsTalliedBy, tally_text}
@@ -45,8 +45,9 @@ module _ (system : System) (options : Options) (s : State) (a : Answer)
       subst (λ (x : Setup). Log x.system x.options s.fired (Some reason)) setup log
 
   -- it is a run of the net text
-  abbrev pub runs_to : (bytes : List ℕ) → Accepted bytes system → IsWrittenBy s a → RunsTo options bytes a
-  runs_to bytes accepted written =
+  abbrev pub runs_to : (bytes : List ℕ) (format : ℕ) → AcceptedIn format bytes system →
+      IsWrittenBy format s a → RunsTo options bytes a
+  runs_to bytes format accepted written =
       let record_is = written.0 in
       let closed = written.1 in
       let reason = closed.0 in
@@ -54,7 +55,7 @@ module _ (system : System) (options : Options) (s : State) (a : Answer)
         reason = reason;
         run = record {
           system = system;
-          accepted = accepted;
+          accepted = accepted.0;
           firings = s.fired;
           workers = own;
           log = its_log reason closed.2;
@@ -62,8 +63,9 @@ module _ (system : System) (options : Options) (s : State) (a : Answer)
           live = subst (λ (x : Setup). LivePart x.system (end_of x.system s.fired) record_is.marks) setup
               record_is.live;
           told = record_is.text
-              ∙ ap (λ e. record_text 1 s.setup.system (record { entries = entries_of s.fired e; marks = record_is.marks })) closed.1
-              ∙ ap (λ (x : Setup). run_text x.system s.fired reason record_is.marks) setup;
+              ∙ ap (λ e. record_text format s.setup.system (record { entries = entries_of s.fired e; marks = record_is.marks })) closed.1
+              ∙ ap (λ (x : Setup). run_text format x.system s.fired reason record_is.marks) setup
+              ∙ ap (λ f. run_text f system s.fired reason record_is.marks) (sym accepted.1);
         };
         status = closed.3;
         line = closed.4;

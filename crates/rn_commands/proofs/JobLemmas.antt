@@ -20,11 +20,11 @@ module _ {E : Type 0} (job : Job) (s : State)
     (own : All (IsOfWorkers job.options.workers) s.fired) where
   -- its record
   pub job_recorded : job.telling ≡ Record → (job.pick ≡ Least → HasLeastLog s) → (r : Result Answer E) →
-      IfOk r (λ a. IsWrittenBy s a) → IfOk r (λ a. JobComesTo job a)
+      IfOk r (λ a. IsWrittenBy job.format s a) → IfOk r (λ a. JobComesTo job a)
   job_recorded is least (Ok a) written = record {
-    recorded = λ same bytes accepted. runs_to job.system job.options s a setup own bytes accepted written;
+    recorded = λ same bytes accepted. runs_to job.system job.options s a setup own bytes job.format accepted written;
     least = λ same first bytes accepted.
-        runs_least_to job.system job.options s a setup own (least first) bytes accepted written;
+        runs_least_to job.system job.options s a setup own (least first) bytes job.format accepted written;
     tallied = λ other. let no : Record ≡ Tally = sym is ∙ other in absurd cc;
   }
   job_recorded is least (Err e) written = tt

@@ -26,11 +26,11 @@ all_by_same worker (f ∷ fs) (g ∷ gs) bindings printed =
     ∙ ap (λ xs. firing_of worker g.binding g.outs ∷ xs) (all_by_same worker fs gs others outs)
 
 pub least_texts_are_one : LeastTextsAreOne
-least_texts_are_one system options others fs gs reason end marks lines worker same log other memory
+least_texts_are_one format system options others fs gs reason end marks lines worker same log other memory
     memory' part part' =
     let alike = least_logs_are_alike system options others fs gs reason end same log other memory
     memory' in
-    ap (λ xs. run_text system xs reason marks)
+    ap (λ xs. run_text format system xs reason marks)
     (all_by_same worker fs gs alike.bindings alike.printed)
-    ∙ ap (λ r. run_text system (all_by worker gs) r marks) alike.reasons
-    ∙ ap (run_text system (all_by worker gs) end) (alike.marks marks lines part part')
+    ∙ ap (λ r. run_text format system (all_by worker gs) r marks) alike.reasons
+    ∙ ap (run_text format system (all_by worker gs) end) (alike.marks marks lines part part')

@@ -4,6 +4,7 @@ pub mod EndedRuns
 pub mod FirstBindings
 pub mod JobLemmas
 pub mod LastReasons
+pub mod MigrateLemmas
 pub mod MovesLemmas
 pub mod LeastEnds
 pub mod LeastTexts

@@ -12,6 +12,7 @@ use Rattle.rn_model.specs.Runs.{Firing, end_of, entries_of}
 use Rattle.rn_lookup.specs.declared.refusal.Refusal.{Refusal}
 use Rattle.rn_fire.specs.States.{end_in, firings_in}
 use Rattle.rn_fire.proofs.EntryLemmas.{end_of_entries, firings_of}
+use Rattle.rn_record.specs.RecordText.{IsFormat}
 use Rattle.rn_told.specs.Laws.{OneReading}
 use Rattle.rn_told.specs.Runs.{Verdict, TellsRecord}
 use Rattle.rn_replay.specs.declared.fault.ReplayFault.{ReplayFault}
@@ -64,33 +65,33 @@ same_run fs gs reason other are =
     ap (λ xs. replayed_text (length xs) reason) firings ∙ ap (λ x. replayed_text (length gs) x) end
 
 module _ (one : OneReading) (untrue : RefusedAreUntrue) (cause : RefusedForOneCause)
-    (system : System) (options : Options) (bytes : List ℕ) where
-  lines_alike : (l m : List ℕ) → IsNoRunBy system options bytes l →
-      IsNoRunBy system options bytes m → l ≡ m
+    (format : ℕ) (system : System) (options : Options) (bytes : List ℕ) (is_format : IsFormat format) where
+  lines_alike : (l m : List ℕ) → IsNoRunBy format system options bytes l →
+      IsNoRunBy format system options bytes m → l ≡ m
   lines_alike l m (IsNoRunBy.unread n r tells) (IsNoRunBy.unread k q also) =
-      same_line n k r q (one system bytes (Verdict.bad n r) (Verdict.bad k q) tells also)
+      same_line n k r q (one system format bytes (Verdict.bad n r) (Verdict.bad k q) is_format tells also)
   lines_alike l m (IsNoRunBy.unread n r tells) (IsNoRunBy.untrue told fault also has why) =
-      let is = one system bytes (Verdict.bad n r) (Verdict.tells told.entries told.marks) tells also in
+      let is = one system format bytes (Verdict.bad n r) (Verdict.tells told.entries told.marks) is_format tells also in
       absurd (let never : ⊥ = cc in never)
   lines_alike l m (IsNoRunBy.untrue told fault tells has why) (IsNoRunBy.unread k q also) =
-      let is = one system bytes (Verdict.tells told.entries told.marks) (Verdict.bad k q) tells also in
+      let is = one system format bytes (Verdict.tells told.entries told.marks) (Verdict.bad k q) is_format tells also in
       absurd (let never : ⊥ = cc in never)
   lines_alike l m (IsNoRunBy.untrue told fault tells has why) (IsNoRunBy.untrue other same also some because) =
-      let is = same_told told other (one system bytes (Verdict.tells told.entries told.marks)
-      (Verdict.tells other.entries other.marks) tells also) in
+      let is = same_told told other (one system format bytes (Verdict.tells told.entries told.marks)
+      (Verdict.tells other.entries other.marks) is_format tells also) in
       ap entry_line (cause system options other fault same
       (subst (λ t. Refused system options t fault) is why) because (caused fault has) (caused same some))
 
-  not_both : (l : List ℕ) (count : ℕ) (reason : Reason) → IsNoRunBy system options bytes l →
-      (run : IsRecordOfRun system options bytes count reason) →
-      TellsRecord system bytes (Verdict.tells (entries_of run.firings (Some reason)) run.marks) → ⊥
+  not_both : (l : List ℕ) (count : ℕ) (reason : Reason) → IsNoRunBy format system options bytes l →
+      (run : IsRecordOfRun format system options bytes count reason) →
+      TellsRecord system format bytes (Verdict.tells (entries_of run.firings (Some reason)) run.marks) → ⊥
   not_both l count reason (IsNoRunBy.unread n r tells) run also =
-      let is = one system bytes (Verdict.bad n r)
-      (Verdict.tells (entries_of run.firings (Some reason)) run.marks) tells also in
+      let is = one system format bytes (Verdict.bad n r)
+      (Verdict.tells (entries_of run.firings (Some reason)) run.marks) is_format tells also in
       let never : ⊥ = cc in never
   not_both l count reason (IsNoRunBy.untrue told fault tells has why) run also =
-      let is = one system bytes (Verdict.tells told.entries told.marks)
-      (Verdict.tells (entries_of run.firings (Some reason)) run.marks) tells also in
+      let is = one system format bytes (Verdict.tells told.entries told.marks)
+      (Verdict.tells (entries_of run.firings (Some reason)) run.marks) is_format tells also in
       let entries : told.entries ≡ entries_of run.firings (Some reason) = cc in
       let marks : told.marks ≡ run.marks = cc in
       untrue system options told fault why (caused fault has) (record {
@@ -102,21 +103,21 @@ module _ (one : OneReading) (untrue : RefusedAreUntrue) (cause : RefusedForOneCa
       })
 
   texts_alike : (count other : ℕ) (reason end : Reason)
-      (run : IsRecordOfRun system options bytes count reason)
-      (again : IsRecordOfRun system options bytes other end) →
-      TellsRecord system bytes (Verdict.tells (entries_of run.firings (Some reason)) run.marks) →
-      TellsRecord system bytes (Verdict.tells (entries_of again.firings (Some end)) again.marks) →
+      (run : IsRecordOfRun format system options bytes count reason)
+      (again : IsRecordOfRun format system options bytes other end) →
+      TellsRecord system format bytes (Verdict.tells (entries_of run.firings (Some reason)) run.marks) →
+      TellsRecord system format bytes (Verdict.tells (entries_of again.firings (Some end)) again.marks) →
       replayed_text count reason ≡ replayed_text other end
   texts_alike count other reason end run again tells also =
-      let is = one system bytes (Verdict.tells (entries_of run.firings (Some reason)) run.marks)
-      (Verdict.tells (entries_of again.firings (Some end)) again.marks) tells also in
+      let is = one system format bytes (Verdict.tells (entries_of run.firings (Some reason)) run.marks)
+      (Verdict.tells (entries_of again.firings (Some end)) again.marks) is_format tells also in
       let entries : entries_of run.firings (Some reason) ≡ entries_of again.firings (Some end) = cc in
       ap (λ n. replayed_text n reason) (sym run.counted)
       ∙ same_run run.firings again.firings reason end entries
       ∙ ap (λ n. replayed_text n end) again.counted
 
-  answers_alike : (a b : Answer) → RecordTo system options bytes a →
-      RecordTo system options bytes b → a ≡ b
+  answers_alike : (a b : Answer) → RecordTo format system options bytes a →
+      RecordTo format system options bytes b → a ≡ b
   answers_alike a b (RecordTo.refused l why) (RecordTo.refused m because) =
       ap (refusal RECORD_REFUSED) (lines_alike l m why because)
   answers_alike a b (RecordTo.refused l why) (RecordTo.replayed count reason run tells) =
@@ -127,5 +128,5 @@ module _ (one : OneReading) (untrue : RefusedAreUntrue) (cause : RefusedForOneCa
       ap done (texts_alike count other reason end run again tells also)
 
 pub one_answer : OneReading → RefusedAreUntrue → RefusedForOneCause → OneAnswerToRecord
-one_answer one untrue cause system options bytes =
-    answers_alike one untrue cause system options bytes
+one_answer one untrue cause format system options bytes a b is =
+    answers_alike one untrue cause format system options bytes is a b

@@ -53,6 +53,6 @@ IsClosedBy s status line = (reason : Reason) × (s.ended ≡ Some reason)
     × Log s.setup.system s.setup.options s.fired (Some reason)
     × (status ≡ end_status reason) × (line ≡ end_message reason (suc (length s.fired)))
 
--- the answer of a run that is written
-abbrev pub IsWrittenBy : State → Answer → Type 0
-IsWrittenBy s a = IsRecordOf 1 s a.text × IsClosedBy s a.status a.line
+-- the answer of a run that is written in this format
+abbrev pub IsWrittenBy : ℕ → State → Answer → Type 0
+IsWrittenBy format s a = IsRecordOf format s a.text × IsClosedBy s a.status a.line

@@ -3,6 +3,7 @@
 use Rattle.std.specs.Prelude.{ℕ, ◌≡◌, ◌≤◌, List}
 use Rattle.rn_model.specs.declared.system.System.{System}
 use Rattle.rn_model.specs.declared.log.Options.{Options}
+use Rattle.rn_record.specs.RecordText.{IsFormat}
 use Rattle.rn_gen.specs.Workload.{workload}
 use Rattle.rn_answer.specs.declared.answer.Answer.{Answer}
 use Rattle.rn_answer.specs.NetTexts.{Accepted}
@@ -18,8 +19,9 @@ OneParting = (bytes net rest other_net other_rest : List ℕ) → HasParts bytes
 
 -- What `replay` comes to on a record is this alone, so none that is refused is accepted too.
 abbrev pub OneAnswerToRecord : Type 0
-OneAnswerToRecord = (system : System) (options : Options) (bytes : List ℕ) (a b : Answer) →
-    RecordTo system options bytes a → RecordTo system options bytes b → a ≡ b
+OneAnswerToRecord = (format : ℕ) (system : System) (options : Options) (bytes : List ℕ)
+    (a b : Answer) → IsFormat format → RecordTo format system options bytes a →
+    RecordTo format system options bytes b → a ≡ b
 
 -- Whatever `moves` comes to, `replay` comes to an answer with the same status and line. So the moves
 -- of a record are told exactly where `replay` accepts it, unless memory runs out.

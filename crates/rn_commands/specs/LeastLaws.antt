@@ -22,10 +22,11 @@ all_by worker = map (firing_by worker)
 -- Two records of least runs of one system, depth and step limit that don't end for want of memory
 -- are the same but for the workers: with one number in place of each worker's they are the same bytes.
 abbrev pub LeastTextsAreOne : Type 0
-LeastTextsAreOne = (system : System) (options others : Options) (fs gs : List Firing)
+LeastTextsAreOne = (format : ℕ) (system : System) (options others : Options) (fs gs : List Firing)
     (reason end : Reason) (marks lines : List MarkLine) (worker : ℕ) →
     HaveTheSameLimits options others →
     LeastLog system options fs (Some reason) → LeastLog system others gs (Some end) →
     reason ≢ Memory → end ≢ Memory →
     LivePart system (end_of system fs) marks → LivePart system (end_of system gs) lines →
-    run_text system (all_by worker fs) reason marks ≡ run_text system (all_by worker gs) end lines
+    run_text format system (all_by worker fs) reason marks
+    ≡ run_text format system (all_by worker gs) end lines

@@ -5,6 +5,7 @@ pub mod Parts
 pub mod Replaying
 pub mod Workloads
 pub mod Moves
+pub mod Migrating
 pub mod Counting
 pub mod Stepping
 pub mod Translating

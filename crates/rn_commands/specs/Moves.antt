@@ -15,19 +15,19 @@ use Rattle.rn_commands.specs.Replaying.{IsNoRunBy, IsRecordOfRun}
 
 -- What `moves` comes to on a record: it isn't the text of a run, and is refused by the line by which
 -- `replay` refuses it; or it is, and the text tells the moves of that run's log.
-pub data RecordMovesTo (system : System) (options : Options) (bytes : List ℕ)
+pub data RecordMovesTo (format : ℕ) (system : System) (options : Options) (bytes : List ℕ)
     : Answer → Type 0 where
-  refused : (line : List ℕ) → IsNoRunBy system options bytes line →
-      RecordMovesTo system options bytes (refusal RECORD_REFUSED line)
-  moved : (count : ℕ) (reason : Reason) (run : IsRecordOfRun system options bytes count reason) →
-      TellsRecord system bytes (Verdict.tells (entries_of run.firings (Some reason)) run.marks) →
+  refused : (line : List ℕ) → IsNoRunBy format system options bytes line →
+      RecordMovesTo format system options bytes (refusal RECORD_REFUSED line)
+  moved : (count : ℕ) (reason : Reason) (run : IsRecordOfRun format system options bytes count reason) →
+      TellsRecord system format bytes (Verdict.tells (entries_of run.firings (Some reason)) run.marks) →
       (text : List ℕ) → MovesText system (entries_of run.firings (Some reason)) text →
-      RecordMovesTo system options bytes (done text)
+      RecordMovesTo format system options bytes (done text)
 
--- the record after an accepted net text
+-- the record after an accepted net text, whose notation is its format
 abbrev pub MovesTo : Options → List ℕ → List ℕ → Answer → Type 0
-MovesTo options net rest a = (system : System) × Accepted net system
-    × RecordMovesTo system options rest a
+MovesTo options net rest a = (system : System) × (accepted : Accepted net system)
+    × RecordMovesTo accepted.plain.notation system options rest a
 
 -- what `moves` comes to on its input, which is that of `replay`
 abbrev pub MovesComeTo : Options → List ℕ → Answer → Type 0

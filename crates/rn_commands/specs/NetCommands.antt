@@ -15,10 +15,10 @@ abbrev pub EnabledTo : ℕ → List ℕ → Answer → Type 0
 EnabledTo depth bytes a = (system : System) × (found : List Binding) × Accepted bytes system
     × AreEnabledFirst system depth found × (a ≡ done (bindings_text system 1 found))
 
--- the record after an accepted net text
+-- the record after an accepted net text, whose notation is its format
 abbrev pub ReplaysTo : Options → List ℕ → List ℕ → Answer → Type 0
-ReplaysTo options net rest a = (system : System) × Accepted net system
-    × RecordTo system options rest a
+ReplaysTo options net rest a = (system : System) × (accepted : Accepted net system)
+    × RecordTo accepted.plain.notation system options rest a
 
 -- what `replay` comes to on its input
 abbrev pub ReplayComesTo : Options → List ℕ → Answer → Type 0

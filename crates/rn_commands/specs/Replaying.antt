@@ -9,10 +9,10 @@ use Rattle.rn_model.specs.declared.log.Told.{Told}
 use Rattle.rn_model.specs.Runs.{Firing, Log, end_of, entries_of}
 use Rattle.rn_model.specs.Liveness.{LivePart}
 use Rattle.rn_lookup.specs.declared.refusal.Refusal.{Refusal}
-use Rattle.rn_lookup.specs.declared.refusal.Refusal.TheVariants.{Form, Name, Step, Memory}
+use Rattle.rn_lookup.specs.declared.refusal.Refusal.TheVariants.{Form, Name, Step, Many, Memory}
 use Rattle.rn_told.specs.Runs.{Verdict, TellsRecord}
 use Rattle.rn_told.specs.declared.fault.RecordFault.{RecordFault}
-use Rattle.rn_told.specs.declared.fault.RecordFault.TheVariants.{Q1, Q2, Q3}
+use Rattle.rn_told.specs.declared.fault.RecordFault.TheVariants.{Q1, Q2, Q3, Q4}
 use Rattle.rn_told.specs.declared.fault.RecordFault.TheVariants as Q
 use Rattle.rn_replay.specs.declared.fault.ReplayFault.{ReplayFault}
 use Rattle.rn_replay.specs.declared.fault.ReplayFault.TheVariants.{V1, V2, V3, V4, V5}
@@ -30,6 +30,7 @@ abbrev pub line_code : Refusal → List ℕ
 line_code Form = codes "Q1"
 line_code Name = codes "Q2"
 line_code Step = codes "Q3"
+line_code Many = codes "Q4"
 line_code Memory = []
 
 -- the line of an entry that isn't true; want of memory has none
@@ -46,25 +47,26 @@ abbrev pub HasCause : ReplayFault → Type 0
 HasCause R.NoMemory = ⊥
 HasCause _ = ⊤
 
--- The bytes aren't the text of a run, by this line: a line of them is the first that is bad; or they
+-- The bytes aren't the text of a run in this format, by this line: a line of them is the first that is bad; or they
 -- tell what isn't true, first in this entry.
-pub data IsNoRunBy (system : System) (options : Options) (bytes : List ℕ) : List ℕ → Type 0 where
-  unread : (line : ℕ) (refusal : Refusal) → TellsRecord system bytes (Verdict.bad line refusal) →
-      IsNoRunBy system options bytes (number_line (line_code refusal) line)
+pub data IsNoRunBy (format : ℕ) (system : System) (options : Options) (bytes : List ℕ)
+    : List ℕ → Type 0 where
+  unread : (line : ℕ) (refusal : Refusal) → TellsRecord system format bytes (Verdict.bad line refusal) →
+      IsNoRunBy format system options bytes (number_line (line_code refusal) line)
   untrue : (told : Told) (fault : ReplayFault) →
-      TellsRecord system bytes (Verdict.tells told.entries told.marks) → HasCause fault →
-      Refused system options told fault → IsNoRunBy system options bytes (entry_line fault)
+      TellsRecord system format bytes (Verdict.tells told.entries told.marks) → HasCause fault →
+      Refused system options told fault → IsNoRunBy format system options bytes (entry_line fault)
 
--- the bytes are the text of a run of the system with these options, with so many firings and this
--- end
-pub record IsRecordOfRun (system : System) (options : Options) (bytes : List ℕ) (count : ℕ)
-    (reason : Reason) : Type 0 where
+-- the bytes are the text in this format of a run of the system with these options, with so many
+-- firings and this end
+pub record IsRecordOfRun (format : ℕ) (system : System) (options : Options) (bytes : List ℕ)
+    (count : ℕ) (reason : Reason) : Type 0 where
   pub firings : List Firing
   pub counted : length firings ≡ count
   pub log : Log system options firings (Some reason)
   pub marks : List MarkLine
   pub live : LivePart system (end_of system firings) marks
-  pub told : bytes ≡ run_text system firings reason marks
+  pub told : bytes ≡ run_text format system firings reason marks
 
 -- the text of a record that is accepted, as `ok 5 dead`
 abbrev pub replayed_text : ℕ → Reason → List ℕ
@@ -72,12 +74,14 @@ replayed_text count reason =
     codes "ok " ++ numeral count ++ codes " " ++ end_word reason ++ codes "\n"
 
 -- What `replay` comes to on a record: it isn't the text of a run, or it is, and tells that run.
-pub data RecordTo (system : System) (options : Options) (bytes : List ℕ) : Answer → Type 0 where
-  refused : (line : List ℕ) → IsNoRunBy system options bytes line →
-      RecordTo system options bytes (refusal RECORD_REFUSED line)
-  replayed : (count : ℕ) (reason : Reason) (run : IsRecordOfRun system options bytes count reason) →
-      TellsRecord system bytes (Verdict.tells (entries_of run.firings (Some reason)) run.marks) →
-      RecordTo system options bytes (done (replayed_text count reason))
+pub data RecordTo (format : ℕ) (system : System) (options : Options) (bytes : List ℕ)
+    : Answer → Type 0 where
+  refused : (line : List ℕ) → IsNoRunBy format system options bytes line →
+      RecordTo format system options bytes (refusal RECORD_REFUSED line)
+  replayed : (count : ℕ) (reason : Reason)
+      (run : IsRecordOfRun format system options bytes count reason) →
+      TellsRecord system format bytes (Verdict.tells (entries_of run.firings (Some reason)) run.marks) →
+      RecordTo format system options bytes (done (replayed_text count reason))
 
 -- What follows only connects the code to the definitions.
 
@@ -86,9 +90,10 @@ abbrev pub record_line : RecordFault → List ℕ
 record_line (Q1 n) = number_line (codes "Q1") n
 record_line (Q2 n) = number_line (codes "Q2") n
 record_line (Q3 n) = number_line (codes "Q3") n
+record_line (Q4 n) = number_line (codes "Q4") n
 record_line Q.NoMemory = []
 
 -- a record is refused
-abbrev pub RefusesRecord : System → Options → List ℕ → Answer → Type 0
-RefusesRecord system options bytes a =
-    (line : List ℕ) × IsNoRunBy system options bytes line × (a ≡ refusal RECORD_REFUSED line)
+abbrev pub RefusesRecord : ℕ → System → Options → List ℕ → Answer → Type 0
+RefusesRecord format system options bytes a =
+    (line : List ℕ) × IsNoRunBy format system options bytes line × (a ≡ refusal RECORD_REFUSED line)

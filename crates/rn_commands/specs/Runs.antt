@@ -11,17 +11,18 @@ use Rattle.rn_answer.specs.declared.answer.Answer.{Answer}
 use Rattle.rn_answer.specs.NetTexts.{Accepted}
 use Rattle.rn_commands.specs.Ends.{end_status, end_message}
 
--- the text of these firings, of this end, and of these marks
-abbrev pub run_text : System → List Firing → Reason → List MarkLine → List ℕ
-run_text system firings reason marks =
-    record_text 1 system (record { entries = entries_of firings (Some reason); marks = marks })
+-- the text of these firings, of this end, and of these marks, in this format
+abbrev pub run_text : ℕ → System → List Firing → Reason → List MarkLine → List ℕ
+run_text format system firings reason marks =
+    record_text format system (record { entries = entries_of firings (Some reason); marks = marks })
 
 -- a firing's worker is one of so many
 abbrev pub IsOfWorkers : ℕ → Firing → Type 0
 IsOfWorkers workers f = (1 ≤ f.worker) × (f.worker ≤ workers)
 
 -- The text is that of a run of the system of these bytes: its firings, from the initial marking, each
--- by one of the workers, its true end, and the marks of what is live then.
+-- by one of the workers, its true end, and the marks of what is live then. Its format is the notation
+-- of the net text.
 pub record IsRunOf (options : Options) (bytes text : List ℕ) (reason : Reason) : Type 0 where
   pub system : System
   pub accepted : Accepted bytes system
@@ -30,7 +31,7 @@ pub record IsRunOf (options : Options) (bytes text : List ℕ) (reason : Reason)
   pub log : Log system options firings (Some reason)
   pub marks : List MarkLine
   pub live : LivePart system (end_of system firings) marks
-  pub told : text ≡ run_text system firings reason marks
+  pub told : text ≡ run_text accepted.plain.notation system firings reason marks
 
 -- What `run` comes to on a net text: the text of a run, with the status and the line of its end.
 pub record RunsTo (options : Options) (bytes : List ℕ) (a : Answer) : Type 0 where

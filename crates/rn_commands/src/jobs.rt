@@ -2,14 +2,15 @@
 ghost use Rattle.std.specs.Prelude.{◌≡◌, ◌≤◌, IfOk, IfErr};
 ghost use Rattle.rn_model.specs.Good.{Good, IsInLimits};
 ghost use Rattle.rn_gen.specs.Workload.{workload};
-ghost use Rattle.rn_answer.specs.NetTexts.{Accepted, RefusesNet};
+ghost use Rattle.rn_record.specs.RecordText.{IsFormat};
+ghost use Rattle.rn_answer.specs.NetTexts.{Accepted, AcceptedIn, RefusesNet};
 ghost use Rattle.rn_answer.specs.Refusing.{Stops};
 ghost use Rattle.rn_commands.specs.Jobs.{IsAskedBy, JobComesTo};
 
 use crate::running::run_system;
 use crate::runs::written;
 use crate::workload::{tallied, workload_system};
-use rn_answer::{Answer, Stopped, system_of};
+use rn_answer::{Answer, Stopped, net_of};
 use rn_items::NoMemory;
 use rn_model::{Options, System};
 use rn_worker::Gate;
@@ -37,25 +38,28 @@ pub enum Telling {
     Tally,
 }
 
-/// A run that is due: its system is accepted.
+/// A run that is due: its system is accepted. Its record has this format, which is 1 or 2.
 #[derive(Debug, Drop)]
 pub struct Job {
     pub system: System,
+    pub format: u32,
     pub options: Options,
     pub pick: Pick,
     pub telling: Telling,
 }
 
-/// The run of a net text, of which a record is due.
+/// The run of a net text, of which a record is due, in the format of the text's notation.
 pub fn net_job(alloc: Global, options: Options, pick: Pick, bytes: &[u8]) -> Result<Job, Stopped>
     ensures asked { IfOk result (IsAskedBy options pick Telling.Record) }
-    ensures accepted { IfOk result (λ job. Accepted bytes.now job.system) }
+    ensures accepted { IfOk result (λ job. AcceptedIn job.format bytes.now job.system) }
+    ensures format { IfOk result (λ job. IsFormat job.format) }
     ensures good { IfOk result (λ job. Good job.system) }
     ensures refused { IfErr result (Stops (RefusesNet bytes.now)) }
 {
-    let system = system_of(alloc, bytes)?;
+    let net = net_of(alloc, bytes)?;
     Ok(Job {
-        system,
+        system: net.system,
+        format: net.notation,
         options,
         pick,
         telling: Telling::Record,
@@ -72,11 +76,13 @@ pub fn workload_job(
     requires copies { (1 ≤ copies) × (copies ≤ 10000) }
     ensures asked { IfOk result (IsAskedBy options pick Telling.Tally) }
     ensures accepted { IfOk result (λ job. Accepted (workload copies) job.system) }
+    ensures format { IfOk result (λ job. IsFormat job.format) }
     ensures good { IfOk result (λ job. Good job.system) }
 {
     let system = workload_system(alloc, copies)?;
     Ok(Job {
         system,
+        format: 1,
         options,
         pick,
         telling: Telling::Tally,
@@ -93,17 +99,19 @@ pub fn run_job<R: Threads + Wait + Sync, G: Gate + Sync>(
 ) -> Result<Answer, NoMemory>
     requires good { Good job.system }
     requires limits { IsInLimits job.options }
+    requires format { IsFormat job.format }
     ensures { IfOk result (JobComesTo job) }
 {
     let Job {
         system,
+        format,
         options,
         pick,
         telling,
     } = job;
     let state = run_system(rt, alloc, system, options, pick, gate)?;
     match telling {
-        Telling::Record => written(alloc, &state),
+        Telling::Record => written(alloc, &state, format),
         Telling::Tally => tallied(alloc, &state),
     }
 }

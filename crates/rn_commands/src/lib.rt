@@ -1,5 +1,5 @@
 //! The commands that need the states of a net: `enabled`, `run`, `replay`, `moves`, `session`,
-//! `counts` and `gen`; and `pt`, which translates weighted nets.
+//! `counts` and `gen`; `pt`, which translates weighted nets; and `migrate`.
 #![tactic(auto)]
 
 mod bindings;
@@ -8,6 +8,7 @@ mod ends;
 mod jobs;
 mod laws;
 mod least_runs;
+mod migrating;
 mod moving;
 mod replays;
 mod running;
@@ -21,6 +22,7 @@ pub use counting::counts;
 pub use jobs::{Job, Pick, Telling, net_job, run_job, workload_job};
 pub use laws::{answer_laws, gen_laws, moves_laws, parts_laws};
 pub use least_runs::{least_run_laws, run_least};
+pub use migrating::migrate;
 pub use moving::moves;
 pub use replays::replay;
 pub use runs::{run, run_seeded};

@@ -8,7 +8,7 @@ ghost use Rattle.rn_answer.specs.Refusing.{Concludes};
 ghost use Rattle.rn_commands.specs.Moves.{MovesComeTo};
 
 use crate::replays::{parted, refused_replay, replayed, told_of};
-use rn_answer::{Answer, Stopped, done, system_of};
+use rn_answer::{Answer, Stopped, done, net_of};
 use rn_fire::SimState;
 use rn_items::NoMemory;
 use rn_model::Options;
@@ -33,9 +33,9 @@ pub fn moves(alloc: Global, options: Options, bytes: &[u8]) -> Result<Answer, St
     ensures { Concludes (MovesComeTo options bytes.now) result }
 {
     let (net, rest) = parted(bytes);
-    let system = system_of(alloc, net)?;
-    let told = told_of(alloc, &system, rest)?;
-    match replayed(alloc, system, options, &told) {
+    let accepted = net_of(alloc, net)?;
+    let told = told_of(alloc, &accepted.system, accepted.notation, rest)?;
+    match replayed(alloc, accepted.system, options, &told) {
         Ok(state) => {
             let text = moves_text(alloc, &state)?;
             Ok(done(alloc, text))

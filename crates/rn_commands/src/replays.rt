@@ -2,7 +2,7 @@
 ghost use Rattle.std.specs.Prelude.{◌≡◌, ◌≢◌, ◌≤◌, None, IfOk, IfErr, IfSome, length};
 ghost use Rattle.rn_model.specs.Good.{Good, IsInLimits};
 ghost use Rattle.rn_model.specs.declared.log.Options.{Options as RunOptions};
-ghost use Rattle.rn_record.specs.RecordText.{record_text};
+ghost use Rattle.rn_record.specs.RecordText.{IsFormat, record_text};
 ghost use Rattle.rn_fire.specs.States.{IsState};
 ghost use Rattle.rn_told.specs.Runs.{TellsRecord, Verdict, longest_record};
 ghost use Rattle.rn_replay.specs.Replays.{IsWhole, Replays};
@@ -13,7 +13,7 @@ ghost use Rattle.rn_answer.specs.Refusing.{Concludes, Stops, refusal};
 ghost use Rattle.rn_commands.specs.Replaying.{RefusesRecord, record_line, entry_line, replayed_text};
 
 use crate::ends::{end_reason, end_word, fired_count};
-use rn_answer::{Answer, RECORD_REFUSED, Stopped, done, number_line, refused, system_of};
+use rn_answer::{Answer, RECORD_REFUSED, Stopped, done, net_of, number_line, refused};
 use rn_fire::SimState;
 use rn_items::NoMemory;
 use rn_model::{Options, Reason, System, Told};
@@ -69,7 +69,7 @@ fn refused_by(alloc: Global, code: &[u8], number: u32) -> Stopped
 }
 
 // The refusal of a record that tells no run.
-fn refused_record(alloc: Global, fault: RecordFault) -> Stopped
+pub(crate) fn refused_record(alloc: Global, fault: RecordFault) -> Stopped
     ensures line { Stops (λ a. a ≡ refusal RECORD_REFUSED (record_line fault)) result }
     ensures memory { fault ≡ RecordFault.NoMemory → result ≡ Stopped.NoMemory }
 {
@@ -77,6 +77,7 @@ fn refused_record(alloc: Global, fault: RecordFault) -> Stopped
         RecordFault::Q1(line) => refused_by(alloc, b"Q1", line),
         RecordFault::Q2(line) => refused_by(alloc, b"Q2", line),
         RecordFault::Q3(line) => refused_by(alloc, b"Q3", line),
+        RecordFault::Q4(line) => refused_by(alloc, b"Q4", line),
         RecordFault::NoMemory => Stopped::NoMemory,
     }
 }
@@ -96,19 +97,25 @@ pub(crate) fn refused_replay(alloc: Global, fault: ReplayFault) -> Stopped
     }
 }
 
-// What the bytes of a record tell: a run that ends once, of which they are the text.
-pub(crate) fn told_of(alloc: Global, system: &System, bytes: &[u8]) -> Result<Told, Stopped>
+// What the bytes of a record of this format tell: a run that ends once, of which they are the text.
+pub(crate) fn told_of(
+    alloc: Global,
+    system: &System,
+    format: u32,
+    bytes: &[u8],
+) -> Result<Told, Stopped>
     requires good { Good system.now }
+    requires format { IsFormat format }
     requires few { length bytes.now ≤ longest_record }
     ensures tells { IfOk result (λ told.
-        TellsRecord system.now bytes.now (Verdict.tells told.entries told.marks)) }
+        TellsRecord system.now format bytes.now (Verdict.tells told.entries told.marks)) }
     ensures whole { IfOk result (λ told. IsWhole told.entries) }
-    ensures spelled { IfOk result (λ told. bytes.now ≡ record_text 1 system.now told) }
+    ensures spelled { IfOk result (λ told. bytes.now ≡ record_text format system.now told) }
     ensures refused { (options : RunOptions) →
-        IfErr result (Stops (RefusesRecord system.now options bytes.now)) }
+        IfErr result (Stops (RefusesRecord format system.now options bytes.now)) }
 {
     record_laws();
-    match read_record(alloc, system, bytes) {
+    match read_record(alloc, system, format, bytes) {
         Ok(told) => Ok(told),
         Err(fault) => Err(refused_record(alloc, fault)),
     }
@@ -160,9 +167,9 @@ pub fn replay(alloc: Global, options: Options, bytes: &[u8]) -> Result<Answer, S
     ensures { Concludes (ReplayComesTo options bytes.now) result }
 {
     let (net, rest) = parted(bytes);
-    let system = system_of(alloc, net)?;
-    let told = told_of(alloc, &system, rest)?;
-    match replayed(alloc, system, options, &told) {
+    let accepted = net_of(alloc, net)?;
+    let told = told_of(alloc, &accepted.system, accepted.notation, rest)?;
+    match replayed(alloc, accepted.system, options, &told) {
         Ok(state) => {
             let text = state_text(alloc, &state)?;
             Ok(done(alloc, text))

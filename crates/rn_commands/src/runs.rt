@@ -1,6 +1,7 @@
 //! The command `run`: a run of a net text.
 ghost use Rattle.std.specs.Prelude.{◌≡◌, ◌≢◌, ◌⊎◌, None, IfOk};
 ghost use Rattle.rn_model.specs.Good.{IsInLimits};
+ghost use Rattle.rn_record.specs.RecordText.{IsFormat};
 ghost use Rattle.rn_fire.specs.States.{State};
 ghost use Rattle.rn_commands.specs.Ends.{fault_line, IsClosedBy, IsWrittenBy};
 ghost use Rattle.rn_answer.specs.NetTexts.{RefusesNet};
@@ -48,12 +49,13 @@ pub(crate) fn closed_by(alloc: Global, state: &SimState) -> Result<(u8, Items<u8
     }
 }
 
-/// What the run of a state whose log has ended comes to.
-pub(crate) fn written(alloc: Global, state: &SimState) -> Result<Answer, NoMemory>
-    requires { state.now.ended ≢ None }
-    ensures { IfOk result (λ a. IsWrittenBy state.now a) }
+/// What the run of a state whose log has ended comes to, with its record in this format.
+pub(crate) fn written(alloc: Global, state: &SimState, format: u32) -> Result<Answer, NoMemory>
+    requires ended { state.now.ended ≢ None }
+    requires format { IsFormat format }
+    ensures { IfOk result (λ a. IsWrittenBy format state.now a) }
 {
-    let text = write_record(alloc, state, 1)?;
+    let text = write_record(alloc, state, format)?;
     let (status, line) = closed_by(alloc, state)?;
     Ok(Answer {
         status,

@@ -5,7 +5,7 @@ use Rattle.std.specs.Prelude.{codes, bytes_eq, if◌then◌else◌}
 use Rattle.std.proofs.lemmas.Slice.Eq.{bytes_eq-Decides}
 use Rattle.rn_words.specs.declared.table.Verb.{Verb}
 use Rattle.rn_words.specs.declared.table.Verb.TheVariants.{Run, Check, Print, Enabled, Replay, Gen}
-use Rattle.rn_words.specs.declared.table.Verb.TheVariants.{Session, Counts, Moves, Pt}
+use Rattle.rn_words.specs.declared.table.Verb.TheVariants.{Session, Counts, Moves, Pt, Migrate}
 use Rattle.rn_words.specs.declared.table.Setting.{Setting}
 use Rattle.rn_words.specs.declared.chosen.Value.{Value}
 use Rattle.rn_words.specs.declared.chosen.Chosen.{Chosen}
@@ -183,7 +183,7 @@ verb_word_is word v is =
     (bytes_eq word (codes "enabled")) (bytes_eq word (codes "replay")) (bytes_eq word (codes "gen"))
     (bytes_eq word (codes "session")) (bytes_eq word (codes "counts"))
     (bytes_eq word (codes "moves")) (bytes_eq word (codes "pt"))
-    refl refl refl refl refl refl refl refl refl refl is
+    (bytes_eq word (codes "migrate")) refl refl refl refl refl refl refl refl refl refl refl is
   where
     of : (w : List ℕ) (u : Verb) → bytes_eq word w ≡ true → Some u ≡ Some v → w ≡ verb_word u →
         word ≡ verb_word v
@@ -191,28 +191,30 @@ verb_word_is word v is =
         let which : u ≡ v = cc in
         (bytes_eq-Decides word w).0 e ∙ is_word ∙ ap verb_word which
 
-    by : (a b c d e f g h i j : Bool) → bytes_eq word (codes "run") ≡ a → bytes_eq word (codes "check") ≡ b →
+    by : (a b c d e f g h i j k : Bool) → bytes_eq word (codes "run") ≡ a → bytes_eq word (codes "check") ≡ b →
         bytes_eq word (codes "print") ≡ c → bytes_eq word (codes "enabled") ≡ d →
         bytes_eq word (codes "replay") ≡ e → bytes_eq word (codes "gen") ≡ f →
         bytes_eq word (codes "session") ≡ g → bytes_eq word (codes "counts") ≡ h →
         bytes_eq word (codes "moves") ≡ i → bytes_eq word (codes "pt") ≡ j →
+        bytes_eq word (codes "migrate") ≡ k →
         (if a then Some Run else if b then Some Check else if c then Some Print
         else if d then Some Enabled else if e then Some Replay else if f then Some Gen
         else if g then Some Session else if h then Some Counts else if i then Some Moves
-        else if j then Some Pt else None)
+        else if j then Some Pt else if k then Some Migrate else None)
         ≡ Some v →
         word ≡ verb_word v
-    by true b c d e f g h i j p q r s t u y w x z same = of (codes "run") Run p same refl
-    by false true c d e f g h i j p q r s t u y w x z same = of (codes "check") Check q same refl
-    by false false true d e f g h i j p q r s t u y w x z same = of (codes "print") Print r same refl
-    by false false false true e f g h i j p q r s t u y w x z same = of (codes "enabled") Enabled s same refl
-    by false false false false true f g h i j p q r s t u y w x z same = of (codes "replay") Replay t same refl
-    by false false false false false true g h i j p q r s t u y w x z same = of (codes "gen") Gen u same refl
-    by false false false false false false true h i j p q r s t u y w x z same = of (codes "session") Session y same refl
-    by false false false false false false false true i j p q r s t u y w x z same = of (codes "counts") Counts w same refl
-    by false false false false false false false false true j p q r s t u y w x z same = of (codes "moves") Moves x same refl
-    by false false false false false false false false false true p q r s t u y w x z same = of (codes "pt") Pt z same refl
-    by false false false false false false false false false false p q r s t u y w x z same = let no : ⊥ = cc in absurd no
+    by true b c d e f g h i j k p q r s t u y w x z o same = of (codes "run") Run p same refl
+    by false true c d e f g h i j k p q r s t u y w x z o same = of (codes "check") Check q same refl
+    by false false true d e f g h i j k p q r s t u y w x z o same = of (codes "print") Print r same refl
+    by false false false true e f g h i j k p q r s t u y w x z o same = of (codes "enabled") Enabled s same refl
+    by false false false false true f g h i j k p q r s t u y w x z o same = of (codes "replay") Replay t same refl
+    by false false false false false true g h i j k p q r s t u y w x z o same = of (codes "gen") Gen u same refl
+    by false false false false false false true h i j k p q r s t u y w x z o same = of (codes "session") Session y same refl
+    by false false false false false false false true i j k p q r s t u y w x z o same = of (codes "counts") Counts w same refl
+    by false false false false false false false false true j k p q r s t u y w x z o same = of (codes "moves") Moves x same refl
+    by false false false false false false false false false true k p q r s t u y w x z o same = of (codes "pt") Pt z same refl
+    by false false false false false false false false false false true p q r s t u y w x z o same = of (codes "migrate") Migrate o same refl
+    by false false false false false false false false false false false p q r s t u y w x z o same = let no : ⊥ = cc in absurd no
 
 -- the word of a command is read as it
 verb_is_named : (v : Verb) → verb_named (verb_word v) ≡ Some v
@@ -226,6 +228,7 @@ verb_is_named Session = refl
 verb_is_named Counts = refl
 verb_is_named Moves = refl
 verb_is_named Pt = refl
+verb_is_named Migrate = refl
 
 -- a command comes of options
 of_options : (verb : Verb) (n : ℕ) (r : Result Chosen WordsFault) (c : Command) →
@@ -246,6 +249,7 @@ not_gen Session words other = refl
 not_gen Counts words other = refl
 not_gen Moves words other = refl
 not_gen Pt words other = refl
+not_gen Migrate words other = refl
 not_gen Gen words other = absurd (other refl)
 
 options_follow : (verb : Verb) (words : List (List ℕ)) (c : Command) → verb ≢ Gen →
@@ -268,6 +272,7 @@ words_follow Session words c is = options_follow Session words c (λ e. let no :
 words_follow Counts words c is = options_follow Counts words c (λ e. let no : ⊥ = cc in no) is
 words_follow Moves words c is = options_follow Moves words c (λ e. let no : ⊥ = cc in no) is
 words_follow Pt words c is = options_follow Pt words c (λ e. let no : ⊥ = cc in no) is
+words_follow Migrate words c is = options_follow Migrate words c (λ e. let no : ⊥ = cc in no) is
 words_follow Gen [] c is = let no : ⊥ = cc in absurd no
 words_follow Gen (word ∷ words) c is = by (value_within 1 most_copies word) refl is
   where

@@ -4,7 +4,7 @@ use Rattle.std.proofs.Common.{Option, Some, None, Result, Ok, Err, refl, sym, ap
 use Rattle.std.specs.Prelude.{codes}
 use Rattle.rn_words.specs.declared.table.Verb.{Verb}
 use Rattle.rn_words.specs.declared.table.Verb.TheVariants.{Run, Check, Print, Enabled, Replay, Gen}
-use Rattle.rn_words.specs.declared.table.Verb.TheVariants.{Session, Counts, Moves, Pt}
+use Rattle.rn_words.specs.declared.table.Verb.TheVariants.{Session, Counts, Moves, Pt, Migrate}
 use Rattle.rn_words.specs.declared.table.Setting.{Setting}
 use Rattle.rn_words.specs.declared.table.Setting.TheVariants.{Workers, Steps, Depth, Sweep, Pick, Seed}
 use Rattle.rn_words.specs.declared.table.Picked.TheVariants.{Any}
@@ -270,6 +270,8 @@ bad_after_verb word Moves words fault named is =
     bad_option word Moves words fault named (λ e. let no : ⊥ = cc in no) is
 bad_after_verb word Pt words fault named is =
     bad_option word Pt words fault named (λ e. let no : ⊥ = cc in no) is
+bad_after_verb word Migrate words fault named is =
+    bad_option word Migrate words fault named (λ e. let no : ⊥ = cc in no) is
 
 -- a fault names the first bad word
 pub faults_name_the_first : (words : List (List ℕ)) (fault : WordsFault) →

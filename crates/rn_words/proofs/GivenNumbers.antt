@@ -163,6 +163,7 @@ command_within verb.Session n chosen copies are = options_within 1000 chosen (om
 command_within verb.Counts n chosen copies are = options_within 1000 chosen (omega arith) are
 command_within verb.Moves n chosen copies are = options_within 1000 chosen (omega arith) are
 command_within verb.Pt n chosen copies are = tt
+command_within verb.Migrate n chosen copies are = tt
 
 follows_within : (v : Verb) (rest : List (List ℕ)) (c : Command) → FollowsVerb v rest c → IsWithinLimits c
 follows_within v rest c (FollowsVerb.options {verb} {words} {chosen} other gives) = command_within v 0 chosen (λ is. absurd (other is)) (all_within v nothing chosen rest gives none_within)

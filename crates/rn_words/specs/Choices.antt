@@ -95,3 +95,4 @@ command_of verb.Session n chosen = command.Session (options_of 1000 chosen)
 command_of verb.Counts n chosen = command.Counts (options_of 1000 chosen)
 command_of verb.Moves n chosen = command.Moves (options_of 1000 chosen)
 command_of verb.Pt n chosen = command.Pt
+command_of verb.Migrate n chosen = command.Migrate

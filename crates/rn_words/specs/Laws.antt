@@ -5,7 +5,7 @@ use Rattle.rn_model.specs.Limits.{greatest_depth}
 use Rattle.rn_words.specs.declared.command.Command.{Command}
 use Rattle.rn_words.specs.declared.command.Command.TheVariants.{Run, RunLeast, RunSeeded, Check, Print}
 use Rattle.rn_words.specs.declared.command.Command.TheVariants.{Enabled, Replay, Gen, GenSeeded}
-use Rattle.rn_words.specs.declared.command.Command.TheVariants.{Session, Counts, Moves, Pt}
+use Rattle.rn_words.specs.declared.command.Command.TheVariants.{Session, Counts, Moves, Pt, Migrate}
 use Rattle.rn_words.specs.declared.command.WordsFault.{WordsFault}
 use Rattle.rn_words.specs.declared.command.WordsFault.TheVariants.{U1, U2, U3}
 use Rattle.rn_words.specs.Commands.{WordsOk}
@@ -32,6 +32,7 @@ IsWithinLimits (Session options) = IsInLimits options
 IsWithinLimits (Counts options) = IsInLimits options
 IsWithinLimits (Moves options) = IsInLimits options
 IsWithinLimits Pt = ⊤
+IsWithinLimits Migrate = ⊤
 
 -- accepted words give a command within the limits
 abbrev pub AcceptedAreWithinLimits : Type 0

@@ -4,7 +4,7 @@ use Rattle.std.specs.Prelude.{if◌then◌else◌}
 use Rattle.rn_model.specs.Limits.{most_workers, most_steps, greatest_depth, greatest_sweep}
 use Rattle.rn_words.specs.declared.table.Verb.{Verb}
 use Rattle.rn_words.specs.declared.table.Verb.TheVariants.{Run, Check, Print, Enabled, Replay, Gen}
-use Rattle.rn_words.specs.declared.table.Verb.TheVariants.{Session, Counts, Moves, Pt}
+use Rattle.rn_words.specs.declared.table.Verb.TheVariants.{Session, Counts, Moves, Pt, Migrate}
 use Rattle.rn_words.specs.declared.table.Setting.{Setting}
 use Rattle.rn_words.specs.declared.table.Setting.TheVariants.{Workers, Steps, Depth, Sweep, Pick, Seed}
 use Rattle.rn_words.specs.declared.table.Picked.{Picked}
@@ -23,6 +23,7 @@ verb_named word =
     else if bytes_eq word (codes "counts") then Some Counts
     else if bytes_eq word (codes "moves") then Some Moves
     else if bytes_eq word (codes "pt") then Some Pt
+    else if bytes_eq word (codes "migrate") then Some Migrate
     else None
 
 -- the option of a name, which stands after `--`
@@ -55,6 +56,7 @@ verb_word Session = codes "session"
 verb_word Counts = codes "counts"
 verb_word Moves = codes "moves"
 verb_word Pt = codes "pt"
+verb_word Migrate = codes "migrate"
 
 -- the name of an option, which stands after `--`
 abbrev pub setting_name : Setting → List ℕ

@@ -180,5 +180,6 @@ pub(crate) fn command_of(verb: Verb, copies: u32, chosen: Chosen) -> Command
         Verb::Counts => Command::Counts(options_of(STEPS, chosen)),
         Verb::Moves => Command::Moves(options_of(STEPS, chosen)),
         Verb::Pt => Command::Pt,
+        Verb::Migrate => Command::Migrate,
     }
 }

@@ -30,6 +30,8 @@ pub enum Command {
     Moves(Options),
     /// Write the reference net that stands for a weighted net.
     Pt,
+    /// Write a net text of notation 1, and its record, in notation 2.
+    Migrate,
 }
 
 /// The first bad word, by its number from 1.

@@ -17,6 +17,7 @@ pub(crate) enum Verb {
     Counts,
     Moves,
     Pt,
+    Migrate,
 }
 
 /// An option: `--workers`, `--steps`, `--depth`, `--drop`, `--pick`, `--seed`.
@@ -67,6 +68,8 @@ pub(crate) fn verb_named(word: &[u8]) -> Option<Verb>
         Some(Verb::Moves)
     } else if word == b"pt".as_slice() {
         Some(Verb::Pt)
+    } else if word == b"migrate".as_slice() {
+        Some(Verb::Migrate)
     } else {
         None
     }
@@ -112,7 +115,7 @@ pub(crate) fn takes(verb: Verb, setting: Setting) -> bool
 {
     match verb {
         Verb::Run => true,
-        Verb::Check | Verb::Print | Verb::Pt => false,
+        Verb::Check | Verb::Print | Verb::Pt | Verb::Migrate => false,
         Verb::Enabled => matches!(setting, Setting::Depth),
         Verb::Replay | Verb::Session | Verb::Counts | Verb::Moves => {
             matches!(setting, Setting::Steps | Setting::Depth)

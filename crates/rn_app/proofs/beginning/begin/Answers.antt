@@ -5,10 +5,10 @@ use Rattle.rn_answer.specs.declared.status.TheConstants.{DONE, NET_REFUSED, NO_M
 use Rattle.rn_outside.proofs.ByteLemmas.{IsCalledSeldom-never}
 use Rattle.rn_app.specs.declared.beginning.Begun.TheVariants.{Done}
 use Rattle.rn_app.specs.Begun.{IfAnswered, IsDue}
-use Rattle.rn_app.specs.TopCall.{IsNoInput, IsNoRecord}
+use Rattle.rn_app.specs.TopCall.{IsNoInput, IsNoRecord, IsUnread}
 use Rattle.rn_app.proofs.Causes.{Laws}
 use Rattle.rn_app.proofs.Written.{Call, IsWritten, err_faults_clause, few_faults_clause, line_faults, memory_clause, never_read, only_clause, quiet_clause, write_fault_clause, writes_clause}
-use Rattle.rn_app.proofs.Answering.{came, came_refused, complete_clause, if_some, in_place, input_clause, moves_clause, never_done, read_failed, record_clause, refused_clause, status_is, words_clause}
+use Rattle.rn_app.proofs.Answering.{came, came_refused, complete_clause, if_some, in_place, input_clause, migrate_clause, moves_clause, never_done, read_failed, record_clause, refused_clause, status_is, words_clause}
 use Rattle.rn_app.proofs.DueRuns.{due_needs, was_due}
 use Rattle.rn_app.proofs.WordsAndInput.{no_read_memory, not_faulty}
 use Rattle.rn_app.proofs.beginning.begin.Goals as goal
@@ -45,6 +45,9 @@ returns-in-Ok-Answered g c =
       words = c.words_laws.ensures.accepted;
       texts = c.input_laws.ensures.texts;
       systems = c.input_laws.ensures.systems;
+      notations = c.input_laws.ensures.notations;
+      formats = c.input_laws.ensures.formats;
+      readings = c.input_laws.ensures.readings;
       parts = c.parts_laws.ensures;
       one = c.answer_laws.ensures;
       read = c.input_laws.ensures.read;
@@ -65,6 +68,7 @@ returns-in-Ok-Answered g c =
       refuses_input = input_clause k c.in-Ok-Answered.answer w laws;
       refuses_record = record_clause k c.in-Ok-Answered.answer w laws;
       refuses_moved = moves_clause k c.in-Ok-Answered.answer w laws;
+      refuses_migrated = migrate_clause k c.in-Ok-Answered.answer w laws;
       complete = λ command accepted fine reads. complete_clause k c.in-Ok-Answered.answer w laws command accepted fine;
       taken = c.prepare.ensures.taken;
       reads = c.prepare.ensures.reads;
@@ -112,6 +116,9 @@ returns-in-Err-Refused g c =
       words = c.words_laws.ensures.accepted;
       texts = c.input_laws.ensures.texts;
       systems = c.input_laws.ensures.systems;
+      notations = c.input_laws.ensures.notations;
+      formats = c.input_laws.ensures.formats;
+      readings = c.input_laws.ensures.readings;
       parts = c.parts_laws.ensures;
       one = c.answer_laws.ensures;
       read = c.input_laws.ensures.read;
@@ -132,6 +139,7 @@ returns-in-Err-Refused g c =
       refuses_input = input_clause k c.in-Err-Refused.answer w laws;
       refuses_record = record_clause k c.in-Err-Refused.answer w laws;
       refuses_moved = moves_clause k c.in-Err-Refused.answer w laws;
+      refuses_migrated = migrate_clause k c.in-Err-Refused.answer w laws;
       complete = λ command accepted fine reads. complete_clause k c.in-Err-Refused.answer w laws command accepted fine;
       taken = c.prepare.ensures.taken;
       reads = c.prepare.ensures.reads;
@@ -165,6 +173,7 @@ returns-in-Err-ReadFault g c =
       refuses_input = λ command accepted. in_place (g.I.Source.left c.args.input.now) (IsNoInput command) NET_REFUSED c.write_line.result (inl status);
       refuses_record = λ options accepted. in_place (g.I.Source.left c.args.input.now) (IsNoRecord options) RECORD_REFUSED c.write_line.result (inl status);
       refuses_moved = λ options accepted. in_place (g.I.Source.left c.args.input.now) (IsNoRecord options) RECORD_REFUSED c.write_line.result (inl status);
+      refuses_migrated = λ accepted. in_place (g.I.Source.left c.args.input.now) IsUnread RECORD_REFUSED c.write_line.result (inl status);
       complete = λ command accepted fine reads outs errs. absurd (reads (read_failed (map string_bytes c.args.words.now) (g.I.Source.left c.args.input.now) (g.I.Source.left c.prepare.new.input) (g.I.Source.faults c.args.input.now) (g.I.Source.faults c.prepare.new.input) c.prepare.result (c.in-Err-ReadFault.is ∙ ap Err c.in-Err-ReadFault.field-0-is) c.prepare.ensures.comes));
       taken = c.prepare.ensures.taken;
       reads = c.prepare.ensures.reads;
@@ -198,6 +207,7 @@ returns-in-Err-NoMemory g c =
       refuses_input = λ command accepted. in_place (g.I.Source.left c.args.input.now) (IsNoInput command) NET_REFUSED c.write_line-in-Err-NoMemory.result (inr (inr status));
       refuses_record = λ options accepted. in_place (g.I.Source.left c.args.input.now) (IsNoRecord options) RECORD_REFUSED c.write_line-in-Err-NoMemory.result (inr (inr status));
       refuses_moved = λ options accepted. in_place (g.I.Source.left c.args.input.now) (IsNoRecord options) RECORD_REFUSED c.write_line-in-Err-NoMemory.result (inr (inr status));
+      refuses_migrated = λ accepted. in_place (g.I.Source.left c.args.input.now) IsUnread RECORD_REFUSED c.write_line-in-Err-NoMemory.result (inr (inr status));
       complete = λ command accepted fine reads outs errs. inr (inl status);
       taken = c.prepare.ensures.taken;
       reads = c.prepare.ensures.reads;
@@ -231,6 +241,7 @@ returns-in-Ok-Due g c =
       refuses_input = λ command accepted. if_some (g.I.Source.left c.args.input.now) (λ bytes. IsNoInput command bytes → ⊤) (λ bytes is wrong. tt);
       refuses_record = λ options accepted. if_some (g.I.Source.left c.args.input.now) (λ bytes. IsNoRecord options bytes → ⊤) (λ bytes is wrong. tt);
       refuses_moved = λ options accepted. if_some (g.I.Source.left c.args.input.now) (λ bytes. IsNoRecord options bytes → ⊤) (λ bytes is wrong. tt);
+      refuses_migrated = λ accepted. if_some (g.I.Source.left c.args.input.now) (λ bytes. IsUnread bytes → ⊤) (λ bytes is wrong. tt);
       complete = λ command accepted fine reads outs errs. tt;
       taken = c.prepare.ensures.taken;
       reads = c.prepare.ensures.reads;

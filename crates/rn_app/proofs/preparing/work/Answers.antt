@@ -34,28 +34,28 @@ pub returns-in_ok-net_job-in-Run : goal.returns-in_ok-net_job-in-Run
 returns-in_ok-net_job-in-Run c =
     let limits = subst IsWithinLimits c.in-Run.is (c.words_laws.ensures.limits c.requires.given.0 c.args.command c.requires.given.1) in
     let done = c.in_ok-net_job-in-Run.ensures in
-    run_due (command.Run c.in-Run.options) c.args.command c.args.bytes.now c.in_ok-net_job-in-Run.field-0 c.in-Run.options c.in-Run.is (done.accepted, done.asked) done.good done.asked.0 limits
+    run_due (command.Run c.in-Run.options) c.args.command c.args.bytes.now c.in_ok-net_job-in-Run.field-0 c.in-Run.options c.in-Run.is (done.accepted, done.asked) done.good done.asked.0 limits done.format
 
 pub returns-in_ok-net_job-in-RunLeast : goal.returns-in_ok-net_job-in-RunLeast
 returns-in_ok-net_job-in-RunLeast c =
     let limits = subst IsWithinLimits c.in-RunLeast.is (c.words_laws.ensures.limits c.requires.given.0 c.args.command c.requires.given.1) in
     let done = c.in_ok-net_job-in-RunLeast.ensures in
-    run_due (command.RunLeast c.in-RunLeast.options) c.args.command c.args.bytes.now c.in_ok-net_job-in-RunLeast.field-0 c.in-RunLeast.options c.in-RunLeast.is (done.accepted, done.asked) done.good done.asked.0 limits
+    run_due (command.RunLeast c.in-RunLeast.options) c.args.command c.args.bytes.now c.in_ok-net_job-in-RunLeast.field-0 c.in-RunLeast.options c.in-RunLeast.is (done.accepted, done.asked) done.good done.asked.0 limits done.format
 
 pub returns-in_ok-net_job-in-RunSeeded : goal.returns-in_ok-net_job-in-RunSeeded
 returns-in_ok-net_job-in-RunSeeded c =
     let limits = subst IsWithinLimits c.in-RunSeeded.is (c.words_laws.ensures.limits c.requires.given.0 c.args.command c.requires.given.1) in
     let done = c.in_ok-net_job-in-RunSeeded.ensures in
-    run_due (command.RunSeeded c.in-RunSeeded.options c.in-RunSeeded.seed) c.args.command c.args.bytes.now c.in_ok-net_job-in-RunSeeded.field-0 c.in-RunSeeded.options c.in-RunSeeded.is (done.accepted, done.asked) done.good done.asked.0 limits.0
+    run_due (command.RunSeeded c.in-RunSeeded.options c.in-RunSeeded.seed) c.args.command c.args.bytes.now c.in_ok-net_job-in-RunSeeded.field-0 c.in-RunSeeded.options c.in-RunSeeded.is (done.accepted, done.asked) done.good done.asked.0 limits.0 done.format
 
 pub returns-in_ok-workload_job-in-Gen : goal.returns-in_ok-workload_job-in-Gen
 returns-in_ok-workload_job-in-Gen c =
     let limits = subst IsWithinLimits c.in-Gen.is (c.words_laws.ensures.limits c.requires.given.0 c.args.command c.requires.given.1) in
     let done = c.in_ok-workload_job-in-Gen.ensures in
-    run_due (command.Gen c.in-Gen.copies c.in-Gen.options) c.args.command c.args.bytes.now c.in_ok-workload_job-in-Gen.field-0 c.in-Gen.options c.in-Gen.is (done.accepted, done.asked) done.good done.asked.0 limits.1
+    run_due (command.Gen c.in-Gen.copies c.in-Gen.options) c.args.command c.args.bytes.now c.in_ok-workload_job-in-Gen.field-0 c.in-Gen.options c.in-Gen.is (done.accepted, done.asked) done.good done.asked.0 limits.1 done.format
 
 pub returns-in_ok-workload_job-in-GenSeeded : goal.returns-in_ok-workload_job-in-GenSeeded
 returns-in_ok-workload_job-in-GenSeeded c =
     let limits = subst IsWithinLimits c.in-GenSeeded.is (c.words_laws.ensures.limits c.requires.given.0 c.args.command c.requires.given.1) in
     let done = c.in_ok-workload_job-in-GenSeeded.ensures in
-    run_due (command.GenSeeded c.in-GenSeeded.copies c.in-GenSeeded.options c.in-GenSeeded.seed) c.args.command c.args.bytes.now c.in_ok-workload_job-in-GenSeeded.field-0 c.in-GenSeeded.options c.in-GenSeeded.is (done.accepted, done.asked) done.good done.asked.0 limits.1
+    run_due (command.GenSeeded c.in-GenSeeded.copies c.in-GenSeeded.options c.in-GenSeeded.seed) c.args.command c.args.bytes.now c.in_ok-workload_job-in-GenSeeded.field-0 c.in-GenSeeded.options c.in-GenSeeded.is (done.accepted, done.asked) done.good done.asked.0 limits.1 done.format

@@ -6,11 +6,11 @@ use Rattle.rn_answer.specs.Writing.{TakesLine}
 use Rattle.rn_outside.specs.Bytes.{IsCalledSeldom}
 use Rattle.rn_outside.proofs.ByteLemmas.{IsCalledSeldom-never}
 use Rattle.rn_app.specs.declared.beginning.Begun.TheVariants.{Done}
-use Rattle.rn_app.specs.TopCall.{IsNoInput, IsNoRecord}
+use Rattle.rn_app.specs.TopCall.{IsNoInput, IsNoRecord, IsUnread}
 use Rattle.rn_app.proofs.Causes.{Laws}
 use Rattle.rn_app.proofs.Written.{Call, IsWritten, Took, err_faults_clause, faulted_clause, few_faults_clause, least_clause, least_faulted_clause, line_faults, memory_clause, never_read}
 use Rattle.rn_app.proofs.Written.{only_clause, quiet_clause, run_clause, seeded_clause, seeded_faulted_clause, write_fault_clause, writes_clause}
-use Rattle.rn_app.proofs.Answering.{complete_clause, in_place, input_clause, moves_clause, never_done, record_clause, run_is_undone, status_is, words_clause}
+use Rattle.rn_app.proofs.Answering.{complete_clause, in_place, input_clause, migrate_clause, moves_clause, never_done, record_clause, run_is_undone, status_is, words_clause}
 use Rattle.rn_app.proofs.DueRuns.{due_comes}
 use Rattle.rn_app.proofs.top.renew_top.Goals as goal
 
@@ -34,6 +34,7 @@ returns-in-Done g c =
       refuses_input = begun.refuses_input;
       refuses_record = begun.refuses_record;
       refuses_moved = begun.refuses_moved;
+      refuses_migrated = begun.refuses_migrated;
       complete = begun.complete;
       taken = c.begin.ensures.taken;
       reads = c.begin.ensures.reads;
@@ -90,6 +91,9 @@ returns-in-Ok g c =
       words = c.words_laws.ensures.accepted;
       texts = c.input_laws.ensures.texts;
       systems = c.input_laws.ensures.systems;
+      notations = c.input_laws.ensures.notations;
+      formats = c.input_laws.ensures.formats;
+      readings = c.input_laws.ensures.readings;
       parts = c.parts_laws.ensures;
       one = c.answer_laws.ensures;
       read = c.input_laws.ensures.read;
@@ -112,6 +116,7 @@ returns-in-Ok g c =
       refuses_input = input_clause k a w laws;
       refuses_record = record_clause k a w laws;
       refuses_moved = moves_clause k a w laws;
+      refuses_migrated = migrate_clause k a w laws;
       complete = λ command accepted fine reads. complete_clause k a w laws command accepted fine;
       taken = c.begin.ensures.taken;
       reads = c.begin.ensures.reads;
@@ -157,6 +162,7 @@ returns-in-Err g c =
       refuses_input = λ command accepted. in_place (g.I.Source.left c.args.input.now) (IsNoInput command) NET_REFUSED c.write_line.result (inr (inr status));
       refuses_record = λ options accepted. in_place (g.I.Source.left c.args.input.now) (IsNoRecord options) RECORD_REFUSED c.write_line.result (inr (inr status));
       refuses_moved = λ options accepted. in_place (g.I.Source.left c.args.input.now) (IsNoRecord options) RECORD_REFUSED c.write_line.result (inr (inr status));
+      refuses_migrated = λ accepted. in_place (g.I.Source.left c.args.input.now) IsUnread RECORD_REFUSED c.write_line.result (inr (inr status));
       complete = λ command accepted fine reads outs errs. inr (inl status);
       taken = c.begin.ensures.taken;
       reads = c.begin.ensures.reads;

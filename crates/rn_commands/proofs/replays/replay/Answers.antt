@@ -5,10 +5,10 @@ use Rattle.rn_commands.proofs.PartLemmas.{rest_few}
 use Rattle.rn_commands.proofs.ReplayLemmas.{net_stops, record_stops, replay_done, replay_refused, replayed_ends}
 use Rattle.rn_commands.proofs.replays.replay.Goals as goal
 
-pub returns-in_err-system : goal.returns-in_err-system
-returns-in_err-system c =
+pub returns-in_err-accepted : goal.returns-in_err-accepted
+returns-in_err-accepted c =
     let stops = net_stops c.args.options c.args.bytes.now c.parted.result.0.now c.parted.result.1.now c.parted.ensures
-    c.in_err-system.field-0.0 c.in_err-system.ensures.refused in
+    c.in_err-accepted.field-0.0 c.in_err-accepted.ensures.refused in
     search (rules, stops)
 
 pub told_of-requires-clause-few : goal.told_of-requires-clause-few
@@ -18,13 +18,13 @@ told_of-requires-clause-few c =
 pub returns-in_err-told : goal.returns-in_err-told
 returns-in_err-told c =
     let stops = record_stops c.args.options c.args.bytes.now c.parted.result.0.now c.parted.result.1.now c.parted.ensures
-    c.in_ok-system.system c.in_ok-system.ensures.accepted c.in_err-told.field-0.0 (c.in_err-told.ensures.refused c.args.options) in
+    c.in_ok-accepted.accepted.system c.in_ok-accepted.accepted.notation c.in_ok-accepted.ensures.accepted c.in_err-told.field-0.0 (c.in_err-told.ensures.refused c.args.options) in
     search (rules, stops)
 
 pub state_text-requires : goal.state_text-requires
 state_text-requires c =
     replayed_ends c.args.options c.args.bytes.now c.parted.result.0.now c.parted.result.1.now c.parted.ensures
-    c.in_ok-system.system c.in_ok-system.ensures.accepted c.in_ok-told.told c.in-Ok.state c.in_ok-told.ensures.whole c.in-Ok.ensures
+    c.in_ok-accepted.accepted.system c.in_ok-accepted.accepted.notation c.in_ok-accepted.ensures.accepted c.in_ok-told.told c.in-Ok.state c.in_ok-told.ensures.whole c.in-Ok.ensures
 
 pub returns-in-Ok : goal.returns-in-Ok
 returns-in-Ok c =
@@ -32,12 +32,12 @@ returns-in-Ok c =
     let bytes = c.args.bytes.now in
     subst (ReplayComesTo options bytes) (sym c.done.ensures)
     (replay_done options bytes c.parted.result.0.now c.parted.result.1.now c.parted.ensures
-    c.in_ok-system.system c.in_ok-system.ensures.accepted c.in_ok-told.told c.in-Ok.state c.in_ok-told.ensures.whole c.in-Ok.ensures
+    c.in_ok-accepted.accepted.system c.in_ok-accepted.accepted.notation c.in_ok-accepted.ensures.accepted c.in_ok-told.told c.in-Ok.state c.in_ok-told.ensures.whole c.in-Ok.ensures
     c.in_ok-text-in-Ok.text.items c.in_ok-told.ensures.tells c.in_ok-told.ensures.spelled c.in_ok-text-in-Ok.ensures.state c.in_ok-text-in-Ok.ensures.text)
 
 pub returns : goal.returns
 returns c =
     record_stops c.args.options c.args.bytes.now c.parted.result.0.now c.parted.result.1.now c.parted.ensures
-    c.in_ok-system.system c.in_ok-system.ensures.accepted c.refused_replay.result
-    (replay_refused c.in_ok-system.system c.args.options c.parted.result.1.now c.in_ok-told.told c.in-Err.fault c.refused_replay.result
+    c.in_ok-accepted.accepted.system c.in_ok-accepted.accepted.notation c.in_ok-accepted.ensures.accepted c.refused_replay.result
+    (replay_refused c.in_ok-accepted.accepted.notation c.in_ok-accepted.accepted.system c.args.options c.parted.result.1.now c.in_ok-told.told c.in-Err.fault c.refused_replay.result
     c.in_ok-told.ensures.tells c.in-Err.ensures c.refused_replay.ensures.memory c.refused_replay.ensures.line)
