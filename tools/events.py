@@ -49,10 +49,15 @@ def values_of(text):
     return found
 
 
+def header_of(record):
+    """How long the first line of a record is that names its format. Format 1 has none."""
+    return len('run 2\n') if record.startswith('run 2\n') else 0
+
+
 def firings_of(record):
     """The firings of a record that was replayed."""
     found = []
-    for row in record.split('\n'):
+    for row in record[header_of(record):].split('\n'):
         match = re.match(r'(\d+) w(\d+) (\+ |> )?(.*)$', row, re.S)
         if not match:
             break

@@ -112,7 +112,8 @@ def laid_out(tokens):
 
 def nets_of(text):
     """The nets of an accepted text, in its order."""
-    tokens, at, nets = tokens_of(text), 0, []
+    tokens, nets = tokens_of(text), []
+    at = 3 if tokens[:1] == ['notation'] else 0
     while at < len(tokens):
         if tokens[at] == 'channel':
             at = end_of(tokens, at) + 1
@@ -133,13 +134,27 @@ def end_of(tokens, at):
     return at
 
 
+def several(tokens):
+    """The inscriptions of a line: of an arc one for each expression, as notation 2 may have several."""
+    if tokens[0] not in ARCS:
+        return [tokens]
+    depth, found = 0, [tokens[:3]]
+    for token in tokens[3:]:
+        depth += (token in OPENING) - (token in CLOSING)
+        if token == ',' and depth == 0:
+            found.append(tokens[:3])
+        else:
+            found[-1] = found[-1] + [token]
+    return found
+
+
 def read_part(tokens, at, net):
     """Adds the part of a net that begins at an index, and returns where the next begins."""
     if tokens[at] == 'trans':
         made, at = Transition(tokens[at + 1]), at + 3
         while tokens[at] != '}':
             end = end_of(tokens, at)
-            made.inscriptions.append(Inscription(tokens[at:end]))
+            made.inscriptions += [Inscription(one) for one in several(tokens[at:end])]
             at = end + 1
         net.transitions.append(made)
         return at + 1

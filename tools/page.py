@@ -42,7 +42,7 @@ def page(title, text, record, moves):
 
 def data_of(found, record, moves):
     """What the script of the page reads. Instances stand by number, nets and values of tokens by index."""
-    firings, rows = events.firings_of(record), record.split('\n')
+    firings, rows = events.firings_of(record), record[events.header_of(record):].split('\n')
     at, each, texts, line = {net.name: k for k, net in enumerate(found)}, moves_of(moves), {}, 0
     downlinks = {(net.name, it.name): len(it.all('downlink')) for net in found for it in net.transitions}
     made, steps = {1: (at['main'], 0)}, [{'lines': [], 'nodes': []}]
