@@ -1,6 +1,8 @@
 -- What `migrate` comes to.
 use Rattle.std.proofs.Common.{◌≡◌, ◌≢◌, ◌∙◌, ◌<◌, ◌+◌, ◌∷◌, ◌++◌, ◌⊎◌, ℕ, List, [], codes, length, drop, inl, inr, refl, sym, ap, subst, arith}
-use Rattle.std.specs.Prelude.{IsTrue}
+use Rattle.std.specs.Prelude.{IsTrue, false, nat_eq}
+use Rattle.std.proofs.lemmas.Bool.{false≢true}
+use borrow.Author.Tests.{eq-eqb}
 use Rattle.std.proofs.lemmas.List.{length-append, length-drop, take-append-drop}
 use Rattle.rn_value.proofs.Numerals.{numeral_digit}
 use Rattle.rn_model.specs.declared.system.System.{System}
@@ -55,9 +57,9 @@ all_of {bytes} {net} parts same = elim (all_or_shorter parts) as (λ _. net ≡ 
 ]
 
 -- a notation that isn't 2 is 1
-pub first_notation : (n : ℕ) → IsNotation n → ¬ (n ≡ 2) → n ≡ 1
+pub first_notation : (n : ℕ) → IsNotation n → nat_eq n 2 ≡ false → n ≡ 1
 first_notation n (inl one) other = one
-first_notation n (inr two) other = absurd (other two)
+first_notation n (inr two) other = absurd (false≢true (sym other ∙ eq-eqb n 2 two))
 
 module _ (bytes net rest : List ℕ) (parts : HasParts bytes net rest) where
   -- a refusal of the net text

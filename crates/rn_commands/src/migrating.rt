@@ -1,5 +1,5 @@
 //! The command `migrate`: a net text of notation 1, and its record, in notation 2.
-ghost use Rattle.std.specs.Prelude.{◌≡◌, ◌≤◌, ◌++◌, IfOk, codes, length};
+ghost use Rattle.std.specs.Prelude.{◌≡◌, ◌≤◌, ◌++◌, IfOk, codes, length, nat_eq};
 ghost use Rattle.rn_told.specs.Runs.{longest_record};
 ghost use Rattle.rn_answer.specs.Refusing.{Concludes};
 ghost use Rattle.rn_commands.specs.Migrating.{MigrateComesTo};
@@ -10,6 +10,13 @@ use rn_items::NoMemory;
 use rn_migrate::{migrate_record, migrate_text};
 use rn_notation::Spot;
 use std::alloc::Global;
+
+// Whether a notation is the second, so that nothing is left to migrate.
+fn is_second(notation: u32) -> bool
+    ensures { result ≡ nat_eq notation 2 }
+{
+    notation == 2
+}
 
 // A net text, the line `---`, and a record.
 fn parted_by_line(net: Vec<u8>, record: &[u8]) -> Result<Vec<u8>, NoMemory>
@@ -29,7 +36,7 @@ pub fn migrate(alloc: Global, bytes: &[u8]) -> Result<Answer, Stopped>
 {
     let (net, rest) = parted(bytes);
     let plain = plain_of(alloc, net)?;
-    if plain.notation == 2 {
+    if is_second(plain.notation) {
         let _system = checked(alloc, plain)?;
         return Err(refused_at(alloc, b"M1", Spot { line: 1, column: 1 }));
     }

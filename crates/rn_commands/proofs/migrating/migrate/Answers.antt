@@ -1,5 +1,6 @@
 -- The net text or the record is refused, or both are migrated.
 use Rattle.std.proofs.Common.{◌≡◌, ◌++◌, ◌∙◌, List, ℕ, ap, sym, subst, arith, rules, codes}
+use Rattle.std.proofs.lemmas.Bool.{eqb-true}
 use Rattle.rn_model.specs.declared.log.Told.{Told}
 use Rattle.rn_migrate.specs.Migrated.{migrated_text}
 use Rattle.rn_commands.specs.Migrating.{MigrateComesTo, migrated_pair}
@@ -19,11 +20,11 @@ returns-in_err-_system c =
     c.in_ok-plain.plain c.in_ok-plain.ensures.spells c.in_err-_system.field-0.0 c.in_err-_system.ensures.refused in
     search (rules, stops)
 
-pub returns-then-plain-eq2 : goal.returns-then-plain-eq2
-returns-then-plain-eq2 c =
+pub returns-then-is_second : goal.returns-then-is_second
+returns-then-is_second c =
     already_stops c.args.bytes.now c.parted.result.0.now c.parted.result.1.now c.parted.ensures
     c.in_ok-plain.plain c.in_ok-plain.ensures.spells c.in_ok-_system._system c.in_ok-_system.ensures.checked
-    c.if-plain-eq2.true c.refused_at.result c.refused_at.ensures
+    (eqb-true c.in_ok-plain.plain.notation 2 (sym c.is_second.ensures ∙ c.if-is_second.true)) c.refused_at.result c.refused_at.ensures
 
 pub returns-in_err-system : goal.returns-in_err-system
 returns-in_err-system c =
@@ -34,7 +35,7 @@ returns-in_err-system c =
 pub returns-then-net-bytes : goal.returns-then-net-bytes
 returns-then-net-bytes c =
     let bytes = c.args.bytes.now in
-    let first = first_notation c.in_ok-plain.plain.notation c.in_ok-plain.ensures.notation c.if-plain-eq2.false in
+    let first = first_notation c.in_ok-plain.plain.notation c.in_ok-plain.ensures.notation (sym c.is_second.ensures ∙ c.if-is_second.false) in
     subst (MigrateComesTo bytes) (sym c.done.ensures)
     (alone_done bytes c.parted.result.0.now c.parted.result.1.now c.parted.ensures
     c.in_ok-plain.plain c.in_ok-plain.ensures.spells c.in_ok-system.system c.in_ok-system.ensures.checked
@@ -49,7 +50,7 @@ returns-in_ok-pair-in-Ok c =
     let bytes = c.args.bytes.now in
     let plain = c.in_ok-plain.plain in
     let migrates = c.in-Ok.ensures.told in
-    let first = first_notation plain.notation c.in_ok-plain.ensures.notation c.if-plain-eq2.false in
+    let first = first_notation plain.notation c.in_ok-plain.ensures.notation (sym c.is_second.ensures ∙ c.if-is_second.false) in
     let same : c.as_slice.result.now ≡ c.in-Ok.migrated.items = search rules in
     let text : c.in_ok-pair-in-Ok.pair.items ≡ migrated_pair plain c.in_ok-system.system migrates.told =
     c.in_ok-pair-in-Ok.ensures
@@ -62,7 +63,7 @@ returns-in_ok-pair-in-Ok c =
 
 pub returns-in-Err : goal.returns-in-Err
 returns-in-Err c =
-    let first = first_notation c.in_ok-plain.plain.notation c.in_ok-plain.ensures.notation c.if-plain-eq2.false in
+    let first = first_notation c.in_ok-plain.plain.notation c.in_ok-plain.ensures.notation (sym c.is_second.ensures ∙ c.if-is_second.false) in
     record_stops_migrating c.args.bytes.now c.parted.result.0.now c.parted.result.1.now c.parted.ensures
     c.in_ok-plain.plain c.in_ok-plain.ensures.spells c.in_ok-system.system c.in_ok-system.ensures.checked
     first c.if-net-bytes.false c.in-Err.fault c.refused_record.result c.in-Err.ensures.refused
