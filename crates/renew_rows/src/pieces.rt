@@ -7,6 +7,7 @@ ghost use Rattle.renew_rows.specs.Spelling.{spelled};
 
 use crate::lines::word_and_rest;
 use crate::numbers::number_of;
+use crate::saying::Unread;
 use crate::spelling::spell;
 use rn_items::NoMemory;
 use rn_value::write_numeral;
@@ -154,12 +155,12 @@ fn put_numbered(
     count: u64,
     text: &[u8],
     into: &mut Vec<u8>,
-) -> Result<(), NoMemory>
+) -> Result<(), Unread>
     ensures { OnOk result (into.new.items ≡ into.old.items ++ numbered from text.now count) }
 {
     for i in 0..count {
         let Some(number) = from.checked_add(i) else {
-            return Err(NoMemory);
+            return Err(Unread::Line);
         };
         put_line_of(alloc, number, text, into)?;
     }
@@ -167,17 +168,13 @@ fn put_numbered(
 }
 
 /// Appends what a piece says.
-pub(crate) fn put_piece(
-    alloc: Global,
-    piece: &Piece<'_>,
-    into: &mut Vec<u8>,
-) -> Result<(), NoMemory>
+pub(crate) fn put_piece(alloc: Global, piece: &Piece<'_>, into: &mut Vec<u8>) -> Result<(), Unread>
     ensures { OnOk result (into.new.items ≡ into.old.items ++ piece_text piece.now) }
 {
     match piece {
-        Piece::Line(text) => put_line(text, b"@", into),
-        Piece::Text(text) => spell(text, b"@", into),
-        Piece::Repeated(count, text) => put_text_times(alloc, *count, text, into),
+        Piece::Line(text) => Ok(put_line(text, b"@", into)?),
+        Piece::Text(text) => Ok(spell(text, b"@", into)?),
+        Piece::Repeated(count, text) => Ok(put_text_times(alloc, *count, text, into)?),
         Piece::Numbered(from, count, text) => put_numbered(alloc, *from, *count, text, into),
     }
 }

@@ -38,9 +38,9 @@ fn take_piece(alloc: Global, draft: &mut Draft, line: &[u8]) -> Result<(), Unrea
     };
     match draft.part {
         None => Err(Unread::Line),
-        Some(Part::In) => Ok(put_piece(alloc, &piece, &mut draft.call.input)?),
-        Some(Part::Out) => Ok(put_piece(alloc, &piece, &mut draft.wanted.out)?),
-        Some(Part::Err) => Ok(put_piece(alloc, &piece, &mut draft.wanted.err)?),
+        Some(Part::In) => put_piece(alloc, &piece, &mut draft.call.input),
+        Some(Part::Out) => put_piece(alloc, &piece, &mut draft.wanted.out),
+        Some(Part::Err) => put_piece(alloc, &piece, &mut draft.wanted.err),
     }
 }
 

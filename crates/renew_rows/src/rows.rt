@@ -36,15 +36,15 @@ const LONGEST: usize = 1 << 30;
 pub(crate) enum Stopped {
     /// The line of this number can't be read.
     Line(usize),
-    NoMemory,
+    NoMemory(NoMemory),
     ReadFault,
     TooLong,
     WriteFault,
 }
 
 impl From<NoMemory> for Stopped {
-    fn from(_error: NoMemory) -> Stopped {
-        Stopped::NoMemory
+    fn from(no_memory: NoMemory) -> Stopped {
+        Stopped::NoMemory(no_memory)
     }
 }
 
@@ -59,7 +59,7 @@ impl From<ReadAllFault> for Stopped {
         match fault {
             ReadAllFault::ReadFault => Stopped::ReadFault,
             ReadAllFault::TooLong => Stopped::TooLong,
-            ReadAllFault::NoMemory => Stopped::NoMemory,
+            ReadAllFault::NoMemory(no_memory) => Stopped::NoMemory(no_memory),
         }
     }
 }
@@ -83,7 +83,7 @@ fn judge_next<R: Threads + Wait + Sync, O: Sink>(
         Ok(None) => return Ok(None),
         Ok(Some(row)) => row,
         Err(Unread::Line) => return Err(Stopped::Line(lines.taken)),
-        Err(Unread::NoMemory) => return Err(Stopped::NoMemory),
+        Err(Unread::NoMemory(no_memory)) => return Err(Stopped::NoMemory(no_memory)),
     };
     let judged = judge(rt, alloc, row)?;
     let wrong = is_wrong(&judged);
@@ -149,7 +149,7 @@ fn tell_unread<O: Sink>(alloc: Global, number: usize, out: &mut O) -> u8
 fn fault_line(stopped: Stopped) -> &'static [u8] {
     match stopped {
         Stopped::Line(_) => b"a line can't be read\n",
-        Stopped::NoMemory => b"memory\n",
+        Stopped::NoMemory(_) => b"memory\n",
         Stopped::ReadFault => b"read fault\n",
         Stopped::TooLong => b"the input is too long\n",
         Stopped::WriteFault => b"write fault\n",

@@ -16,24 +16,24 @@ use std::alloc::{AllocError, AllocFailed, Global};
 pub(crate) enum Unread {
     /// A line can't be read.
     Line,
-    NoMemory,
+    NoMemory(NoMemory),
 }
 
 impl From<NoMemory> for Unread {
-    fn from(_error: NoMemory) -> Unread {
-        Unread::NoMemory
+    fn from(no_memory: NoMemory) -> Unread {
+        Unread::NoMemory(no_memory)
     }
 }
 
 impl From<AllocError> for Unread {
-    fn from(_error: AllocError) -> Unread {
-        Unread::NoMemory
+    fn from(error: AllocError) -> Unread {
+        Unread::NoMemory(NoMemory::from(error))
     }
 }
 
 impl<T: Drop> From<AllocFailed<T>> for Unread {
-    fn from(_failed: AllocFailed<T>) -> Unread {
-        Unread::NoMemory
+    fn from(failed: AllocFailed<T>) -> Unread {
+        Unread::NoMemory(NoMemory::from(failed))
     }
 }
 

@@ -1,5 +1,6 @@
 -- A refusal has its cause.
 use Rattle.std.proofs.Common.{◌≡◌, ◌∙◌, ◌⊎◌, ◌++◌, ℕ, List, Option, codes, inl, refl, ap, arith}
+use Rattle.rn_items.specs.Memory.{no_memory}
 use Rattle.rn_notation.specs.declared.token.Spot.{Spot}
 use Rattle.rn_net.specs.declared.plain.Plain.{Plain}
 use Rattle.rn_net.specs.declared.refusal.Refusal.{Refusal}
@@ -26,7 +27,7 @@ use Rattle.rn_answer.specs.Refusing.{Stops, refusal}
 use Rattle.rn_answer.specs.NetTexts.{IsRefusedBy, RefusesNet, RefusesPlain, text_line, check_line}
 
 -- a text that spells no system is refused by the line of its reason
-pub text_refused : (bytes : List ℕ) (why : Refusal) (s : Stopped) → IsReason bytes why → (why ≡ R.NoMemory → s ≡ NoMemory) → Stops (λ a. a ≡ refusal NET_REFUSED (text_line why)) s → Stops (RefusesNet bytes) s
+pub text_refused : (bytes : List ℕ) (why : Refusal) (s : Stopped) → IsReason bytes why → (why ≡ R.NoMemory no_memory → s ≡ NoMemory no_memory) → Stops (λ a. a ≡ refusal NET_REFUSED (text_line why)) s → Stops (RefusesNet bytes) s
 text_refused bytes (P1 spot) (Refused a) reason memory is = (text_line (P1 spot), IsRefusedBy.unspelled (P1 spot) reason, is)
 text_refused bytes (P2 spot) (Refused a) reason memory is = (text_line (P2 spot), IsRefusedBy.unspelled (P2 spot) reason, is)
 text_refused bytes (P3 spot) (Refused a) reason memory is = (text_line (P3 spot), IsRefusedBy.unspelled (P3 spot) reason, is)
@@ -34,12 +35,12 @@ text_refused bytes (P4 spot) (Refused a) reason memory is = (text_line (P4 spot)
 text_refused bytes (P5 spot) (Refused a) reason memory is = (text_line (P5 spot), IsRefusedBy.unspelled (P5 spot) reason, is)
 text_refused bytes (P6 spot) (Refused a) reason memory is = (text_line (P6 spot), IsRefusedBy.unspelled (P6 spot) reason, is)
 text_refused bytes (P7 spot) (Refused a) reason memory is = (text_line (P7 spot), IsRefusedBy.unspelled (P7 spot) reason, is)
-text_refused bytes R.NoMemory (Refused a) reason memory is = let no : Refused a ≡ NoMemory = memory refl in absurd cc
+text_refused bytes (R.NoMemory _) (Refused a) reason memory is = let no : Refused a ≡ NoMemory no_memory = memory refl in absurd cc
 text_refused bytes why ReadFault reason memory is = is
-text_refused bytes why NoMemory reason memory is = tt
+text_refused bytes why (NoMemory _) reason memory is = tt
 
 -- a plain form in which a rule is broken is refused by the line of the first
-pub plain_refused : (plain : Plain) (fault : CheckFault) (s : Stopped) → ((rule : Rule) (spot : Spot) → fault ≡ report_of rule spot → BreaksFirst plain rule spot) → (fault ≡ C.NoMemory → s ≡ NoMemory) → Stops (λ a. a ≡ refusal NET_REFUSED (check_line fault)) s → Stops (RefusesPlain plain) s
+pub plain_refused : (plain : Plain) (fault : CheckFault) (s : Stopped) → ((rule : Rule) (spot : Spot) → fault ≡ report_of rule spot → BreaksFirst plain rule spot) → (fault ≡ C.NoMemory no_memory → s ≡ NoMemory no_memory) → Stops (λ a. a ≡ refusal NET_REFUSED (check_line fault)) s → Stops (RefusesPlain plain) s
 plain_refused plain (C1 spot) (Refused a) breaks memory is = (Rule.Known, spot, breaks Rule.Known spot refl, is)
 plain_refused plain (C2 spot) (Refused a) breaks memory is = (Rule.Once, spot, breaks Rule.Once spot refl, is)
 plain_refused plain (C3 spot) (Refused a) breaks memory is = (Rule.Main, spot, breaks Rule.Main spot refl, is)
@@ -53,27 +54,27 @@ plain_refused plain (C10 spot) (Refused a) breaks memory is = (Rule.Creation, sp
 plain_refused plain (C11 spot) (Refused a) breaks memory is = (Rule.Comparison, spot, breaks Rule.Comparison spot refl, is)
 plain_refused plain (C12 spot) (Refused a) breaks memory is = (Rule.Capacity, spot, breaks Rule.Capacity spot refl, is)
 plain_refused plain (C13 spot) (Refused a) breaks memory is = (Rule.Counted, spot, breaks Rule.Counted spot refl, is)
-plain_refused plain C.NoMemory (Refused a) breaks memory is = let no : Refused a ≡ NoMemory = memory refl in absurd cc
+plain_refused plain (C.NoMemory _) (Refused a) breaks memory is = let no : Refused a ≡ NoMemory no_memory = memory refl in absurd cc
 plain_refused plain fault ReadFault breaks memory is = is
-plain_refused plain fault NoMemory breaks memory is = tt
+plain_refused plain fault (NoMemory _) breaks memory is = tt
 
 -- a text whose plain form is refused is refused
 pub net_refused : (bytes : List ℕ) (plain : Plain) (s : Stopped) → Spells bytes plain → Stops (RefusesPlain plain) s → Stops (RefusesNet bytes) s
 net_refused bytes plain (Refused a) spells (rule, spot, breaks, is) = (check_line (report_of rule spot), IsRefusedBy.broken plain rule spot spells breaks, is)
 net_refused bytes plain ReadFault spells is = is
-net_refused bytes plain NoMemory spells is = tt
+net_refused bytes plain (NoMemory _) spells is = tt
 
 -- the same where a command may come to something else besides
 pub net_refused_or : (Q : Answer → Type 0) (bytes : List ℕ) (plain : Plain) (s : Stopped) → Spells bytes plain → Stops (RefusesPlain plain) s → Stops (λ a. RefusesNet bytes a ⊎ Q a) s
 net_refused_or Q bytes plain (Refused a) spells is = inl (net_refused bytes plain (Refused a) spells is)
 net_refused_or Q bytes plain ReadFault spells is = is
-net_refused_or Q bytes plain NoMemory spells is = tt
+net_refused_or Q bytes plain (NoMemory _) spells is = tt
 
 -- the line of an input that is too long
 pub too_long_refused : (limit : ℕ) (left : Option (List ℕ)) (faults faults_after : ℕ) (s : Stopped) → IsTooLong limit left → Stops (λ a. a ≡ refusal NET_REFUSED (spot_line (codes "P6") (record { line = 1; column = 1 }))) s → IsUnread limit left faults faults_after s
 too_long_refused limit left faults faults_after (Refused a) long is =
     (long, is ∙ ap (λ digits. refusal NET_REFUSED (codes "P6" ++ codes " " ++ digits ++ codes ":" ++ digits ++ codes "\n")) (numeral_digit 1 (omega arith)))
 too_long_refused limit left faults faults_after ReadFault long is = absurd is
-too_long_refused limit left faults faults_after NoMemory long is = tt
+too_long_refused limit left faults faults_after (NoMemory _) long is = tt
 
 pub ruleset refusals = (text_refused, plain_refused, net_refused, net_refused_or)

@@ -32,4 +32,4 @@ IsTooLong limit left = IfSome left (λ bytes. limit < length bytes)
 abbrev pub IsUnread : ℕ → Option (List ℕ) → ℕ → ℕ → Stopped → Type 0
 IsUnread limit left faults faults_after (Refused a) = IsTooLong limit left × (a ≡ too_long)
 IsUnread limit left faults faults_after ReadFault = Rose faults faults_after
-IsUnread limit left faults faults_after NoMemory = ⊤
+IsUnread limit left faults faults_after (NoMemory _) = ⊤

@@ -42,7 +42,7 @@ text_line (P4 spot) = spot_line (codes "P4") spot
 text_line (P5 spot) = spot_line (codes "P5") spot
 text_line (P6 spot) = spot_line (codes "P6") spot
 text_line (P7 spot) = spot_line (codes "P7") spot
-text_line R.NoMemory = []
+text_line (R.NoMemory _) = []
 
 -- the line of a plain form in which a rule is broken; want of memory is no reason, and has no line
 abbrev pub check_line : CheckFault → List ℕ
@@ -59,7 +59,7 @@ check_line (C10 spot) = spot_line (codes "C10") spot
 check_line (C11 spot) = spot_line (codes "C11") spot
 check_line (C12 spot) = spot_line (codes "C12") spot
 check_line (C13 spot) = spot_line (codes "C13") spot
-check_line C.NoMemory = []
+check_line (C.NoMemory _) = []
 
 -- The bytes are no net text, by this line: they spell no system, for this reason; or they spell one
 -- in which this rule is the first that is broken, at this spot.

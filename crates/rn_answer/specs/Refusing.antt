@@ -17,7 +17,7 @@ refusal status line = record { status = status; text = []; line = line }
 abbrev pub Stops : (Answer → Type 0) → Stopped → Type 0
 Stops T (Refused a) = T a
 Stops T ReadFault = ⊥
-Stops T NoMemory = ⊤
+Stops T (NoMemory _) = ⊤
 
 -- a command comes to such an answer, unless memory runs out
 abbrev pub Concludes : (Answer → Type 0) → Result Answer Stopped → Type 0

@@ -39,7 +39,7 @@ fn read_input<I: Source>(alloc: Global, input: &mut I, limit: usize) -> Result<V
         Ok(bytes) => Ok(bytes),
         Err(ReadAllFault::ReadFault) => Err(Stopped::ReadFault),
         Err(ReadAllFault::TooLong) => Err(refused_at(alloc, b"P6", Spot { line: 1, column: 1 })),
-        Err(ReadAllFault::NoMemory) => Err(Stopped::NoMemory),
+        Err(ReadAllFault::NoMemory(no_memory)) => Err(Stopped::NoMemory(no_memory)),
     }
 }
 

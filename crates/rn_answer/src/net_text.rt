@@ -1,5 +1,6 @@
 //! From bytes to the system of a net text, or the line of its refusal.
 ghost use Rattle.std.specs.Prelude.{◌≡◌, ℕ, List, IfOk, IfErr};
+ghost use Rattle.rn_items.specs.Memory.{no_memory};
 ghost use Rattle.rn_net.specs.Texts.{IsNotation, Spells};
 ghost use Rattle.rn_model.specs.Good.{Good};
 ghost use Rattle.rn_check.specs.Checked.{Checked};
@@ -24,14 +25,14 @@ pub fn refused_at(alloc: Global, code: &[u8], spot: Spot) -> Stopped
 {
     match spot_line(alloc, code, spot) {
         Ok(line) => Stopped::Refused(refused(alloc, NET_REFUSED, line)),
-        Err(_) => Stopped::NoMemory,
+        Err(no_memory) => Stopped::NoMemory(no_memory),
     }
 }
 
 // The refusal of a text that spells no system.
 fn refused_text(alloc: Global, why: Refusal) -> Stopped
     ensures line { Stops (λ a. a ≡ refusal NET_REFUSED (text_line why)) result }
-    ensures memory { why ≡ Refusal.NoMemory → result ≡ Stopped.NoMemory }
+    ensures memory { why ≡ Refusal.NoMemory no_memory → result ≡ Stopped.NoMemory no_memory }
 {
     match why {
         Refusal::P1(spot) => refused_at(alloc, b"P1", spot),
@@ -41,14 +42,14 @@ fn refused_text(alloc: Global, why: Refusal) -> Stopped
         Refusal::P5(spot) => refused_at(alloc, b"P5", spot),
         Refusal::P6(spot) => refused_at(alloc, b"P6", spot),
         Refusal::P7(spot) => refused_at(alloc, b"P7", spot),
-        Refusal::NoMemory => Stopped::NoMemory,
+        Refusal::NoMemory(no_memory) => Stopped::NoMemory(no_memory),
     }
 }
 
 // The refusal of a plain form in which a rule is broken.
 fn refused_plain(alloc: Global, fault: CheckFault) -> Stopped
     ensures line { Stops (λ a. a ≡ refusal NET_REFUSED (check_line fault)) result }
-    ensures memory { fault ≡ CheckFault.NoMemory → result ≡ Stopped.NoMemory }
+    ensures memory { fault ≡ CheckFault.NoMemory no_memory → result ≡ Stopped.NoMemory no_memory }
 {
     match fault {
         CheckFault::C1(spot) => refused_at(alloc, b"C1", spot),
@@ -64,7 +65,7 @@ fn refused_plain(alloc: Global, fault: CheckFault) -> Stopped
         CheckFault::C11(spot) => refused_at(alloc, b"C11", spot),
         CheckFault::C12(spot) => refused_at(alloc, b"C12", spot),
         CheckFault::C13(spot) => refused_at(alloc, b"C13", spot),
-        CheckFault::NoMemory => Stopped::NoMemory,
+        CheckFault::NoMemory(no_memory) => Stopped::NoMemory(no_memory),
     }
 }
 

@@ -1,5 +1,6 @@
 //! Why a command stops before it is done.
 ghost use Rattle.std.specs.Prelude.{◌≡◌};
+ghost use Rattle.rn_items.specs.Memory.{no_memory};
 ghost use Rattle.rn_answer.specs.declared.stopped.Stopped.TheVariants.{NoMemory as Memory};
 
 use crate::answer::Answer;
@@ -14,13 +15,13 @@ pub enum Stopped {
     /// A read failed.
     ReadFault,
 
-    NoMemory,
+    NoMemory(NoMemory),
 }
 
 impl From<NoMemory> for Stopped {
-    ghost from_gives = { λ _ e. e ≡ Memory };
+    ghost from_gives = { λ _ e. e ≡ Memory no_memory };
 
-    fn from(_error: NoMemory) -> Stopped {
-        Stopped::NoMemory
+    fn from(no_memory: NoMemory) -> Stopped {
+        Stopped::NoMemory(no_memory)
     }
 }

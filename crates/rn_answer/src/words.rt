@@ -25,7 +25,7 @@ fn refused_words(alloc: Global, fault: WordsFault) -> Stopped
     };
     match number_line(alloc, code.as_slice(), at as u64) {
         Ok(line) => Stopped::Refused(refused(alloc, WORDS_REFUSED, line)),
-        Err(_) => Stopped::NoMemory,
+        Err(no_memory) => Stopped::NoMemory(no_memory),
     }
 }
 

@@ -1,5 +1,6 @@
 -- What words and input come to, by what their parts say.
 use Rattle.std.proofs.Common.{◌≡◌, ◌+◌, ◌≤◌, ℕ, List, [], Option, Some, None, Result, Ok, Err, inl, length, refl, sym, ap, subst, arith}
+use Rattle.rn_items.specs.Memory.{no_memory}
 use Rattle.rn_notation.specs.Limits.{longest_text}
 use Rattle.rn_outside.proofs.ByteLemmas.{Gives-nothing}
 use Rattle.rn_outside.specs.Bytes.{Gives, GivesAll, GivesAtMost}
@@ -39,7 +40,7 @@ not_faulty law words c fault accepted faulty =
 by_fault : (words : List (List ℕ)) (left : Option (List ℕ)) (faults : ℕ) (fault : WordsFault) (s : Stopped) → reading words ≡ Err fault → Stops (λ a. a ≡ refusal WORDS_REFUSED (words_line fault)) s → IsStoppedBy words left left faults faults s
 by_fault words left faults fault (Refused a) faulty is = subst (Comes words left left) (sym is) (Comes.wordless fault faulty refl)
 by_fault words left faults fault ReadFault faulty stops = absurd stops
-by_fault words left faults fault NoMemory faulty stops = tt
+by_fault words left faults fault (NoMemory _) faulty stops = tt
 
 by_reading : (words : List (List ℕ)) (left : Option (List ℕ)) (faults : ℕ) (s : Stopped) (r : Result Command WordsFault) → reading words ≡ r → ((c : Command) → reading words ≡ Ok c → ⊥) →
     ((fault : WordsFault) → reading words ≡ Err fault → Stops (λ a. a ≡ refusal WORDS_REFUSED (words_line fault)) s) → IsStoppedBy words left left faults faults s
@@ -55,7 +56,7 @@ wordless words left faults s given refused = by_reading words left faults s (rea
 unread_by_fault : (fault : WordsFault) (s : Stopped) → Stops (λ a. a ≡ refusal WORDS_REFUSED (words_line fault)) s → s ≡ ReadFault → ⊥
 unread_by_fault fault (Refused a) stops e = absurd cc
 unread_by_fault fault ReadFault stops e = stops
-unread_by_fault fault NoMemory stops e = absurd cc
+unread_by_fault fault (NoMemory _) stops e = absurd cc
 
 unread_by_reading : (words : List (List ℕ)) (s : Stopped) (r : Result Command WordsFault) → reading words ≡ r → ((c : Command) → reading words ≡ Ok c → ⊥) →
     ((fault : WordsFault) → reading words ≡ Err fault → Stops (λ a. a ≡ refusal WORDS_REFUSED (words_line fault)) s) → s ≡ ReadFault → ⊥
@@ -115,7 +116,7 @@ prepares words left left_after faults faults_after c bytes (Ok (Due job)) accept
     record { chosen = c; given = accepted; bytes = bytes; asked = asked; can_run = can_run; inputless = none; whole = all }
 prepares words left left_after faults faults_after c bytes (Err (Refused a)) accepted none all answers = done_on words left left_after c bytes a (longest_input c) refl accepted none all (answers_come c bytes a answers)
 prepares words left left_after faults faults_after c bytes (Err ReadFault) accepted none all never = absurd never
-prepares words left left_after faults faults_after c bytes (Err NoMemory) accepted none all given = tt
+prepares words left left_after faults faults_after c bytes (Err (NoMemory _)) accepted none all given = tt
 
 -- where no run is due a command that needs threads is refused
 pub prepared_refused : (c : Command) (bytes : List ℕ) (r : Result Prepared Stopped) → NeedsThreads c → IsPrepared c bytes r → IfAnswered r (λ a. a.status ≡ NET_REFUSED)
@@ -123,13 +124,13 @@ prepared_refused c bytes (Ok (Answered a)) needs answers = threads_refuse c byte
 prepared_refused c bytes (Ok (Due job)) needs is = tt
 prepared_refused c bytes (Err (Refused a)) needs answers = threads_refuse c bytes a needs answers
 prepared_refused c bytes (Err ReadFault) needs is = tt
-prepared_refused c bytes (Err NoMemory) needs is = tt
+prepared_refused c bytes (Err (NoMemory _)) needs is = tt
 
 -- so it is where its input is too long
 too_long_refused : (limit : ℕ) (left : Option (List ℕ)) (faults faults_after : ℕ) (s : Stopped) → IsUnread limit left faults faults_after s → IfAnswered (Err s) (λ a. a.status ≡ NET_REFUSED)
 too_long_refused limit left faults faults_after (Refused a) (long, is) = ap (λ x. x.status) is
 too_long_refused limit left faults faults_after ReadFault is = tt
-too_long_refused limit left faults faults_after NoMemory is = tt
+too_long_refused limit left faults faults_after (NoMemory _) is = tt
 
 pub unread_refused : (left : Option (List ℕ)) (faults faults_after : ℕ) (c : Command) (most : Option ℕ) (s : Stopped) → longest_input c ≡ most → (longest_input c ≡ None → ⊥) →
     ((limit : ℕ) → longest_input c ≡ Some limit → IsUnread limit left faults faults_after s) → IfAnswered (Err s) (λ a. a.status ≡ NET_REFUSED)
@@ -141,21 +142,21 @@ pub no_read : (c : Command) (bytes : List ℕ) (r : Result Prepared Stopped) →
 no_read c bytes (Ok prepared) is e = absurd cc
 no_read c bytes (Err (Refused a)) is e = absurd cc
 no_read c bytes (Err ReadFault) is e = is
-no_read c bytes (Err NoMemory) is e = absurd cc
+no_read c bytes (Err (NoMemory _)) is e = absurd cc
 
 -- out of memory is no failed read
-pub no_read_memory : {A : Type 0} (r : Result A Stopped) → r ≡ Err NoMemory → r ≡ Err ReadFault → ⊥
+pub no_read_memory : {A : Type 0} (r : Result A Stopped) → r ≡ Err (NoMemory no_memory) → r ≡ Err ReadFault → ⊥
 no_read_memory (Ok a) memory read = absurd cc
 no_read_memory (Err (Refused a)) memory read = absurd cc
 no_read_memory (Err ReadFault) memory read = absurd cc
-no_read_memory (Err NoMemory) memory read = absurd cc
+no_read_memory (Err (NoMemory _)) memory read = absurd cc
 
 -- input that isn't read is too long, or a read failed, or memory ran out
 pub unread_by : (words : List (List ℕ)) (left left_after : Option (List ℕ)) (faults faults_after : ℕ) (c : Command) (limit : ℕ) (s : Stopped) → WordsOk words c → longest_input c ≡ Some limit →
     IsUnread limit left faults faults_after s → GivesAtMost (limit + 1) left left_after → IsStoppedBy words left left_after faults faults_after s
 unread_by words left left_after faults faults_after c limit (Refused a) accepted is (long, told) gives = subst (Comes words left left_after) (sym told) (Comes.longer c limit accepted is long gives)
 unread_by words left left_after faults faults_after c limit ReadFault accepted is why gives = why
-unread_by words left left_after faults faults_after c limit NoMemory accepted is why gives = tt
+unread_by words left left_after faults faults_after c limit (NoMemory _) accepted is why gives = tt
 
 pub unread : (words : List (List ℕ)) (left left_after : Option (List ℕ)) (faults faults_after : ℕ) (c : Command) (most : Option ℕ) (s : Stopped) → longest_input c ≡ most → WordsOk words c → (longest_input c ≡ None → ⊥) →
     ((limit : ℕ) → longest_input c ≡ Some limit → IsUnread limit left faults faults_after s) → ((limit : ℕ) → longest_input c ≡ Some limit → GivesAtMost (limit + 1) left left_after) → IsStoppedBy words left left_after faults faults_after s

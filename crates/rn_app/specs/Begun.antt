@@ -103,7 +103,7 @@ abbrev pub IsStoppedBy : List (List ℕ) → Option (List ℕ) → Option (List 
     Type 0
 IsStoppedBy words left left_after faults faults_after (Refused a) = Comes words left left_after a
 IsStoppedBy words left left_after faults faults_after ReadFault = Rose faults faults_after
-IsStoppedBy words left left_after faults faults_after NoMemory = ⊤
+IsStoppedBy words left left_after faults faults_after (NoMemory _) = ⊤
 
 -- the same where there may be an answer, or a run that is due
 abbrev pub PreparesOrStops : List (List ℕ) → Option (List ℕ) → Option (List ℕ) → ℕ → ℕ →
@@ -121,4 +121,4 @@ IfAnswered (Ok (Answered a)) P = P a
 IfAnswered (Ok (Due job)) P = ⊤
 IfAnswered (Err (Refused a)) P = P a
 IfAnswered (Err ReadFault) P = ⊤
-IfAnswered (Err NoMemory) P = ⊤
+IfAnswered (Err (NoMemory _)) P = ⊤

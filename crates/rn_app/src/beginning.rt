@@ -156,6 +156,6 @@ pub fn begin<I: Source, O: Sink, E: Sink>(
         Ok(Prepared::Due(job)) => Begun::Working(job),
         Err(Stopped::Refused(answer)) => Begun::Done(write_answer(out, err, &answer)),
         Err(Stopped::ReadFault) => Begun::Done(write_line(err, b"read fault\n", READ_FAULT)),
-        Err(Stopped::NoMemory) => Begun::Done(write_line(err, b"memory\n", NO_MEMORY)),
+        Err(Stopped::NoMemory(_)) => Begun::Done(write_line(err, b"memory\n", NO_MEMORY)),
     }
 }

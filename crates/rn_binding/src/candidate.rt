@@ -2,6 +2,7 @@
 ghost use Rattle.std.specs.Prelude.{◌≡◌};
 
 use rn_model::Binding;
+use rn_value::NoMemory;
 use std::marker::Model;
 
 /// Why a binding is no candidate.
@@ -17,7 +18,7 @@ pub enum NotSound {
     B3,
 
     /// Memory is out. This says nothing of the binding.
-    NoMemory,
+    NoMemory(NoMemory),
 }
 
 /// A binding that was certified. The clauses of the calls say for which system, and within which

@@ -25,11 +25,11 @@ pub fn certify(
     match does_agree(alloc, system, depth, &binding) {
         Ok(true) => {}
         Ok(false) => return Err(NotSound::B2),
-        Err(_) => return Err(NotSound::NoMemory),
+        Err(no_memory) => return Err(NotSound::NoMemory(no_memory)),
     }
     match is_derived(alloc, system, &binding) {
         Ok(true) => Ok(Candidate { binding }),
         Ok(false) => Err(NotSound::B3),
-        Err(_) => Err(NotSound::NoMemory),
+        Err(no_memory) => Err(NotSound::NoMemory(no_memory)),
     }
 }

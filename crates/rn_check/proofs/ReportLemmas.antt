@@ -25,7 +25,7 @@ fault_of (C.C10 spot) = broken R.Creation spot
 fault_of (C.C11 spot) = broken R.Comparison spot
 fault_of (C.C12 spot) = broken R.Capacity spot
 fault_of (C.C13 spot) = broken R.Counted spot
-fault_of C.NoMemory = broken R.Known (record { line = 1; column = 1 })
+fault_of (C.NoMemory _) = broken R.Known (record { line = 1; column = 1 })
 
 report_back : (rule : Rule) (spot : Spot) → fault_of (report_of rule spot) ≡ broken rule spot
 unfolding fault_of

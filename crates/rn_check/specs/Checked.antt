@@ -14,5 +14,5 @@ pub record Checked (plain : Plain) (system : System) : Type 0 where
 
 -- this is the answer, unless memory ran out
 abbrev pub Answers : Result System CheckFault → Result System CheckFault → Type 0
-Answers (Err C.NoMemory) expected = Unit {0}
+Answers (Err (C.NoMemory _)) expected = Unit {0}
 Answers result expected = result ≡ expected

@@ -9,18 +9,19 @@ use std::sync::atomic::{AtomicBool, Ordering};
 /// Why a search that may be stopped ends without an answer.
 #[derive(Clone, Copy, Debug, PartialEq, Eq)]
 pub enum Halt {
-    NoMemory,
+    NoMemory(NoMemory),
     /// The flag was raised.
     Stopped,
 }
 
 impl From<NoMemory> for Halt {
+    ghost use Rattle.rn_items.specs.Memory.{no_memory};
     ghost use Rattle.rn_choices.specs.declared.flag.Halt.TheVariants.{NoMemory as OutOfMemory};
 
-    ghost from_gives = { λ _ halt. halt ≡ OutOfMemory };
+    ghost from_gives = { λ _ halt. halt ≡ OutOfMemory no_memory };
 
-    fn from(_error: NoMemory) -> Halt {
-        Halt::NoMemory
+    fn from(no_memory: NoMemory) -> Halt {
+        Halt::NoMemory(no_memory)
     }
 }
 

@@ -1,5 +1,6 @@
 -- The workload text is no reason to stop.
 use Rattle.std.proofs.Common.{◌≡◌, ℕ, ◌≤◌, List, refl}
+use Rattle.rn_items.specs.Memory.{no_memory}
 use Rattle.rn_gen.specs.Workload.{workload}
 use Rattle.rn_gen.specs.Laws.{WorkloadIsNotRefused}
 use Rattle.rn_answer.specs.declared.stopped.Stopped.{Stopped}
@@ -14,7 +15,7 @@ module _ (law : WorkloadIsNotRefused) (copies : ℕ) (few : copies ≤ 10000) wh
       (law copies few).1 plain rule spot spells breaks
 
   pub stops_by_memory : (stopped : Stopped) → Stops (RefusesNet (workload copies)) stopped →
-      stopped ≡ NoMemory
+      stopped ≡ NoMemory no_memory
   stops_by_memory (Refused a) (line, is, same) = absurd (not_refused line is)
   stops_by_memory ReadFault stops = absurd stops
-  stops_by_memory NoMemory stops = refl
+  stops_by_memory (NoMemory _) stops = refl

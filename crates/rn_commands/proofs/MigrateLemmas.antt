@@ -4,6 +4,7 @@ use Rattle.std.specs.Prelude.{IsTrue, false, nat_eq}
 use Rattle.std.proofs.lemmas.Bool.{false≢true}
 use borrow.Author.Tests.{eq-eqb}
 use Rattle.std.proofs.lemmas.List.{length-append, length-drop, take-append-drop}
+use Rattle.rn_items.specs.Memory.{no_memory}
 use Rattle.rn_value.proofs.Numerals.{numeral_digit}
 use Rattle.rn_model.specs.declared.system.System.{System}
 use Rattle.rn_model.specs.declared.log.Told.{Told}
@@ -66,7 +67,7 @@ module _ (bytes net rest : List ℕ) (parts : HasParts bytes net rest) where
   pub net_stops_migrating : (s : Stopped) → Stops (RefusesNet net) s → Stops (MigrateComesTo bytes) s
   net_stops_migrating (Refused a) refuses = (net, rest, parts, inl refuses)
   net_stops_migrating ReadFault refuses = refuses
-  net_stops_migrating NoMemory refuses = tt
+  net_stops_migrating (NoMemory _) refuses = tt
 
   module _ (plain : Plain) (spelled : Spells net plain) where
     pub plain_stops_migrating : (s : Stopped) → Stops (RefusesPlain plain) s → Stops (MigrateComesTo bytes) s
@@ -83,7 +84,7 @@ module _ (bytes net rest : List ℕ) (parts : HasParts bytes net rest) where
           let line = is ∙ ap (λ digits. refusal NET_REFUSED (codes "M1" ++ codes " " ++ digits ++ codes ":" ++ digits ++ codes "\n")) (numeral_digit 1 (omega arith)) in
           migrates a (subst (NetMigratesTo plain system bytes net rest) (sym line) (NetMigratesTo.already second))
       already_stops second ReadFault is = is
-      already_stops second NoMemory is = tt
+      already_stops second (NoMemory _) is = tt
 
       -- there is no record
       pub alone_done : plain.notation ≡ 1 → length net ≡ length bytes → (text : List ℕ) → text ≡ migrated_text plain → MigrateComesTo bytes (done text)
@@ -99,7 +100,7 @@ module _ (bytes net rest : List ℕ) (parts : HasParts bytes net rest) where
 
       -- a line of it is bad
       pub record_stops_migrating : plain.notation ≡ 1 → ¬ (length net ≡ length bytes) → (fault : RecordFault) (s : Stopped) →
-          FaultTells (TellsRecord system 1 rest) fault → (fault ≡ Q.NoMemory → s ≡ NoMemory) →
+          FaultTells (TellsRecord system 1 rest) fault → (fault ≡ Q.NoMemory no_memory → s ≡ NoMemory no_memory) →
           Stops (λ a. a ≡ refusal RECORD_REFUSED (record_line fault)) s → Stops (MigrateComesTo bytes) s
       record_stops_migrating first longer fault (Refused a) tells memory is = by fault tells memory is
         where
@@ -107,12 +108,12 @@ module _ (bytes net rest : List ℕ) (parts : HasParts bytes net rest) where
           refused line why bad is =
               migrates a (subst (NetMigratesTo plain system bytes net rest) (sym is) (NetMigratesTo.unread first (λ all. longer (ap length all)) line why bad))
 
-          by : (fault : RecordFault) → FaultTells (TellsRecord system 1 rest) fault → (fault ≡ Q.NoMemory → Refused a ≡ NoMemory) →
+          by : (fault : RecordFault) → FaultTells (TellsRecord system 1 rest) fault → (fault ≡ Q.NoMemory no_memory → Refused a ≡ NoMemory no_memory) →
               a ≡ refusal RECORD_REFUSED (record_line fault) → MigrateComesTo bytes a
           by (Q1 n) tells memory is = refused n Form tells is
           by (Q2 n) tells memory is = refused n Name tells is
           by (Q3 n) tells memory is = refused n Step tells is
           by (Q4 n) tells memory is = refused n Many tells is
-          by Q.NoMemory tells memory is = let never : Refused a ≡ NoMemory = memory refl in absurd cc
+          by (Q.NoMemory _) tells memory is = let never : Refused a ≡ NoMemory no_memory = memory refl in absurd cc
       record_stops_migrating first longer fault ReadFault tells memory is = is
-      record_stops_migrating first longer fault NoMemory tells memory is = tt
+      record_stops_migrating first longer fault (NoMemory _) tells memory is = tt

@@ -29,7 +29,7 @@ module _ (options : Options) (bytes net rest : List ℕ) (parts : HasParts bytes
       Stops (MovesComeTo options bytes) s
   net_stops_moves (Refused a) refuses = (net, rest, parts, inl refuses)
   net_stops_moves ReadFault refuses = refuses
-  net_stops_moves NoMemory refuses = tt
+  net_stops_moves (NoMemory _) refuses = tt
 
   module _ (system : System) (format : ℕ) (accepted : AcceptedIn format net system) where
     moves_to : (a : Answer) → RecordMovesTo format system options rest a → MovesComeTo options bytes a
@@ -42,7 +42,7 @@ module _ (options : Options) (bytes net rest : List ℕ) (parts : HasParts bytes
     record_stops_moves (Refused a) (line, why, is) =
         moves_to a (subst (RecordMovesTo format system options rest) (sym is) (RecordMovesTo.refused line why))
     record_stops_moves ReadFault refuses = refuses
-    record_stops_moves NoMemory refuses = tt
+    record_stops_moves (NoMemory _) refuses = tt
 
     -- a record that is accepted
     pub moves_done : (told : Told) (s : State) (whole : IsWhole told.entries)

@@ -1,6 +1,7 @@
 -- A record has one answer.
 use Rattle.std.proofs.Common.{◌≡◌, ◌≢◌, ◌∙◌, ℕ, List, sym, ap, subst, length}
 use Rattle.std.specs.Prelude.{Some}
+use Rattle.rn_items.specs.Memory.{no_memory}
 use Rattle.rn_model.specs.declared.system.System.{System}
 use Rattle.rn_model.specs.declared.log.Entry.{Entry}
 use Rattle.rn_model.specs.declared.log.MarkLine.{MarkLine}
@@ -27,13 +28,13 @@ use Rattle.rn_commands.specs.Laws.{OneAnswerToRecord}
 use Rattle.rn_commands.specs.Replaying.{HasCause, IsNoRunBy, IsRecordOfRun, RecordTo}
 use Rattle.rn_commands.specs.Replaying.{entry_line, line_code, replayed_text}
 
-caused : (fault : ReplayFault) → HasCause fault → fault ≢ NoMemory
+caused : (fault : ReplayFault) → HasCause fault → fault ≢ NoMemory no_memory
 caused (V1 n) has = λ is. let never : ⊥ = cc in never
 caused (V2 n) has = λ is. let never : ⊥ = cc in never
 caused (V3 n) has = λ is. let never : ⊥ = cc in never
 caused (V4 n) has = λ is. let never : ⊥ = cc in never
 caused (V5 n) has = λ is. let never : ⊥ = cc in never
-caused NoMemory has = absurd has
+caused (NoMemory _) has = absurd has
 
 -- what is told of a verdict
 same_told : (told other : Told) →

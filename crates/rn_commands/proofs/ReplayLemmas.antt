@@ -1,6 +1,7 @@
 -- What a replay comes to.
 use Rattle.std.proofs.Common.{◌≡◌, ◌≢◌, ◌∙◌, ℕ, List, refl, sym, ap, subst, inl, inr}
 use Rattle.std.specs.Prelude.{None, Some, IfSome, length}
+use Rattle.rn_items.specs.Memory.{no_memory}
 use Rattle.rn_model.specs.declared.system.System.{System}
 use Rattle.rn_model.specs.declared.log.Options.{Options}
 use Rattle.rn_model.specs.declared.log.Told.{Told}
@@ -33,31 +34,31 @@ use Rattle.rn_commands.specs.Replaying.{entry_line, record_line, replayed_text}
 
 -- a record that tells no run is refused by the line of its first bad line
 pub record_refused : (format : ℕ) (system : System) (options : Options) (bytes : List ℕ) (fault : RecordFault) (s : Stopped) →
-    FaultTells (TellsRecord system format bytes) fault → (fault ≡ Q.NoMemory → s ≡ NoMemory) →
+    FaultTells (TellsRecord system format bytes) fault → (fault ≡ Q.NoMemory no_memory → s ≡ NoMemory no_memory) →
     Stops (λ a. a ≡ refusal RECORD_REFUSED (record_line fault)) s → Stops (RefusesRecord format system options bytes) s
 record_refused format system options bytes (Q1 n) (Refused a) tells memory is = (record_line (Q1 n), IsNoRunBy.unread n Form tells, is)
 record_refused format system options bytes (Q2 n) (Refused a) tells memory is = (record_line (Q2 n), IsNoRunBy.unread n Name tells, is)
 record_refused format system options bytes (Q3 n) (Refused a) tells memory is = (record_line (Q3 n), IsNoRunBy.unread n Step tells, is)
 record_refused format system options bytes (Q4 n) (Refused a) tells memory is = (record_line (Q4 n), IsNoRunBy.unread n Many tells, is)
-record_refused format system options bytes Q.NoMemory (Refused a) tells memory is =
-    let never : Refused a ≡ NoMemory = memory refl in absurd cc
+record_refused format system options bytes (Q.NoMemory _) (Refused a) tells memory is =
+    let never : Refused a ≡ NoMemory no_memory = memory refl in absurd cc
 record_refused format system options bytes fault ReadFault tells memory is = is
-record_refused format system options bytes fault NoMemory tells memory is = tt
+record_refused format system options bytes fault (NoMemory _) tells memory is = tt
 
 -- a record that tells what isn't true is refused by the line of its first entry that isn't
 pub replay_refused : (format : ℕ) (system : System) (options : Options) (bytes : List ℕ) (told : Told) (fault : ReplayFault) (s : Stopped) →
     TellsRecord system format bytes (Verdict.tells told.entries told.marks) → Refuses system options told fault →
-    (fault ≡ R.NoMemory → s ≡ NoMemory) →
+    (fault ≡ R.NoMemory no_memory → s ≡ NoMemory no_memory) →
     Stops (λ a. a ≡ refusal RECORD_REFUSED (entry_line fault)) s → Stops (RefusesRecord format system options bytes) s
 replay_refused format system options bytes told (V1 n) (Refused a) tells why memory is = (entry_line (V1 n), IsNoRunBy.untrue told (V1 n) tells tt why, is)
 replay_refused format system options bytes told (V2 n) (Refused a) tells why memory is = (entry_line (V2 n), IsNoRunBy.untrue told (V2 n) tells tt why, is)
 replay_refused format system options bytes told (V3 n) (Refused a) tells why memory is = (entry_line (V3 n), IsNoRunBy.untrue told (V3 n) tells tt why, is)
 replay_refused format system options bytes told (V4 n) (Refused a) tells why memory is = (entry_line (V4 n), IsNoRunBy.untrue told (V4 n) tells tt why, is)
 replay_refused format system options bytes told (V5 n) (Refused a) tells why memory is = (entry_line (V5 n), IsNoRunBy.untrue told (V5 n) tells tt why, is)
-replay_refused format system options bytes told R.NoMemory (Refused a) tells why memory is =
-    let never : Refused a ≡ NoMemory = memory refl in absurd cc
+replay_refused format system options bytes told (R.NoMemory _) (Refused a) tells why memory is =
+    let never : Refused a ≡ NoMemory no_memory = memory refl in absurd cc
 replay_refused format system options bytes told fault ReadFault tells why memory is = is
-replay_refused format system options bytes told fault NoMemory tells why memory is = tt
+replay_refused format system options bytes told fault (NoMemory _) tells why memory is = tt
 
 -- what is told ends, and its workers have numbers
 pub whole_told : TellsWholeRuns → (format : ℕ) (system : System) (bytes : List ℕ) (told : Told) → IsFormat format →
@@ -71,7 +72,7 @@ module _ (options : Options) (bytes net rest : List ℕ) (parts : HasParts bytes
   pub net_stops : (s : Stopped) → Stops (RefusesNet net) s → Stops (ReplayComesTo options bytes) s
   net_stops (Refused a) refuses = (net, rest, parts, inl refuses)
   net_stops ReadFault refuses = refuses
-  net_stops NoMemory refuses = tt
+  net_stops (NoMemory _) refuses = tt
 
   module _ (system : System) (format : ℕ) (accepted : AcceptedIn format net system) where
     comes_to : (a : Answer) → RecordTo format system options rest a → ReplayComesTo options bytes a
@@ -82,7 +83,7 @@ module _ (options : Options) (bytes net rest : List ℕ) (parts : HasParts bytes
     record_stops (Refused a) (line, why, is) =
         comes_to a (subst (RecordTo format system options rest) (sym is) (RecordTo.refused line why))
     record_stops ReadFault refuses = refuses
-    record_stops NoMemory refuses = tt
+    record_stops (NoMemory _) refuses = tt
 
     -- a record that is accepted
     module _ (told : Told) (s : State) (whole : IsWhole told.entries) (replayed : IsReplayed system options told s) where

@@ -18,7 +18,7 @@ module _ (options : Options) (bytes net rest : List ℕ) (parts : HasParts bytes
       Stops (SessionComesTo options bytes) s
   net_stops_session (Refused a) refuses = (net, rest, parts, inl refuses)
   net_stops_session ReadFault refuses = refuses
-  net_stops_session NoMemory refuses = tt
+  net_stops_session (NoMemory _) refuses = tt
 
   -- all lines are answered
   pub session_done : (system : System) → Accepted net system → (text : List ℕ) →

@@ -1,6 +1,7 @@
 -- Why the text of a weighted net is refused, and what its translation is accepted as.
 use Rattle.std.proofs.Common.{◌≡◌, ℕ, List, length, refl, arith}
 use Rattle.std.specs.Prelude.{Ok, Err}
+use Rattle.rn_items.specs.Memory.{no_memory}
 use Rattle.rn_weighted.specs.declared.weighted.Weighted.{Weighted}
 use Rattle.rn_weighted.specs.Weighted.{IsWeighted}
 use Rattle.rn_weighted.specs.TextLength.{text_length}
@@ -35,7 +36,7 @@ because bytes why a refused reads is = record {
 -- a text that spells no weighted net is refused by the line of its reason
 pub pt_refused : (bytes : List ℕ) (why : PtFault) (s : Stopped) → IsReason bytes why →
     ((net : Weighted) → Spells bytes net → Answers (Err why) (Ok net)) →
-    (why ≡ Why.NoMemory → s ≡ NoMemory) →
+    (why ≡ Why.NoMemory no_memory → s ≡ NoMemory no_memory) →
     Stops (λ a. a ≡ refusal NET_REFUSED (pt_line why)) s → Stops (RefusesWeighted bytes) s
 pt_refused bytes (P1 spot) (Refused a) reason reads memory is =
     because bytes (P1 spot) a reason reads is
@@ -57,10 +58,10 @@ pt_refused bytes (N4 spot) (Refused a) reason reads memory is =
     because bytes (N4 spot) a reason reads is
 pt_refused bytes (N5 spot) (Refused a) reason reads memory is =
     because bytes (N5 spot) a reason reads is
-pt_refused bytes Why.NoMemory (Refused a) reason reads memory is =
-    let no : Refused a ≡ NoMemory = memory refl in absurd cc
+pt_refused bytes (Why.NoMemory _) (Refused a) reason reads memory is =
+    let no : Refused a ≡ NoMemory no_memory = memory refl in absurd cc
 pt_refused bytes why ReadFault reason reads memory is = is
-pt_refused bytes why NoMemory reason reads memory is = tt
+pt_refused bytes why (NoMemory _) reason reads memory is = tt
 
 -- where a net is read there is no reason to refuse the text
 pub pt_unrefused : (bytes : List ℕ) (net : Weighted) →

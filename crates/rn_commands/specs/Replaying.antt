@@ -31,7 +31,7 @@ line_code Form = codes "Q1"
 line_code Name = codes "Q2"
 line_code Step = codes "Q3"
 line_code Many = codes "Q4"
-line_code Memory = []
+line_code (Memory _) = []
 
 -- the line of an entry that isn't true; want of memory has none
 abbrev pub entry_line : ReplayFault → List ℕ
@@ -40,11 +40,11 @@ entry_line (V2 n) = number_line (codes "V2") n
 entry_line (V3 n) = number_line (codes "V3") n
 entry_line (V4 n) = number_line (codes "V4") n
 entry_line (V5 n) = number_line (codes "V5") n
-entry_line R.NoMemory = []
+entry_line (R.NoMemory _) = []
 
 -- a fault has a cause other than memory
 abbrev pub HasCause : ReplayFault → Type 0
-HasCause R.NoMemory = ⊥
+HasCause (R.NoMemory _) = ⊥
 HasCause _ = ⊤
 
 -- The bytes aren't the text of a run in this format, by this line: a line of them is the first that is bad; or they
@@ -91,7 +91,7 @@ record_line (Q1 n) = number_line (codes "Q1") n
 record_line (Q2 n) = number_line (codes "Q2") n
 record_line (Q3 n) = number_line (codes "Q3") n
 record_line (Q4 n) = number_line (codes "Q4") n
-record_line Q.NoMemory = []
+record_line (Q.NoMemory _) = []
 
 -- a record is refused
 abbrev pub RefusesRecord : ℕ → System → Options → List ℕ → Answer → Type 0

@@ -27,7 +27,7 @@ pt_line (N2 spot) = spot_line (codes "N2") spot
 pt_line (N3 spot) = spot_line (codes "N3") spot
 pt_line (N4 spot) = spot_line (codes "N4") spot
 pt_line (N5 spot) = spot_line (codes "N5") spot
-pt_line Why.NoMemory = []
+pt_line (Why.NoMemory _) = []
 
 -- there is no reason to refuse these bytes
 abbrev pub IsUnrefused : List ℕ → Type 0

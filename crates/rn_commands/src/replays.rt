@@ -1,5 +1,6 @@
 //! The command `replay`: whether a record is that of a run of a net text.
 ghost use Rattle.std.specs.Prelude.{◌≡◌, ◌≢◌, ◌≤◌, None, IfOk, IfErr, IfSome, length};
+ghost use Rattle.rn_items.specs.Memory.{no_memory};
 ghost use Rattle.rn_model.specs.Good.{Good, IsInLimits};
 ghost use Rattle.rn_model.specs.declared.log.Options.{Options as RunOptions};
 ghost use Rattle.rn_record.specs.RecordText.{IsFormat, record_text};
@@ -64,28 +65,28 @@ fn refused_by(alloc: Global, code: &[u8], number: u32) -> Stopped
 {
     match number_line(alloc, code, number as u64) {
         Ok(line) => Stopped::Refused(refused(alloc, RECORD_REFUSED, line)),
-        Err(_) => Stopped::NoMemory,
+        Err(no_memory) => Stopped::NoMemory(no_memory),
     }
 }
 
 // The refusal of a record that tells no run.
 pub(crate) fn refused_record(alloc: Global, fault: RecordFault) -> Stopped
     ensures line { Stops (λ a. a ≡ refusal RECORD_REFUSED (record_line fault)) result }
-    ensures memory { fault ≡ RecordFault.NoMemory → result ≡ Stopped.NoMemory }
+    ensures memory { fault ≡ RecordFault.NoMemory no_memory → result ≡ Stopped.NoMemory no_memory }
 {
     match fault {
         RecordFault::Q1(line) => refused_by(alloc, b"Q1", line),
         RecordFault::Q2(line) => refused_by(alloc, b"Q2", line),
         RecordFault::Q3(line) => refused_by(alloc, b"Q3", line),
         RecordFault::Q4(line) => refused_by(alloc, b"Q4", line),
-        RecordFault::NoMemory => Stopped::NoMemory,
+        RecordFault::NoMemory(no_memory) => Stopped::NoMemory(no_memory),
     }
 }
 
 // The refusal of a record that tells what isn't true.
 pub(crate) fn refused_replay(alloc: Global, fault: ReplayFault) -> Stopped
     ensures line { Stops (λ a. a ≡ refusal RECORD_REFUSED (entry_line fault)) result }
-    ensures memory { fault ≡ ReplayFault.NoMemory → result ≡ Stopped.NoMemory }
+    ensures memory { fault ≡ ReplayFault.NoMemory no_memory → result ≡ Stopped.NoMemory no_memory }
 {
     match fault {
         ReplayFault::V1(entry) => refused_by(alloc, b"V1", entry),
@@ -93,7 +94,7 @@ pub(crate) fn refused_replay(alloc: Global, fault: ReplayFault) -> Stopped
         ReplayFault::V3(entry) => refused_by(alloc, b"V3", entry),
         ReplayFault::V4(entry) => refused_by(alloc, b"V4", entry),
         ReplayFault::V5(entry) => refused_by(alloc, b"V5", entry),
-        ReplayFault::NoMemory => Stopped::NoMemory,
+        ReplayFault::NoMemory(no_memory) => Stopped::NoMemory(no_memory),
     }
 }
 

@@ -1,5 +1,6 @@
 //! The command `pt`: the reference net that stands for a weighted net.
 ghost use Rattle.std.specs.Prelude.{◌≡◌, ◌⊎◌, IfOk, IfErr};
+ghost use Rattle.rn_items.specs.Memory.{no_memory};
 ghost use Rattle.rn_weighted.specs.Weighted.{IsWeighted};
 ghost use Rattle.rn_pt.specs.Texts.{Spells};
 ghost use Rattle.rn_answer.specs.declared.status.TheConstants.{NET_REFUSED};
@@ -16,7 +17,7 @@ use std::alloc::Global;
 // The refusal of a text that spells no weighted net.
 fn refused_text(alloc: Global, why: PtFault) -> Stopped
     ensures line { Stops (λ a. a ≡ refusal NET_REFUSED (pt_line why)) result }
-    ensures memory { why ≡ PtFault.NoMemory → result ≡ Stopped.NoMemory }
+    ensures memory { why ≡ PtFault.NoMemory no_memory → result ≡ Stopped.NoMemory no_memory }
 {
     match why {
         PtFault::P1(spot) => refused_at(alloc, b"P1", spot),
@@ -29,7 +30,7 @@ fn refused_text(alloc: Global, why: PtFault) -> Stopped
         PtFault::N3(spot) => refused_at(alloc, b"N3", spot),
         PtFault::N4(spot) => refused_at(alloc, b"N4", spot),
         PtFault::N5(spot) => refused_at(alloc, b"N5", spot),
-        PtFault::NoMemory => Stopped::NoMemory,
+        PtFault::NoMemory(no_memory) => Stopped::NoMemory(no_memory),
     }
 }
 

@@ -1,5 +1,6 @@
 //! The command `gen`: a run of the workload text, told in four lines.
 ghost use Rattle.std.specs.Prelude.{◌≡◌, ◌≢◌, ◌≤◌, ◌++◌, None, IfOk, IfSome, OnOk};
+ghost use Rattle.rn_items.specs.Memory.{no_memory};
 ghost use Rattle.rn_model.specs.Good.{Good, IsInLimits};
 ghost use Rattle.rn_fire.specs.States.{State};
 ghost use Rattle.rn_gen.specs.Workload.{workload};
@@ -83,10 +84,10 @@ pub(crate) fn tallied(alloc: Global, state: &SimState) -> Result<Answer, NoMemor
 
 // Memory ran out, where that is why a call stopped.
 fn out_of_memory(stopped: Stopped) -> NoMemory
-    requires { stopped ≡ Memory }
+    requires { stopped ≡ Memory no_memory }
 {
     match stopped {
-        Stopped::NoMemory => NoMemory,
+        Stopped::NoMemory(no_memory) => no_memory,
         Stopped::Refused(_) | Stopped::ReadFault => unreachable!(),
     }
 }

@@ -1,5 +1,6 @@
 //! The rules of the checker, and what it reports.
 ghost use Rattle.std.specs.Prelude.{◌≡◌};
+ghost use Rattle.rn_items.specs.Memory.{no_memory};
 ghost use Rattle.rn_declared.specs.declared.fault.CheckFault.TheVariants.{NoMemory as OutOfMemory};
 
 use rn_notation::Spot;
@@ -97,13 +98,13 @@ pub enum CheckFault {
     /// A `flexout` arc to a place with a capacity holds an action variable.
     C13(Spot),
 
-    NoMemory,
+    NoMemory(NoMemory),
 }
 
 impl From<NoMemory> for CheckFault {
-    ghost from_gives = { λ _ fault. fault ≡ OutOfMemory };
+    ghost from_gives = { λ _ fault. fault ≡ OutOfMemory no_memory };
 
-    fn from(_error: NoMemory) -> CheckFault {
-        CheckFault::NoMemory
+    fn from(no_memory: NoMemory) -> CheckFault {
+        CheckFault::NoMemory(no_memory)
     }
 }

@@ -48,7 +48,7 @@ impl Doors {
     pub(crate) fn new(alloc: Global) -> Result<Doors, NoMemory> {
         match Table::of_words(alloc, &[OPEN; 64], &()) {
             Ok((table, _seat)) => Ok(Doors { table }),
-            Err(_) => Err(NoMemory),
+            Err(error) => Err(NoMemory::from(error)),
         }
     }
 

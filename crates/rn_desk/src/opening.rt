@@ -9,9 +9,9 @@ use crate::doors::Doors;
 use crate::kept::Kept;
 use crate::rule::{DeskSeat, MOST_SEATS};
 use crate::view::About;
-use atomic_table::Table;
+use atomic_table::{Refused, Table};
 use rn_items::NoMemory;
-use std::alloc::Global;
+use std::alloc::{AllocFailed, Global};
 use std::snapshot::Snapshot;
 
 /// Opens a desk that keeps this state, with a pass for each seat.
@@ -55,6 +55,6 @@ fn lay<S: Kept>(alloc: Global, state: S, seats: u32) -> Result<(Desk<S>, DeskSea
     let doors = Doors::new(alloc)?;
     match Table::new(alloc, &[0, 0, 0], slots, &about) {
         Ok((table, maker)) => Ok((Desk { table, doors }, maker)),
-        Err(_) => Err(NoMemory),
+        Err(Refused { slots }) => Err(NoMemory::from(AllocFailed { value: slots })),
     }
 }

@@ -60,4 +60,4 @@ Commits old worker b seen (Conflict at now) new =
 Commits old worker b seen Faulted new =
     (old.ended ≡ None) × IsEnabledNow old b × FiresOrFaults old worker b (Ok None) new
 Commits old worker b seen Ended new = (old.ended ≢ None) × (new ≡ old)
-Commits old worker b seen NoMemory new = (old.ended ≡ None) × (new ≡ old)
+Commits old worker b seen (NoMemory _) new = (old.ended ≡ None) × (new ≡ old)

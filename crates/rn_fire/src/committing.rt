@@ -33,7 +33,7 @@ pub enum Commit {
     Ended,
 
     /// Memory is out. All is as before.
-    NoMemory,
+    NoMemory(NoMemory),
 }
 
 impl SimState {
@@ -60,12 +60,12 @@ impl SimState {
                     now: self.length(),
                 };
             }
-            Err(_) => return Commit::NoMemory,
+            Err(no_memory) => return Commit::NoMemory(no_memory),
         }
         match self.fire(alloc, worker, candidate.binding()) {
             Ok(Some(step)) => Commit::Fired { step },
             Ok(None) => Commit::Faulted,
-            Err(_) => Commit::NoMemory,
+            Err(no_memory) => Commit::NoMemory(no_memory),
         }
     }
 

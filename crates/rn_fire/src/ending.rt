@@ -5,6 +5,7 @@ ghost use Rattle.rn_fire.specs.Ends.{EndsAtLimit, EndsDead, MayEndBy, MayGoOn, W
 ghost use Rattle.rn_fire.specs.States.{State};
 
 use crate::state::SimState;
+use rn_items::NoMemory;
 use rn_model::{Entry, Reason};
 
 /// What a worker that finds nothing enabled is told.
@@ -53,8 +54,16 @@ impl SimState {
         true
     }
 
-    /// Ends the log for want of memory.
-    pub fn end_memory(&mut self)
+    /// Ends the log for want of memory, which whoever calls was refused.
+    pub fn end_memory(&mut self, _refused: NoMemory)
+        requires { self.old.ended ≡ None }
+        ensures { self.new ≡ with_end End.Memory self.old }
+    {
+        self.end(Reason::Memory);
+    }
+
+    /// Ends the log as a record tells that a run for want of memory ended. Nothing is refused here.
+    pub fn end_memory_as_told(&mut self)
         requires { self.old.ended ≡ None }
         ensures { self.new ≡ with_end End.Memory self.old }
     {

@@ -47,7 +47,7 @@ fn fire_first(alloc: Global, state: &mut LeastState, lists: &Lists) -> Result<bo
         CommitAt::Late { seen: _, now: _ } => Ok(false),
         CommitAt::Faulted => Ok(false),
         CommitAt::Ended => Ok(false),
-        CommitAt::NoMemory => Err(NoMemory),
+        CommitAt::NoMemory(no_memory) => Err(no_memory),
     }
 }
 

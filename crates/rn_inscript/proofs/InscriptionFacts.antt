@@ -83,7 +83,7 @@ refusal_to tokens at (Fault.P5 k) d = record {
   far = d.far;
   stands = d.stands;
 }
-refusal_to tokens at Fault.NoMemory s = tt
+refusal_to tokens at (Fault.NoMemory _) s = tt
 
 -- a whole form has a first token
 pub not_empty : {tokens : List Token} {at end : ℕ} {form : PInscribed} → IsReading IsForm tokens at form end → drop at tokens ≡ [] → ⊥

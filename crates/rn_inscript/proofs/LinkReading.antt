@@ -371,4 +371,4 @@ target_reads tokens seen form (Err (Fault.P5 k)) next is other f = let p = f.1 i
   },
   f.2,
 )
-target_reads tokens seen form (Err Fault.NoMemory) next is other f = tt
+target_reads tokens seen form (Err (Fault.NoMemory _)) next is other f = tt

@@ -97,7 +97,7 @@ refusal_fact n X tokens at (Fault.P5 k) here f = let p = f.1 in record {
   far = p.far;
   stands = omega (arith, index-of at tokens here, f.2, ap length p.whole, length-append p.taken f.0);
 }
-refusal_fact n X tokens at Fault.NoMemory here f = tt
+refusal_fact n X tokens at (Fault.NoMemory _) here f = tt
 
 -- two longest prefixes are one
 pub one_longest : {A : Type 0} {Whole : Wholes A} {tokens a b : List Token} → IsLongest Whole tokens a → IsLongest Whole tokens b → a ≡ b
@@ -142,19 +142,19 @@ answer_reads {Whole = Whole} (Ok (b, m)) s a end x = let same = one_longest x.lo
     let e : a ≡ b = s.1 a (subst (λ us. Whole us a) same x.whole) in let f : m ≡ end = s.0.ends ∙ ap (λ us. _ + length us) (sym same) ∙ sym x.ends in cc
 answer_reads {Whole = Whole} (Err (Fault.P2 k)) s a end x = absurd (s.not_whole a (subst (λ us. Whole us a) (one_longest x.longest s.longest) x.whole))
 answer_reads (Err (Fault.P5 k)) s a end x = absurd (not_deep x.longest x.within s)
-answer_reads (Err Fault.NoMemory) s a end x = tt
+answer_reads (Err (Fault.NoMemory _)) s a end x = tt
 
 pub answer_stops : {A : Type 0} {Whole : Wholes A} {tokens : List Token} {at : ℕ} (r : Result (A × ℕ) InscriptFault) → IsAnswer Whole tokens at r → (k : ℕ) → IsStopped Whole tokens at k → Answers r (Err (Fault.P2 k))
 answer_stops {Whole = Whole} (Ok (b, m)) s k x = absurd (x.not_whole b (subst (λ us. Whole us b) (one_longest s.0.longest x.longest) s.0.whole))
 answer_stops (Err (Fault.P2 j)) s k x = let same = one_longest s.longest x.longest in let f : j ≡ k = s.stops ∙ ap (λ us. _ + length us) same ∙ sym x.stops in ap (λ i. Err (Fault.P2 i)) f
 answer_stops (Err (Fault.P5 j)) s k x = absurd (not_deep x.longest x.within s)
-answer_stops (Err Fault.NoMemory) s k x = tt
+answer_stops (Err (Fault.NoMemory _)) s k x = tt
 
 pub answer_deep : {A : Type 0} {Whole : Wholes A} {tokens : List Token} {at : ℕ} (r : Result (A × ℕ) InscriptFault) → IsAnswer Whole tokens at r → (k : ℕ) → IsDeep Whole tokens at k → Answers r (Err (Fault.P5 k))
 answer_deep (Ok (b, m)) s k x = absurd (not_deep s.0.longest s.0.within x)
 answer_deep (Err (Fault.P2 j)) s k x = absurd (not_deep s.longest s.within x)
 answer_deep (Err (Fault.P5 j)) s k x = ap (λ i. Err (Fault.P5 i)) (one_deep s x)
-answer_deep (Err Fault.NoMemory) s k x = tt
+answer_deep (Err (Fault.NoMemory _)) s k x = tt
 
 -- what a reader returns where the reader that it calls fails
 pub refused_answer : {A : Type 0} (n : ℕ) (X : Phrases A) (tokens : List Token) (at : ℕ) (r : Result (A × ℕ) InscriptFault) (e : InscriptFault) → IsErrAnd r (λ y. y ≡ e) → at ≤ length tokens →

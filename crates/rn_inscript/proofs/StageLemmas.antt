@@ -161,4 +161,4 @@ pub inner_fails : {A B : Type 0} {n m : ℕ} {X : Phrases A} {Y : A → Phrases 
     Fails m X mid now total e → Fails n Z start first total e
 inner_fails total (Fault.P2 k) s follow ends f = (f.0, inner_stuck s follow ends f.1, f.2)
 inner_fails total (Fault.P5 k) s follow ends f = (f.0, inner_far s ends f.1, f.2)
-inner_fails total Fault.NoMemory s follow ends f = tt
+inner_fails total (Fault.NoMemory _) s follow ends f = tt

@@ -64,7 +64,7 @@ with_name_fails {n = n} {X = X} Y {start = start} {first = first} tokens at (Fau
     (stuck_next tokens at s inside (with_name_ends Y ends) (λ ts e rest alike fit x.
     let next = alike-cons (drop at tokens) x.0 x.1 (subst (λ us. BeginAlike (drop at tokens) us) x.3 alike) in bad.0 x.0 next.0 x.2 next.1 x.4))
 with_name_fails Y tokens at (Fault.P5 k) s inside ends bad = absurd bad
-with_name_fails Y tokens at Fault.NoMemory s inside ends bad = tt
+with_name_fails Y tokens at (Fault.NoMemory _) s inside ends bad = tt
 
 -- the last phrase of an inscription, after which nothing comes
 ends-zero : (m : ℕ) (ts : List Token) → Ends 0 ts → Ends m ts

@@ -33,7 +33,7 @@ IsNotName tokens at = (t : Token) (others : List Token) (s : List ℕ) →
 abbrev pub IsNoName : List Token → ℕ → InscriptFault → Type 0
 IsNoName tokens at (Fault.P2 k) = IsNotName tokens at × (k ≡ at)
 IsNoName tokens at (Fault.P5 k) = ⊥
-IsNoName tokens at Fault.NoMemory = Unit {0}
+IsNoName tokens at (Fault.NoMemory _) = Unit {0}
 
 -- the two sides of an equality
 abbrev pub IsEquality : Phrases PInscribed

@@ -67,11 +67,11 @@ pub record IsDeep {A : Type 0} (Whole : Wholes A) (tokens : List Token) (at k : 
 abbrev pub IsRefusal : {A : Type 0} → Wholes A → List Token → ℕ → InscriptFault → Type 0
 IsRefusal Whole tokens at (Fault.P2 k) = IsStopped Whole tokens at k
 IsRefusal Whole tokens at (Fault.P5 k) = IsDeep Whole tokens at k
-IsRefusal Whole tokens at Fault.NoMemory = Unit {0}
+IsRefusal Whole tokens at (Fault.NoMemory _) = Unit {0}
 
 -- this is the answer, unless memory ran out
 abbrev pub Answers : {A : Type 0} → Result A InscriptFault → Result A InscriptFault → Type 0
-Answers (Err Fault.NoMemory) expected = Unit {0}
+Answers (Err (Fault.NoMemory _)) expected = Unit {0}
 Answers result expected = result ≡ expected
 
 -- what an answer says: the longest reading, and nothing else is a reading of the tokens taken, or

@@ -99,7 +99,7 @@ Fails n X start first total (Fault.P2 k) =
     (left : List Token) × IsStuck n X start first left × (k + length left ≡ total)
 Fails n X start first total (Fault.P5 k) =
     (left : List Token) × IsTooFar X start first left × (k + length left ≡ total)
-Fails n X start first total Fault.NoMemory = Unit {0}
+Fails n X start first total (Fault.NoMemory _) = Unit {0}
 
 -- where an operand has to begin
 abbrev pub ready : List Level → ℕ → Count

@@ -1,5 +1,6 @@
 //! Why tokens are read as no expression or inscription.
 ghost use Rattle.std.specs.Prelude.{◌≡◌};
+ghost use Rattle.rn_items.specs.Memory.{no_memory};
 ghost use Rattle.rn_inscript.specs.declared.fault.InscriptFault.TheVariants.{NoMemory as OutOfMemory};
 
 use rn_value::NoMemory;
@@ -14,29 +15,29 @@ pub enum InscriptFault {
     /// The token that opens level 65, or the 257th operator.
     P5(usize),
 
-    NoMemory,
+    NoMemory(NoMemory),
 }
 
 impl From<NoMemory> for InscriptFault {
-    ghost from_gives = { λ _ fault. fault ≡ OutOfMemory };
+    ghost from_gives = { λ _ fault. fault ≡ OutOfMemory no_memory };
 
-    fn from(_error: NoMemory) -> InscriptFault {
-        InscriptFault::NoMemory
+    fn from(no_memory: NoMemory) -> InscriptFault {
+        InscriptFault::NoMemory(no_memory)
     }
 }
 
 impl From<AllocError> for InscriptFault {
-    ghost from_gives = { λ _ fault. fault ≡ OutOfMemory };
+    ghost from_gives = { λ _ fault. fault ≡ OutOfMemory no_memory };
 
-    fn from(_error: AllocError) -> InscriptFault {
-        InscriptFault::NoMemory
+    fn from(error: AllocError) -> InscriptFault {
+        InscriptFault::NoMemory(NoMemory::from(error))
     }
 }
 
 impl<T: Drop> From<AllocFailed<T>> for InscriptFault {
-    ghost from_gives = { λ _ fault. fault ≡ OutOfMemory };
+    ghost from_gives = { λ _ fault. fault ≡ OutOfMemory no_memory };
 
-    fn from(_failed: AllocFailed<T>) -> InscriptFault {
-        InscriptFault::NoMemory
+    fn from(failed: AllocFailed<T>) -> InscriptFault {
+        InscriptFault::NoMemory(NoMemory::from(failed))
     }
 }

@@ -133,7 +133,7 @@ module _ (old new : State) (worker : ℕ) (b : Binding) (seen : ℕ) (count : le
   committed_least least is Was.Faulted (going, now, fires) =
       faulted_least old new least is worker b (least_now old b seen was count) fires
   committed_least least is Was.Ended commits = subst HasLeastLog (sym commits.1) least
-  committed_least least is Was.NoMemory commits = subst HasLeastLog (sym commits.1) least
+  committed_least least is (Was.NoMemory _) commits = subst HasLeastLog (sym commits.1) least
 
   -- and the answer
   pub committed_at : (answer : Commit) → Commits old worker b seen answer new →
@@ -145,4 +145,4 @@ module _ (old new : State) (worker : ℕ) (b : Binding) (seen : ℕ) (count : le
       absurd (let no : ⊥ = omega (arith, count, more, is) in no)
   committed_at Was.Faulted (going, now, fires) = (going, count, fires)
   committed_at Was.Ended commits = commits
-  committed_at Was.NoMemory commits = (commits.0, count, commits.1)
+  committed_at (Was.NoMemory _) commits = (commits.0, count, commits.1)

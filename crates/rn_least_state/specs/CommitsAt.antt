@@ -29,7 +29,7 @@ CommitsAt old worker b seen (Late at now) new =
 CommitsAt old worker b seen Faulted new =
     (old.ended ≡ None) × (length old.fired ≡ seen) × FiresOrFaults old worker b (Ok None) new
 CommitsAt old worker b seen Ended new = (old.ended ≢ None) × (new ≡ old)
-CommitsAt old worker b seen NoMemory new =
+CommitsAt old worker b seen (NoMemory _) new =
     (old.ended ≡ None) × (length old.fired ≡ seen) × (new ≡ old)
 
 -- What follows only connects the code to the definitions.
@@ -40,4 +40,4 @@ answer_at (Was.Fired step) = Fired step
 answer_at (Was.Conflict at now) = Late at now
 answer_at Was.Faulted = Faulted
 answer_at Was.Ended = Ended
-answer_at Was.NoMemory = NoMemory
+answer_at (Was.NoMemory refused) = NoMemory refused

@@ -9,6 +9,7 @@ ghost use Rattle.rn_least_state.specs.CommitsAt.{CommitsAt, WasLeast, answer_at}
 use crate::state::LeastState;
 use rn_binding::Candidate;
 use rn_fire::Commit;
+use rn_items::NoMemory;
 use std::alloc::Global;
 
 /// What a worker that commits the first of the bindings that were enabled is told.
@@ -28,7 +29,7 @@ pub enum CommitAt {
     Ended,
 
     /// Memory is out. All is as before.
-    NoMemory,
+    NoMemory(NoMemory),
 }
 
 // What the commit of a state tells.
@@ -40,7 +41,7 @@ fn answer_at(answer: Commit) -> CommitAt
         Commit::Conflict { seen, now } => CommitAt::Late { seen, now },
         Commit::Faulted => CommitAt::Faulted,
         Commit::Ended => CommitAt::Ended,
-        Commit::NoMemory => CommitAt::NoMemory,
+        Commit::NoMemory(no_memory) => CommitAt::NoMemory(no_memory),
     }
 }
 

@@ -10,6 +10,7 @@ ghost use Rattle.rn_fire.specs.States.{State, end_marking};
 
 use crate::state::LeastState;
 use rn_fire::NoneCommit;
+use rn_items::NoMemory;
 
 impl LeastState {
     /// Ends the log as dead, unless it has ended. Nothing was enabled after the first `seen` entries.
@@ -33,12 +34,12 @@ impl LeastState {
         ends
     }
 
-    /// Ends the log for want of memory.
-    pub fn end_memory(&mut self)
+    /// Ends the log for want of memory, which whoever calls was refused.
+    pub fn end_memory(&mut self, refused: NoMemory)
         requires { self.old.ended ≡ None }
         ensures { self.new ≡ with_end End.Memory self.old }
     {
-        self.state.end_memory();
+        self.state.end_memory(refused);
         let _length = self.state.length();
     }
 

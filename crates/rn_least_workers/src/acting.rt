@@ -61,8 +61,8 @@ fn commit_plan(
     };
     match state.commit_at(alloc, worker, candidate, seen) {
         CommitAt::Fired { step: _ } => true,
-        CommitAt::NoMemory => {
-            state.end_memory();
+        CommitAt::NoMemory(no_memory) => {
+            state.end_memory(no_memory);
             false
         }
         _ => false,
@@ -97,8 +97,8 @@ fn act_on(
     }
     let fired = match plan {
         Ok(plan) => commit_plan(alloc, state, worker, seen, plan),
-        Err(_) => {
-            state.end_memory();
+        Err(no_memory) => {
+            state.end_memory(*no_memory);
             false
         }
     };

@@ -27,8 +27,8 @@ fn sight_of(state: &mut LeastState) -> Option<Sight>
     let seen = base.length();
     match base.table().snapshot() {
         Ok(table) => Some(Sight { table, seen }),
-        Err(_) => {
-            state.end_memory();
+        Err(no_memory) => {
+            state.end_memory(no_memory);
             None
         }
     }

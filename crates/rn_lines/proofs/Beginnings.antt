@@ -48,7 +48,7 @@ after_nothing None = refl
 after_nothing (Some x) = refl
 
 pub value_missed : (error : Unread) (said : List Said) (bytes : List ℕ) → said ≡ [] → Misses error (after said (value_at most_brackets bytes)) → Misses error (seen_at bytes)
-value_missed unread.NoMemory said bytes none e = tt
+value_missed (unread.NoMemory _) said bytes none e = tt
 value_missed unread.NotThere said bytes none e =
     ap (λ o. o >>= ended) (sym (after_nothing (value_at most_brackets bytes)) ∙ ap (λ said. after said (value_at most_brackets bytes)) (sym none) ∙ e)
 
@@ -83,7 +83,7 @@ front_read bytes s e =
     (value_read most_brackets bytes x.0 x.1)
 
 pub front_missed : (error : Unread) (said : List Said) (bytes : List ℕ) → said ≡ [] → Misses error (after said (value_at most_brackets bytes)) → Misses error (front_at bytes)
-front_missed unread.NoMemory said bytes none e = tt
+front_missed (unread.NoMemory _) said bytes none e = tt
 front_missed unread.NotThere said bytes none e =
     ap (λ o. o >>= started) (sym (after_nothing (value_at most_brackets bytes)) ∙ ap (λ said. after said (value_at most_brackets bytes)) (sym none) ∙ e)
 

@@ -184,7 +184,7 @@ item_on most i rest next h front new whole low some read put so_far =
 
 pub item_ends : (e : Unread) (most i : ℕ) (rest : List ℕ) (front : List Held) (whole : Option (List Held)) → i < most → 0 < length rest → Misses e (item_at rest) →
     with_items front (items_at (most - i) rest) ≡ whole → Misses e whole
-item_ends unread.NoMemory most i rest front whole low some none so_far = tt
+item_ends (unread.NoMemory _) most i rest front whole low some none so_far = tt
 item_ends unread.NotThere most i rest front whole low some none so_far =
     sym so_far
     ∙ ap (with_items front) (step most i rest low some)

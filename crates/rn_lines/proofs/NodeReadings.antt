@@ -155,7 +155,7 @@ given_on most i rest next g front new whole low some read put so_far =
 
 pub given_ends : (e : Unread) (most i : ℕ) (rest : List ℕ) (front : List Given) (whole : Option (List Given)) → i < most → 0 < length rest → Misses e (given_at rest) →
     with_given front (all_given_at (most - i) rest) ≡ whole → Misses e whole
-given_ends unread.NoMemory most i rest front whole low some none so_far = tt
+given_ends (unread.NoMemory _) most i rest front whole low some none so_far = tt
 given_ends unread.NotThere most i rest front whole low some none so_far =
     sym so_far
     ∙ ap (with_given front) (step most i rest low some)

@@ -65,7 +65,7 @@ module _ (item : List ℕ → Option (Value × List Said × List ℕ)) where
 
   pub comma_ends : (e : Unread) (close most i : ℕ) (rest more : List ℕ) (vs : List Value) (ms : List Said) (whole : Row) → i < most → rest ≡ 44 ∷ more →
       Misses e (after ms (item more)) → with_front vs ms (tail_at item close (most - i) rest) ≡ whole → Misses e whole
-  comma_ends unread.NoMemory close most i rest more vs ms whole low is none so_far = tt
+  comma_ends (unread.NoMemory _) close most i rest more vs ms whole low is none so_far = tt
   comma_ends unread.NotThere close most i rest more vs ms whole low is none so_far =
       sym so_far ∙ ap (with_front vs ms) (comma_step close most i rest more low is) ∙ read_none vs ms close (most - (i + 1)) more none
 
@@ -90,7 +90,7 @@ module _ (item : List ℕ → Option (Value × List Said × List ℕ)) where
       by : (r : Result _ Unread) → Gives view r (byte_at close rest) → whole ≡ with_front vs ms (byte_at close rest >>= λ rest. Some ([], [], rest)) → Gives (λ x. (vs, ms, view x)) r whole
       by (Ok x) found e = e ∙ ap (λ o. with_front vs ms (o >>= λ rest. Some ([], [], rest))) found ∙ nothing_before vs ms (view x)
       by (Err unread.NotThere) found e = e ∙ ap (λ o. with_front vs ms (o >>= λ rest. Some ([], [], rest))) found
-      by (Err unread.NoMemory) found e = tt
+      by (Err (unread.NoMemory _)) found e = tt
 
   pub stops : (close most i : ℕ) (rest : List ℕ) (vs : List Value) (ms : List Said) (whole : Row) → i < most → length rest ≡ 0 → with_front vs ms (tail_at item close (most - i) rest) ≡ whole → whole ≡ None
   stops close most i rest vs ms whole low short so_far =
@@ -146,7 +146,7 @@ row_begins depth close bytes rest v ms new_ms low found read =
 
 pub row_fails : (e : Unread) (depth close : ℕ) (bytes : List ℕ) (ms : List Said) → 0 < depth → byte_at close bytes ≡ None → Misses e (after ms (value_at (depth - 1) bytes)) →
     Misses e (with_front [] ms (rows_at depth close bytes))
-row_fails unread.NoMemory depth close bytes ms low found none = tt
+row_fails (unread.NoMemory _) depth close bytes ms low found none = tt
 row_fails unread.NotThere depth close bytes ms low found none =
     ap (with_front [] ms) (row_step depth close bytes low ∙ other_row (value_at (depth - 1)) close bytes refl found)
     ∙ read_none (value_at (depth - 1)) [] ms close (length bytes) bytes none

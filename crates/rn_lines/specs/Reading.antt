@@ -22,7 +22,7 @@ None >>= f = None
 -- Nothing was read: nothing is there, unless memory ran out.
 abbrev pub Misses : {Y : Type 0} → Unread → Option Y → Type 0
 Misses unread.NotThere read = read ≡ None
-Misses unread.NoMemory read = Unit {0}
+Misses (unread.NoMemory _) read = Unit {0}
 
 -- What a function returned, seen by `view`, is what there is to read, unless memory ran out.
 abbrev pub Gives : {X Y : Type 0} → (X → Y) → Result X Unread → Option Y → Type 0

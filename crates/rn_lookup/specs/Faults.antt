@@ -23,7 +23,7 @@ Tells (Err Form) fault = fault ≡ Some Form
 Tells (Err Name) fault = fault ≡ Some Name
 Tells (Err Step) fault = fault ≡ Some Step
 Tells (Err Many) fault = fault ≡ Some Many
-Tells (Err Memory) fault = ⊤
+Tells (Err (Memory _)) fault = ⊤
 
 -- whether a node's net and transition are there
 abbrev pub is_there : System → NodeSaid → Bool

@@ -1,5 +1,6 @@
 //! Why a line is refused.
 ghost use Rattle.std.specs.Prelude.{◌≡◌};
+ghost use Rattle.rn_items.specs.Memory.{no_memory};
 ghost use Rattle.rn_lookup.specs.declared.refusal.Refusal.TheVariants.{Memory};
 
 use rn_value::NoMemory;
@@ -21,29 +22,29 @@ pub enum Refusal {
     Many,
 
     /// The allocator had no memory.
-    Memory,
+    Memory(NoMemory),
 }
 
 impl From<NoMemory> for Refusal {
-    ghost from_gives = { λ _ e. e ≡ Memory };
+    ghost from_gives = { λ _ e. e ≡ Memory no_memory };
 
-    fn from(_error: NoMemory) -> Refusal {
-        Refusal::Memory
+    fn from(no_memory: NoMemory) -> Refusal {
+        Refusal::Memory(no_memory)
     }
 }
 
 impl From<AllocError> for Refusal {
-    ghost from_gives = { λ _ e. e ≡ Memory };
+    ghost from_gives = { λ _ e. e ≡ Memory no_memory };
 
-    fn from(_error: AllocError) -> Refusal {
-        Refusal::Memory
+    fn from(error: AllocError) -> Refusal {
+        Refusal::Memory(NoMemory::from(error))
     }
 }
 
 impl<T: Drop> From<AllocFailed<T>> for Refusal {
-    ghost from_gives = { λ _ e. e ≡ Memory };
+    ghost from_gives = { λ _ e. e ≡ Memory no_memory };
 
-    fn from(_failed: AllocFailed<T>) -> Refusal {
-        Refusal::Memory
+    fn from(failed: AllocFailed<T>) -> Refusal {
+        Refusal::Memory(NoMemory::from(failed))
     }
 }

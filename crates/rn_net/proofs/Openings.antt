@@ -241,4 +241,4 @@ opening_fails {W = W} o tokens at (Fault.P5 k) inside s fresh x =
       far_all x.before s x.parts (f.shallow x.within) (b.0, b.1, λ rest. subst (λ us. W.is us b.1 rest) (append_assoc x.before (x.token ∷ []) (b.0 ++ rest)) (b.2 rest)) (f.deep x.token.kind x.far),
       index-is tokens at k x.before (x.token ∷ x.left) inside x.parts x.stands,
     )
-opening_fails o tokens at Fault.NoMemory inside s fresh x = tt
+opening_fails o tokens at (Fault.NoMemory _) inside s fresh x = tt

@@ -115,7 +115,7 @@ as-reason bytes (R.P4 y) by s = by s
 as-reason bytes (R.P5 y) by s = by s
 as-reason bytes (R.P6 y) by s = by s
 as-reason bytes (R.P7 y) by s = by s
-as-reason bytes R.NoMemory by s = tt
+as-reason bytes (R.NoMemory _) by s = tt
 
 refused-by : (bytes : List ℕ) (tokens : List Token) (fault : Option LexFault) (end : Spot) (r : Refusal) → length bytes ≤ longest_net_text → IfNone fault (Tokens bytes tokens) → IfSome fault (FirstFault bytes tokens) → end ≡ spot_after bytes →
     Reason tokens fault end r → IsRefused bytes r
@@ -214,7 +214,7 @@ unless_memory (R.P4 y) expected by s = by s
 unless_memory (R.P5 y) expected by s = by s
 unless_memory (R.P6 y) expected by s = by s
 unless_memory (R.P7 y) expected by s = by s
-unless_memory R.NoMemory expected by s = tt
+unless_memory (R.NoMemory _) expected by s = tt
 
 pub settled_reads : OneReading → OneFault → NoFaultInTokens → (bytes : List ℕ) (tokens : List Token) (fault : Option LexFault) (end : Spot) (r : Result Plain Refusal) → length bytes ≤ longest_net_text → IfNone fault (Tokens bytes tokens) → IfSome fault (FirstFault bytes tokens) → end ≡ spot_after bytes →
     Settles tokens fault end r → (plain : Plain) → Spells bytes plain → Answers r (Ok plain)

@@ -90,7 +90,7 @@ name_fails {X = X} {start = start} {first = first} Y tokens at (Fault.P2 k) s in
     subst (λ x. Fails X start first (length tokens) (Fault.P2 x)) (sym bad.1) (stuck tokens at s inside (λ ts e rest alike x.
     let next = alike-cons (drop at tokens) x.0 x.1 (subst (λ us. BeginAlike (drop at tokens) us) x.3 alike) in bad.0 x.0 next.0 x.2 next.1 x.4))
 name_fails Y tokens at (Fault.P5 k) s inside bad = absurd bad
-name_fails Y tokens at Fault.NoMemory s inside bad = tt
+name_fails Y tokens at (Fault.NoMemory _) s inside bad = tt
 
 -- a phrase is read, or fails
 pub then_read : {A B : Type 0} (X : Sort A) {Z : Phrases B} {start mid left : List Token} {first now last : Region} {a : A} (Y : A → Sort B) →

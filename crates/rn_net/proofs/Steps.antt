@@ -225,7 +225,7 @@ pub inner_fails : {A B : Type 0} {X : Phrases A} {Z : Phrases B} {W : Sort B} {s
     Fails X mid now total e → Fails Z start first total e
 inner_fails Y total (Fault.P2 k) s on only f = (f.0, inner_stuck Y s on only f.1, f.2)
 inner_fails Y total (Fault.P5 k) s on only f = (f.0, inner_far Y s on f.1, f.2)
-inner_fails Y total Fault.NoMemory s on only f = tt
+inner_fails Y total (Fault.NoMemory _) s on only f = tt
 
 -- what a reader returns where a reader that it calls fails
 pub failed : {A : Type 0} (X : Phrases A) (tokens : List Token) (at : ℕ) (first last : Region) (r : Result (A × ℕ) InscriptFault) (e : InscriptFault) →

@@ -131,7 +131,7 @@ top_fails {tokens = tokens} {mid = mid} {p = p} (Fault.P5 k) bare s f = let x = 
   where
     parts : tokens ≡ (s.taken ++ f.1.taken) ++ f.0
     parts = s.whole ∙ ap (λ us. s.taken ++ us) f.1.whole ∙ sym (append_assoc s.taken f.1.taken f.0)
-top_fails Fault.NoMemory bare s f = tt
+top_fails (Fault.NoMemory _) bare s f = tt
 
 -- an item leaves the notation
 pub same_notation : (p : Plain) (i : Item) → (with_item p i).notation ≡ p.notation

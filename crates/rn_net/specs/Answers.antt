@@ -56,7 +56,7 @@ pub record Sinks (tokens : List Token) (k : ℕ) : Type 0 where
 abbrev pub Ends : List Token → InscriptFault → Type 0
 Ends tokens (Fault.P2 k) = Halts tokens k
 Ends tokens (Fault.P5 k) = Sinks tokens k
-Ends tokens Fault.NoMemory = Unit {0}
+Ends tokens (Fault.NoMemory _) = Unit {0}
 
 -- what comes before the items is taken, or isn't there
 abbrev pub HeaderAnswer : List Token → Result (ℕ × ℕ) InscriptFault → Type 0
@@ -80,7 +80,7 @@ Reason tokens fault end refusal =
 abbrev pub Settles : List Token → Option LexFault → Spot → Result Plain Refusal → Type 0
 Settles tokens fault end (Ok plain) = (fault ≡ None) × IsSystem tokens plain
     × ((other : Plain) → IsSystem tokens other → other ≡ plain) × IsShallow between tokens
-Settles tokens fault end (Err R.NoMemory) = Unit {0}
+Settles tokens fault end (Err (R.NoMemory _)) = Unit {0}
 Settles tokens fault end (Err refusal) = Reason tokens fault end refusal
 
 -- the refusal of tokens that are fine and no system

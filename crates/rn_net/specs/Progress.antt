@@ -60,7 +60,7 @@ Fails X start first total (Fault.P2 k) =
     (left : List Token) × IsStuck X start first left × (k + length left ≡ total)
 Fails X start first total (Fault.P5 k) =
     (left : List Token) × IsTooFar X start first left × (k + length left ≡ total)
-Fails X start first total Fault.NoMemory = Unit {0}
+Fails X start first total (Fault.NoMemory _) = Unit {0}
 
 -- what a reader of a phrase returns, from one region to another
 abbrev pub Reads : {A : Type 0} → Phrases A → List Token → ℕ → Region → Region →

@@ -78,10 +78,10 @@ pub data IsRefused : List ℕ → Refusal → Type 0 where
 
 -- this is the answer, unless memory ran out
 abbrev pub Answers : Result Plain Refusal → Result Plain Refusal → Type 0
-Answers (Err R.NoMemory) expected = Unit {0}
+Answers (Err (R.NoMemory _)) expected = Unit {0}
 Answers result expected = result ≡ expected
 
 -- this refusal is right; want of memory is the one without a cause
 abbrev pub IsReason : List ℕ → Refusal → Type 0
-IsReason bytes R.NoMemory = Unit {0}
+IsReason bytes (R.NoMemory _) = Unit {0}
 IsReason bytes refusal = IsRefused bytes refusal

@@ -50,7 +50,7 @@ fn refused(lexed: &Lexed, fault: InscriptFault) -> Refusal
             Some(token) => Refusal::P5(token.spot),
             None => unreachable!(),
         },
-        InscriptFault::NoMemory => Refusal::NoMemory,
+        InscriptFault::NoMemory(no_memory) => Refusal::NoMemory(no_memory),
     }
 }
 

@@ -1,5 +1,6 @@
 //! Why a text is no system.
 ghost use Rattle.std.specs.Prelude.{◌≡◌};
+ghost use Rattle.rn_items.specs.Memory.{no_memory};
 ghost use Rattle.rn_net.specs.declared.refusal.Refusal.TheVariants.{NoMemory as OutOfMemory};
 
 use rn_notation::Spot;
@@ -29,13 +30,13 @@ pub enum Refusal {
     /// The quote of a text that isn't closed on its line.
     P7(Spot),
 
-    NoMemory,
+    NoMemory(NoMemory),
 }
 
 impl From<NoMemory> for Refusal {
-    ghost from_gives = { λ _ refusal. refusal ≡ OutOfMemory };
+    ghost from_gives = { λ _ refusal. refusal ≡ OutOfMemory no_memory };
 
-    fn from(_error: NoMemory) -> Refusal {
-        Refusal::NoMemory
+    fn from(no_memory: NoMemory) -> Refusal {
+        Refusal::NoMemory(no_memory)
     }
 }

@@ -5,6 +5,7 @@ ghost use Rattle.rn_outside.specs.Bytes.{GivesAll, GivesAtMost, GivesPrefix};
 ghost use Rattle.rn_outside.specs.Faults.{Rose, risen};
 
 use crate::source::Source;
+use rn_items::NoMemory;
 use std::alloc::{AllocError, Global};
 
 /// Why a source wasn't read to its end.
@@ -14,17 +15,18 @@ pub enum ReadAllFault {
     ReadFault,
     /// More bytes were left than the limit.
     TooLong,
-    NoMemory,
+    NoMemory(NoMemory),
 }
 
 impl From<AllocError> for ReadAllFault {
     ghost use Rattle.std.specs.Prelude.{◌≡◌};
+    ghost use Rattle.rn_items.specs.Memory.{no_memory};
     ghost use Rattle.rn_outside.specs.declared.reading.ReadAllFault.TheVariants.{NoMemory};
 
-    ghost from_gives = { λ _ e. e ≡ NoMemory };
+    ghost from_gives = { λ _ e. e ≡ NoMemory no_memory };
 
-    fn from(_error: AllocError) -> ReadAllFault {
-        ReadAllFault::NoMemory
+    fn from(error: AllocError) -> ReadAllFault {
+        ReadAllFault::NoMemory(NoMemory::from(error))
     }
 }
 

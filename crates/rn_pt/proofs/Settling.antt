@@ -3,6 +3,7 @@ use Rattle.std.proofs.Common.{◌≡◌, ℕ, ◌<◌, ◌≤◌, ◌⊎◌, inl
 use Rattle.std.proofs.lemmas.Bool.{false≢true}
 use Rattle.std.proofs.lemmas.Bool.Decides.{leb_tells}
 use Rattle.std.specs.Prelude.{Result, Ok, Err, Option, Some, None, IfSome, IfNone, IfOk, IfErr}
+use Rattle.rn_items.specs.Memory.{no_memory}
 use Rattle.rn_notation.specs.Limits.{longest_net_text}
 use Rattle.rn_notation.specs.Spots.{spot_after}
 use Rattle.rn_notation.specs.Laws.{OneReading, OneFault, NoFaultInTokens}
@@ -75,7 +76,7 @@ objected bytes plain why says (inr x) = subst (IsRefused bytes) (sym x.2) (IsRef
 
 -- why tokens are no net
 explained : (bytes : List ℕ) (lexed : Lexed) (why : TextFault) → LexedOf bytes lexed → Explains uncounted tt IsPtNet lexed why →
-    (report_text why ≡ Why.NoMemory) ⊎ IsRefused bytes (report_text why)
+    (report_text why ≡ Why.NoMemory no_memory) ⊎ IsRefused bytes (report_text why)
 explained bytes lexed (Text.Stopped spot) of (inl x) = inr (IsRefused.stopped of.fits (lexed_of lexed.fault of.tokens of.fault) x)
 explained bytes lexed (Text.Stopped spot) of (inr x) =
     inr (subst (λ s. IsRefused bytes (Why.N1 s)) (sym (x.1 ∙ of.end))
@@ -86,13 +87,13 @@ explained bytes lexed (Text.Lexical fault) of x = inr (IsRefused.faulty of.fits 
     first-fault : (o : Option LexFault) → o ≡ Some fault → IfSome o (FirstFault bytes lexed.tokens) → FirstFault bytes lexed.tokens fault
     first-fault None is h = absurd (let no : ⊥ = let e = is in cc in no)
     first-fault (Some f) is h = subst (FirstFault bytes lexed.tokens) (let e : f ≡ fault = let i = is in cc in e) h
-explained bytes lexed Text.NoMemory of x = inl refl
+explained bytes lexed (Text.NoMemory _) of x = inl refl
 
-given : {A : Type 0} {q : PtFault} → (q ≡ Why.NoMemory → ⊥) → (q ≡ Why.NoMemory) ⊎ A → A
+given : {A : Type 0} {q : PtFault} → (q ≡ Why.NoMemory no_memory → ⊥) → (q ≡ Why.NoMemory no_memory) ⊎ A → A
 given never (inl e) = absurd (never e)
 given never (inr a) = a
 
-reasoned : (bytes : List ℕ) (q : PtFault) → (q ≡ Why.NoMemory) ⊎ IsRefused bytes q → IsReason bytes q
+reasoned : (bytes : List ℕ) (q : PtFault) → (q ≡ Why.NoMemory no_memory) ⊎ IsRefused bytes q → IsReason bytes q
 reasoned bytes (Why.P1 s) x = given (λ e. let no : ⊥ = let h = e in cc in no) x
 reasoned bytes (Why.P3 s) x = given (λ e. let no : ⊥ = let h = e in cc in no) x
 reasoned bytes (Why.P4 s) x = given (λ e. let no : ⊥ = let h = e in cc in no) x
@@ -103,16 +104,16 @@ reasoned bytes (Why.N2 s) x = given (λ e. let no : ⊥ = let h = e in cc in no)
 reasoned bytes (Why.N3 s) x = given (λ e. let no : ⊥ = let h = e in cc in no) x
 reasoned bytes (Why.N4 s) x = given (λ e. let no : ⊥ = let h = e in cc in no) x
 reasoned bytes (Why.N5 s) x = given (λ e. let no : ⊥ = let h = e in cc in no) x
-reasoned bytes Why.NoMemory x = tt
+reasoned bytes (Why.NoMemory _) x = tt
 
-refused-by : (bytes : List ℕ) (lexed : Lexed) (q : PtFault) → LexedOf bytes lexed → Comes lexed (Err q) → (q ≡ Why.NoMemory) ⊎ IsRefused bytes q
-refused-by bytes lexed q of (inl x) = elim x.2 as (λ w. (q ≡ Why.NoMemory) ⊎ IsRefused bytes q) [
+refused-by : (bytes : List ℕ) (lexed : Lexed) (q : PtFault) → LexedOf bytes lexed → Comes lexed (Err q) → (q ≡ Why.NoMemory no_memory) ⊎ IsRefused bytes q
+refused-by bytes lexed q of (inl x) = elim x.2 as (λ w. (q ≡ Why.NoMemory no_memory) ⊎ IsRefused bytes q) [
   | inl none ↦ inl none
   | inr objects ↦ inr (objected bytes x.0 q (says-of bytes lexed x.0 of x.1.faultless x.1.whole) objects)
 ]
 refused-by bytes lexed q of (inr x) =
     let same : q ≡ report_text x.0 = let e = x.2 in cc in
-    subst (λ p. (p ≡ Why.NoMemory) ⊎ IsRefused bytes p) (sym same) (explained bytes lexed x.0 of x.1)
+    subst (λ p. (p ≡ Why.NoMemory no_memory) ⊎ IsRefused bytes p) (sym same) (explained bytes lexed x.0 of x.1)
 
 pub settled_refused : (bytes : List ℕ) (lexed : Lexed) (r : Result Weighted PtFault) → LexedOf bytes lexed → Comes lexed r → IfErr r (λ why. IsReason bytes why)
 settled_refused bytes lexed (Ok net) of x = tt
@@ -122,7 +123,7 @@ abbrev pub IsErr : PtFault → Result Weighted PtFault → Type 0
 IsErr q expected = Err q ≡ expected
 
 -- an answer is this one unless memory ran out
-unless-memory : (q : PtFault) (expected : Result Weighted PtFault) → (q ≡ Why.NoMemory) ⊎ IsErr q expected → Answers (Err q) expected
+unless-memory : (q : PtFault) (expected : Result Weighted PtFault) → (q ≡ Why.NoMemory no_memory) ⊎ IsErr q expected → Answers (Err q) expected
 unless-memory (Why.P1 s) expected x = given (λ e. let no : ⊥ = let h = e in cc in no) x
 unless-memory (Why.P3 s) expected x = given (λ e. let no : ⊥ = let h = e in cc in no) x
 unless-memory (Why.P4 s) expected x = given (λ e. let no : ⊥ = let h = e in cc in no) x
@@ -133,14 +134,14 @@ unless-memory (Why.N2 s) expected x = given (λ e. let no : ⊥ = let h = e in c
 unless-memory (Why.N3 s) expected x = given (λ e. let no : ⊥ = let h = e in cc in no) x
 unless-memory (Why.N4 s) expected x = given (λ e. let no : ⊥ = let h = e in cc in no) x
 unless-memory (Why.N5 s) expected x = given (λ e. let no : ⊥ = let h = e in cc in no) x
-unless-memory Why.NoMemory expected x = tt
+unless-memory (Why.NoMemory _) expected x = tt
 
 -- a reason is told, unless memory ran out
-told : (why : TextFault) → (report_text why ≡ Why.NoMemory) ⊎ IsTold why
+told : (why : TextFault) → (report_text why ≡ Why.NoMemory no_memory) ⊎ IsTold why
 told (Text.Stopped s) = inr tt
 told (Text.TooFar s) = inr tt
 told (Text.Lexical f) = inr tt
-told Text.NoMemory = inl refl
+told (Text.NoMemory _) = inl refl
 
 -- why a text is refused, said of what was lexed
 abbrev pub Reason : Lexed → PtFault → Type 0
@@ -236,13 +237,13 @@ settled-refuses lexed r q (inl x) (inr y) =
     met-refused x.0 r q x.2 (subst (λ p. Objects p q) same y.3)
 settled-refuses lexed r q (inr x) (inl y) =
     subst (λ s. Answers s (Err q)) (sym x.2) (unless-memory (report_text x.0) (Err q)
-    (elim (told x.0) as (λ w. (report_text x.0 ≡ Why.NoMemory) ⊎ IsErr (report_text x.0) (Err q)) [
+    (elim (told x.0) as (λ w. (report_text x.0 ≡ Why.NoMemory no_memory) ⊎ IsErr (report_text x.0) (Err q)) [
       | inl none ↦ inl none
       | inr is ↦ inr (ap Err (ap report_text (one_reason uncounted tt IsPtNet lexed x.0 y.0 is y.1 x.1 y.2) ∙ sym y.3))
     ]))
 settled-refuses lexed r q (inr x) (inr y) =
     subst (λ s. Answers s (Err q)) (sym x.2) (unless-memory (report_text x.0) (Err q)
-    (elim (told x.0) as (λ w. (report_text x.0 ≡ Why.NoMemory) ⊎ IsErr (report_text x.0) (Err q)) [
+    (elim (told x.0) as (λ w. (report_text x.0 ≡ Why.NoMemory no_memory) ⊎ IsErr (report_text x.0) (Err q)) [
       | inl none ↦ inl none
       | inr is ↦ absurd (alone-explained lexed y.0 x.0 is y.1 y.2 x.1)
     ]))
@@ -261,7 +262,7 @@ settled-reads lexed r net plain (inl x) faultless whole unbroken means short =
     met-reads plain r net (subst (λ p. Meets p r) (sym same) x.2) unbroken means short
 settled-reads lexed r net plain (inr x) faultless whole unbroken means short =
     subst (λ s. Answers s (Ok net)) (sym x.2) (unless-memory (report_text x.0) (Ok net)
-    (elim (told x.0) as (λ w. (report_text x.0 ≡ Why.NoMemory) ⊎ IsErr (report_text x.0) (Ok net)) [
+    (elim (told x.0) as (λ w. (report_text x.0 ≡ Why.NoMemory no_memory) ⊎ IsErr (report_text x.0) (Ok net)) [
       | inl none ↦ inl none
       | inr is ↦ absurd (alone-explained lexed plain x.0 is faultless whole x.1)
     ]))

@@ -1,6 +1,7 @@
 -- What reading a text comes to, from its tokens and from what they say. It connects the code with
 -- the definitions, and states no rule.
 use Rattle.std.specs.Prelude.{◌≡◌, ◌⊎◌, ◌<◌, ◌≤◌, [], Result, Ok, Err}
+use Rattle.rn_items.specs.Memory.{no_memory}
 use Rattle.rn_notation.specs.Limits.{longest_net_text}
 use Rattle.rn_notation.specs.declared.token.Spot.{Spot}
 use Rattle.rn_notation.specs.declared.token.Lexed.{Lexed}
@@ -35,14 +36,14 @@ Objects plain why =
 abbrev pub Meets : PtNet → Result Weighted PtFault → Type 0
 Meets plain (Ok net) =
     (net_broken plain ≡ []) × (net ≡ weighted_of plain) × (text_length net ≤ longest_net_text)
-Meets plain (Err why) = (why ≡ Why.NoMemory) ⊎ Objects plain why
+Meets plain (Err why) = (why ≡ Why.NoMemory no_memory) ⊎ Objects plain why
 
 -- how it is reported that tokens are no net
 abbrev pub report_text : TextFault → PtFault
 report_text (Text.Stopped spot) = Why.N1 spot
 report_text (Text.TooFar spot) = Why.N1 spot
 report_text (Text.Lexical fault) = report_lexical fault
-report_text Text.NoMemory = Why.NoMemory
+report_text (Text.NoMemory refused) = Why.NoMemory refused
 
 -- the tokens are a net, and this is what it comes to, or it is reported why they are none
 abbrev pub Comes : Lexed → Result Weighted PtFault → Type 0

@@ -71,10 +71,10 @@ pub data IsRefused : List ℕ → PtFault → Type 0 where
 
 -- this is the answer, unless memory ran out
 abbrev pub Answers : Result Weighted PtFault → Result Weighted PtFault → Type 0
-Answers (Err Why.NoMemory) expected = Unit {0}
+Answers (Err (Why.NoMemory _)) expected = Unit {0}
 Answers result expected = result ≡ expected
 
 -- this refusal is right; want of memory is the one without a cause
 abbrev pub IsReason : List ℕ → PtFault → Type 0
-IsReason bytes Why.NoMemory = Unit {0}
+IsReason bytes (Why.NoMemory _) = Unit {0}
 IsReason bytes fault = IsRefused bytes fault

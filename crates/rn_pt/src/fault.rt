@@ -1,5 +1,6 @@
 //! Why a text is no weighted net.
 ghost use Rattle.std.specs.Prelude.{◌≡◌};
+ghost use Rattle.rn_items.specs.Memory.{no_memory};
 ghost use Rattle.rn_pt.specs.declared.fault.PtFault.TheVariants.{NoMemory as OutOfMemory};
 
 use rn_notation::Spot;
@@ -39,14 +40,14 @@ pub enum PtFault {
     /// the 201st arc, or 1:1 where the text of the reference net has more than 4194304 bytes.
     N5(Spot),
 
-    NoMemory,
+    NoMemory(NoMemory),
 }
 
 impl From<NoMemory> for PtFault {
-    ghost from_gives = { λ _ fault. fault ≡ OutOfMemory };
+    ghost from_gives = { λ _ fault. fault ≡ OutOfMemory no_memory };
 
-    fn from(_error: NoMemory) -> PtFault {
-        PtFault::NoMemory
+    fn from(no_memory: NoMemory) -> PtFault {
+        PtFault::NoMemory(no_memory)
     }
 }
 

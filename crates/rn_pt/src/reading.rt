@@ -49,7 +49,7 @@ fn report_text(fault: TextFault) -> PtFault
         TextFault::Stopped(spot) => PtFault::N1(spot),
         TextFault::TooFar(_) => unreachable!(),
         TextFault::Lexical(fault) => report_lexical(fault),
-        TextFault::NoMemory => PtFault::NoMemory,
+        TextFault::NoMemory(no_memory) => PtFault::NoMemory(no_memory),
     }
 }
 

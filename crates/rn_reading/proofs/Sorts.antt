@@ -87,7 +87,7 @@ step_reads C F {A = A} r tokens at now last result inside counts steps = by resu
     by (Ok (a, end)) s = one_read C F r done tokens at end last start s.0 s.1 (λ t is. counts t a is)
     by (Err (Fault.Stopped k)) s = subst (λ n. Fails C F (One r.read) (drop at tokens) now (length tokens) (Fault.Stopped n)) (sym s.1) (one_stuck C F r done tokens at start inside s.0)
     by (Err (Fault.TooFar k)) s = absurd s
-    by (Err Fault.NoMemory) s = tt
+    by (Err (Fault.NoMemory _)) s = tt
 
 -- a phrase is read, or fails
 pub then_read : (C : Counting) (F G : Following) {A B : Type 0} (X : Sort A) {Z : Phrases B} {start mid left : List Token} {first now last : C.Count} {a : A} (Y : A → Sort B) → Follow G F Y →

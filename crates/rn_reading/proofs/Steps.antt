@@ -208,7 +208,7 @@ pub inner_fails : (C : Counting) (F G : Following) {A B : Type 0} {X : Phrases A
     Fails C G X mid now total e → Fails C F Z start first total e
 inner_fails C F G Y total (Fault.Stopped k) follow s on only f = (f.0, inner_stuck C F G Y follow s on only f.1, f.2)
 inner_fails C F G Y total (Fault.TooFar k) follow s on only f = (f.0, inner_far C F Y s on f.1, f.2)
-inner_fails C F G Y total Fault.NoMemory follow s on only f = tt
+inner_fails C F G Y total (Fault.NoMemory _) follow s on only f = tt
 
 -- what a reader returns where a reader that it calls fails
 pub failed : (C : Counting) (F : Following) {A : Type 0} (X : Phrases A) (tokens : List Token) (at : ℕ) (first last : C.Count) (r : Result (A × ℕ) ReadFault) (e : ReadFault) →

@@ -30,7 +30,7 @@ pub stops : {A D : Type 0} {Z : Phrases D} {from : List Token} (r : Single A) (Y
     At Z from tokens (and_then (one r) Y) at → at ≤ length tokens → Steps r.read tokens at (Err e) → Failed Z from tokens e
 stops {Z = Z} {from = from} r Y tokens at (Fault.Stopped k) s inside steps = subst (λ n. Failed Z from tokens (Fault.Stopped n)) (sym steps.1) (one_stuck uncounted Anything r Y tokens at s inside steps.0)
 stops r Y tokens at (Fault.TooFar k) s inside steps = absurd steps
-stops r Y tokens at Fault.NoMemory s inside steps = tt
+stops r Y tokens at (Fault.NoMemory _) s inside steps = tt
 
 -- a phrase is read, or fails
 pub reads : {A D : Type 0} {Z : Phrases D} {from : List Token} {a : A} (X : Sort A) (Y : A → Sort D) (tokens : List Token) (at end : ℕ) →

@@ -95,7 +95,7 @@ deep-fine C first X x f = ends-fine C first X (deep-ends C first X x) f
 
 -- what is told of a text but for want of memory
 abbrev pub IsTold : TextFault → Type 0
-IsTold Why.NoMemory = ⊥
+IsTold (Why.NoMemory _) = ⊥
 IsTold _ = Unit {0}
 
 -- a text is refused for one reason
@@ -116,8 +116,8 @@ one_reason C first X lexed (Why.Lexical f) (Why.Stopped t) told also x (inl y) =
 one_reason C first X lexed (Why.Lexical f) (Why.Stopped t) told also x (inr y) = absurd (let a = x.0 in let b = y.0 in cc)
 one_reason C first X lexed (Why.Lexical f) (Why.TooFar t) told also x y = absurd (deep-fine C first X y x.1)
 one_reason C first X lexed (Why.Lexical f) (Why.Lexical g) told also x y = ap Why.Lexical (let h : f ≡ g = let a = x.0 in let b = y.0 in cc in h)
-one_reason C first X lexed Why.NoMemory q told also x y = absurd told
-one_reason C first X lexed r Why.NoMemory told also x y = absurd also
+one_reason C first X lexed (Why.NoMemory _) q told also x y = absurd told
+one_reason C first X lexed r (Why.NoMemory _) told also x y = absurd also
 
 -- a text that is a whole phrase is refused for no reason
 pub alone_refused : (C : Counting) (first : C.Count) {A : Type 0} (X : Phrases A) (lexed : Lexed) (a : A) (q : TextFault) → IsTold q → lexed.fault ≡ None → IsWhole X lexed.tokens a → IsWithin C first lexed.tokens → Explains C first X lexed q → ⊥
@@ -131,7 +131,7 @@ alone_refused C first X lexed a q told faultless whole within x = by q told x
     by (Why.Stopped s) told (inr y) = y.3 a whole
     by (Why.TooFar s) told y = deep-fine C first X y fine
     by (Why.Lexical f) told y = let h = y.0 in let g = faultless in cc
-    by Why.NoMemory told y = told
+    by (Why.NoMemory _) told y = told
 
 -- what is left after the tokens taken
 drop-append : (before left : List Token) → drop (length before) (before ++ left) ≡ left
@@ -245,10 +245,10 @@ whole_settles C F first last X lexed (Err (Fault.TooFar k)) (Err why) ends s w =
   | inl n ↦ subst (Explains C first X lexed) (sym n.2) (far-at C first X lexed.tokens s.0 k n.0 s.1 s.2 n.1)
   | inr n ↦ absurd (far-somewhere C first X lexed.tokens s.0 k s.1 s.2 n)
 ]
-whole_settles C F first last X lexed (Err Fault.NoMemory) (Err why) ends s w = subst (Explains C first X lexed) (sym w) tt
+whole_settles C F first last X lexed (Err (Fault.NoMemory _)) (Err why) ends s w = subst (Explains C first X lexed) (sym w) tt
 whole_settles C F first last X lexed (Err (Fault.Stopped k)) (Ok b) ends s w = absurd w
 whole_settles C F first last X lexed (Err (Fault.TooFar k)) (Ok b) ends s w = absurd w
-whole_settles C F first last X lexed (Err Fault.NoMemory) (Ok b) ends s w = absurd w
+whole_settles C F first last X lexed (Err (Fault.NoMemory _)) (Ok b) ends s w = absurd w
 
 -- the tokens of a text up to its first fault are one list
 pub same_tokens : OneReading → OneFault → NoFaultInTokens → (bytes : List ℕ) (s t : List Token) → AreTokensOf bytes s → AreTokensOf bytes t → s ≡ t

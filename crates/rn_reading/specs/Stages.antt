@@ -77,7 +77,7 @@ Fails C F X start first total (Fault.Stopped k) =
     (left : List Token) × IsStuck C F X start first left × (k + length left ≡ total)
 Fails C F X start first total (Fault.TooFar k) =
     (left : List Token) × IsTooFar C X start first left × (k + length left ≡ total)
-Fails C F X start first total Fault.NoMemory = Unit {0}
+Fails C F X start first total (Fault.NoMemory _) = Unit {0}
 
 -- what a reader of a phrase returns, that begins at an index with what was counted so far
 abbrev pub Reads : (C : Counting) → Following → {A : Type 0} → Phrases A → List Token → ℕ →
@@ -114,7 +114,7 @@ abbrev pub Steps : {A : Type 0} → (Token → Option A) → List Token → ℕ 
 Steps read tokens at (Ok (a, end)) = IsNextOne read tokens at a × (end ≡ at + 1)
 Steps read tokens at (Err (Fault.Stopped k)) = IsNotNext read tokens at × (k ≡ at)
 Steps read tokens at (Err (Fault.TooFar k)) = ⊥
-Steps read tokens at (Err Fault.NoMemory) = Unit {0}
+Steps read tokens at (Err (Fault.NoMemory _)) = Unit {0}
 
 -- the same where nothing is counted, and anything may follow the phrase
 abbrev pub ReadsUncounted : {A : Type 0} → Phrases A → List Token → ℕ →

@@ -73,7 +73,7 @@ Explains C first X lexed (Why.Stopped spot) =
 Explains C first X lexed (Why.TooFar spot) = IsDeep C first X lexed.tokens spot
 Explains C first X lexed (Why.Lexical fault) =
     (lexed.fault ≡ Some fault) × AreFine C first X lexed.tokens
-Explains C first X lexed Why.NoMemory = Unit {0}
+Explains C first X lexed (Why.NoMemory _) = Unit {0}
 
 -- all tokens are such a phrase, and no other, there is no fault, and none goes too far
 pub record IsAlone (C : Counting) (first : C.Count) {A : Type 0} (X : Phrases A) (lexed : Lexed)
@@ -120,5 +120,5 @@ WholeOf lexed (Ok (a, end)) (Ok b) =
 WholeOf lexed (Ok (a, end)) (Err why) = IsCutAt lexed end why
 WholeOf lexed (Err (Fault.Stopped k)) (Err why) = IsStopAt lexed k why
 WholeOf lexed (Err (Fault.TooFar k)) (Err why) = IsDeepAt lexed k why
-WholeOf lexed (Err Fault.NoMemory) (Err why) = why ≡ Why.NoMemory
+WholeOf lexed (Err (Fault.NoMemory refused)) (Err why) = why ≡ Why.NoMemory refused
 WholeOf lexed (Err e) (Ok b) = ⊥

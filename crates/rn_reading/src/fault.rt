@@ -1,5 +1,6 @@
 //! Why tokens are read as no phrase.
 ghost use Rattle.std.specs.Prelude.{◌≡◌};
+ghost use Rattle.rn_items.specs.Memory.{no_memory};
 ghost use Rattle.rn_reading.specs.declared.fault.ReadFault.TheVariants.{NoMemory as OutOfMemory};
 ghost use Rattle.rn_reading.specs.declared.fault.TextFault.TheVariants.{NoMemory as NoRoom};
 
@@ -16,7 +17,7 @@ pub enum ReadFault {
     /// The first token that goes too far.
     TooFar(usize),
 
-    NoMemory,
+    NoMemory(NoMemory),
 }
 
 /// Why a whole text isn't one phrase, with the spot of the fault.
@@ -31,37 +32,37 @@ pub enum TextFault {
     /// A fault in the tokens, before which each token can follow.
     Lexical(LexFault),
 
-    NoMemory,
+    NoMemory(NoMemory),
 }
 
 impl From<NoMemory> for ReadFault {
-    ghost from_gives = { λ _ fault. fault ≡ OutOfMemory };
+    ghost from_gives = { λ _ fault. fault ≡ OutOfMemory no_memory };
 
-    fn from(_error: NoMemory) -> ReadFault {
-        ReadFault::NoMemory
+    fn from(no_memory: NoMemory) -> ReadFault {
+        ReadFault::NoMemory(no_memory)
     }
 }
 
 impl From<AllocError> for ReadFault {
-    ghost from_gives = { λ _ fault. fault ≡ OutOfMemory };
+    ghost from_gives = { λ _ fault. fault ≡ OutOfMemory no_memory };
 
-    fn from(_error: AllocError) -> ReadFault {
-        ReadFault::NoMemory
+    fn from(error: AllocError) -> ReadFault {
+        ReadFault::NoMemory(NoMemory::from(error))
     }
 }
 
 impl<T: Drop> From<AllocFailed<T>> for ReadFault {
-    ghost from_gives = { λ _ fault. fault ≡ OutOfMemory };
+    ghost from_gives = { λ _ fault. fault ≡ OutOfMemory no_memory };
 
-    fn from(_failed: AllocFailed<T>) -> ReadFault {
-        ReadFault::NoMemory
+    fn from(failed: AllocFailed<T>) -> ReadFault {
+        ReadFault::NoMemory(NoMemory::from(failed))
     }
 }
 
 impl From<NoMemory> for TextFault {
-    ghost from_gives = { λ _ fault. fault ≡ NoRoom };
+    ghost from_gives = { λ _ fault. fault ≡ NoRoom no_memory };
 
-    fn from(_error: NoMemory) -> TextFault {
-        TextFault::NoMemory
+    fn from(no_memory: NoMemory) -> TextFault {
+        TextFault::NoMemory(no_memory)
     }
 }

@@ -53,6 +53,6 @@ pub fn whole<A: Drop>(lexed: &Lexed, read: Result<(A, usize), ReadFault>) -> Res
         },
         Err(ReadFault::Stopped(at)) => Err(stopped_at(lexed, at)),
         Err(ReadFault::TooFar(at)) => Err(too_far_at(lexed, at)),
-        Err(ReadFault::NoMemory) => Err(TextFault::NoMemory),
+        Err(ReadFault::NoMemory(no_memory)) => Err(TextFault::NoMemory(no_memory)),
     }
 }

@@ -20,7 +20,7 @@ use Rattle.rn_replay.specs.declared.fault.ReplayFault.TheVariants as R
 -- a firing that is refused
 pub begins_refused : (system : System) (options : Options) (told : Told) (fault : ReplayFault) →
     RedoesAll system options told.entries (Err fault) → Refuses system options told fault
-begins_refused system options told R.NoMemory refused = tt
+begins_refused system options told (R.NoMemory _) refused = tt
 begins_refused system options told (R.V1 n) refused = firing refused.3 refused.2
 begins_refused system options told (R.V2 n) refused = firing refused.3 refused.2
 begins_refused system options told (R.V3 n) refused = firing refused.3 refused.2

@@ -2,6 +2,7 @@
 use Rattle.std.proofs.Common.{◌≡◌, ℕ, suc, ◌<◌, [], length, refl, sym, ap, ◌∙◌, subst, arith}
 use Rattle.std.specs.Prelude.{◌↔◌, ◌≢◌, true, false, Some, None, Result, Ok, Err, take}
 use Rattle.std.proofs.Math.Seq.{take-length}
+use Rattle.rn_items.specs.Memory.{no_memory}
 use Rattle.rn_items.specs.declared.memory.NoMemory.{NoMemory as Refusal}
 use Rattle.rn_model.specs.declared.binding.Binding.{Binding}
 use Rattle.rn_model.specs.declared.log.FaultKind.{FaultKind}
@@ -39,20 +40,20 @@ module _ (s : State) (cause : FaultKind) (b : Binding) where
   abbrev IsTrue : Type 0
   IsTrue = IsTrueEnd s.setup.system s.setup.options s.fired (Fault cause b)
 
-  not_enabled : (unfit : Unfit) → unfit ≢ NoMemory → Candidates s b (Err unfit) → ¬ IsTrue
+  not_enabled : (unfit : Unfit) → unfit ≢ NoMemory no_memory → Candidates s b (Err unfit) → ¬ IsTrue
   not_enabled Unsound known lacks = λ ends. lacks (record {
     shape = ends.0.shape;
     agrees = ends.0.agrees;
     derived = ends.0.derived;
   })
   not_enabled Unmet known lacks = λ ends. lacks.1 ends.0.fits
-  not_enabled NoMemory known lacks = absurd (known refl)
+  not_enabled (NoMemory _) known lacks = absurd (known refl)
 
   -- a binding that isn't enabled
   pub tries_unfit : (unfit : Unfit) (r : Result EndTried Refusal) (t : State) →
       Candidates s b (Err unfit) → IsUntrueBy unfit r → TriesEnd s (Fault cause b) r t
   tries_unfit unfit (Err refused) t lacks by = tt
-  tries_unfit NoMemory (Ok tried) t lacks by = absurd by
+  tries_unfit (NoMemory _) (Ok tried) t lacks by = absurd by
   tries_unfit Unsound (Ok Untrue) t lacks by =
       not_enabled Unsound (λ e. let never : ⊥ = cc in never) lacks
   tries_unfit Unmet (Ok Untrue) t lacks by =
@@ -165,7 +166,7 @@ module _ (setup : Setup) (told : Told) (s : State) (is : IsState s) (of : s.setu
             (sym (ap (λ x. x.setup) ended ∙ of))
             (subst (λ m. LivePart setup.system m told.marks) (sym there) marks)),
       )
-  marked_end t ended ends (Err R.NoMemory) has = tt
+  marked_end t ended ends (Err (R.NoMemory _)) has = tt
   marked_end t ended ends (Err (R.V1 n)) has = absurd has
   marked_end t ended ends (Err (R.V2 n)) has = absurd has
   marked_end t ended ends (Err (R.V3 n)) has = absurd has

@@ -33,7 +33,7 @@ pub not_certified : (system : System) (depth : ℕ) (b : Binding) (lack : NotSou
 not_certified system depth b Lacks.B1 lacks = λ sound. lacks sound.shape
 not_certified system depth b Lacks.B2 lacks = λ sound. lacks.1 sound.agrees
 not_certified system depth b Lacks.B3 lacks = λ sound. lacks.2 sound.derived
-not_certified system depth b Lacks.NoMemory lacks = tt
+not_certified system depth b (Lacks.NoMemory _) lacks = tt
 
 -- of a state
 module _ (s : State) (b : Binding) where
@@ -51,7 +51,7 @@ module _ (s : State) (b : Binding) where
   pub not_sound : (unfit : Unfit) → Here (Err unfit) → Candidates s b (Err unfit)
   not_sound Unsound lacks = lacks
   not_sound Unmet lacks = absurd lacks
-  not_sound NoMemory lacks = tt
+  not_sound (NoMemory _) lacks = tt
 
   -- the table decides
   pub table_decides : IsState s → (c : Binding) → Here (Ok c) →
@@ -111,7 +111,7 @@ module _ (s : State) (is : IsState s) (going : s.ended ≡ None) (number : ℕ)
   refused_unfit below Unsound lacks = ((counts, below, lacks), log_going s is going)
   refused_unfit below Unmet lacks =
       ((counts, below, lacks.0, lacks.1), log_going s is going)
-  refused_unfit below NoMemory lacks = (tt, log_going s is going)
+  refused_unfit below (NoMemory _) lacks = (tt, log_going s is going)
 
   pub refused_by : number ≤ s.setup.options.steps → (unfit : Unfit) →
       Candidates s f.binding (Err unfit) → Refuses (fault_of unfit number)

@@ -2,6 +2,7 @@
 use Rattle.std.proofs.Common.{◌≡◌, suc, ◌<◌, ◌≤◌, List, [], ◌∷◌, ◌++◌, length, refl, sym, ap, ◌∙◌, subst, inl, inr, arith}
 use Rattle.std.specs.Prelude.{◌≢◌, ◌⊎◌, Some, None, ⊤}
 use Rattle.std.proofs.lemmas.List.{append_assoc, length-append}
+use Rattle.rn_items.specs.Memory.{no_memory}
 use Rattle.rn_model.specs.declared.system.System.{System}
 use Rattle.rn_model.specs.declared.log.Options.{Options}
 use Rattle.rn_model.specs.declared.log.Entry.{Entry}
@@ -60,7 +61,7 @@ module _ (system : System) (options : Options) where
   -- no firing of a run is refused
   fired_is_fine : (fs before more : List Firing) (f g : Firing) (fault : ReplayFault) →
       Run system options.depth fs → length fs ≤ options.steps → fs ≡ before ++ g ∷ more →
-      fire_of f ≡ fire_of g → fault ≢ NoMemory → FiringRefused system options before f fault → ⊥
+      fire_of f ≡ fire_of g → fault ≢ NoMemory no_memory → FiringRefused system options before f fault → ⊥
   fired_is_fine fs before more f g fault run most are same caused refused =
       by fault caused refused
     where
@@ -76,7 +77,7 @@ module _ (system : System) (options : Options) where
       below : length before < options.steps
       below = let count = ap length is ∙ length-append before (f ∷ more) in omega (arith, count, most)
 
-      by : (fault : ReplayFault) → fault ≢ NoMemory → FiringRefused system options before f fault → ⊥
+      by : (fault : ReplayFault) → fault ≢ NoMemory no_memory → FiringRefused system options before f fault → ⊥
       by (V1 n) caused refused = refused.2 (record {
         shape = fires.enabled.shape;
         agrees = fires.enabled.agrees;
@@ -89,14 +90,14 @@ module _ (system : System) (options : Options) where
           refused.3 (fired, fires.fired, refl)
       by (V4 n) caused refused = let past = refused.1 in let low = below in omega (arith, low, past)
       by (V5 n) caused refused = refused
-      by NoMemory caused refused = caused refl
+      by (NoMemory _) caused refused = caused refl
 
   module _ (told : Told) (true : IsTrueRecord system options told) where
     ends : told.entries ≡ entries_of true.fired None ++ End true.reason ∷ []
     ends = true.entries ∙ sym (ended_more true.fired true.reason)
 
     fired_in_record : (before : List Firing) (f : Firing) (fault : ReplayFault) →
-        fault ≢ NoMemory → FiringRefused system options before f fault →
+        fault ≢ NoMemory no_memory → FiringRefused system options before f fault →
         CutAlike before true.fired (fire_of f) (End true.reason) → ⊥
     fired_in_record before f fault caused refused (inl (e, both)) = let never : ⊥ = cc in never
     fired_in_record before f fault caused refused (inr (inl (g, more, is, e))) =
@@ -105,7 +106,7 @@ module _ (system : System) (options : Options) where
         let never : ⊥ = cc in never
 
     end_of_record : (before : List Firing) (reason : Reason) (fault : ReplayFault) →
-        fault ≢ NoMemory → EndRefused system options before reason told.marks fault →
+        fault ≢ NoMemory no_memory → EndRefused system options before reason told.marks fault →
         CutAlike before true.fired (End reason) (End true.reason) → ⊥
     end_of_record before reason fault caused refused (inl (e, both)) =
         let why : true.reason ≡ reason = cc in
@@ -116,13 +117,13 @@ module _ (system : System) (options : Options) where
       where
         by : IsTrueEnd system options before reason →
             LivePart system (end_of system before) told.marks → (fault : ReplayFault) →
-            fault ≢ NoMemory → EndRefused system options before reason told.marks fault → ⊥
+            fault ≢ NoMemory no_memory → EndRefused system options before reason told.marks fault → ⊥
         by ends marks (V1 n) caused refused = refused
         by ends marks (V2 n) caused refused = refused
         by ends marks (V3 n) caused refused = refused
         by ends marks (V4 n) caused refused = refused.1 ends
         by ends marks (V5 n) caused refused = refused.2 marks
-        by ends marks NoMemory caused refused = caused refl
+        by ends marks (NoMemory _) caused refused = caused refl
     end_of_record before reason fault caused refused (inr (inl (g, more, is, e))) =
         let never : ⊥ = cc in never
     end_of_record before reason fault caused refused (inr (inr (g, more, is, e))) =
@@ -151,13 +152,13 @@ module _ (system : System) (options : Options) (before : List Firing) (f : Firin
   not_both : {A : Type 0} → length before < options.steps → options.steps ≤ length before → A
   not_both below past = absurd (let never : ⊥ = omega (arith, below, past) in never)
 
-  one_firing_cause : (a b : ReplayFault) → a ≢ NoMemory → b ≢ NoMemory → Because a → Because b → a ≡ b
-  one_firing_cause NoMemory b ca cb p q = absurd (ca refl)
+  one_firing_cause : (a b : ReplayFault) → a ≢ NoMemory no_memory → b ≢ NoMemory no_memory → Because a → Because b → a ≡ b
+  one_firing_cause (NoMemory _) b ca cb p q = absurd (ca refl)
   one_firing_cause (V5 n) b ca cb p q = absurd p
-  one_firing_cause (V1 n) NoMemory ca cb p q = absurd (cb refl)
-  one_firing_cause (V2 n) NoMemory ca cb p q = absurd (cb refl)
-  one_firing_cause (V3 n) NoMemory ca cb p q = absurd (cb refl)
-  one_firing_cause (V4 n) NoMemory ca cb p q = absurd (cb refl)
+  one_firing_cause (V1 n) (NoMemory _) ca cb p q = absurd (cb refl)
+  one_firing_cause (V2 n) (NoMemory _) ca cb p q = absurd (cb refl)
+  one_firing_cause (V3 n) (NoMemory _) ca cb p q = absurd (cb refl)
+  one_firing_cause (V4 n) (NoMemory _) ca cb p q = absurd (cb refl)
   one_firing_cause (V1 n) (V5 m) ca cb p q = absurd q
   one_firing_cause (V2 n) (V5 m) ca cb p q = absurd q
   one_firing_cause (V3 n) (V5 m) ca cb p q = absurd q
@@ -185,19 +186,19 @@ module _ (system : System) (options : Options) (before : List Firing) (reason : 
   abbrev BecauseOf : ReplayFault → Type 0
   BecauseOf = EndRefused system options before reason marks
 
-  one_end_cause : (a b : ReplayFault) → a ≢ NoMemory → b ≢ NoMemory → BecauseOf a → BecauseOf b →
+  one_end_cause : (a b : ReplayFault) → a ≢ NoMemory no_memory → b ≢ NoMemory no_memory → BecauseOf a → BecauseOf b →
       a ≡ b
-  one_end_cause NoMemory b ca cb p q = absurd (ca refl)
+  one_end_cause (NoMemory _) b ca cb p q = absurd (ca refl)
   one_end_cause (V1 n) b ca cb p q = absurd p
   one_end_cause (V2 n) b ca cb p q = absurd p
   one_end_cause (V3 n) b ca cb p q = absurd p
-  one_end_cause (V4 n) NoMemory ca cb p q = absurd (cb refl)
+  one_end_cause (V4 n) (NoMemory _) ca cb p q = absurd (cb refl)
   one_end_cause (V4 n) (V1 m) ca cb p q = absurd q
   one_end_cause (V4 n) (V2 m) ca cb p q = absurd q
   one_end_cause (V4 n) (V3 m) ca cb p q = absurd q
   one_end_cause (V4 n) (V4 m) ca cb p q = ap V4 (p.0 ∙ sym q.0)
   one_end_cause (V4 n) (V5 m) ca cb p q = absurd (p.1 q.1)
-  one_end_cause (V5 n) NoMemory ca cb p q = absurd (cb refl)
+  one_end_cause (V5 n) (NoMemory _) ca cb p q = absurd (cb refl)
   one_end_cause (V5 n) (V1 m) ca cb p q = absurd q
   one_end_cause (V5 n) (V2 m) ca cb p q = absurd q
   one_end_cause (V5 n) (V3 m) ca cb p q = absurd q
@@ -210,7 +211,7 @@ IsFirstRefused system options before fault [] = ⊤
 IsFirstRefused system options before fault (f ∷ fs) = FiringRefused system options before f fault
 
 module _ (system : System) (options : Options) (told : Told) (a b : ReplayFault)
-    (ca : a ≢ NoMemory) (cb : b ≢ NoMemory) where
+    (ca : a ≢ NoMemory no_memory) (cb : b ≢ NoMemory no_memory) where
   firing_and_firing : (fs gs : List Firing) (f g : Firing) →
       Reaches system options told.entries fs (fire_of f) → FiringRefused system options fs f a →
       Reaches system options told.entries gs (fire_of g) → FiringRefused system options gs g b →

@@ -163,7 +163,7 @@ module _ (es : List Entry) (whole : IsWhole es) where
       i < length es → get_or es i e ≡ e → HasDone setup i s → RedoesEntry s e (Err fault) t →
       RedoesAll setup.system setup.options es (Err fault)
   refuses setup i s t (End reason) fault within at done did = absurd did
-  refuses setup i s t (Fire w b o) R.NoMemory within at done did = tt
+  refuses setup i s t (Fire w b o) (R.NoMemory _) within at done did = tt
   refuses setup i s t (Fire w b o) (R.V1 n) within at done did =
       found setup i s (record { worker = w; binding = b; outs = o }) (R.V1 n) within at done did.0 did.1
   refuses setup i s t (Fire w b o) (R.V2 n) within at done did =

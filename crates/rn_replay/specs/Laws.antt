@@ -1,5 +1,6 @@
 -- What is replayed is true; what is refused isn't, and has one cause.
 use Rattle.std.specs.Prelude.{◌≡◌, ◌≢◌, List, Some}
+use Rattle.rn_items.specs.Memory.{no_memory}
 use Rattle.rn_model.specs.declared.system.System.{System}
 use Rattle.rn_model.specs.declared.log.Options.{Options}
 use Rattle.rn_model.specs.declared.log.Reason.{Reason}
@@ -28,10 +29,11 @@ ReplayedAreTrue = (system : System) (options : Options) (told : Told) (s : State
 -- what is refused for a cause isn't true
 abbrev pub RefusedAreUntrue : Type 0
 RefusedAreUntrue = (system : System) (options : Options) (told : Told) (fault : ReplayFault) →
-    Refused system options told fault → fault ≢ NoMemory → ¬ IsTrueRecord system options told
+    Refused system options told fault → fault ≢ NoMemory no_memory →
+    ¬ IsTrueRecord system options told
 
 -- what is refused is refused for one cause, and by one number
 abbrev pub RefusedForOneCause : Type 0
 RefusedForOneCause = (system : System) (options : Options) (told : Told) (fault other : ReplayFault) →
-    Refused system options told fault → Refused system options told other → fault ≢ NoMemory →
-    other ≢ NoMemory → fault ≡ other
+    Refused system options told fault → Refused system options told other →
+    fault ≢ NoMemory no_memory → other ≢ NoMemory no_memory → fault ≡ other

@@ -33,7 +33,7 @@ use Rattle.rn_replay.specs.declared.firing.Unfit.TheVariants.{Unsound, Unmet, No
 
 -- why a binding that isn't sound isn't enabled
 abbrev pub unfit_of : NotSound → Unfit
-unfit_of Lacks.NoMemory = NoMemory
+unfit_of (Lacks.NoMemory refused) = NoMemory refused
 unfit_of _ = Unsound
 
 -- a binding as a candidate, or that it isn't sound
@@ -41,13 +41,13 @@ abbrev pub Certified : System → ℕ → Binding → Result Binding Unfit → T
 Certified system depth b (Ok c) = (c ≡ b) × IsSound system depth b
 Certified system depth b (Err Unsound) = ¬ IsSound system depth b
 Certified system depth b (Err Unmet) = ⊥
-Certified system depth b (Err NoMemory) = ⊤
+Certified system depth b (Err (NoMemory _)) = ⊤
 
 -- the fault of a firing with this number whose binding isn't enabled
 abbrev pub fault_of : Unfit → ℕ → ReplayFault
 fault_of Unsound number = R.V1 number
 fault_of Unmet number = R.V2 number
-fault_of NoMemory number = R.NoMemory
+fault_of (NoMemory refused) number = R.NoMemory refused
 
 -- a binding as a candidate, or why it isn't enabled
 abbrev pub Candidates : State → Binding → Result Binding Unfit → Type 0
@@ -55,7 +55,7 @@ Candidates s b (Ok c) = (c ≡ b) × IsEnabledNow s b
 Candidates s b (Err Unsound) = ¬ IsSound s.setup.system s.setup.options.depth b
 Candidates s b (Err Unmet) =
     IsSound s.setup.system s.setup.options.depth b × ¬ Fits s.setup.system (end_marking s) b
-Candidates s b (Err NoMemory) = ⊤
+Candidates s b (Err (NoMemory _)) = ⊤
 
 -- an enabled binding is fired, or ends the log with its fault
 abbrev pub FiresNow : State → ℕ → Binding → Result Bool Refusal → State → Type 0
@@ -115,8 +115,8 @@ TriesEnd old reason (Err refused) new = ⊤
 
 -- what comes of a fault whose binding isn't enabled
 abbrev pub IsUntrueBy : Unfit → Result EndTried Refusal → Type 0
-IsUntrueBy NoMemory (Ok tried) = ⊥
-IsUntrueBy NoMemory (Err refused) = ⊤
+IsUntrueBy (NoMemory _) (Ok tried) = ⊥
+IsUntrueBy (NoMemory _) (Err refused) = ⊤
 IsUntrueBy unfit (Ok tried) = tried ≡ Untrue
 IsUntrueBy unfit (Err refused) = ⊥
 
@@ -130,7 +130,7 @@ abbrev pub RedoesAll : System → Options → List Entry → Result State Replay
 RedoesAll system options entries (Ok s) =
     (s.setup ≡ record { system = system; options = options }) × (s.ended ≡ None)
     × (s.fired ≡ firings_in entries)
-RedoesAll system options entries (Err R.NoMemory) = ⊤
+RedoesAll system options entries (Err (R.NoMemory _)) = ⊤
 RedoesAll system options entries (Err fault) =
     (before : List Firing) × (f : Firing) × FiringRefused system options before f fault
     × Reaches system options entries before (Fire f.worker f.binding f.outs)
@@ -141,7 +141,7 @@ HasMarks s number told (Ok t) =
     (t ≡ s) × LivePart s.setup.system (end_marking s) told.marks
 HasMarks s number told (Err (R.V5 n)) =
     (n ≡ number) × ¬ LivePart s.setup.system (end_marking s) told.marks
-HasMarks s number told (Err R.NoMemory) = ⊤
+HasMarks s number told (Err (R.NoMemory _)) = ⊤
 HasMarks s number told (Err _) = ⊥
 
 -- the same of a replay that is done

@@ -61,7 +61,7 @@ FiringRefused system options before f (V3 n) =
     (n ≡ suc (length before)) × (length before < options.steps)
     × Enabled system (end_of system before) f.binding options.depth × ¬ Gives system before f
 FiringRefused system options before f (V5 n) = ⊥
-FiringRefused system options before f NoMemory = ⊤
+FiringRefused system options before f (NoMemory _) = ⊤
 
 -- Why the end of these firings is refused, with the marks after it: it isn't true, or else the marks
 -- aren't those of the live part.
@@ -72,7 +72,7 @@ EndRefused system options fired reason marks (V4 n) =
 EndRefused system options fired reason marks (V5 n) =
     (n ≡ suc (length fired)) × IsTrueEnd system options fired reason
     × ¬ LivePart system (end_of system fired) marks
-EndRefused system options fired reason marks NoMemory = ⊤
+EndRefused system options fired reason marks (NoMemory _) = ⊤
 EndRefused system options fired reason marks _ = ⊥
 
 -- Why what is told is refused: its first entry that isn't true is a firing, or is the end.
@@ -94,7 +94,7 @@ pub record IsReplayed (system : System) (options : Options) (told : Told) (s : S
 
 -- a refusal has its cause, unless memory ran out
 abbrev pub Refuses : System → Options → Told → ReplayFault → Type 0
-Refuses system options told NoMemory = ⊤
+Refuses system options told (NoMemory _) = ⊤
 Refuses system options told fault = Refused system options told fault
 
 -- The answer of a replay.

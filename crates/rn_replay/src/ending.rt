@@ -101,7 +101,7 @@ fn untrue_by(unfit: Unfit) -> Result<EndTried, NoMemory>
     match unfit {
         Unfit::Unsound => Ok(EndTried::Untrue),
         Unfit::Unmet => Ok(EndTried::Untrue),
-        Unfit::NoMemory => Err(NoMemory),
+        Unfit::NoMemory(no_memory) => Err(no_memory),
     }
 }
 
@@ -145,7 +145,7 @@ pub(crate) fn try_end(
         Reason::Dead => Ok(try_dead(state, options)),
         Reason::Steps => Ok(try_steps(state)),
         Reason::Memory => {
-            state.end_memory();
+            state.end_memory_as_told();
             Ok(EndTried::Ended)
         }
         Reason::Fault(cause, binding) => try_fault(alloc, state, options, *cause, binding),

@@ -1,5 +1,6 @@
 //! Why a replay refuses what is told.
 ghost use Rattle.std.specs.Prelude.{◌≡◌};
+ghost use Rattle.rn_items.specs.Memory.{no_memory};
 ghost use Rattle.rn_replay.specs.declared.fault.ReplayFault.TheVariants.{NoMemory as Memory};
 
 use rn_value::NoMemory;
@@ -24,21 +25,21 @@ pub enum ReplayFault {
     /// The marks after the end aren't those of what is live then.
     V5(u32),
 
-    NoMemory,
+    NoMemory(NoMemory),
 }
 
 impl From<NoMemory> for ReplayFault {
-    ghost from_gives = { λ _ e. e ≡ Memory };
+    ghost from_gives = { λ _ e. e ≡ Memory no_memory };
 
-    fn from(_error: NoMemory) -> ReplayFault {
-        ReplayFault::NoMemory
+    fn from(no_memory: NoMemory) -> ReplayFault {
+        ReplayFault::NoMemory(no_memory)
     }
 }
 
 impl<T: Drop> From<AllocFailed<T>> for ReplayFault {
-    ghost from_gives = { λ _ e. e ≡ Memory };
+    ghost from_gives = { λ _ e. e ≡ Memory no_memory };
 
-    fn from(_failed: AllocFailed<T>) -> ReplayFault {
-        ReplayFault::NoMemory
+    fn from(failed: AllocFailed<T>) -> ReplayFault {
+        ReplayFault::NoMemory(NoMemory::from(failed))
     }
 }

@@ -1,5 +1,6 @@
 //! Doing a firing again.
 ghost use Rattle.std.specs.Prelude.{◌≡◌, ◌<◌, ◌≤◌, ◌↔◌, suc, length, None, Some, IsTrue};
+ghost use Rattle.rn_items.specs.Memory.{no_memory};
 ghost use Rattle.rn_binding.specs.Soundness.{IsSound};
 ghost use Rattle.rn_model.specs.Good.{Good};
 ghost use Rattle.rn_model.specs.Limits.{most_workers};
@@ -27,14 +28,14 @@ pub(crate) enum Unfit {
     /// The marking doesn't meet it.
     Unmet,
 
-    NoMemory,
+    NoMemory(NoMemory),
 }
 
 impl From<NoMemory> for Unfit {
-    ghost from_gives = { λ _ e. e ≡ Memory };
+    ghost from_gives = { λ _ e. e ≡ Memory no_memory };
 
-    fn from(_error: NoMemory) -> Unfit {
-        Unfit::NoMemory
+    fn from(no_memory: NoMemory) -> Unfit {
+        Unfit::NoMemory(no_memory)
     }
 }
 
@@ -55,7 +56,7 @@ fn unfit_by(lack: NotSound) -> Unfit
         NotSound::B1 => Unfit::Unsound,
         NotSound::B2 => Unfit::Unsound,
         NotSound::B3 => Unfit::Unsound,
-        NotSound::NoMemory => Unfit::NoMemory,
+        NotSound::NoMemory(no_memory) => Unfit::NoMemory(no_memory),
     }
 }
 
@@ -115,7 +116,7 @@ pub(crate) fn fire_now(
     match state.commit(alloc, worker, candidate, seen) {
         Commit::Fired { step: _ } => Ok(true),
         Commit::Faulted => Ok(false),
-        Commit::NoMemory => Err(NoMemory),
+        Commit::NoMemory(no_memory) => Err(no_memory),
         Commit::Conflict { seen: _, now: _ } => unreachable!(),
         Commit::Ended => unreachable!(),
     }
@@ -151,7 +152,7 @@ fn fault_by(unfit: Unfit, number: u32) -> ReplayFault
     match unfit {
         Unfit::Unsound => ReplayFault::V1(number),
         Unfit::Unmet => ReplayFault::V2(number),
-        Unfit::NoMemory => ReplayFault::NoMemory,
+        Unfit::NoMemory(no_memory) => ReplayFault::NoMemory(no_memory),
     }
 }
 

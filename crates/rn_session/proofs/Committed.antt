@@ -2,6 +2,7 @@
 use Rattle.std.proofs.Common.{◌≡◌, ℕ, suc, ◌+◌, List, [], ◌∷◌, ◌++◌, length, sym, ap, ◌∙◌, subst, arith}
 use Rattle.std.specs.Prelude.{None, Result, Ok, Err}
 use Rattle.std.proofs.lemmas.List.{append-nil, length-append}
+use Rattle.rn_items.specs.Memory.{no_memory}
 use Rattle.rn_items.specs.declared.memory.NoMemory.{NoMemory as Refused}
 use Rattle.rn_value.specs.declared.value.Value.{Value}
 use Rattle.rn_model.specs.declared.binding.Binding.{Binding}
@@ -30,14 +31,14 @@ is_first old new b seen (Fired step) going enabled commits = tt
 is_first old new b seen (Conflict at now) going enabled commits = commits.1 enabled
 is_first old new b seen Faulted going enabled commits = tt
 is_first old new b seen Ended going enabled commits = commits.0 going
-is_first old new b seen NoMemory going enabled commits = tt
+is_first old new b seen (NoMemory _) going enabled commits = tt
 
 abbrev by_hand : Binding → List Value → Firing
 by_hand b outs = record { worker = 1; binding = b; outs = outs }
 
 -- out of memory nothing has changed
 pub unchanged : (old new : State) (b : Binding) (r : Result FireAnswer Refused) → new ≡ old →
-    Tells NoMemory r → CommitsTo old b r new
+    Tells (NoMemory no_memory) r → CommitsTo old b r new
 unchanged old new b (Ok answer) same told = absurd told
 unchanged old new b (Err refused) same told = same
 
@@ -59,7 +60,7 @@ commits_to old new b seen Faulted r (going, enabled, (cause, fires, same)) told 
     subst (λ x. CommitsTo old b x new) (sym told)
     (cause, fires, ap so_far same, ap (λ (x : State). x.setup) same)
 commits_to old new b seen Ended r commits told = absurd told
-commits_to old new b seen NoMemory r commits told = unchanged old new b r commits.1 told
+commits_to old new b seen (NoMemory _) r commits told = unchanged old new b r commits.1 told
 
 -- what a commit leaves that has an answer
 pub record Grows (old new : State) : Type 0 where
@@ -109,8 +110,8 @@ grows old new b seen (Conflict at now) r answer going all commits told ok = absu
 grows old new b seen Faulted r answer going all (is, enabled, (cause, fires, same)) told ok =
     faulted old new b cause all same
 grows old new b seen Ended r answer going all commits told ok = absurd told
-grows old new b seen NoMemory r answer going all commits told ok =
-    absurd (subst (Tells NoMemory) ok told)
+grows old new b seen (NoMemory _) r answer going all commits told ok =
+    absurd (subst (Tells (NoMemory no_memory)) ok told)
 
 pub kept_more : (old new : State) (kept : List Kept) (t : Kept) → Grows old new → old.ended ≡ None →
     IsTableAfter old (length old.fired) t → AreTablesBefore old kept →

@@ -64,5 +64,5 @@ IsFirst _ = ⊤
 abbrev pub Tells : Commit → Result FireAnswer Refused → Type 0
 Tells (Fired step) r = r ≡ Ok (Gives.Fired step)
 Tells Faulted r = r ≡ Ok Gives.Faulted
-Tells NoMemory r = IfOk r (λ answer. ⊥)
+Tells (NoMemory _) r = IfOk r (λ answer. ⊥)
 Tells _ r = ⊥

@@ -101,7 +101,7 @@ fn told(committed: Commit) -> Result<FireAnswer, NoMemory>
     match committed {
         Commit::Fired { step } => Ok(FireAnswer::Fired { step }),
         Commit::Faulted => Ok(FireAnswer::Faulted),
-        Commit::NoMemory => Err(NoMemory),
+        Commit::NoMemory(no_memory) => Err(no_memory),
         Commit::Conflict { .. } | Commit::Ended => unreachable!(),
     }
 }

@@ -5,15 +5,13 @@ use rn_notation::lex;
 use std::alloc::Global;
 use std::test::Fail;
 
-// Bytes of a text of a table, at most.
+// So many bytes of a text of a table are read, at most.
 const LONGEST_ROW: usize = 100;
 
 // The index after an expression.
 fn end_of(alloc: Global, text: &str) -> Result<usize, InscriptFault> {
-    if text.len() > LONGEST_ROW {
-        return Err(InscriptFault::NoMemory);
-    }
-    let lexed = lex(alloc, text.as_bytes())?;
+    let bytes = text.as_bytes();
+    let lexed = lex(alloc, &bytes[..bytes.len().min(LONGEST_ROW)])?;
     let (_, end) = read_expr(alloc, &lexed.tokens, 0)?;
     Ok(end)
 }

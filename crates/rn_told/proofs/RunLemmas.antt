@@ -67,7 +67,7 @@ record_tells T w (Err (Q1 line)) t is = subst T (sym is) t
 record_tells T w (Err (Q2 line)) t is = subst T (sym is) t
 record_tells T w (Err (Q3 line)) t is = subst T (sym is) t
 record_tells T w (Err (Q4 line)) t is = subst T (sym is) t
-record_tells T w (Err NoMemory) t is = tt
+record_tells T w (Err (NoMemory _)) t is = tt
 
 -- at the start
 pub none_read : (format : ℕ) (system : System) (first : ℕ) (lines : List (Option LineSaid))
@@ -113,7 +113,7 @@ after_named format system bytes rest (Err (Q3 line)) is t =
     subst (λ o. TellsAfter format system o (Verdict.bad line Step)) is t
 after_named format system bytes rest (Err (Q4 line)) is t =
     subst (λ o. TellsAfter format system o (Verdict.bad line Many)) is t
-after_named format system bytes rest (Err NoMemory) is t = tt
+after_named format system bytes rest (Err (NoMemory _)) is t = tt
 
 pub not_named : (format : ℕ) (system : System) (bytes : List ℕ) →
     None ≡ bytes_after (header_text format) bytes → TellsRecord system format bytes (Verdict.bad 1 Form)

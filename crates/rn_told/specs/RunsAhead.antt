@@ -23,7 +23,7 @@ FaultTells T (Q1 line) = T (Verdict.bad line Form)
 FaultTells T (Q2 line) = T (Verdict.bad line Name)
 FaultTells T (Q3 line) = T (Verdict.bad line Step)
 FaultTells T (Q4 line) = T (Verdict.bad line Many)
-FaultTells T NoMemory = ⊤
+FaultTells T (NoMemory _) = ⊤
 
 -- what the code says of what begins
 abbrev pub OpensWith : List (Option LineSaid) → Opens → Type 0

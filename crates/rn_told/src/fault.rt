@@ -1,5 +1,6 @@
 //! Why a record is refused.
 ghost use Rattle.std.specs.Prelude.{◌≡◌};
+ghost use Rattle.rn_items.specs.Memory.{no_memory};
 ghost use Rattle.rn_told.specs.declared.fault.RecordFault.TheVariants.{NoMemory as Memory};
 
 use rn_value::NoMemory;
@@ -21,21 +22,21 @@ pub enum RecordFault {
     /// as often as it stands there.
     Q4(u32),
 
-    NoMemory,
+    NoMemory(NoMemory),
 }
 
 impl From<NoMemory> for RecordFault {
-    ghost from_gives = { λ _ e. e ≡ Memory };
+    ghost from_gives = { λ _ e. e ≡ Memory no_memory };
 
-    fn from(_error: NoMemory) -> RecordFault {
-        RecordFault::NoMemory
+    fn from(no_memory: NoMemory) -> RecordFault {
+        RecordFault::NoMemory(no_memory)
     }
 }
 
 impl<T: Drop> From<AllocFailed<T>> for RecordFault {
-    ghost from_gives = { λ _ e. e ≡ Memory };
+    ghost from_gives = { λ _ e. e ≡ Memory no_memory };
 
-    fn from(_failed: AllocFailed<T>) -> RecordFault {
-        RecordFault::NoMemory
+    fn from(failed: AllocFailed<T>) -> RecordFault {
+        RecordFault::NoMemory(NoMemory::from(failed))
     }
 }

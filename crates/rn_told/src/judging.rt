@@ -106,7 +106,7 @@ fn judge<'a>(
                 Ok(NodeLine::Late(read))
             }
         }
-        Err(Refusal::Memory) => Err(NoMemory),
+        Err(Refusal::Memory(no_memory)) => Err(no_memory),
         Err(refusal) => Ok(NodeLine::Refused(refusal)),
     }
 }

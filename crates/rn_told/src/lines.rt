@@ -34,6 +34,6 @@ pub(crate) fn next_line(alloc: Global, bytes: &[u8]) -> Result<Next<'_>, NoMemor
     match read_line(alloc, text) {
         Ok(line) => Ok(Next::Line(line, rest)),
         Err(Unread::NotThere) => Ok(Next::Broken),
-        Err(Unread::NoMemory) => Err(NoMemory),
+        Err(Unread::NoMemory(no_memory)) => Err(no_memory),
     }
 }

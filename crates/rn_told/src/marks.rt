@@ -53,7 +53,7 @@ fn judge_mark(
     }
     let found = match find_mark(alloc, system, directory, read) {
         Ok(found) => found,
-        Err(Refusal::Memory) => return Err(NoMemory),
+        Err(Refusal::Memory(no_memory)) => return Err(no_memory),
         Err(refusal) => return Ok(MarkNext::Refused(refusal)),
     };
     if !is_called(system, made, &read.inst) || !tokens_are_called(system, made, items) {

@@ -67,7 +67,7 @@ fn judge_token(
     }
     match find_token(alloc, system, directory, &read) {
         Ok(()) => {}
-        Err(Refusal::Memory) => return Err(NoMemory),
+        Err(Refusal::Memory(no_memory)) => return Err(no_memory),
         Err(refusal) => return Ok(PrintLine::Refused(refusal)),
     }
     if !are_called(system, firing.made, read.mentions.as_slice()) {

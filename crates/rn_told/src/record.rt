@@ -37,7 +37,7 @@ fn fault_at(line: u32, refusal: Refusal) -> RecordFault
         Refusal::Name => RecordFault::Q2(line),
         Refusal::Step => RecordFault::Q3(line),
         Refusal::Many => RecordFault::Q4(line),
-        Refusal::Memory => RecordFault::NoMemory,
+        Refusal::Memory(no_memory) => RecordFault::NoMemory(no_memory),
     }
 }
 

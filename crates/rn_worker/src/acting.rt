@@ -86,8 +86,8 @@ fn commit_plan(alloc: Global, state: &mut SimState, worker: u32, seen: u64, plan
     };
     match state.commit(alloc, worker, candidate, seen) {
         Commit::Fired { step: _ } => true,
-        Commit::NoMemory => {
-            state.end_memory();
+        Commit::NoMemory(no_memory) => {
+            state.end_memory(no_memory);
             false
         }
         _ => false,
@@ -118,8 +118,8 @@ fn commit_planned(
     }
     match plan {
         Ok(plan) => commit_plan(alloc, state, worker, seen, plan),
-        Err(Halt::NoMemory) => {
-            state.end_memory();
+        Err(Halt::NoMemory(no_memory)) => {
+            state.end_memory(*no_memory);
             false
         }
         Err(Halt::Stopped) => false,

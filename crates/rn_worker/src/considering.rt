@@ -151,7 +151,7 @@ fn find_at(
         alloc, &ToTheEnd, finding, system, uplinks, table, depth, changed,
     ) {
         Ok(found) => Ok(found),
-        Err(_) => Err(Halt::NoMemory),
+        Err(no_memory) => Err(Halt::NoMemory(no_memory)),
     }
 }
 
@@ -182,9 +182,7 @@ pub(crate) fn plan_at(
 {
     let due = pace.is_due(every, view.sight.table.next());
     let found = find_at(alloc, system, uplinks, depth, searcher, &view, watch, whole)?;
-    let Ok((dead, live)) = listed_at(alloc, system, &view.sight.table, due) else {
-        return Err(Halt::NoMemory);
-    };
+    let (dead, live) = listed_at(alloc, system, &view.sight.table, due)?;
     Ok(Plan { found, dead, live })
 }
 

@@ -48,8 +48,8 @@ fn sight_of(state: &mut SimState) -> Option<Sight>
     let seen = state.length();
     match state.table().snapshot() {
         Ok(table) => Some(Sight { table, seen }),
-        Err(_) => {
-            state.end_memory();
+        Err(no_memory) => {
+            state.end_memory(no_memory);
             None
         }
     }

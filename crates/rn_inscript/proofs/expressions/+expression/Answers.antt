@@ -14,6 +14,7 @@ use Rattle.rn_inscript.proofs.ListReading.{paren_fails, paren_stuck, paren_read,
 use Rattle.rn_inscript.proofs.ListReading.{listed_empty, listed_fails, listed_stuck, listed_read}
 use Rattle.std.proofs.Common.{rules}
 use Rattle.std.proofs.lemmas.Bool.Decides.{nat_tests}
+use Rattle.rn_items.specs.Memory.{no_memory}
 use Rattle.rn_notation.specs.declared.token.TokenKind.TheVariants as Kind
 use Rattle.rn_inscript.proofs.OperandPhrases.{begins_primary, number-only, text-only}
 use Rattle.rn_inscript.proofs.ReaderExits.{failed, failed_as, ended_at}
@@ -38,7 +39,7 @@ product-returns-in_err-right-clause-reads t c = λ around base fits. failed 5 Is
     (item_fails products (length c.args.tokens.now) c.in_err-right.field-0.0 (sign_taken products (c.loop-op.seen.operators + 1) c.in_ok-operand.operand (c.loop-op.invariant.reads around base fits) base c.in-Some.ensures (operator_separates times-binary c.in_ok-operand.ensures.0) c.in_ok-operand.ensures.1) (c.in_err-right.ensures.reads around fits))
 
 pub product-returns-in_err-left-clause-reads : goal.product-returns-in_err-left-clause-reads
-product-returns-in_err-left-clause-reads t c = λ around base fits. failed 5 IsProduct c.args.tokens.now c.args.seen (ready around c.args.seen.operators) around c.from_residual-in_err-left.result Fault.NoMemory c.from_residual-in_err-left.ensures.1
+product-returns-in_err-left-clause-reads t c = λ around base fits. failed 5 IsProduct c.args.tokens.now c.args.seen (ready around c.args.seen.operators) around c.from_residual-in_err-left.result (Fault.NoMemory no_memory) c.from_residual-in_err-left.ensures.1
     (tt)
 
 pub product-loop-op-preserved : goal.product-loop-op-preserved
@@ -70,7 +71,7 @@ expr-returns-in_err-right-clause-reads t c = λ around base fits. failed 4 IsExp
     (item_fails sums (length c.args.tokens.now) c.in_err-right.field-0.0 (sign_taken sums (c.loop-op.seen.operators + 1) c.in_ok-operand.operand (c.loop-op.invariant.reads around base fits) base c.in-Some.ensures (operator_separates plus-binary c.in_ok-operand.ensures.0) c.in_ok-operand.ensures.1) (c.in_err-right.ensures.reads around base fits))
 
 pub expr-returns-in_err-left-clause-reads : goal.expr-returns-in_err-left-clause-reads
-expr-returns-in_err-left-clause-reads t c = λ around base fits. failed 4 IsExpr c.args.tokens.now c.args.seen (ready around c.args.seen.operators) around c.from_residual-in_err-left.result Fault.NoMemory c.from_residual-in_err-left.ensures.1
+expr-returns-in_err-left-clause-reads t c = λ around base fits. failed 4 IsExpr c.args.tokens.now c.args.seen (ready around c.args.seen.operators) around c.from_residual-in_err-left.result (Fault.NoMemory no_memory) c.from_residual-in_err-left.ensures.1
     (tt)
 
 pub expr-loop-op-preserved : goal.expr-loop-op-preserved
@@ -88,7 +89,7 @@ exprs-returns-in_err-first-clause-reads t c = λ around base fits. failed 3 IsEx
     (first_fails lists (drop c.args.seen.at c.args.tokens.now) (ready around c.args.seen.operators) (length c.args.tokens.now) c.in_err-first.field-0.0 (c.in_err-first.ensures.reads around base fits))
 
 pub exprs-returns-in_err-push-clause-reads : goal.exprs-returns-in_err-push-clause-reads
-exprs-returns-in_err-push-clause-reads t c = λ around base fits. failed 3 IsExprs c.args.tokens.now c.args.seen (ready around c.args.seen.operators) around c.from_residual-in_err-push.result Fault.NoMemory c.from_residual-in_err-push.ensures.1
+exprs-returns-in_err-push-clause-reads t c = λ around base fits. failed 3 IsExprs c.args.tokens.now c.args.seen (ready around c.args.seen.operators) around c.from_residual-in_err-push.result (Fault.NoMemory no_memory) c.from_residual-in_err-push.ensures.1
     (tt)
 
 pub exprs-loop-after_comma-init : goal.exprs-loop-after_comma-init
@@ -99,7 +100,7 @@ exprs-loop-after_comma-init t c = record {
 }
 
 pub exprs-returns-in_err-push-2-clause-reads : goal.exprs-returns-in_err-push-2-clause-reads
-exprs-returns-in_err-push-2-clause-reads t c = λ around base fits. failed 3 IsExprs c.args.tokens.now c.args.seen (ready around c.args.seen.operators) around c.from_residual-in_err-push-2.result Fault.NoMemory c.from_residual-in_err-push-2.ensures.1
+exprs-returns-in_err-push-2-clause-reads t c = λ around base fits. failed 3 IsExprs c.args.tokens.now c.args.seen (ready around c.args.seen.operators) around c.from_residual-in_err-push-2.result (Fault.NoMemory no_memory) c.from_residual-in_err-push-2.ensures.1
     (tt)
 
 pub exprs-returns-in_err-e-clause-reads : goal.exprs-returns-in_err-e-clause-reads
@@ -164,7 +165,7 @@ list-returns-in_err-end-clause-reads t c = λ around fits. failed_as 6 IsPrimary
     (tail_stuck c.args.token.spot c.in_ok-elements.elements (elements_read (record { next = c.requires.next; kind = c.requires.kind; fits = fits; some = c.in_ok-inside.ensures.0 }) (subst (λ s. IsNotNextSign c.args.tokens.now s.at 1) c.in_ok-inside.ensures.1 c.in_default.ensures) (subst (λ s. IsSoFar 3 IsExprs c.args.tokens.now s (ready (bracket ∷ around) s.operators) (bracket ∷ around) (Done c.in_ok-elements.elements) c.in_ok-elements.after) c.in_ok-inside.ensures.1 (c.in_ok-elements.ensures.reads (bracket ∷ around) refl (omega (arith, c.in_ok-inside.ensures.0))))) c.in-Some-past_sign.ensures.0 c.in_ok-tail.ensures.moved.1 (subst (λ s. IsSoFar 4 IsExpr c.args.tokens.now s (ready (bracket ∷ around) s.operators) (bracket ∷ around) (Done c.in_ok-tail.tail) c.in_ok-tail.after_tail) c.in-Some-past_sign.ensures.1 (c.in_ok-tail.ensures.reads (bracket ∷ around) refl (omega (arith, c.in_ok-inside.ensures.0)))) c.in_err-end.ensures.0)
 
 pub list-returns-in_err-with_tail-clause-reads : goal.list-returns-in_err-with_tail-clause-reads
-list-returns-in_err-with_tail-clause-reads t c = λ around fits. failed 6 IsPrimary c.args.tokens.now c.args.seen (ready around c.args.seen.operators) around c.from_residual-in_err-with_tail.result Fault.NoMemory c.from_residual-in_err-with_tail.ensures.1
+list-returns-in_err-with_tail-clause-reads t c = λ around fits. failed 6 IsPrimary c.args.tokens.now c.args.seen (ready around c.args.seen.operators) around c.from_residual-in_err-with_tail.result (Fault.NoMemory no_memory) c.from_residual-in_err-with_tail.ensures.1
     (tt)
 
 pub list-returns-in-Some-past_sign-clause-reads : goal.list-returns-in-Some-past_sign-clause-reads
@@ -217,7 +218,7 @@ negative-returns-in_err-e-clause-reads t c = λ around fits. failed 6 IsUnary c.
     (minus_fails c.args.tokens.now c.args.seen around c.args.levels c.in_err-e.field-0.0 c.requires.next c.requires.kind fits c.in_ok-operand.ensures.0 c.in_ok-operand.ensures.1 (subst (λ s. Reads 6 IsUnary c.args.tokens.now s (negative ∷ around) (Err c.in_err-e.field-0.0)) c.in_ok-operand.ensures.2 (c.in_err-e.ensures.reads (negative ∷ around) (omega (arith, c.in_ok-operand.ensures.0)))))
 
 pub negative-returns-in_err-negate-clause-reads : goal.negative-returns-in_err-negate-clause-reads
-negative-returns-in_err-negate-clause-reads t c = λ around fits. failed 6 IsUnary c.args.tokens.now c.args.seen (ready around c.args.seen.operators) around c.from_residual-in_err-negate.result Fault.NoMemory c.from_residual-in_err-negate.ensures.1
+negative-returns-in_err-negate-clause-reads t c = λ around fits. failed 6 IsUnary c.args.tokens.now c.args.seen (ready around c.args.seen.operators) around c.from_residual-in_err-negate.result (Fault.NoMemory no_memory) c.from_residual-in_err-negate.ensures.1
     (tt)
 
 pub negative-returns-clause-reads : goal.negative-returns-clause-reads

@@ -8,4 +8,4 @@ pub returns-clause-due : goal.returns-clause-due
 returns-clause-due c is =
     let due : c.is_due-due.result ≡ true =
     due_holds c.args.every c.args.view.sight.table.marking.next c.next.result c.args.pace c.is_due-due.result c.next.ensures.number c.is_due-due.ensures.exact is in
-    (c.in-Ok.ensures.all due, c.in-Ok.ensures.met ∙ due)
+    (c.in_ok-dead.ensures.all due, c.in_ok-dead.ensures.met ∙ due)
