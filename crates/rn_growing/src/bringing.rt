@@ -1,4 +1,7 @@
-//! The equations that decisions bring, put into a store one by one.
+//! The equations that decisions bring, put into a store one by one. Where no assignment satisfies
+//! them with those before, or memory runs out, what was put is undone to the frame before. Else the
+//! store would say more than the decisions that stand (`docs/SEARCH.md`, 'A binding grows by
+//! decisions').
 ghost use Rattle.std.specs.Prelude.{◌≡◌, ◌<◌, ◌≤◌, IfOk, OnErr, length, unwrap_or};
 ghost use Rattle.std.specs.Option.{option_copied};
 ghost use Rattle.rn_model.specs.Lists.{HaveOneValue};

@@ -1,4 +1,6 @@
-//! Terms of expressions, built in a store.
+//! Terms of expressions, built in a store. A variable or an outermost operator application of a
+//! node is an unknown with one id, so all expressions share what is known of it. A list before a
+//! tail makes the tail a list at once, so nothing is built before its equation comes in.
 ghost use Rattle.std.specs.Prelude.{◌≡◌, IfOk, Some};
 ghost use Rattle.rn_value.specs.declared.value.Value.TheVariants as Worth;
 ghost use Rattle.rn_growing.specs.Building.{BuildsAllOr, BuildsOr, part_at, parts_at};

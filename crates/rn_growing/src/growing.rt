@@ -1,4 +1,7 @@
-//! Bindings that grow: what is decided of them, and what that forces.
+//! Bindings that grow: what is decided of them, and what that forces. The store says just what the
+//! decisions bring, and a frame before each of them says how far the store was then. So taking
+//! decisions back is undoing the store to a frame, and nothing is worked out again
+//! (`docs/SEARCH.md`, 'A binding grows by decisions').
 ghost use Rattle.std.specs.Prelude.{◌≡◌, ◌↔◌, ◌≤◌, [], ◌∷◌, ◌++◌, length};
 ghost use Rattle.std.specs.Prelude.{IfOk, IsTrue, OnErr, Some, true, false};
 ghost use Rattle.rn_value.specs.declared.value.InstRef.{InstRef};

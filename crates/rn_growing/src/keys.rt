@@ -1,4 +1,6 @@
-//! Keys by which unknowns and decisions are looked up: numbers made of paths, sites and ways.
+//! Keys by which unknowns and decisions are looked up: numbers made of paths, sites and ways. Two
+//! that are the same have one key, but two with one key may differ, since keys wrap around. So
+//! whoever finds one compares it, and no answer depends on how keys spread.
 ghost use Rattle.std.specs.Prelude.{◌≡◌};
 ghost use Rattle.rn_growing.specs.Keys.{all_stirred, hole_key, path_key, site_key, stirred};
 

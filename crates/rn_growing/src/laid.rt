@@ -1,4 +1,7 @@
-//! A store with the ids of its unknowns.
+//! A store with the ids of its unknowns. An unknown has one id at most, so what one equation says
+//! of it holds in all others. Store and slots are taken back together, to one frame, or a slot
+//! would name an id that the store doesn't have any more (`docs/SEARCH.md`, 'A binding grows by
+//! decisions').
 ghost use Rattle.std.specs.Prelude.{◌≡◌, ◌↔◌, ◌<◌, [], All, IfOk, IsTrue, Some, length};
 ghost use Rattle.rn_value.specs.declared.value.Value.{Value};
 ghost use Rattle.rn_value.specs.declared.value.Value.TheVariants as Worth;

@@ -1,5 +1,6 @@
 //! Laws on decisions and on bindings that follow them, each the contract of a function that does
-//! nothing.
+//! nothing. They speak of lists of decisions and of no store, so a search that keeps such a list
+//! knows what may come in and what stays forced (`docs/SEARCH.md`, 'Why it misses nothing').
 ghost use Rattle.rn_growing.specs.Following.{FollowersAreDecided, ClosedDecisionsDecide};
 ghost use Rattle.rn_growing.specs.Following.{FollowsOn, EachIsDecided, GoodHaveFewCreations};
 ghost use Rattle.rn_growing.specs.Following.{NewAfterOne, EnteredByMore, ForcedByMore};

@@ -1,4 +1,7 @@
-//! Bindings that grow by decisions, each of which may come in by those before it.
+//! Bindings that grow by decisions, each of which may come in by those before it. To certify a
+//! given binding and to search for one are both this, with different choices, so what is forced is
+//! worked out in one place. Contracts see a system and its decisions, and no store
+//! (`docs/SEARCH.md`, 'A binding grows by decisions').
 #![tactic(auto)]
 
 mod bringing;

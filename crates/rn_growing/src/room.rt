@@ -1,4 +1,6 @@
-//! The vectors of bindings, from one to the next.
+//! The vectors of bindings, from one to the next. A search opens a binding for each start; in the
+//! room of the one before it asks for memory only where it needs more. By the invariant nothing is
+//! left in them, so no binding begins with what another decided (`docs/SEARCH.md`, 'Going back').
 use crate::decision::Decision;
 use crate::laid::Laid;
 use crate::slot::Frame;

@@ -1,4 +1,6 @@
-//! The unknowns of nodes, and which ids of a store stand for them.
+//! The unknowns of nodes, and which ids of a store stand for them. An operator application is an
+//! unknown as a variable is: unification doesn't compute it, and its value comes in by a decision
+//! of its own. A frame has the sizes before a decision, to go back to.
 ghost use Rattle.std.specs.Prelude.{◌≡◌};
 ghost use Rattle.rn_growing.specs.Layouts.{same_site, same_unknown};
 

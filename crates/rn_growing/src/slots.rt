@@ -1,4 +1,6 @@
-//! The slots of unknowns, each found by its key.
+//! The slots of unknowns, each found by its key. Slots of one key are chained, the newest first,
+//! and each is compared with what is looked for, since two unknowns may have one key. They stand in
+//! the order in which they came, so taking decisions back cuts them off at the end.
 ghost use Rattle.std.specs.Prelude.{◌≡◌, ◌++◌, ◌∷◌, [], IfOk, None, OnErr, OnOk, length, take};
 ghost use Rattle.rn_growing.specs.Indexed.{is_slot};
 ghost use Rattle.rn_growing.specs.Keys.{unknown_key};

@@ -1,4 +1,6 @@
-//! What decisions are on, and looking one up.
+//! What decisions are on, and looking one up. No two decisions are on one thing, so a search asks
+//! of each thing whether it was decided. It is found by its key and then compared; to go through
+//! all decisions would make each such question dearer with each decision.
 ghost use Rattle.std.specs.Prelude.{◌≡◌, map};
 ghost use Rattle.std.specs.List.{list_any};
 ghost use Rattle.rn_growing.specs.Decided.{decision_key, is_on, thing_key};
