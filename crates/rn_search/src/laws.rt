@@ -1,5 +1,7 @@
 //! Laws that a search for enabled bindings rests on, each the contract of a function that does
-//! nothing.
+//! nothing. At each point a binding goes on with one alternative and no other, and what may be cut
+//! leads to none. They hold in whatever order things are decided, so a search may choose it
+//! (`docs/SEARCH.md`, 'Why it misses nothing').
 ghost use Rattle.rn_search.specs.Missing.{StartIsOffered, StartsAreKept, TokensAreOffered};
 ghost use Rattle.rn_search.specs.Missing.{ListsAreOffered, KnownIsSo, ResultsAreOffered};
 ghost use Rattle.rn_search.specs.Missing.{CallsAreOffered, NodesHaveRoom, FewerLead, OneWay};

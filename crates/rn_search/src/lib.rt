@@ -1,5 +1,7 @@
 //! Searching for the bindings that are enabled at a marking: what is looked for, what each choice
-//! offers, and why nothing is missed.
+//! offers, and why nothing is missed. The laws leave the order of decisions open, so those who
+//! search (`rn_looking`, `rn_branch`) decide by cost alone what comes first (`docs/SEARCH.md`, 'Why
+//! it misses nothing').
 #![tactic(auto)]
 
 mod laws;

@@ -1,4 +1,7 @@
-//! What a search works on: a marking, where it starts, and what the search may rest on.
+//! What a search works on: a marking, where it starts, and what the search may rest on. Its
+//! invariant keeps that the system is good, that the uplinks are its own, that tokens fit their
+//! places and that the start may start a firing. So the calls of a search needn't ask for that
+//! again (`docs/SEARCH.md`, 'Where it starts').
 ghost use Rattle.std.specs.Prelude.{◌≡◌, ◌<◌, ◌≤◌, ◌-◌, IsTrue, true, false, length};
 ghost use Rattle.rn_model.specs.Good.{Good};
 ghost use Rattle.rn_model.specs.Limits.{greatest_depth};

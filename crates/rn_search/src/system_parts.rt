@@ -1,4 +1,6 @@
-//! Parts of a system and of decisions, looked up.
+//! Parts of a system and of decisions, looked up. Nothing is asked of a node here, so one whose net
+//! or transition isn't there has no transition. Where both are known to be there, as in
+//! `rn_looking`, the transition is looked up without that case.
 ghost use Rattle.std.specs.Prelude.{◌≡◌, unwrap_or};
 ghost use Rattle.std.specs.Option.{option_copied};
 ghost use Rattle.rn_model.specs.Systems.{empty_transition};

@@ -1,4 +1,7 @@
-//! Tokens of a bag of which only the first of equal ones counts.
+//! Tokens of a bag of which only the first of equal ones counts. A bag has its tokens in ascending
+//! order, so equal ones stand side by side: one look at the token before says whether one is the
+//! first, and how many follow that equal it is asked of the bag (`docs/SEARCH.md`, 'A binding grows
+//! by decisions').
 ghost use Rattle.std.specs.Prelude.{◌≡◌, ◌≤◌, ◌<◌, ◌↔◌, ℕ, IsTrue, None, Some, slice_get, ◌+◌};
 ghost use Rattle.std.specs.Prelude.{Contains, IfSome, IfNone};
 ghost use Rattle.std.specs.Option.{option_copied};
