@@ -1,4 +1,7 @@
-//! Going on with one of several tokens.
+//! Going on with one of several tokens: with none the branch is given up, one is forced, and of
+//! more one is chosen, from a first one on, round. That one may be told by a share of the tokens,
+//! so that several workers begin apart, however many tokens a place has (`docs/WORKERS.md`,
+//! 'Conflicts').
 ghost use Rattle.rn_looking.specs.Looks.{IsAmong};
 
 use rn_choices::Next;

@@ -1,5 +1,6 @@
-//! Which answers of a call may lead to a binding, as far as it is seen at once. It only decides what is
-//! tried first: whatever it says, each answer is tried.
+//! Which answers of a call may lead to a binding, as far as it is seen at once: by arguments that
+//! are known, guards over them, and places without a token. It only decides what is tried first:
+//! whatever it says, each answer is tried (`docs/SEARCH.md`, 'What it does next').
 use crate::arcs::known_value;
 use crate::guard_vars::put_guard;
 use crate::known::Known;

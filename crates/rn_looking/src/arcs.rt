@@ -1,4 +1,7 @@
-//! Looking at the arcs of a node.
+//! Looking at the arcs of a node. A token that is known is looked up, which forces the arc or ends
+//! the branch; with a known first part only the tuples with that part are to choose from; else all
+//! tokens of the place are. So what is known already isn't found out by trying tokens
+//! (`docs/SEARCH.md`, 'What it does next').
 ghost use Rattle.std.specs.Prelude.{◌≡◌, ◌<◌, IfOk, IfSome, Some, length, slice_get};
 ghost use Rattle.rn_looking.specs.Branches.{IsLookedAt};
 ghost use Rattle.rn_looking.specs.Equating.{IsKnownToken, IsTokenOf};

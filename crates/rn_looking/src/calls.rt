@@ -1,4 +1,7 @@
-//! Looking at the calls of a node.
+//! Looking at the calls of a node. A call waits until its target is forced, since a later token may
+//! force it; then one of its answers is to be chosen. As how many it counts decides when, so that
+//! answers which a token would decide aren't tried before that token (`docs/SEARCH.md`, 'What it
+//! does next').
 ghost use Rattle.std.specs.Prelude.{◌≡◌, ◌<◌, ◌^◌, ◌++◌, ◌∷◌, [], ℕ, IfOk, IfSome, Some, length, nat_lt};
 ghost use Rattle.std.specs.Prelude.{IsTrue, slice_get};
 ghost use Rattle.rn_choices.specs.declared.next.Next.TheVariants.{Stuck};

@@ -1,4 +1,7 @@
-//! What guards of a node ask a variable to be the same as.
+//! What guards of a node ask a variable to be the same as. Where that is known, an arc whose
+//! inscription is this variable has its token looked up, in place of a choice. A guard with `||`
+//! asks for nothing so, since another part of it may be true (`docs/SEARCH.md`, 'What it does
+//! next').
 ghost use Rattle.std.specs.Prelude.{◌≡◌, IfOk, IfSome, IsTrue};
 ghost use Rattle.rn_model.specs.declared.expr.Expr.TheVariants as E;
 ghost use Rattle.rn_looking.specs.Equating.{IsSide, IsEquatedIn, IsEquatedBy, IsEquated};

@@ -1,4 +1,6 @@
-//! Parts of a guard that are known not to be true.
+//! Parts of a guard that are known not to be true. A guard that joins its parts by `&&` alone fails
+//! with any of them, so a branch may end before the other variables are forced. Of a guard with
+//! `||` nothing is said, since another part may be true (`docs/SEARCH.md`, 'What it does next').
 ghost use Rattle.std.specs.Prelude.{◌≡◌, ◌↔◌, IfOk, IsTrue, Some, true};
 ghost use Rattle.rn_model.specs.declared.expr.Simple.TheVariants as S;
 ghost use Rattle.rn_search.specs.Parting.{answer_of};

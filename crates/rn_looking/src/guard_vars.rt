@@ -1,4 +1,5 @@
-//! The variables of a guard. They stand here again, since `rn_occurring` has its own and is no crate
+//! The variables of a guard. A search lists them to see whether all are forced, or all but one that
+//! an arc is about to find. They stand here again, since `rn_occurring` has its own and is no crate
 //! that a search stands on.
 ghost use Rattle.std.specs.Prelude.{◌≡◌, ◌++◌, OnOk, flat_map};
 ghost use Rattle.rn_looking.specs.Guards.{vars_of_simple, vars_of_guard};

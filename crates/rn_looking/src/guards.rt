@@ -1,4 +1,6 @@
-//! What is known of the guards of a node.
+//! What is known of the guards of a node. Each binding to which the decisions lead has the forced
+//! values, so a guard that isn't true of them ends the branch at once. One that is true stays so
+//! with further decisions, and needn't be worked out again (`docs/SEARCH.md`, 'What it does next').
 ghost use Rattle.std.specs.Prelude.{◌≡◌, ◌⊎◌, IfOk};
 ghost use Rattle.rn_choices.specs.declared.next.Next.TheVariants.{Stuck};
 ghost use Rattle.rn_looking.specs.declared.told.Told.TheVariants.{Fails};

@@ -1,4 +1,6 @@
-//! What is known of the inhibitor arcs of a node.
+//! What is known of the inhibitor arcs of a node. The marking stays as it is during a search, so
+//! once an arc's token is known, whether it is there holds for each binding to which the decisions
+//! lead. An arc whose token isn't known waits (`docs/SEARCH.md`, 'What it does next').
 ghost use Rattle.std.specs.Prelude.{◌≡◌, ◌<◌, IfOk, length};
 ghost use Rattle.rn_choices.specs.declared.next.Next.TheVariants.{Stuck};
 ghost use Rattle.rn_looking.specs.declared.told.Told.TheVariants.{Fails};

@@ -1,4 +1,6 @@
-//! What is known of the variables of an expression, or of a guard.
+//! What is known of the variables of an expression, or of a guard: the values to which they are
+//! forced. Where one isn't forced nothing is known: it is never guessed, since a value that nothing
+//! forces belongs to no enabled binding (`docs/SEARCH.md`, 'A binding grows by decisions').
 ghost use Rattle.std.specs.Prelude.{IfOk, IfSome, MatchOption, All};
 ghost use Rattle.rn_model.specs.Systems.{vars_in};
 ghost use Rattle.rn_looking.specs.Forced.{IsVarForcedIn};

@@ -1,4 +1,7 @@
-//! What a look at a binding that grows comes to: how a search for enabled bindings goes on.
+//! What a look at a binding that grows comes to: how a search for enabled bindings goes on. It has
+//! to be right in what is forced and what ends the branch; of choices it may take any, since each
+//! alternative is tried. What they count as decides only the order (`docs/SEARCH.md`, 'What it does
+//! next').
 #![tactic(auto)]
 
 mod among;

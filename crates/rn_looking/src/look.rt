@@ -1,4 +1,7 @@
-//! What a look at some things of a node came to.
+//! What a look at some things of a node came to: all is decided, what is left waits, or the search
+//! goes on. Beside how it goes on stands as how many alternatives that counts, so looks at several
+//! things are put together by keeping the one that counts as fewest (`docs/SEARCH.md`, 'What it
+//! does next').
 use rn_choices::Next;
 use rn_search::Point;
 

@@ -1,4 +1,7 @@
-//! Looking at all that is asked of a binding that grows.
+//! Looking at all that is asked of a binding that grows. Of a node its tests come first, then
+//! operator applications, arcs and calls, and a look ends where one alternative at most is left.
+//! What is settled stays so with further decisions, so a look begins after it (`docs/SEARCH.md`,
+//! 'What it does next').
 ghost use Rattle.std.specs.Prelude.{◌≡◌, ◌<◌, IfOk, IfSome, IsTrue, length, map};
 ghost use Rattle.rn_binding.specs.Applications.{application_of};
 ghost use Rattle.rn_search.specs.Points.{holes_of};

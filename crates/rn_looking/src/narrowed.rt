@@ -1,5 +1,7 @@
-//! How many tokens of a choice pass a guard of which all other variables are forced. It only decides
-//! what is tried first: a token that doesn't pass is given up when it is tried.
+//! How many tokens of a choice pass a guard of which all other variables are forced. A choice
+//! counts as those, so the order of arcs in the text decides little. It only decides what is tried
+//! first: a token that doesn't pass is given up when it is tried (`docs/SEARCH.md`, 'What it does
+//! next').
 ghost use Rattle.std.specs.Prelude.{IfOk};
 ghost use Rattle.rn_looking.specs.Looks.{IsNarrowed};
 

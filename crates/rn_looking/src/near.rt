@@ -1,4 +1,7 @@
-//! Where a look begins, before it goes through all that is asked.
+//! Where a look begins, before it goes through all that is asked: with nodes that the newest
+//! decision reaches, the newest decision, and those around the one that a look found last. What it
+//! finds there counts only where nothing better can come, so a choice is still made by looking
+//! further (`docs/SEARCH.md`, 'What it does next').
 ghost use Rattle.std.specs.Prelude.{◌<◌, IfOk, IfSome, length};
 ghost use Rattle.rn_looking.specs.Applying.{AreAppliedIn};
 ghost use Rattle.rn_looking.specs.Branches.{IsBranchOf};

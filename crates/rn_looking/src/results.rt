@@ -1,4 +1,6 @@
-//! Looking at the operator applications of a node.
+//! Looking at the operator applications of a node. Unification doesn't compute, so each value comes
+//! in by a decision, once the variables are forced. There is one value at most, and without one the
+//! branch ends, so an application is never a choice (`docs/SEARCH.md`, 'What it does next').
 ghost use Rattle.std.specs.Prelude.{◌≡◌, ◌↔◌, ℤ, IfOk, IfSome, Some, length, map, slice_get};
 ghost use Rattle.rn_value.specs.declared.value.Value.TheVariants as V;
 ghost use Rattle.rn_model.specs.Evaluation.{worth};

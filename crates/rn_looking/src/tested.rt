@@ -1,5 +1,7 @@
-//! What looks keep for those that follow: of how many nodes the tests are known to hold, where a look
-//! begins, and which choices were gone through in vain. It says what is looked at first, and no more.
+//! What looks keep for those that follow: of how many nodes the tests are known to hold, where a
+//! look begins, and which choices were gone through in vain. It says what is looked at first, and
+//! no more: what is tested of a binding at the end of a branch doesn't rest on it
+//! (`docs/SEARCH.md`, 'What it does next').
 use crate::best::is_idle;
 use crate::look::Look;
 use rn_choices::Next;

@@ -1,4 +1,7 @@
-//! What is known of a test of a node: of a guard, of an inhibitor or flexible arc, or of all of them.
+//! What is known of a test of a node: of a guard, of an inhibitor or flexible arc, or of all of
+//! them. That it holds or fails is said of all bindings to which the decisions lead, so it stays so
+//! with further decisions, and only a test that waits is made again (`docs/SEARCH.md`, 'What it
+//! does next').
 ghost use Rattle.std.specs.Prelude.{◌≡◌, ◌↔◌, IsTrue};
 ghost use Rattle.rn_looking.specs.declared.told.Told.TheVariants.{Fails, Holds};
 
