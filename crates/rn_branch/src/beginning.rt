@@ -1,4 +1,7 @@
-//! With which of its tokens a choice begins.
+//! With which of its tokens a choice begins. After many decisions most tokens before the one that
+//! was taken last of the same place are taken already, so a choice that began with the first would
+//! refuse each of them. It begins with that one and goes round, so none is left out
+//! (`docs/SEARCH.md`, 'A binding grows by decisions').
 ghost use Rattle.rn_branch.specs.GoingOn.{IsSameButFirst};
 
 use crate::taking::{MANY, is_same_old, takes_token, taking_of};

@@ -1,5 +1,6 @@
-//! Nodes that were entered, found by their paths. No clause speaks of them: they only decide which nodes
-//! are looked at first.
+//! Nodes that were entered, found by their paths. Only the last node of a key is compared with the
+//! path, so one that shares its key with a later one isn't found. No clause speaks of them: they
+//! only decide which nodes are looked at first (`docs/SEARCH.md`, 'What it does next').
 use rn_chains::Chains;
 use rn_growing::Decision;
 use rn_value::NoMemory;

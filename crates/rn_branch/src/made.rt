@@ -1,4 +1,6 @@
-//! The binding that is made of what was decided.
+//! The binding that is made of what was decided. Where nothing is left, each binding that follows
+//! has just the nodes that were entered and the values that are forced. So it is the only one, and
+//! where a variable isn't forced there is none (`docs/SEARCH.md`, 'Why it misses nothing').
 ghost use Rattle.std.specs.Prelude.{◌≡◌, ◌<◌, IfOk, IfSome, IfNone, OnOk, MatchOption, All, length};
 ghost use Rattle.std.specs.List.Sorted.{IsPermutation, IsSorted};
 ghost use Rattle.rn_model.specs.Order.{node_cmp};

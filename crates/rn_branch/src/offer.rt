@@ -1,4 +1,6 @@
-//! The token that an alternative of an arc means, looked at where it stands.
+//! The token that an alternative of an arc means, looked at where it stands. It is copied only into
+//! a decision that is made, so one that is taken too often, or by which a guard isn't true, is
+//! refused without a copy (`docs/SEARCH.md`, 'A binding grows by decisions').
 ghost use Rattle.std.specs.Prelude.{IfSome};
 ghost use Rattle.rn_branch.specs.Offers.{IsOffer};
 

@@ -1,4 +1,6 @@
-//! Tokens by a part of them.
+//! Tokens by a part of them. By its order a bag finds the tuples with some first part, but not
+//! those with another part. So tokens are gone through one after the other, each compared in this
+//! part alone (`docs/SEARCH.md`, 'A binding grows by decisions').
 ghost use Rattle.std.specs.Prelude.{◌≡◌, ◌<◌, ◌≤◌, ◌↔◌, ℕ, IsTrue, Some, slice_get};
 ghost use Rattle.rn_value.specs.declared.value.Value.{Value as Token};
 ghost use Rattle.rn_branch.specs.Parts.{LacksPart, part_of};

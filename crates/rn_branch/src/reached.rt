@@ -1,5 +1,7 @@
-//! Nodes that the newest decision reaches: those whose variables are forced by it, along calls. It only
-//! decides which nodes are looked at first.
+//! Nodes that the newest decision reaches: those whose variables are forced by it, along calls.
+//! Values that flow through calls force the next thing there, and a look would else go through all
+//! nodes to find it. It only decides which nodes are looked at first (`docs/SEARCH.md`, 'What it
+//! does next').
 use crate::entered::Entries;
 use rn_growing::{Decision, Site};
 use rn_looking::Kept;

@@ -1,4 +1,7 @@
-//! How the last alternatives of a point went. It only decides when something is asked.
+//! How the last alternatives of a point went. It only decides when something is asked: how many of
+//! the tokens that follow lack a known part. That goes through tokens, so it is asked after many
+//! refusals, ever more rarely as long as it passes none (`docs/SEARCH.md`, 'A binding grows by
+//! decisions').
 
 /// After so many refusals it is asked how many of the next tokens lack a part that is known.
 const FEW: usize = 8;

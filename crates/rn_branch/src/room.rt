@@ -1,4 +1,6 @@
-//! The vectors of branches, from one to the next.
+//! The vectors of branches, from one to the next. A worker searches again and again, and each
+//! branch begins in the vectors of the one before. They are left empty, so nothing that was decided
+//! or looked at there goes into the next search (`docs/SEARCH.md`, 'Going back').
 use crate::entered::Entries;
 use rn_looking::{Tested, TextChoice};
 use std::alloc::Global;

@@ -1,5 +1,7 @@
 //! A binding that grows, with how many of its first decisions are settled, and the operator
-//! applications of its nodes.
+//! applications of its nodes. What is settled stays so with further decisions, so looks begin after
+//! it. How many were settled is kept beside each decision, so that it is known again after going
+//! back (`docs/SEARCH.md`, 'What it does next').
 ghost use Rattle.std.specs.Prelude.{◌≡◌, ◌<◌, ◌≤◌, [], IfOk, OnErr, OnOk, length};
 ghost use Rattle.std.specs.Prelude.{vec_capacity};
 ghost use Rattle.rn_growing.specs.Grown.{HasFewCreations, IsNew, Tries, first_decisions};

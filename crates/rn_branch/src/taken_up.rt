@@ -1,4 +1,7 @@
-//! Tokens that decisions take as often as they are there.
+//! Tokens that decisions take as often as they are there. The marking has to hold all that a
+//! binding takes, so a further arc that takes such a token leads to none. The token is refused
+//! before its decision is made, or all below it would be searched first (`docs/SEARCH.md`, 'A
+//! binding grows by decisions').
 ghost use Rattle.std.specs.Prelude.{◌≡◌, ◌≤◌, IfOk, IsTrue};
 ghost use Rattle.rn_model.specs.Lists.{count_of};
 ghost use Rattle.rn_search.specs.Taking.{taken_so_far};

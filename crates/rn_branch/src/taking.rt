@@ -1,4 +1,7 @@
-//! What one decision takes.
+//! What one decision takes: the token that an `in` or `reserve` arc finds, from a place of an
+//! instance. A test arc takes nothing, so its token is still there for others. Takings are the same
+//! by instance, place and token, of instances that exist (`docs/SEARCH.md`, 'A binding grows by
+//! decisions').
 ghost use Rattle.std.specs.Prelude.{◌≡◌, ◌∷◌, [], IfSome, IsTrue};
 ghost use Rattle.rn_value.specs.declared.value.Value.{Value as Taken};
 ghost use Rattle.rn_model.specs.Demands.{takes};

@@ -1,4 +1,7 @@
-//! What decisions take, found by instance, place and token.
+//! What decisions take, found by instance, place and token. Beside each decision stands how often
+//! those up to it take that token, so the last that takes it tells the number, and not all are gone
+//! through. What is kept is cut off with the decisions that are taken back (`docs/SEARCH.md`, 'A
+//! binding grows by decisions').
 ghost use Rattle.std.specs.Prelude.{◌≡◌, ◌<◌, ◌≤◌, ◌+◌, ◌++◌, ◌∷◌, [], IfSome, OnErr, OnOk};
 ghost use Rattle.std.specs.Prelude.{length, take};
 ghost use Rattle.rn_model.specs.Lists.{count_of};

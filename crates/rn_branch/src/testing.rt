@@ -1,4 +1,7 @@
-//! Guards that are tested before a decision is made.
+//! Guards that are tested before a decision is made. Of a guard whose variables are forced but for
+//! one, the values are looked up once for all tokens of a choice. They rest on the decisions that
+//! stand, so they are let go as soon as one of these is taken back (`docs/SEARCH.md`, 'A binding
+//! grows by decisions').
 ghost use Rattle.std.specs.Prelude.{◌≡◌, ◌⊎◌, All, IfOk, IfSome, IsTrue, None, Option, Some};
 ghost use Rattle.std.specs.Prelude.{false, slice_get};
 ghost use Rattle.rn_growing.specs.declared.decision.Caller.{Caller};

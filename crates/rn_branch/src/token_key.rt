@@ -1,5 +1,6 @@
-//! Keys by which takings are found. No clause speaks of them: a taking that has the key is compared
-//! with the one that is looked for.
+//! Keys by which takings are found. Only the first parts of a token go into its key, and few levels
+//! deep, so a large token isn't gone through. No clause speaks of them: a taking that has the key
+//! is compared with the one that is looked for (`docs/SEARCH.md`, 'A binding grows by decisions').
 use crate::taking::Taking;
 use rn_value::{InstRef, Value};
 

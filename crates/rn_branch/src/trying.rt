@@ -1,4 +1,7 @@
-//! Alternatives that are given up before their decision is made.
+//! Alternatives that are given up before their decision is made: tokens that are taken as often as
+//! they are there, or by which a guard isn't true. To decide first and see it then would bring in
+//! all equations of the token for nothing. Guards are tested from the second token of a choice on
+//! (`docs/SEARCH.md`, 'A binding grows by decisions').
 ghost use Rattle.std.specs.Prelude.{IfOk, IsTrue};
 ghost use Rattle.rn_search.specs.Allowing.{Allows};
 ghost use Rattle.rn_search.specs.declared.point.Point.TheVariants as P;

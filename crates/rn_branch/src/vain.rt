@@ -1,4 +1,7 @@
-//! Alternatives that are passed by, many at once.
+//! Alternatives that are passed by, many at once: tokens that equal an earlier one, which are no
+//! decisions, and tokens that lack a part that is known, which lead to no binding. So a choice
+//! among many such tokens doesn't try each of them (`docs/SEARCH.md`, 'A binding grows by
+//! decisions').
 ghost use Rattle.std.specs.Prelude.{ℕ, ◌<◌, ◌≤◌, ◌+◌};
 ghost use Rattle.rn_looking.specs.Branches.{IsBranchOf};
 ghost use Rattle.rn_branch.specs.Offers.{NoneLeadBy};
