@@ -1,4 +1,7 @@
-//! Where a firing has no room for what it puts.
+//! Where a firing has no room for what it puts. Where a start calls nothing, and its arcs at a
+//! place move one token or none each, their numbers decide that before any token is chosen. Else it
+//! would be seen only at the end of a branch, for each combination of tokens (`docs/SEARCH.md`,
+//! 'Where it starts').
 ghost use Rattle.std.specs.Prelude.{◌≡◌, [], length, slice_get, unwrap_or};
 ghost use Rattle.rn_model.specs.RoomLaws.{is_plain_at, moves_list, putters_at, puts_one};
 ghost use Rattle.rn_model.specs.RoomLaws.{takers_at, takes_one};

@@ -1,4 +1,6 @@
-//! All bindings that are enabled.
+//! All bindings that are enabled. There is a search for each start, and no binding has two starts,
+//! so each is listed once. A search finds bindings in an order of its own, so they are sorted at
+//! the end (`docs/SEARCH.md`, 'Where it starts').
 ghost use Rattle.std.specs.Prelude.{◌≡◌, ◌↔◌, ◌<◌, IfOk, OnOk, Some, ⊤, Contains, length};
 ghost use Rattle.std.specs.List.{AllAdjacentBelow};
 ghost use Rattle.std.specs.List.Sorted.{IsPermutation, IsSorted};

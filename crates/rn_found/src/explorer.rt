@@ -1,4 +1,7 @@
-//! Where a searcher looks beside where it found something last, and what that may cost.
+//! Where a searcher looks beside where it found something last, and what that may cost. Else what
+//! was found last would fire as long as it can, and all others would wait. Exploring is paid for by
+//! searches that found something, and one dear start may not use up all of that (`docs/SEARCH.md`,
+//! 'Everyone gets a turn').
 
 /// How much searches that found something have to cost for exploring to cost one.
 const PRICE: u64 = 10;

@@ -1,5 +1,7 @@
-//! Looking beside home: the explorer looks at starts in turn, or at those that are drawn, and what it
-//! found last is looked at as long as something is found there. What is found is enabled; nothing is said where nothing is.
+//! Looking beside home: the explorer looks at starts in turn, or at those that are drawn, and what
+//! it found last is looked at as long as something is found there. What is found is enabled;
+//! nothing is said where nothing is, since such a search may be cut off (`docs/SEARCH.md`,
+//! 'Everyone gets a turn').
 ghost use Rattle.std.specs.Prelude.{◌<◌, IfOk, IfSome, length};
 ghost use Rattle.rn_model.specs.Enabling.{Enabled};
 ghost use Rattle.rn_model.specs.Systems.{net_at};

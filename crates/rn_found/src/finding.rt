@@ -1,4 +1,7 @@
-//! Finding one binding that is enabled.
+//! Finding one binding that is enabled. A searcher explores, looks at its guest, and then goes
+//! round all starts from home that aren't known to be idle. Only this last round says that a
+//! marking is dead, since all that comes before it has a limit of cost (`docs/SEARCH.md`, 'Everyone
+//! gets a turn').
 ghost use Rattle.std.specs.Prelude.{◌≡◌, ◌↔◌, ◌<◌, ◌≤◌, ℕ, IfOk, IfSome, IfNone, IsNone, Some, Contains, length};
 ghost use Rattle.rn_model.specs.Systems.{net_at};
 ghost use Rattle.rn_model.specs.Good.{Good};

@@ -1,4 +1,7 @@
-//! The first of all bindings that are enabled.
+//! The first of all bindings that are enabled. Starts are taken in the order of bindings, so the
+//! first with a binding has the least one. There each binding that is found bounds the next search,
+//! which looks only for lesser ones. What is left after a few of these is listed (`docs/SEARCH.md`,
+//! 'The first of all').
 ghost use Rattle.std.specs.Prelude.{◌≡◌, ◌≢◌, ◌↔◌, ◌<◌, ⊤, [], length};
 ghost use Rattle.std.specs.Prelude.{IfOk, IfSome, IfNone, IsNone, IsTrue, Contains};
 ghost use Rattle.std.specs.declared.cmp.Ordering.TheVariants.{Greater};

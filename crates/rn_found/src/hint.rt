@@ -1,4 +1,6 @@
-//! Where a search begins.
+//! Where a search begins: with an instance, a transition and a token, from which it goes round. So
+//! it leaves nothing out, whatever it says. Each searcher begins elsewhere, since several that find
+//! the same binding can't all fire it (`docs/WORKERS.md`, 'Conflicts').
 use rn_branch::SHARES;
 use rn_choices::Choice;
 use rn_search::Point;

@@ -1,4 +1,7 @@
-//! Instances of which it is known that nothing starts in them.
+//! Instances of which it is known that nothing starts in them. A bit for each lets a search pass
+//! over 64 by one word. It is known of one table alone: after a change all that may reach a changed
+//! instance has to be taken out, or a binding would be missed (`docs/SEARCH.md`, 'What is searched
+//! again').
 ghost use Rattle.std.specs.Prelude.{◌≡◌, ◌≢◌, ◌<◌, ◌≤◌, ◌⊎◌, ◌+◌, ◌*◌, ◌^◌, ℕ};
 ghost use Rattle.rn_found.specs.Idle.{IsIn};
 

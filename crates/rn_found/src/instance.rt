@@ -1,4 +1,7 @@
-//! The bindings that start in one instance, and the first of them.
+//! The bindings that start in one instance, and the first of them. What starts there depends only
+//! on the instances that it reaches, so least runs and kept lists ask for one instance, and ask
+//! again only after a change that may have reached it (`docs/SEARCH.md`, 'What a start depends
+//! on').
 ghost use Rattle.std.specs.Prelude.{◌≡◌, ◌↔◌, IfOk, Contains, length};
 ghost use Rattle.std.specs.List.{AllAdjacentBelow};
 ghost use Rattle.std.specs.declared.cmp.Ordering.TheVariants.{Less};

@@ -1,4 +1,7 @@
-//! A search for the bindings that are less than one.
+//! A search for the bindings that are less than one. Bindings are compared by the values of the
+//! start first, so a branch is given up once those are forced to greater ones, whatever the nodes
+//! below may be. All else is a `Branch`, but for the comparison at its end (`docs/SEARCH.md`, 'The
+//! first of all').
 ghost use Rattle.std.specs.Prelude.{◌<◌, IfOk, IsTrue, length};
 ghost use Rattle.rn_choices.specs.Leading.{NoneLeads};
 ghost use Rattle.rn_found.specs.Lesser.{IsLesserBranch, IsPast, LeadsBelow};

@@ -1,4 +1,7 @@
-//! Finding the bindings that are enabled at a marking.
+//! Finding the bindings that are enabled at a marking: one, all, those of one instance, or the
+//! first. Each start has a search of its own, and each binding one start. So where each start was
+//! searched in vain, or passed by as starting none, the marking is dead within the depth
+//! (`docs/SEARCH.md`, 'Where it starts').
 #![tactic(auto)]
 
 mod capacities;

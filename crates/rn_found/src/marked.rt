@@ -1,4 +1,6 @@
-//! What is searched.
+//! What is searched: a table of a system, with its uplinks and a depth. That is the same for all
+//! starts of one call, so it is handed on as one, and a problem for a branch is made of it and of
+//! one start (`docs/SEARCH.md`, 'Where it starts').
 ghost use Rattle.std.specs.Prelude.{◌≡◌, IfOk};
 ghost use Rattle.rn_search.specs.Missing.{MayStart};
 ghost use Rattle.rn_found.specs.Starting.{IsSearchable, start_of};

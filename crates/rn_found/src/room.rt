@@ -1,4 +1,6 @@
-//! The room of searches, from one to the next.
+//! The room of searches, from one to the next. A search is lent the vectors of the one before, so
+//! that it makes none anew as far as these have room. The count of what searches cost goes on in
+//! it, and limits and earnings are differences of that count (`docs/SEARCH.md`, 'Going back').
 ghost use Rattle.std.specs.Prelude.{◌≡◌, []};
 ghost use Rattle.rn_growing.specs.Grown.{HasFewCreations};
 

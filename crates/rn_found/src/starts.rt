@@ -1,4 +1,7 @@
-//! Where a firing may start.
+//! Where a firing may start. A start is passed by without a search where its transition has an
+//! uplink, the place of an arc that finds a token is empty, or a place has no room. No enabled
+//! binding starts so, and it costs only a look at some places (`docs/SEARCH.md`, 'Where it
+//! starts').
 ghost use Rattle.std.specs.Prelude.{◌≡◌, ◌<◌, ◌↔◌, IfOk, IsTrue, None, false, length};
 ghost use Rattle.std.specs.List.{list_any};
 ghost use Rattle.rn_model.specs.Derivation.{finds_token};

@@ -1,4 +1,6 @@
-//! A search up to its first choice.
+//! A search up to its first choice. As long as each decision is forced there is one binding at
+//! most, so what is found at the end is the first of its start, without a comparison. Where there
+//! is a choice, nothing is said (`docs/SEARCH.md`, 'The first of all').
 ghost use Rattle.std.specs.Prelude.{◌≡◌, IfOk, []};
 ghost use Rattle.rn_looking.specs.Branches.{IsBranchOf};
 ghost use Rattle.rn_found.specs.Straight.{EndsSo};

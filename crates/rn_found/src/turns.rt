@@ -1,4 +1,7 @@
-//! Whose turn it is: where a searcher goes on.
+//! Whose turn it is: where a searcher goes on. Home stands still while a guest fires, so the full
+//! search goes on later from where it was. Where what was found came too late to fire, the guest
+//! goes, or else home is elsewhere, so that it isn't found again at once (`docs/SEARCH.md`,
+//! 'Everyone gets a turn').
 ghost use Rattle.std.specs.Prelude.{◌<◌};
 
 use crate::drawing::Draws;
