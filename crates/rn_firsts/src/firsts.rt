@@ -1,4 +1,7 @@
-//! What is known from one look to the next.
+//! What is known from one look to the next: below a number no instance starts a binding, but for
+//! those that are to be looked at again. Only what may reach a changed instance can start one anew,
+//! so after a firing few have to be searched, and the others not in vain once more
+//! (`docs/SEARCH.md`, 'The first of all').
 ghost use Rattle.std.specs.Prelude.{◌≡◌, ◌≢◌, ◌↔◌, ℕ, ⊤, false, IfOk, OnOk, IfSome, IsNone, MatchOption};
 ghost use Rattle.std.specs.declared.cmp.Ordering.TheVariants.{Greater};
 ghost use Rattle.rn_model.specs.declared.system.System.{System as Whole};

@@ -1,4 +1,7 @@
-//! What a change leaves of what is known.
+//! What a change leaves of what is known. The lists of who may refer to whom are only added to: a
+//! holder too many has one more instance looked at, one too few would miss a binding. Where they
+//! are held, only the changed instances are gone through (`docs/SEARCH.md`, 'What a start depends
+//! on').
 ghost use Rattle.std.specs.Prelude.{◌≡◌, ◌<◌, ℕ, true, OnOk, All, Contains};
 ghost use Rattle.rn_model.specs.declared.system.System.{System};
 ghost use Rattle.rn_model.specs.Markings.{Marking};

@@ -1,5 +1,7 @@
 //! The first of the enabled bindings at one table after the other. Where nothing started before and
-//! nothing changed since, it isn't looked for again.
+//! nothing changed since, it isn't looked for again. What starts in an instance depends only on
+//! what it reaches, so a change matters only to instances that may reach it (`docs/SEARCH.md`,
+//! 'What a start depends on').
 #![tactic(auto)]
 
 mod firsts;

@@ -1,4 +1,7 @@
-//! Looking at instances in the order of their numbers, up to one with which a binding starts.
+//! Looking at instances in the order of their numbers, up to one with which a binding starts. What
+//! starts with a smaller number is less, so the first that is found is the first of all. Those that
+//! are searched in vain on the way become known, for the next look (`docs/SEARCH.md`, 'The first of
+//! all').
 ghost use Rattle.std.specs.Prelude.{◌≡◌, ⊤, [], Some, IfOk, MatchOption};
 ghost use Rattle.rn_found.specs.First.{IsFirstOf};
 ghost use Rattle.rn_found.specs.Starting.{IsSearchable};
