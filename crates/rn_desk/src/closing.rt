@@ -1,4 +1,6 @@
-//! How a desk is closed.
+//! How a desk is closed. All seats are joined into one, and the table can be closed only with the
+//! whole of them. So no worker has a turn any more, the state is in its slot, and its entries are
+//! the history that each pass has seen a beginning of.
 ghost use Rattle.std.specs.Prelude.{◌≡◌, ℕ, ◌<◌, ◌≤◌, [], vec_len};
 ghost use Rattle.rn_desk.specs.declared.view.Role.TheVariants.{Idle};
 ghost use Rattle.rn_desk.specs.Entries.{authored};

@@ -1,4 +1,6 @@
-//! The desk, a worker's pass, and its turn.
+//! The desk, a worker's pass, and its turn. A turn has the state itself, moved out of the desk's
+//! slot, so no two workers have it at once. It can only be given back and never dropped, or all
+//! others would wait for it for ever (`docs/WORKERS.md`, 'Turns').
 ghost use Rattle.std.specs.Prelude.{◌≡◌, ◌≤◌};
 
 use crate::doors::Doors;

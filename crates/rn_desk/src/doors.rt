@@ -1,5 +1,7 @@
-//! Doors at which workers sleep until their ticket is called. Each ticket has one, and no two tickets
-//! that are out at once have the same, so that a call wakes no one else.
+//! Doors at which workers sleep until their ticket is called. Each ticket has one, and no two
+//! tickets that are out at once have the same, so that a call wakes no one else. Nothing is
+//! promised of doors: who wakes looks at the ticket that is served, so waking for no reason does no
+//! harm.
 ghost use Rattle.std.specs.Prelude.{◌≡◌, ◌<◌};
 
 use atomic_table::{Play, Table, TableRule};

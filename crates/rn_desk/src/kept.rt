@@ -1,4 +1,6 @@
-//! What a desk can keep.
+//! What a desk can keep: a state with entries, of which each has an author, and a part that stays
+//! the same. A desk knows nothing else of its state, so the same desk serves runs and least runs,
+//! and its rule speaks of lists of entries alone (`docs/WORKERS.md`, 'Turns').
 ghost use Rattle.std.specs.Prelude.{◌≡◌, ℕ, List, length};
 
 /// A state with a list of entries, of which each has an author or none.

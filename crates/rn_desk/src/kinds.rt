@@ -1,5 +1,6 @@
-//! The kinds of step that read or change a word. The two others, which take the state out of its
-//! slot and put it back, need none.
+//! The kinds of step that read or change a word. Each is a type, which says by a definition of
+//! `specs/Steps` what such a step does to what its seat knows. The two others, which take the state
+//! out of its slot and put it back, need none.
 use crate::kept::Kept;
 use crate::view::View;
 use atomic_table::{Join, Play, Split};

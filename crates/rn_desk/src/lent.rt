@@ -1,4 +1,6 @@
-//! The state of a turn, lent for writing.
+//! The state of a turn, lent for writing. Whoever has the turn is alone with the state, so it is a
+//! plain borrow without a lock. What is written isn't limited here: `Desk::give` asks that there is
+//! one entry more at most.
 ghost use Rattle.std.specs.Prelude.{◌≡◌};
 ghost use Rattle.std.specs.Borrow.{Lends, sem};
 ghost use Rattle.rn_desk.specs.contracts.desk.Turn.{the_row};

@@ -1,4 +1,6 @@
-//! A desk: a ticket lock that keeps one state, whose entries grow by at most one a turn.
+//! A desk: a ticket lock that keeps one state, whose entries grow by at most one a turn. Tickets
+//! are served in order, so there is one history, and what each worker has seen and authored fits it
+//! in every schedule of the threads (`docs/WORKERS.md`, 'Turns').
 #![tactic(auto)]
 
 mod closing;

@@ -1,4 +1,6 @@
-//! How a desk is opened.
+//! How a desk is opened. The first seat makes all others, each with the next number, before any
+//! worker begins, so the numbers are there once each. All memory of a desk is asked for here, so to
+//! take a turn or give it back needs none.
 ghost use Rattle.std.specs.Prelude.{◌≡◌, ◌≤◌, [], IfOk, vec_len};
 ghost use Rattle.rn_desk.specs.Numbered.{EachAt};
 ghost use Rattle.rn_desk.specs.Steps.{maker};

@@ -1,4 +1,7 @@
-//! The desk's table, and the rule that each step keeps.
+//! The desk's table, and the rule that each step keeps. Three words and a slot have the next
+//! ticket, the one that is served, the number of entries, and the state. The rule is of what holds
+//! between any two atomic steps, so it holds in every schedule (`specs/Turns`; `docs/WORKERS.md`,
+//! 'Turns').
 use crate::kept::Kept;
 use crate::view::{About, View};
 use atomic_table::{Seat, Table, TableRule};

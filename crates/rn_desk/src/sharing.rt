@@ -1,5 +1,6 @@
 //! Where a state may cross threads, its desk and its passes may, and the desk may be shared. Types
-//! that couldn't would be refused here.
+//! that couldn't would be refused here. Nobody calls these functions: it is enough that they
+//! compile.
 use crate::desk::{Desk, Pass};
 use crate::kept::Kept;
 

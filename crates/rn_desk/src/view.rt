@@ -1,4 +1,6 @@
-//! What a seat at the desk's table knows, as plain data of the proofs. No value of a view is made.
+//! What a seat at the desk's table knows, as plain data of the proofs. The words alone don't say
+//! whose ticket is served, or what each worker has seen and authored; the rule needs both, so each
+//! seat carries it. No value of a view is made.
 use std::collections::LinkedList;
 use std::snapshot::Snapshot;
 
