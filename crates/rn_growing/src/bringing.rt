@@ -329,6 +329,7 @@ fn give(alloc: Global, laid: &mut Laid, id: usize, value: Value) -> Result<bool,
     ensures gets { IfOk result (λ yes. GetsValue laid.old id value laid.new yes) }
     ensures grows { Grows laid.old laid.new }
 {
+    // For its clause: the ids of the slots are ids of the store.
     let _laid_in = laid.frame();
     let atom = laid.atom(value)?;
     laid.equal(alloc, id, atom)

@@ -108,6 +108,7 @@ fn build_parts(
     ensures grows { Grows laid.old laid.new }
     ensures way { IfOk result (λ told. way.new.items ≡ way.old.items) }
 {
+    // For its clause: the ids of the slots are ids of the store.
     let _laid = laid.frame();
     let mut ids = Vec::new(alloc);
     for i in 0..exprs.len() {

@@ -87,6 +87,7 @@ impl<'a> Growing<'a> {
             frames,
             keys,
         } = room;
+        // For its clauses: what each store keeps (`Keeps`), and that it has the ids of the slots.
         let _kept = laid.frame();
         Growing {
             system,
@@ -225,6 +226,7 @@ impl<'a> Growing<'a> {
         )? {
             return Ok(false);
         }
+        // For its clauses: what each store keeps (`Keeps`), and that it has the ids of the slots.
         let _kept = self.laid.frame();
         self.decisions.push(decision)?;
         self.frames.push(frame)?;
@@ -285,6 +287,7 @@ impl<'a> Growing<'a> {
             ↔ IsForcedTo self.now.system self.now.decisions
             (λ a. read_at a head.now (site_of site) target.now) (Worth.Inst i)) }
     {
+        // For the type's invariant: the store says just what the decisions bring.
         let _ = &self.laid;
         match target {
             Expr::This => {

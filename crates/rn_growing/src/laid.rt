@@ -115,6 +115,7 @@ impl Laid {
             Some(id) => Ok(id),
             None => {
                 let path = path.share()?;
+                // For its clause: what each store keeps (`Keeps`).
                 let _kept = self.store.mark();
                 let id = self.store.new_var()?;
                 self.slots.push(alloc, Slot { path, unknown, id })?;
@@ -133,6 +134,7 @@ impl Laid {
         ensures { IfOk result (λ told. (v : Value) → (told ≡ Some v)
             ↔ IsGiven self.now path.now unknown.now v) }
     {
+        // For its clause: what each store keeps (`Keeps`).
         let _kept = self.store.mark();
         match self.slots.id(path, unknown) {
             Some(id) => self.store.ground(alloc, id),
@@ -150,6 +152,7 @@ impl Laid {
         ensures { IfOk result (λ told. IsTrue told
             ↔ ((v : Value) × IsGiven self.now path.now unknown.now v)) }
     {
+        // For its clause: what each store keeps (`Keeps`).
         let _kept = self.store.mark();
         let id = match self.slots.id(path, unknown) {
             Some(id) => id,
@@ -171,6 +174,7 @@ impl Laid {
         ensures built { IfOk result (λ id. Builds self.old (λ a. Some value) self.new id) }
         ensures grows { Grows self.old self.new }
     {
+        // For its clause: what each store keeps (`Keeps`).
         let _kept = self.store.mark();
         self.store.add(Term::Atom(value))
     }
@@ -181,6 +185,7 @@ impl Laid {
         ensures made { IfOk result (λ id. IsMade self.old (λ vs. Worth.Tuple vs) ids self.new id) }
         ensures grows { Grows self.old self.new }
     {
+        // For its clause: what each store keeps (`Keeps`).
         let _kept = self.store.mark();
         self.store.add(Term::Tuple(ids))
     }
@@ -191,6 +196,7 @@ impl Laid {
         ensures made { IfOk result (λ id. IsMade self.old (λ vs. Worth.List vs) ids self.new id) }
         ensures grows { Grows self.old self.new }
     {
+        // For its clause: what each store keeps (`Keeps`).
         let _kept = self.store.mark();
         self.store.add(Term::List(ids))
     }
@@ -211,6 +217,7 @@ impl Laid {
         if !ids.is_empty() {
             return self.some_before(alloc, ids, tail);
         }
+        // For its clause: the ids of the slots are ids of the store.
         let _laid_in = self.frame();
         let mut other = Vec::new(alloc);
         other.push(self.atom(Value::Int(0))?)?;
@@ -234,6 +241,7 @@ impl Laid {
         ensures put { IfOk result (λ told. PutsBefore self.old ids tail self.new told) }
         ensures grows { Grows self.old self.new }
     {
+        // For their clauses, this and the two below: what each store keeps (`Keeps`).
         let _kept = self.store.mark();
         let rest = self.store.new_var()?;
         let _still = self.store.mark();

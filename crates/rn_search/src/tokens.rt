@@ -55,6 +55,7 @@ pub(crate) fn index_of(bag: &Bag, token: &Value) -> Option<usize>
     ensures first { IfSome result (λ k. first_token bag.now k ≡ Some token.now) }
     ensures absent { IfNone result (¬ Contains bag.now token.now) }
 {
+    // For its clause: the tokens of the bag are sorted.
     let _count = bag.len();
     let from = bag.first_from(token);
     if is_at(bag, from, token) {
