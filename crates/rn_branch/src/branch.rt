@@ -293,6 +293,7 @@ impl<'a> Grows for Branch<'a> {
     }
 
     fn next(&mut self, problem: &Problem<'a>) -> Result<Next<Point>, NoMemory> {
+        // For its clause: the start may start a firing.
         let _start = problem.start();
         if self.growing.mark() == 0 {
             return Ok(Next::Forced(Point::Start));
@@ -306,6 +307,7 @@ impl<'a> Grows for Branch<'a> {
         alloc: Global,
         problem: &Problem<'a>,
     ) -> Result<Option<Candidate>, NoMemory> {
+        // For its clause: the system is good.
         let _system = problem.system();
         let Some(binding) = binding_of(alloc, problem, self.growing.growing())? else {
             return Ok(None);
@@ -322,6 +324,7 @@ impl<'a> Grows for Branch<'a> {
         site: Point,
         alternative: usize,
     ) -> Result<bool, NoMemory> {
+        // For its clause: the start may start a firing.
         let _start = problem.start();
         let again = is_again(self.last, site);
         self.last = Some(site);

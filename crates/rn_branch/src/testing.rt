@@ -136,6 +136,7 @@ fn fails(
     requires test { IsTest growing.now offer.now.head.now var test.now }
     ensures { IfOk result (λ yes. IsTrue yes → FailsGuard growing.now offer.now var) }
 {
+    // Only a clause speaks of it.
     let _ = growing;
     let Some(guard) = offer.transition.guards.get(test.guard) else {
         return Ok(false);

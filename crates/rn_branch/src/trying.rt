@@ -43,6 +43,7 @@ fn is_vain_token(
     ensures kept { AreKept growing.now kept.new }
     ensures takings { AreTakings growing.now.system growing.now.decisions takings.new }
 {
+    // For their clauses: the tokens of the table fit their places, and the system is good.
     let _ = problem.table();
     let _ = problem.system();
     let Some(index) = from.checked_add(a) else {

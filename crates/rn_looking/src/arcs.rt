@@ -103,6 +103,7 @@ fn with_token(
     requires known { IsKnownToken growing.now head.now transition.now k told.now }
     ensures { Looked problem.now growing.now.decisions (IsOnArc head.now k) result }
 {
+    // Only clauses speak of these.
     let _ = head;
     let _ = transition;
     let Some(value) = told else {
@@ -130,6 +131,7 @@ fn with_first(
     requires known { IsKnownTokenFirst growing.now head.now transition.now k part.now }
     ensures { Looked problem.now growing.now.decisions (IsOnArc head.now k) result }
 {
+    // Only clauses speak of these.
     let _ = head;
     let _ = transition;
     let range = problem.range_of_first(growing.decisions(), node, k, part);

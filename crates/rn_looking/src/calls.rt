@@ -84,6 +84,7 @@ fn target_of(
     requires { (kinds : ℕ → Kind) × HasExprKind kinds expr.now K.Net }
     ensures { IfOk result (λ value. IsTarget growing.now head.now (target i) expr.now value) }
 {
+    // Only a clause speaks of it.
     let _ = i;
     match expr {
         Expr::This => Ok(Some(Value::Inst(copy_inst(alloc, &head.inst)?))),
@@ -184,6 +185,7 @@ pub(crate) fn lacks_levels(
     requires { IsLookedAt problem.now growing.now node head.now transition.now }
     ensures { IsTrue result → GoesOn problem.now growing.now.decisions Stuck }
 {
+    // Only clauses speak of these.
     let _ = growing;
     let _ = node;
     let _ = transition;

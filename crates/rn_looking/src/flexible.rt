@@ -63,6 +63,7 @@ fn test_arc(
     requires within { k < length transition.now.arcs }
     ensures { IfOk result (λ told. told ≡ Fails → GoesOn problem.now growing.now.decisions Stuck) }
 {
+    // Only a clause speaks of it.
     let _ = node;
     let arc = arc_at(transition, k);
     if !is_flexible(arc.kind) {

@@ -55,6 +55,7 @@ pub(crate) fn test_guards(
     requires { IsLookedAt problem.now growing.now node head.now transition.now }
     ensures { IfOk result (λ told. told ≡ Fails → GoesOn problem.now growing.now.decisions Stuck) }
 {
+    // Only clauses speak of these.
     let _ = problem;
     let _ = node;
     let mut waits = false;

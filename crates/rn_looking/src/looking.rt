@@ -209,6 +209,7 @@ pub(crate) fn look_at_node(
         kept.tested.pass(node);
         return Ok(Look::Done);
     };
+    // For its clause: the tokens of the table fit their places.
     let _ = problem.table();
     let transition = transition_in(problem.system(), head);
     let found = applications[node].as_slice();
