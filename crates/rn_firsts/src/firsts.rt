@@ -163,6 +163,7 @@ impl Firsts {
         ensures first { IfOk result (IsFirstOf system.now table.now.marking depth (λ b. ⊤)) }
         ensures known { IsKnown system.now table.now.marking depth self.new }
     {
+        // For its clauses: the numbers of the instances ascend, and are below the next one.
         let _end = table.next();
         let until = self.until;
         let again = &mut self.again;

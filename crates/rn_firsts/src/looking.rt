@@ -63,6 +63,7 @@ pub(crate) fn first_from(
     ensures first { IfOk result (IsFirstOf system.now table.now.marking depth (λ b. ⊤)) }
     ensures looked { IsLookedAt system.now table.now.marking depth until.new [] }
 {
+    // For its clause: the next number is bounded, so `number + 1` doesn't overflow.
     let _end = table.next();
     while let Some(number) = table.first_starting(*until) {
         let found = least_of(alloc, system, uplinks, table, depth, number, room)?;

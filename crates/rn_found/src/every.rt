@@ -83,6 +83,7 @@ fn all_of(alloc: Global, marked: Marked<'_>) -> Result<Vec<Candidate>, NoMemory>
     ensures { IfOk result (λ found. AreJust marked.entry.system.now marked.entry.table.now.marking
         marked.entry.depth (λ b. ⊤) found.items) }
 {
+    // For its clause: the next number is bounded, so `number + 1` doesn't overflow.
     let _end = marked.table.next();
     let mut found = Vec::new(alloc);
     let mut room = Room::new(alloc);
@@ -121,6 +122,7 @@ pub fn all_bindings(
     ensures ascending { IfOk result (λ found. AllAdjacentBelow (λ b c. binding_cmp b c ≡ Less)
         found.items (length found.items)) }
 {
+    // For its clauses: the numbers of the instances ascend, and are below the next one.
     let _end = table.next();
     let marked = Marked {
         system,

@@ -311,6 +311,7 @@ impl Finding {
             table,
             depth,
         };
+        // For its clauses: the numbers of the instances ascend, and are below the next one.
         let _end = table.next();
         if let Some(found) = explore(alloc, asked, marked, idle, &mut self.room, &mut self.turns)? {
             return Ok(Some(found));

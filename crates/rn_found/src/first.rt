@@ -92,6 +92,7 @@ fn find_lesser<'a>(
     ensures none { IfOk result (λ found. IsNone found
         ↔ NoneLeads (LeadsBelow lesser.now.sought lesser.now.than) []) }
 {
+    // For its clause: the system is good.
     let _system = lesser.sought.system();
     let mut branch = open_lesser(alloc, system, room, first);
     let found = rn_choices::find(alloc, lesser, &mut branch, &mut room.choices);
@@ -111,6 +112,7 @@ fn all_lesser<'a>(
     ensures { IfOk result (λ found. (b : Binding) → Contains found.items b
         ↔ LeadsBelow lesser.now.sought lesser.now.than [] b) }
 {
+    // For its clause: the system is good.
     let _system = lesser.sought.system();
     let mut branch = open_lesser(alloc, system, room, 0);
     let found = rn_choices::all(alloc, lesser, &mut branch, &mut room.choices);
@@ -190,6 +192,7 @@ fn search_straight<'a>(
     requires { system.now ≡ sought.now.system }
     ensures { IfOk result (EndsSo sought.now) }
 {
+    // For its clause: the system is good.
     let _system = sought.system();
     let mut branch = room.open(alloc, system, 0);
     let end = go_straight(alloc, sought, &mut branch);
@@ -208,6 +211,7 @@ fn find_any<'a>(
     ensures found { IfOk result (λ found. IfSome found (Leads sought.now [])) }
     ensures none { IfOk result (λ found. IsNone found ↔ NoneLeads (Leads sought.now) []) }
 {
+    // For its clause: the system is good.
     let _system = sought.system();
     let mut branch = room.open(alloc, system, 0);
     let found = rn_choices::find(alloc, sought, &mut branch, &mut room.choices);
@@ -294,6 +298,7 @@ fn first_at(alloc: Global, marked: Marked<'_>) -> Result<Option<Candidate>, NoMe
     ensures { IfOk result (IsFirstOf marked.entry.system.now marked.entry.table.now.marking
         marked.entry.depth (λ b. ⊤)) }
 {
+    // For its clause: the next number is bounded, so `number + 1` doesn't overflow.
     let _end = marked.table.next();
     let mut room = Room::new(alloc);
     let mut from = 0;
@@ -327,6 +332,7 @@ pub fn least(
     ensures none { IfOk result (λ found. IsNone found
         ↔ DeadAt system.now table.now.marking depth) }
 {
+    // For its clauses: the numbers of the instances ascend, and are below the next one.
     let _end = table.next();
     let marked = Marked {
         system,

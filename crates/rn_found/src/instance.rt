@@ -45,6 +45,7 @@ pub fn bindings_of(
     ensures ascending { IfOk result (λ found. AllAdjacentBelow (λ b c. binding_cmp b c ≡ Less)
         found.items (length found.items)) }
 {
+    // For its clauses: the numbers of the instances ascend, and are below the next one.
     let _end = table.next();
     let marked = Marked {
         system,
@@ -76,6 +77,7 @@ pub fn least_of(
     requires tokens { HasFitTokens system.now table.now.marking }
     ensures { IfOk result (IsFirstOf system.now table.now.marking depth (HasStartIn instance)) }
 {
+    // For its clauses: the numbers of the instances ascend, and are below the next one.
     let _end = table.next();
     let marked = Marked {
         system,

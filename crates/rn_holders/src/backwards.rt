@@ -107,6 +107,7 @@ fn go_back(
         let number = *number;
         join_holders(alloc, table, holders_of(holders, number), number, found)?;
     }
+    // For its clauses: there are fewer than 2^63 numbers, so all were gone through.
     let _len = found.len();
     Ok(())
 }
@@ -122,6 +123,7 @@ fn go_back_by(holders: &[Nums], found: &mut IndexSet<u32>) -> Result<(), NoMemor
         let number = *number;
         join_all(holders_of(holders, number), found)?;
     }
+    // For its clauses: there are fewer than 2^63 numbers, so all were gone through.
     let _len = found.len();
     Ok(())
 }
@@ -156,6 +158,7 @@ pub fn reaching(
     let mut found = IndexSet::new(alloc);
     join_all(those, &mut found)?;
     go_back(alloc, table, holders, &mut found)?;
+    // For its clause: each number is there once.
     let _len = found.len();
     Ok(found)
 }
