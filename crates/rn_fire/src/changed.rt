@@ -87,6 +87,7 @@ impl SimState {
         let mut changed = Vec::new(alloc);
         put_entries(&self.entries()[seen as usize..], &mut changed)?;
         put_numbers(next, self.table().next(), &mut changed)?;
+        // For its clause: it is a state of a run (`IsState`), so its log is a run of a good system.
         let _length = self.length();
         Ok(changed)
     }

@@ -73,6 +73,7 @@ fn follow(
 {
     let changed = state.changed_since(alloc, seen, next)?;
     let base = state.base();
+    // For its clause: it is a state of a run (`IsState`), so its tokens fit their places.
     let _length = base.length();
     lists.refresh(base.system(), uplinks, base.table(), changed.as_slice())?;
     Ok(())
@@ -146,6 +147,7 @@ pub fn run_counts(alloc: Global, system: Arc<System>, options: Options) -> Resul
 {
     let mut state = open_least(alloc, system, options)?;
     let base = state.base();
+    // For its clause: it is a state of a run (`IsState`), so its tokens fit their places.
     let _length = base.length();
     let system = base.system();
     let uplinks = Uplinks::new(alloc, system)?;

@@ -69,6 +69,7 @@ impl LeastState {
             return CommitAt::Late { seen, now };
         }
         let answer = self.state.commit(alloc, worker, candidate, seen);
+        // For its clause: what is left is a state of a run (`IsState`).
         let _length = self.state.length();
         answer_at(answer)
     }

@@ -20,6 +20,7 @@ impl LeastState {
         ensures { EndsDead self.old result self.new }
     {
         let answer = self.state.commit_none(seen);
+        // For its clause: what is left is a state of a run (`IsState`).
         let _length = self.state.length();
         answer
     }
@@ -30,6 +31,7 @@ impl LeastState {
         ensures { EndsAtLimit self.old result self.new }
     {
         let ends = self.state.end_steps();
+        // For its clause: what is left is a state of a run (`IsState`).
         let _length = self.state.length();
         ends
     }
@@ -40,6 +42,7 @@ impl LeastState {
         ensures { self.new ≡ with_end End.Memory self.old }
     {
         self.state.end_memory(refused);
+        // For its clause: what is left is a state of a run (`IsState`).
         let _length = self.state.length();
     }
 

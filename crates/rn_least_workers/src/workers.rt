@@ -104,6 +104,7 @@ pub fn run_least<R: Threads + Wait + Sync, G: Gate + Sync>(
     let (passes, tallies) = parted(alloc, posts)?;
     let Closed { state: closed } = close(desk, passes);
     let mut state = closed.into_state();
+    // For its clause: it is a state of a run (`IsState`).
     let _length = state.length();
     drop_dead(alloc, &mut state)?;
     Ok(Finished {

@@ -21,6 +21,7 @@ fn is_dead(alloc: Global, state: &SimState, depth: u32) -> Result<bool, NoMemory
     ensures { IfOk result (λ dead. IsTrue dead
         ↔ DeadAt state.now.setup.system state.now.table.marking depth) }
 {
+    // For its clause: it is a state of a run (`IsState`), so its tokens fit their places.
     let _length = state.length();
     let system = state.system();
     let table = state.table();

@@ -196,6 +196,7 @@ pub(crate) fn act<R: Wait>(
 {
     let mut turn = desk.take(rt, pass);
     let state = turn.state();
+    // For its clause: it is a state of a run (`IsState`).
     let _length = state.length();
     let done = act_on(alloc, state, worker, looked, plan);
     let view = view_below(alloc, state, steps, looked, next);

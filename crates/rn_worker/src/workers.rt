@@ -131,6 +131,7 @@ fn run_by<R: Threads + Wait + Sync, G: Gate + Sync>(
     );
     let (passes, tallies) = parted(alloc, posts)?;
     let Closed { mut state } = close(desk, passes);
+    // For its clause: it is a state of a run (`IsState`).
     let _length = state.length();
     drop_dead(alloc, &mut state)?;
     Ok(Finished {
