@@ -22,6 +22,7 @@ fn moves_text(alloc: Global, state: &SimState) -> Result<Vec<u8>, NoMemory>
     ensures state { IsState state.now }
 {
     logs_have_moves();
+    // For its clause: it is a state of a run (`IsState`).
     let _length = state.length();
     write_moves(alloc, state.system(), state.entries())
 }

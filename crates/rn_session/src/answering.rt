@@ -76,6 +76,7 @@ fn put_fire(
     match refusal_of(fired) {
         Some(number) => put_no(alloc, number, out),
         None => {
+            // For its clause: what is left is the state of a session (`IsSession`).
             let _state = session.state();
             put_last(alloc, session, names, out)?;
             put_ok(out)

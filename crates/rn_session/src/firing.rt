@@ -68,6 +68,7 @@ impl Session {
         ensures none { IfOk result (λ o. IfNone o (NoneIsNumbered self.now.setup.system
             (end_marking self.now) self.now.setup.options.depth 1)) }
     {
+        // For its clause: it is a state of a run (`IsState`), so its tokens fit their places.
         let _length = self.state.length();
         let system = self.state.system();
         let table = self.state.table();
@@ -88,6 +89,7 @@ impl Session {
         let committed = self.state.commit(alloc, 1, candidate, seen);
         let answer = told(committed)?;
         self.kept.push_reserved(before);
+        // For its clause: what is left is a state of a run (`IsState`).
         let _length = self.state.length();
         Ok(answer)
     }

@@ -69,6 +69,7 @@ pub fn open_session(
 {
     let state = open_state(alloc, system, options)?;
     let uplinks = Uplinks::new(alloc, state.system())?;
+    // For its clause: it is a state of a run (`IsState`).
     let _length = state.length();
     Ok(Session {
         state,
@@ -92,6 +93,7 @@ impl Session {
         ensures { IfOk result (λ found. AreEnabled self.now.setup.system (end_marking self.now)
             self.now.setup.options.depth found.items) }
     {
+        // For its clause: it is a state of a run (`IsState`), so its tokens fit their places.
         let _length = self.state.length();
         let system = self.state.system();
         let table = self.state.table();

@@ -20,6 +20,7 @@ impl Session {
             unreachable!();
         };
         self.state.rewind(count, table);
+        // For its clause: what is left is a state of a run (`IsState`).
         let _length = self.state.length();
         Ok(true)
     }
