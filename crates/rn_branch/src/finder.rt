@@ -1,7 +1,7 @@
 //! Tokens that are passed by, since they lack a part that is known. Where the inscription of an arc
-//! is a tuple and a part of it is a forced variable, no binding has a token without that part. So
-//! the tokens up to the next one with it are passed at once (`docs/SEARCH.md`, 'A binding grows by
-//! decisions').
+//! is a tuple and a part of it is a forced variable, no binding that follows finds a token without
+//! that part. So the tokens up to the next one with it are passed at once (`docs/SEARCH.md`, 'A
+//! binding grows by decisions').
 ghost use Rattle.std.specs.Prelude.{◌≡◌, ◌<◌, ◌≤◌, ◌+◌, ℕ, IfOk, IfSome, IsTrue, true};
 ghost use Rattle.rn_model.specs.Derivation.{finds_values};
 ghost use Rattle.rn_branch.specs.Finders.{IsKnownPart, IsPassed, IsFinder};

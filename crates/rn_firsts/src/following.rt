@@ -1,7 +1,6 @@
-//! What a change leaves of what is known. The lists of who may refer to whom are only added to: a
-//! holder too many has one more instance looked at, one too few would miss a binding. Where they
-//! are held, only the changed instances are gone through (`docs/SEARCH.md`, 'What a start depends
-//! on').
+//! What a change leaves of what is known. While the lists of who may refer to whom are held, they
+//! are only added to, from the changed instances: a holder too many has one more instance looked
+//! at, one too few would miss a binding (`docs/SEARCH.md`, 'What a start depends on').
 ghost use Rattle.std.specs.Prelude.{◌≡◌, ◌<◌, ℕ, true, OnOk, All, Contains};
 ghost use Rattle.rn_model.specs.declared.system.System.{System};
 ghost use Rattle.rn_model.specs.Markings.{Marking};

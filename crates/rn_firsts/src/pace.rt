@@ -1,7 +1,7 @@
 //! When it is cheaper to bring what is known up to date than to look again. To follow a change goes
 //! through the changed instances and their tokens, so it is left where that is more than it spares,
-//! or where changes reach most of what is known. No promise rests on it (`docs/SEARCH.md`, 'What is
-//! searched again').
+//! or where a change reached half of what is known. No promise rests on it (`docs/SEARCH.md`, 'What
+//! is searched again').
 use rn_table::Table;
 
 /// Up to so many instances are looked at again each time.

@@ -1,6 +1,6 @@
 //! Drawing where a searcher looks next, with a seed. The draws begin with the seed and the
 //! searcher's number, so the numbers drawn are the same each time that these are. They decide where
-//! is looked beside the full search, and never whether a marking is dead (`docs/SEARCH.md`,
+//! a searcher looks beside its full search, and never whether a marking is dead (`docs/SEARCH.md`,
 //! 'Everyone gets a turn').
 ghost use Rattle.std.specs.Prelude.{◌<◌};
 

@@ -1,6 +1,7 @@
-//! What is known of the flexible arcs of a node that take a list. Each binding that follows has the
-//! list that is forced, so where the place doesn't hold its elements as often, the branch ends.
-//! What other arcs take of the place isn't counted (`docs/SEARCH.md`, "What isn't said").
+//! What is known of the flexible arcs of a node that take the elements of a list. Each binding that
+//! follows has the list that is forced, so where the place doesn't hold its elements as often, the
+//! branch ends. What other arcs take of the place isn't counted (`docs/SEARCH.md`, "What isn't
+//! said").
 ghost use Rattle.std.specs.Prelude.{◌≡◌, ◌<◌, ◌↔◌, [], IfOk, IsTrue, length, unwrap_or};
 ghost use Rattle.std.specs.Option.{option_copied};
 ghost use Rattle.rn_model.specs.Lists.{IsWithin};

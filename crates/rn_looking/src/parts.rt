@@ -1,6 +1,6 @@
 //! Parts of a system and of decisions, looked up. By the contract the net and the transition of a
 //! node are there, so looks have no case without them. Which kinds of arcs find a token or a list,
-//! inhibit, or take a list is said here for all looks.
+//! inhibit, or take the elements of a list, is said here for all looks.
 ghost use Rattle.std.specs.Prelude.{◌≡◌, ◌<◌, ◌↔◌, IsTrue, length};
 ghost use Rattle.rn_model.specs.declared.system.ArcKind.TheVariants.{FlexInput, Inhibit};
 ghost use Rattle.rn_model.specs.Derivation.{finds_token, finds_values};

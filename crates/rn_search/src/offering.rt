@@ -1,7 +1,7 @@
 //! What the alternatives of a point mean, and how many there are. An alternative is a number, and
-//! its decision is made only when it is tried, so no other token of the place is copied. Of equal
-//! tokens only the first is a decision, or a binding would be found twice (`docs/SEARCH.md`, 'What
-//! it does next').
+//! its decision is made only when it is tried, so of a choice among tokens just that one is copied.
+//! Of equal tokens only the first is a decision, or a binding would be found twice
+//! (`docs/SEARCH.md`, 'What it does next').
 ghost use Rattle.std.specs.Prelude.{◌≡◌, ◌<◌, ◌^◌, [], Some, IfOk, List, OnSome, ℕ, slice_get, length};
 ghost use Rattle.std.specs.Prelude.{Contains, IfSome, IfNone, IsTrue, ◌≤◌, ◌↔◌};
 ghost use Rattle.std.specs.Prelude.{◌+◌, None, unwrap_or};
