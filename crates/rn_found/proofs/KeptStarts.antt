@@ -20,8 +20,8 @@ use Rattle.rn_search.specs.Missing.{MayStart}
 use Rattle.rn_search.specs.Sought.{StartsAt}
 use Rattle.rn_search.proofs.Needed.{starts_find_tokens, starts_find_room}
 use Rattle.rn_found.specs.Starting.{IsKept, IsNoStart, is_starved, lacks_token, start_of}
-use Rattle.rn_found.specs.Starting.{overfills, lacks_room}
-use Rattle.rn_found.proofs.StartingBindings.{may_start_of, may_start_there}
+use Rattle.rn_found.specs.Starting.{MayStartBy, IsNoStartIn, overfills, lacks_room}
+use Rattle.rn_found.proofs.StartingBindings.{may_start_of, may_start_there, none_in}
 
 -- what is found by a number is kept
 pub found_kept : (m : Marking) (n : ℕ) (i : Instance) → instance_at m n ≡ Some i → IsKept m i
@@ -105,14 +105,18 @@ kept_may_start system m i t kept there uplink =
 
 -- No enabled binding starts by a transition with an uplink, nor by one that lacks a token or room.
 pub none_unless_may : (system : System) (m : Marking) (depth : ℕ) (i : Instance) (t : ℕ) →
-    IsKept m i →
-    ¬ (((transition_at system i.net t).uplink ≡ None)
-    × (lacks_token i (transition_at system i.net t) ≡ false)
-    × (lacks_room system i (transition_at system i.net t) ≡ false)) →
-    IsNoStart system m depth (start_of i.number i.net t)
+    IsKept m i → ¬ MayStartBy system i t → IsNoStart system m depth (start_of i.number i.net t)
 none_unless_may system m depth i t kept may_not b enabled starts =
     may_not (
       (may_start_there system m depth b (start_of i.number i.net t) enabled starts).uplink,
       none_lacks system m depth i t b kept enabled starts,
       none_overfills system m depth i t b kept enabled starts,
     )
+
+-- so by none of an instance, where that is so of each of its net
+pub none_in_kept : (system : System) (m : Marking) (depth : ℕ) (i : Instance) → IsKept m i →
+    ((t : ℕ) → t < length (net_at system i.net).transitions → ¬ MayStartBy system i t) →
+    IsNoStartIn system m depth i.number
+none_in_kept system m depth i kept none =
+    none_in system m depth i.number i.net (kept_net m i kept)
+    (λ t there. none_unless_may system m depth i t kept (none t there))

@@ -1,6 +1,6 @@
 -- Bindings by where they start.
 use Rattle.std.specs.Prelude.{ℕ, ◌≡◌, ◌<◌, ◌≤◌, ◌≢◌, List, [], ◌++◌, Contains, AllPairs, All, map}
-use Rattle.std.specs.Prelude.{Bool, false, ◌&&◌, ◌+◌, Some, length, nat_eq, nat_lt, slice_get}
+use Rattle.std.specs.Prelude.{Bool, false, ◌&&◌, ◌+◌, None, Some, length, nat_eq, nat_lt, slice_get}
 use Rattle.std.specs.Prelude.{unwrap_or}
 use Rattle.std.specs.List.{list_any}
 use Rattle.std.specs.List.Sorted.{IsStrictlyIncreasing}
@@ -15,7 +15,7 @@ use Rattle.rn_model.specs.Enabling.{Enabled}
 use Rattle.rn_model.specs.Good.{Good}
 use Rattle.rn_model.specs.Markings.{Marking, Instance, instance_at}
 use Rattle.rn_model.specs.RoomLaws.{puts_one, takers_at, putters_at, is_plain_at}
-use Rattle.rn_model.specs.Systems.{capacity}
+use Rattle.rn_model.specs.Systems.{capacity, transition_at}
 use Rattle.rn_search.specs.Problems.{HasFitTokens}
 use Rattle.rn_channel.specs.declared.uplinks.Uplinks.{Uplinks}
 use Rattle.rn_channel.specs.Uplinks.{AreUplinksOf}
@@ -63,6 +63,13 @@ overfills system i t x =
 -- a transition calls nothing, and some arc of it has no room
 abbrev pub lacks_room : System → Instance → Transition → Bool
 lacks_room system i t = nat_eq (length t.downlinks) 0 && list_any (overfills system i t) t.arcs
+
+-- a firing may start by a transition of an instance, as far as the instance alone tells
+abbrev pub MayStartBy : System → Instance → ℕ → Type 0
+MayStartBy system i t =
+    ((transition_at system i.net t).uplink ≡ None)
+    × (lacks_token i (transition_at system i.net t) ≡ false)
+    × (lacks_room system i (transition_at system i.net t) ≡ false)
 
 -- no enabled binding starts at a node
 abbrev pub IsNoStart : System → Marking → ℕ → Head → Type 0

@@ -42,6 +42,9 @@ pub(crate) struct Explorer {
 
     /// How much has to be earned for exploring to cost one.
     price: u64,
+
+    /// What a search from home costs, by those that were done, the last one most.
+    usual: u64,
 }
 
 // The largest power of two that divides a number, up to 2^30.
@@ -70,10 +73,12 @@ impl Explorer {
             earned: 0,
             spent: 0,
             price: PRICE,
+            usual: LEAST,
         }
     }
 
-    /// Starts are drawn, and exploring may cost as much as the searches that find something.
+    /// Starts are drawn, and exploring may cost as much as the searches that find something would cost
+    /// at home.
     pub(crate) fn drawing() -> Explorer {
         Explorer {
             earned: ADVANCE,
@@ -92,6 +97,19 @@ impl Explorer {
         self.earned = self.earned.saturating_add(cost);
         let most = SAVED.max(cost);
         self.spent = self.spent.max(self.earned.saturating_sub(most));
+    }
+
+    /// The full search from home found something, and cost so much.
+    pub(crate) fn earn_at_home(&mut self, cost: u64) {
+        self.earn(cost);
+        self.usual = self.usual.saturating_mul(3).saturating_add(cost) / 4;
+    }
+
+    /// Something was found at a start that was drawn, and cost so much. That earns what it would have
+    /// cost at home, and costs what it took beyond.
+    pub(crate) fn note_drawn(&mut self, cost: u64) {
+        self.earn(cost.min(self.usual));
+        self.pay(cost.saturating_sub(self.usual));
     }
 
     /// So much was spent on exploring.

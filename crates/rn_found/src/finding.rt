@@ -2,8 +2,8 @@
 //! round all starts from home that aren't known to be idle. Only this last round says that a
 //! marking is dead, since all that comes before it has a limit of cost (`docs/SEARCH.md`, 'Everyone
 //! gets a turn').
-ghost use Rattle.std.specs.Prelude.{◌≡◌, ◌↔◌, ◌<◌, ◌≤◌, ℕ, IfOk, IfSome, IfNone, IsNone, Some, Contains, length};
-ghost use Rattle.rn_model.specs.Systems.{net_at};
+ghost use Rattle.std.specs.Prelude.{◌≡◌, ◌↔◌, ◌<◌, ◌≤◌, ℕ, IfOk, IfSome, IfNone, IsNone, None, Some, Contains, length};
+ghost use Rattle.rn_model.specs.Systems.{net_at, transition_at};
 ghost use Rattle.rn_model.specs.Good.{Good};
 ghost use Rattle.rn_model.specs.Enabling.{Enabled, DeadAt};
 ghost use Rattle.rn_search.specs.Problems.{HasFitTokens};
@@ -19,7 +19,7 @@ use crate::hint::Hint;
 use crate::idle::Idle;
 use crate::marked::{Marked, problem_at};
 use crate::room::Room;
-use crate::starts::{cost_of, may_start, transition_count};
+use crate::starts::{cost_of, may_start, starts_none, transition_count};
 use crate::turns::Turns;
 use rn_binding::Candidate;
 use rn_channel::Uplinks;
@@ -61,6 +61,31 @@ pub(crate) fn find_from<A: Asked>(
         room.pass();
         return Ok(None);
     }
+    search_from(alloc, asked, marked, room, inst, transition, hint)
+}
+
+// The same, where that is so. It stands alone since a search has much to lay out, which a start that
+// is passed by shall not pay for.
+fn search_from<A: Asked>(
+    alloc: Global,
+    asked: &A,
+    marked: Marked<'_>,
+    room: &mut Room,
+    inst: &Inst,
+    transition: u32,
+    hint: Hint,
+) -> Result<Option<Candidate>, A::Halt>
+    requires searched { IsSearchable marked.system.now marked.uplinks.now
+        marked.table.now }
+    requires kept { IsKept marked.table.now.marking inst.now }
+    requires there { transition < length (net_at marked.system.now inst.now.net).transitions }
+    requires uplink { (transition_at marked.system.now inst.now.net transition).uplink ≡ None }
+    ensures found { IfOk result (λ found. IfSome found (λ b. Enabled marked.entry.system.now
+        marked.entry.table.now.marking b marked.entry.depth)) }
+    ensures none { IfOk result (λ found. IfNone found (IsNoStart marked.entry.system.now
+        marked.entry.table.now.marking marked.entry.depth
+        (start_of inst.now.number inst.now.net transition))) }
+{
     room.choices.spend(cost_of(marked.system, inst, transition));
     room.choices.set_lag(hint.lap);
     let problem = problem_at(alloc, marked, inst.number(), inst.net(), transition)?;
@@ -121,6 +146,10 @@ fn find_at<A: Asked>(
         return Ok(None);
     };
     let count = transition_count(marked.system, inst.net());
+    if starts_none(marked.system, inst) {
+        room.pass_all(count);
+        return Ok(None);
+    }
     let first = hint.first_of(number).min(count);
     if let Some(found) = find_among(alloc, asked, marked, room, inst, first, count, hint)? {
         return Ok(Some(found));
@@ -322,7 +351,7 @@ impl Finding {
         let before = self.room.choices.spent();
         let found = self.find_round(alloc, asked, marked, idle)?;
         let cost = self.room.choices.spent().wrapping_sub(before);
-        self.turns.explorer.earn(cost);
+        self.turns.explorer.earn_at_home(cost);
         Ok(found)
     }
 

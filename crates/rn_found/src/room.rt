@@ -38,6 +38,12 @@ impl Room {
         self.passed = self.passed.wrapping_add(1);
     }
 
+    /// So many starts are passed by.
+    pub(crate) fn pass_all(&mut self, count: u32) {
+        self.choices.spend(count as u64);
+        self.passed = self.passed.wrapping_add(count as u64);
+    }
+
     /// A branch without decisions, which has the room until it is put back.
     pub(crate) fn open<'a>(&mut self, alloc: Global, system: &'a System, first: usize) -> Branch<'a>
         requires { HasFewCreations system.now }

@@ -2,12 +2,12 @@
 //! uplink, the place of an arc that finds a token is empty, or a place has no room. No enabled
 //! binding starts so, and it costs only a look at some places (`docs/SEARCH.md`, 'Where it
 //! starts').
-ghost use Rattle.std.specs.Prelude.{◌≡◌, ◌<◌, ◌↔◌, IfOk, IsTrue, None, false, length};
+ghost use Rattle.std.specs.Prelude.{◌≡◌, ◌<◌, ◌↔◌, ℕ, IfOk, IsTrue, length};
 ghost use Rattle.std.specs.List.{list_any};
 ghost use Rattle.rn_model.specs.Derivation.{finds_token};
 ghost use Rattle.rn_model.specs.Good.{Good};
 ghost use Rattle.rn_model.specs.Systems.{net_at, transition_at};
-ghost use Rattle.rn_found.specs.Starting.{is_starved, lacks_room, lacks_token, start_of};
+ghost use Rattle.rn_found.specs.Starting.{MayStartBy, is_starved, start_of};
 
 use crate::capacities::lacks_room;
 use rn_growing::Head;
@@ -73,16 +73,26 @@ fn lacks_token(inst: &Inst, arcs: &[NetArc]) -> bool
 /// alone put there. It takes no memory.
 pub(crate) fn may_start(system: &System, inst: &Inst, transition: u32) -> bool
     requires { transition < length (net_at system.now inst.now.net).transitions }
-    ensures { IsTrue result
-        ↔ (((transition_at system.now inst.now.net transition).uplink ≡ None)
-        × (lacks_token inst.now (transition_at system.now inst.now.net transition) ≡ false)
-        × (lacks_room system.now inst.now (transition_at system.now inst.now.net transition)
-        ≡ false)) }
+    ensures { IsTrue result ↔ MayStartBy system.now inst.now transition }
 {
     let transition = &transitions_of(system, inst.net())[transition as usize];
     transition.uplink.is_none()
         && !lacks_token(inst, transition.arcs.as_slice())
         && !lacks_room(system, inst, transition)
+}
+
+/// Whether a firing may start by no transition of an instance.
+pub(crate) fn starts_none(system: &System, inst: &Inst) -> bool
+    requires { Good system.now }
+    ensures { IsTrue result → (t : ℕ) → t < length (net_at system.now inst.now.net).transitions →
+        ¬ MayStartBy system.now inst.now t }
+{
+    for t in 0..transition_count(system, inst.net()) {
+        if may_start(system, inst, t) {
+            return false;
+        }
+    }
+    true
 }
 
 /// What a search from a start by a transition of an instance costs before its first step: the more,

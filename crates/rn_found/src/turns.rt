@@ -115,10 +115,10 @@ impl Turns {
     }
 
     /// A start was explored, to its end or not. With a seed a start where something was found costs
-    /// nothing.
+    /// little.
     pub(crate) fn note(&mut self, cost: u64, is_whole: bool, is_found: bool) {
         if is_found && self.draws() {
-            self.explorer.earn(cost);
+            self.explorer.note_drawn(cost);
         } else {
             self.explorer.note(cost, is_whole);
         }

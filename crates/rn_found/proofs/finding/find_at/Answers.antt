@@ -5,7 +5,7 @@ use Rattle.rn_model.specs.Markings.{Instance, instance_at, net_of}
 use Rattle.rn_model.specs.Systems.{net_at}
 use Rattle.rn_model.proofs.AfterFiring.{found_number}
 use Rattle.rn_found.specs.Starting.{IsKept, IsNoStartIn}
-use Rattle.rn_found.proofs.KeptStarts.{found_kept, kept_net}
+use Rattle.rn_found.proofs.KeptStarts.{found_kept, kept_net, none_in_kept}
 use Rattle.rn_found.proofs.StartingBindings.{none_round, none_where_absent}
 use Rattle.rn_found.proofs.finding.find_at.Goals as goal
 
@@ -25,6 +25,16 @@ pub find_among-requires-2-clause-kept : goal.find_among-requires-2-clause-kept
 find_among-requires-2-clause-kept g c =
     found_kept c.args.marked.table.now.marking c.args.number c.in-Some.inst.now
     (sym c.find.ensures ∙ ap option_copied c.in-Some.is)
+
+pub returns-then-starts_none-clause-none : goal.returns-then-starts_none-clause-none
+returns-then-starts_none-clause-none g c =
+    let m = c.args.marked.table.now.marking in
+    let i = c.in-Some.inst.now in
+    let is : instance_at m c.args.number ≡ Some i = sym c.find.ensures ∙ ap option_copied c.in-Some.is in
+    subst (IsNoStartIn c.args.marked.system.now m c.args.marked.depth)
+    (found_number m.instances c.args.number i is)
+    (none_in_kept c.args.marked.system.now m c.args.marked.depth i
+    (found_kept m c.args.number i is) (c.starts_none.ensures c.if-starts_none.true))
 
 pub returns-clause-none : goal.returns-clause-none
 returns-clause-none g c =
