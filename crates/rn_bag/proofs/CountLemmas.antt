@@ -1,20 +1,24 @@
 -- How many items a word chooses, and the one of a number.
-use Rattle.std.proofs.Common.{◌≡◌, ℕ, zero, suc, ◌+◌, ◌-◌, ◌*◌, ◌/◌, ◌^◌, ◌<◌, ◌≤◌, nat_eq, bit_and, min, Bool, true, false, cond, Some, slice_get, List, [], ◌∷◌, ◌++◌, length, take, drop, get_or, set, length-append, length-take, append-nil, refl, sym, ap, ◌∙◌, subst, arith}
+use Rattle.std.proofs.Common.{◌≡◌, ◌≢◌, ℕ, zero, suc, ◌+◌, ◌-◌, ◌*◌, ◌/◌, ◌^◌, ◌<◌, ◌≤◌, nat_eq, bit_and, min, Bool, true, false, cond, Some, slice_get, List, [], ◌∷◌, ◌++◌, length, take, drop, get_or, set, length-set, length-append, length-take, length-drop, append-nil, refl, sym, ap, ◌∙◌, subst, arith}
 use Rattle.std.proofs.lemmas.Nat.{and_le_r}
 use Rattle.std.proofs.lemmas.Nat.Bits.{bit_at-suc, bit_at_lowest, bit_at_and, bit_at_ones, bit_at-lt}
 use Rattle.std.specs.Int.{bit_at}
 use lib.Count.{ones, ones_in, ones_step}
 use lib.Pow.{shr_lt}
 use Rattle.rn_value.specs.declared.value.Value.{Value}
+use Rattle.rn_value.specs.declared.value.Value.TheVariants as Value
 use Rattle.rn_bag.specs.Slots.{there_from}
 use Rattle.rn_bag.specs.Words.{has_bit}
 use Rattle.rn_bag.specs.Chunks.{Slots, AreCounted, tokens_of, tokens_in, values_in}
-use Rattle.std.proofs.lemmas.List.{take_more, take-take, get_or-take}
+use Rattle.std.proofs.lemmas.List.{take_more, take-take, get_or-take, get_or-drop}
+use Rattle.std.proofs.lemmas.Option.{slice_get-get_or, get_or_from_slice_get}
+use Rattle.std.specs.List.{slice_range}
 use Rattle.std.proofs.lemmas.List.Concat.{flat_map-append}
 use Rattle.std.proofs.Math.Seq.{take-suc-set}
-use Rattle.rn_bag.proofs.SlotLemmas.{there_agrees, there_parts, there_next, there_joined}
+use Rattle.std.proofs.lemmas.Grind.{get_or-set_at}
+use Rattle.rn_bag.proofs.SlotLemmas.{there_agrees, there_parts, there_next, there_joined, there_cut, there_skipped, there_whole}
 use Rattle.rn_bag.proofs.SlotIndexLemmas.{tokens_parts}
-use Rattle.rn_bag.proofs.EditLemmas.{same_values, replaced_tokens_of}
+use Rattle.rn_bag.proofs.EditLemmas.{read_at, same_values, replaced_tokens_of}
 
 -- numbers that begin later
 there_shifted : (t u : ℕ → Bool) (n : ℕ) (vs : List Value) → ((i : ℕ) → t (suc i) ≡ u i) → there_from t (suc n) vs ≡ there_from u n vs
@@ -86,6 +90,118 @@ nth_found t vs slot n v within is low high =
     ap (there_from t 0) more ∙ there_joined t 0 (take slot vs) (v ∷ []) ∙ ap (λ m. a ++ cond (t m) (v ∷ []) []) place in
     ap (λ r. slice_get r n) all ∙ nth_case (t slot) a rest v n low (subst (λ (r : List Value). n < length r) here high)
 
+-- slots that all hold a token, one after another, count one each
+run_rank : (t : ℕ → Bool) (vs : List Value) (s k : ℕ) → s + k ≤ length vs →
+    ((i : ℕ) → s ≤ i → i < s + k → t i ≡ true) →
+    length (there_from t 0 (take (s + k) vs)) ≡ length (there_from t 0 (take s vs)) + k
+run_rank t vs s k within all =
+    let ws : List Value = take (s + k) vs in
+    let size : length ws ≡ s + k = omega (arith, length-take (s + k) vs) in
+    let left : length (drop s ws) ≡ k = omega (arith, length-drop s ws, size) in
+    let front : take s ws ≡ take s vs = take-take s (s + k) vs (omega arith) in
+    let whole : there_from t s (drop s ws) ≡ drop s ws
+    = there_whole t s (drop s ws) (λ i low high. all i low (omega (arith, left))) in
+    let cut = ap length (there_cut t s ws (omega (arith, size))) in
+    let joined = length-append (there_from t 0 (take s ws)) (there_from t s (drop s ws)) in
+    let first : length (there_from t 0 (take s ws)) ≡ length (there_from t 0 (take s vs))
+    = ap (λ r. length (there_from t 0 r)) front in
+    omega (arith, cut, joined, first, ap length whole, left)
+
+-- a slot that holds none doesn't count
+free_rank : (t : ℕ → Bool) (vs : List Value) (s : ℕ) → s < length vs → t s ≡ false →
+    length (there_from t 0 (take (s + 1) vs)) ≡ length (there_from t 0 (take s vs))
+free_rank t vs s within free =
+    ap length (there_skipped t s (s + 1) vs (omega arith) (omega arith)
+    (λ i low high. let same : s ≡ i = omega (arith, low, high) in subst (λ j. t j ≡ false) same free))
+
+-- The token of an index has its slot where halving ends, and so have those after it in the slots that
+-- follow, as long as these hold tokens.
+pub record IsRun (t : ℕ → Bool) (vs : List Value) (s e n : ℕ) : Type 0 where
+  pub inside : s < e
+  pub within : e ≤ length vs
+  pub there : (i : ℕ) → s ≤ i → i < e → t i ≡ true
+  pub first : length (there_from t 0 (take s vs)) ≡ n
+
+pub run_begins : (t : ℕ → Bool) (vs : List Value) (s n : ℕ) → s < length vs →
+    length (there_from t 0 (take s vs)) ≤ n → n < length (there_from t 0 (take (s + 1) vs)) →
+    t s ≡ true
+run_begins t vs s n within low high = by (t s) (free_rank t vs s within)
+  where
+    by : (b : Bool) → (b ≡ false → length (there_from t 0 (take (s + 1) vs))
+        ≡ length (there_from t 0 (take s vs))) → b ≡ true
+    by true none = refl
+    by false none = absurd (omega (arith, low, high, none refl))
+
+pub run_is : (t : ℕ → Bool) (vs : List Value) (s e n : ℕ) → s < e → e ≤ length vs →
+    ((i : ℕ) → s ≤ i → i < e → t i ≡ true) → length (there_from t 0 (take s vs)) ≤ n →
+    n < length (there_from t 0 (take (s + 1) vs)) → IsRun t vs s e n
+run_is t vs s e n inside within all low high = record {
+  inside = inside;
+  within = within;
+  there = all;
+  first = omega (
+    arith,
+    low,
+    high,
+    run_rank t vs s 1 (omega arith)
+        (λ i least most. all i least (omega (arith, most, inside))),
+  );
+}
+
+run_ranks : (t : ℕ → Bool) (vs : List Value) (s e n k : ℕ) → IsRun t vs s e n → s + k ≤ e →
+    length (there_from t 0 (take (s + k) vs)) ≡ n + k
+run_ranks t vs s e n k run most =
+    run_rank t vs s k (omega (arith, run.within)) (λ i low high. run.there i low (omega (arith, most)))
+    ∙ ap (λ m. m + k) run.first
+
+pub run_some : (t : ℕ → Bool) (vs : List Value) (s e n : ℕ) → IsRun t vs s e n →
+    0 < length (slice_range vs s e)
+run_some t vs s e n run =
+    omega (arith, length-take (e - s) (drop s vs), length-drop s vs, run.inside, run.within)
+
+pub run_bound : (t : ℕ → Bool) (vs : List Value) (s e n : ℕ) → IsRun t vs s e n →
+    n + length (slice_range vs s e) ≤ length (there_from t 0 vs)
+run_bound t vs s e n run =
+    let left : e ≡ s + (e - s) = omega (arith, run.inside) in
+    let rank : length (there_from t 0 (take e vs)) ≡ n + (e - s)
+    = subst (λ m. length (there_from t 0 (take m vs)) ≡ n + (e - s)) (sym left)
+    (run_ranks t vs s e n (e - s) run (omega (arith, run.inside))) in
+    let all = ap length (there_parts t e vs) in
+    let joined = length-append (there_from t 0 (take e vs)) (there_from t e (drop e vs)) in
+    omega (arith, rank, all, joined, length-take (e - s) (drop s vs), length-drop s vs, run.within)
+
+pub run_found : (t : ℕ → Bool) (vs : List Value) (s e n k : ℕ) → IsRun t vs s e n →
+    k < length (slice_range vs s e) →
+    slice_get (there_from t 0 vs) (n + k) ≡ slice_get (slice_range vs s e) k
+run_found t vs s e n k run within =
+    let few : k < e - s = omega (arith, within, length-take (e - s) (drop s vs)) in
+    let d : Value = get_or vs (s + k) (Value.Tuple []) in
+    let v : Value = get_or (slice_range vs s e) k (Value.Tuple []) in
+    let same : v ≡ d = get_or-take (e - s) (drop s vs) k (Value.Tuple []) few
+    ∙ get_or-drop s vs k (Value.Tuple []) in
+    let there : s + k < length vs = omega (arith, few, run.within) in
+    let at : slice_get vs (s + k) ≡ Some d = slice_get-get_or vs (s + k) (Value.Tuple []) there in
+    let read : d ≡ get_or vs (s + k) d = sym (get_or_from_slice_get vs (s + k) d d at) in
+    let next : (s + k) + 1 ≡ s + (k + 1) = omega arith in
+    nth_found t vs (s + k) (n + k) d there read
+    (omega (arith, run_ranks t vs s e n k run (omega (arith, few))))
+    (subst (λ m. n + k < length (there_from t 0 (take m vs))) (sym next)
+    (omega (arith, run_ranks t vs s e n (k + 1) run (omega (arith, few)))))
+    ∙ ap Some (sym same) ∙ sym (slice_get-get_or (slice_range vs s e) k (Value.Tuple []) within)
+
+-- up to the first slot that holds none
+pub run_here : (t : ℕ → Bool) (vs : List Value) (s a e n : ℕ) → s < length vs → length vs ≤ 64 →
+    length (there_from t 0 (take s vs)) ≤ n → n < length (there_from t 0 (take (s + 1) vs)) →
+    s ≤ a → ((i : ℕ) → s ≤ i → i < a → t i ≡ true) → (a < 64 → t a ≡ false) →
+    e ≡ min a (length vs) → IsRun t vs s e n
+run_here t vs s a e n within small low high later present absent is =
+    let begins : t s ≡ true = run_begins t vs s n within low high in
+    let other : s ≢ a = λ same.
+    let free : t s ≡ false = subst (λ j. t j ≡ false) (sym same) (absent (omega (arith, same, within, small))) in
+    let no : ⊥ = cc in no in
+    run_is t vs s e n (omega (arith, other)) (omega arith)
+    (λ i least most. present i least (omega (arith, most, is))) low high
+
 -- the token that halving over chunks ends at
 pub token_found : (ss : List Slots) (i n : ℕ) (x : Slots) → i < length ss → x ≡ get_or ss i x → length (tokens_in (take i ss)) ≤ n → n < length (tokens_in (take (i + 1) ss)) →
     (n - length (tokens_in (take i ss)) < length (tokens_of x)) × (slice_get (tokens_in ss) n ≡ slice_get (tokens_of x) (n - length (tokens_in (take i ss))))
@@ -118,6 +234,32 @@ token_read ss i high n b x told within is next before low up =
     let start : length (tokens_in (take i ss)) ≡ b = omega (arith, at.0, before) in
     let found = token_found ss i n x within is low (subst (λ k. n < length (tokens_in (take k ss))) next up) in
     (omega (arith, start, low), omega (arith, start, found.0), found.1 ∙ ap (λ k. slice_get (tokens_of x) (n - k)) start)
+
+-- the tokens that stand side by side in a chunk, among all
+pub run_read : (ss : List Slots) (i n b m : ℕ) (x : Slots) → AreCounted 0 0 ss → i < length ss →
+    x ≡ get_or ss i x → b ≡ x.before → length (tokens_in (take i ss)) ≤ n →
+    (n - b) + m ≤ length (tokens_of x) →
+    (n + m ≤ length (tokens_in ss)) × ((k : ℕ) → k < m →
+    slice_get (tokens_in ss) (n + k) ≡ slice_get (tokens_of x) ((n - b) + k))
+run_read ss i n b m x told within is before low few =
+    let a : List Value = tokens_in (take i ss) in
+    let at = counted_at 0 0 ss i x told within is in
+    let start : length a ≡ b = omega (arith, at.0, before) in
+    let more : tokens_in (take (i + 1) ss) ≡ a ++ tokens_of x =
+    ap tokens_in (take_more ss i x within ∙ ap (λ y. take i ss ++ y ∷ []) (sym is))
+    ∙ flat_map-append tokens_of (take i ss) (x ∷ []) ∙ ap (λ r. a ++ r) (append-nil (tokens_of x)) in
+    let size : length (tokens_in (take (i + 1) ss)) ≡ length a + length (tokens_of x)
+    = ap length more ∙ length-append a (tokens_of x) in
+    let rest : List Value = tokens_in (drop (suc i) ss) in
+    let all : length (tokens_in ss) ≡ length a + (length (tokens_of x) + length rest)
+    = ap length (tokens_parts ss i x within is) ∙ length-append a (tokens_of x ++ rest)
+    ∙ ap (λ k. length a + k) (length-append (tokens_of x) rest) in (
+      omega (arith, start, all, few, low),
+      λ k less.
+          (token_found ss i (n + k) x within is (omega (arith, low)) (omega (arith, size, start, few, low, less))).1
+          ∙ ap (slice_get (tokens_of x))
+          (let e : (n + k) - length a ≡ (n - b) + k = omega (arith, start, low) in e),
+    )
 
 pub counted_prefix : (k n : ℕ) (ss : List Slots) (i : ℕ) → AreCounted k n ss → AreCounted k n (take i ss)
 counted_prefix k n [] zero told = tt
@@ -163,4 +305,23 @@ recounted ss i total x y within is values there before few told count bound =
       omega (arith, few, bound, ap length tokens),
       replaced_tokens_of ss i x y within is tokens,
       same_values ss i x y within is values,
+    )
+
+-- the same of a list that is that one
+pub recounted_to : (ss new : List Slots) (i total count : ℕ) → i < length ss → ((x : Slots) → x ≡ get_or ss i x → new ≡ set ss i (record { values = x.values; there = x.there; before = total })) → ((x : Slots) → x ≡ get_or new i x → count ≡ length (tokens_of x)) → count ≤ 64 →
+    AreCounted 0 0 (take i ss) → total ≡ length (tokens_in (take i ss)) → total ≤ 64 * i →
+    AreCounted 0 0 (take (i + 1) new) × (total + count ≡ length (tokens_in (take (i + 1) new))) × (total + count ≤ 64 * (i + 1))
+    × (tokens_in new ≡ tokens_in ss) × (values_in new ≡ values_in ss) × (length new ≡ length ss)
+recounted_to ss new i total count within step counts few told sum bound =
+    let r = read_at ss i within in
+    let y : Slots = record { values = r.0.values; there = r.0.there; before = total } in
+    let is : new ≡ set ss i y = step r.0 r.1 in
+    let size : count ≡ length (tokens_of y) = counts y (subst (λ (zs : List Slots). y ≡ get_or zs i y) (sym is) (sym (get_or-set_at ss i i y y refl within))) in
+    let all = recounted ss i total r.0 y within r.1 refl refl refl (omega (arith, few, size)) told sum bound in (
+      subst (λ (zs : List Slots). AreCounted 0 0 (take (i + 1) zs)) (sym is) all.0,
+      ap (λ n. total + n) size ∙ all.1 ∙ ap (λ (zs : List Slots). length (tokens_in (take (i + 1) zs))) (sym is),
+      omega (arith, all.2, size),
+      ap tokens_in is ∙ all.3,
+      ap values_in is ∙ all.4,
+      ap length is ∙ length-set ss i y,
     )

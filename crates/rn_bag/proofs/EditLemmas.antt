@@ -1,13 +1,14 @@
 -- What a change of one chunk does to all tokens, and to the order of all slots.
 use Rattle.std.proofs.Common.{◌≡◌, ◌≢◌, ℕ, zero, suc, ◌+◌, ◌-◌, ◌<◌, ◌≤◌, Some, slice_get, Result, Ok, Err, OnOk, OnErr, Bool, true, false, cond, List, [], ◌∷◌, ◌++◌, length, take, drop, get_or, set, append_assoc, append-nil, length-take, length-drop, length-append, refl, sym, ap, ◌∙◌, subst, arith}
-use Rattle.std.proofs.lemmas.List.{take-append-drop, take-append-le, take_more, take_all, drop_all, set_split, set_at, take-set, drop-set-lt, get_or_default}
+use Rattle.std.proofs.lemmas.List.{take-append-drop, take-append-le, take_more, take_all, drop_all, set_split, set_at, take-set, get_or_default}
 use Rattle.std.proofs.lemmas.List.Concat.{flat_map-append}
 use Rattle.std.specs.List.{AllByRecursion}
 use Rattle.rn_value.specs.declared.value.Value.{Value}
 use Rattle.rn_bag.specs.declared.cut.Cut.TheVariants.{UpTo}
 use Rattle.rn_bag.specs.Cuts.{is_before, AllBefore, NoneBefore, NoneBelow, Ascends}
 use Rattle.rn_bag.specs.Slots.{there_from}
-use Rattle.rn_bag.specs.Chunks.{Slots, HasRoom, IsChunk, tokens_of, tokens_in, values_in, Replaces}
+use Rattle.rn_bag.specs.Chunks.{Slots, HasRoom, IsChunk, AreCounted, AreSound, tokens_of, tokens_in, values_in, Replaces}
+use Rattle.rn_bag.specs.Tags.{IsFull}
 use Rattle.rn_bag.specs.SlotIndices.{tokens_before, tokens_after, values_before, values_after}
 use Rattle.rn_bag.specs.Words.{has_bit}
 use Rattle.rn_bag.proofs.SlotLemmas.{there_all, there_whole, there_parts, there_next, there_agrees, all_joined, all_prefix, all_suffix, all_weaker}
@@ -277,26 +278,6 @@ cleared_of t u n vs within gone same =
     let found = at_get vs n e.0 e.1 in
     slot_cleared t u n vs e.0 within found.1 same gone
 
-pub clear_word : (old : Slots) (vs : List Value) (t u k n : ℕ) → (let new : Slots = record { values = vs; there = t; before = k } in new ≡ old) → n < length old.values → length vs ≤ 64 → has_bit u n ≡ false → ((i : ℕ) → i < 64 → i ≢ n → has_bit u i ≡ has_bit t i) →
-    there_from (has_bit u) 0 vs ≡ there_from (has_bit old.there) 0 (take n old.values) ++ there_from (has_bit old.there) (suc n) (drop (suc n) old.values)
-clear_word old vs t u k n is within small gone others =
-    let F : Slots → Type 0 = λ s. there_from (has_bit u) 0 vs ≡ there_from (has_bit s.there) 0 (take n s.values) ++ there_from (has_bit s.there) (suc n) (drop (suc n) s.values) in
-    let size : length old.values ≡ length vs = ap (λ (s : Slots). length s.values) (sym is) in
-    let inside : n < length vs = omega (arith, size, within) in
-    subst F is (cleared_of (has_bit t) (has_bit u) n vs inside gone (λ i low other. others i (omega (arith, small, low)) other))
-
-pub set_word : (old : Slots) (vs : List Value) (t u k n : ℕ) (v : Value) → (let new : Slots = record { values = vs; there = t; before = k } in new ≡ old) → slice_get old.values n ≡ Some v → has_bit u n ≡ true → ((i : ℕ) → i ≢ n → has_bit u i ≡ has_bit t i) →
-    there_from (has_bit u) 0 vs ≡ there_from (has_bit old.there) 0 (take n old.values) ++ v ∷ there_from (has_bit old.there) (suc n) (drop (suc n) old.values)
-set_word old vs t u k n v is at there others =
-    let F : Slots → Type 0 = λ s. there_from (has_bit u) 0 vs ≡ there_from (has_bit s.there) 0 (take n s.values) ++ v ∷ there_from (has_bit s.there) (suc n) (drop (suc n) s.values) in
-    let here : slice_get vs n ≡ Some v = subst (λ (s : Slots). slice_get s.values n ≡ Some v) (sym is) at in
-    let found = at_get vs n v here in
-    subst F is (slot_set (has_bit t) (has_bit u) n vs v found.0 found.1 (λ i low other. others i other) there)
-
--- a chunk that changed and then went
-pub removed : (ss : List Slots) (i : ℕ) (y : Slots) → take i (set ss i y) ++ drop (suc i) (set ss i y) ≡ take i ss ++ drop (suc i) ss
-removed ss i y = ap (λ r. r ++ drop (suc i) (set ss i y)) (take-set ss i y) ∙ ap (λ r. take i ss ++ r) (drop-set-lt (suc i) ss i y (omega arith))
-
 -- what follows on Ok, and what follows in either case
 pub on_ok_then : {T E : Type 0} (A B : Type 0) (r : Result T E) → (A → B) → OnOk r A → OnOk r B
 on_ok_then A B (Ok x) f h = f h
@@ -361,15 +342,34 @@ replaced_tokens_of ss i x y within is same =
     replaced ss i y within ∙ ap (λ z. tokens_in (take i ss) ++ (z ++ tokens_in (drop (suc i) ss))) same ∙ sym (tokens_parts ss i x within is)
 
 -- the same facts, of a chunk that is seen
-pub clear_seen : (old : Slots) (vs : List Value) (t u k count n : ℕ) → (let new : Slots = record { values = vs; there = t; before = k } in new ≡ old) → IsChunk vs t count → n < length old.values → has_bit old.there n ≡ true → has_bit u n ≡ false → ((i : ℕ) → i < 64 → i ≢ n → has_bit u i ≡ has_bit t i) →
-    (0 < count) × IsChunk vs u (count - 1)
-clear_seen old vs t u k count n is chunk within there gone others =
-    clear_chunk vs t u count n chunk (subst (λ (s : Slots). n < length s.values) (sym is) within) (subst (λ (s : Slots). has_bit s.there n ≡ true) (sym is) there) gone others
+pub without_seen : (old : Slots) (vs : List Value) (t u k count n : ℕ) → (let new : Slots = record { values = vs; there = t; before = k } in new ≡ old) → IsChunk vs t count → n < length old.values → has_bit old.there n ≡ true → has_bit u n ≡ false → ((i : ℕ) → i < 64 → i ≢ n → has_bit u i ≡ has_bit t i) →
+    (0 < count) × IsChunk old.values u (count - 1) × (there_from (has_bit u) 0 old.values ≡ there_from (has_bit old.there) 0 (take n old.values) ++ there_from (has_bit old.there) (suc n) (drop (suc n) old.values))
+without_seen old vs t u k count n is chunk within there gone others =
+    let F : Slots → Type 0 = λ s. n < length s.values → has_bit s.there n ≡ true →
+    (0 < count) × IsChunk s.values u (count - 1) × (there_from (has_bit u) 0 s.values ≡ there_from (has_bit s.there) 0 (take n s.values) ++ there_from (has_bit s.there) (suc n) (drop (suc n) s.values)) in
+    subst F is (λ inside here.
+    let both = clear_chunk vs t u count n chunk inside here gone others in
+    (both.0, both.1, cleared_of (has_bit t) (has_bit u) n vs inside gone (λ i low other. others i (omega (arith, chunk.room.small, low)) other))) within there
 
-pub set_seen : (old : Slots) (vs : List Value) (t u k count n : ℕ) → (let new : Slots = record { values = vs; there = t; before = k } in new ≡ old) → IsChunk vs t count → n < length old.values → has_bit old.there n ≡ false → has_bit u n ≡ true → ((i : ℕ) → i ≢ n → has_bit u i ≡ has_bit t i) →
-    IsChunk vs u (count + 1)
-set_seen old vs t u k count n is chunk within free there others =
-    set_chunk vs t u count n chunk (subst (λ (s : Slots). n < length s.values) (sym is) within) (subst (λ (s : Slots). has_bit s.there n ≡ false) (sym is) free) there others
+pub with_seen : (old : Slots) (vs : List Value) (t u k count n : ℕ) → (let new : Slots = record { values = vs; there = t; before = k } in new ≡ old) → IsChunk vs t count → n < length old.values → has_bit old.there n ≡ false → has_bit u n ≡ true → ((i : ℕ) → i ≢ n → has_bit u i ≡ has_bit t i) →
+    IsChunk old.values u (count + 1) × ((v : Value) → slice_get old.values n ≡ Some v → there_from (has_bit u) 0 old.values ≡ there_from (has_bit old.there) 0 (take n old.values) ++ v ∷ there_from (has_bit old.there) (suc n) (drop (suc n) old.values))
+with_seen old vs t u k count n is chunk within free there others =
+    let F : Slots → Type 0 = λ s. n < length s.values → has_bit s.there n ≡ false →
+    IsChunk s.values u (count + 1) × ((v : Value) → slice_get s.values n ≡ Some v → there_from (has_bit u) 0 s.values ≡ there_from (has_bit s.there) 0 (take n s.values) ++ v ∷ there_from (has_bit s.there) (suc n) (drop (suc n) s.values)) in
+    subst F is (λ inside here. (
+      set_chunk vs t u count n chunk inside here there others,
+      λ v at. let found = at_get vs n v at in slot_set (has_bit t) (has_bit u) n vs v found.0 found.1 (λ i low other. others i other) there,
+    )) within free
+
+-- the first token
+pub first_put : (new : List Slots) (vs : List Value) (v : Value) → vs ≡ v ∷ [] → (y : Slots) × IsFull vs y × (new ≡ y ∷ []) → (tokens_in new ≡ v ∷ []) × AreSound new
+first_put new vs v one r =
+    let values : values_in new ≡ v ∷ [] = ap values_in r.2 ∙ append-nil r.0.values ∙ r.1.values ∙ one in
+    let single : Ascends (v ∷ []) = (tt, tt) in
+    let counted : AreCounted 0 0 (r.0 ∷ []) = (r.1.first, omega arith, tt) in (
+      ap tokens_in r.2 ∙ append-nil (tokens_of r.0) ∙ r.1.tokens_are ∙ one,
+      record { ascend = subst Ascends (sym values) single; counted = subst (AreCounted 0 0) (sym r.2) counted },
+    )
 
 -- a chunk whose slots all hold a token
 pub full_chunk : (vs ts : List Value) (word count : ℕ) → vs ≡ ts → count ≡ length ts → HasRoom ts → ((i : ℕ) → i < count → has_bit word i ≡ true) → IsChunk vs word count

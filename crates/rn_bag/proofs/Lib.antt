@@ -6,4 +6,6 @@ pub mod CutLemmas
 pub mod EditLemmas
 pub mod SlotIndexLemmas
 pub mod SlotLemmas
+pub mod TagLemmas
+pub mod ThreadSafety
 pub mod WordLemmas

@@ -1,5 +1,5 @@
 //! Bags, and what changes them.
-ghost use Rattle.std.specs.Prelude.{◌≡◌, ◌<◌, ◌≤◌, ◌↔◌, [], take, drop, length, IsTrue, IfOk, OnOk, OnErr, Some, slice_get};
+ghost use Rattle.std.specs.Prelude.{◌≡◌, ◌<◌, ◌≤◌, ◌+◌, ◌↔◌, ℕ, [], take, drop, length, IsTrue, IfOk, OnOk, OnErr, Some, slice_get};
 ghost use Rattle.std.specs.Bool.{OnTrue, OnFalse};
 ghost use Rattle.std.specs.List.Sorted.{IsSorted};
 ghost use Rattle.std.specs.Option.{option_copied};
@@ -7,8 +7,8 @@ ghost use Rattle.rn_value.specs.Order.{value_cmp};
 ghost use Rattle.rn_model.specs.Lists.{count_of, with_value, without_one};
 ghost use Rattle.rn_bag.specs.Cuts.{AllBefore, NoneBefore, Ascends};
 
-use crate::chunk::Chunk;
-use crate::counting::{count_before, token_at};
+use crate::chunks::Chunks;
+use crate::counting::{count_before, run_at, token_at};
 use crate::cut::Cut;
 use crate::edits::{put_back, put_first, put_new, take_out};
 use crate::seek::{SlotIndex, first_token, seek};
@@ -23,7 +23,7 @@ use std::marker::Model;
 /// memory and leave what is shared as it is; another token makes at most 64 anew.
 #[derive(Drop)]
 pub struct Bag {
-    chunks: Vec<Chunk>,
+    chunks: Chunks,
 }
 
 impl Model for Bag {
@@ -37,9 +37,9 @@ impl Model for Bag {
 
     ghost coded = { coded_list token.the_row.coded };
 
-    ghost view = { λ bag. tokens_in bag.chunks.items };
+    ghost view = { λ bag. tokens_in bag.chunks };
 
-    ghost invariant = { λ bag. AreSound bag.chunks.items };
+    ghost invariant = { λ bag. AreSound bag.chunks };
 }
 
 impl Bag {
@@ -48,7 +48,7 @@ impl Bag {
         ensures { result ≡ [] }
     {
         Bag {
-            chunks: Vec::new(alloc),
+            chunks: Chunks::new(alloc),
         }
     }
 
@@ -56,10 +56,7 @@ impl Bag {
     pub fn snapshot(&self) -> Result<Bag, NoMemory>
         ensures { IfOk result (λ bag. bag ≡ self.now) }
     {
-        let mut chunks = Vec::with_capacity(*self.chunks.allocator(), self.chunks.len())?;
-        for chunk in self.chunks.as_slice() {
-            chunks.push(chunk.copy()?)?;
-        }
+        let chunks = self.chunks.copy()?;
         Ok(Bag { chunks })
     }
 
@@ -69,11 +66,11 @@ impl Bag {
         ensures taken { OnTrue result (self.new ≡ without_one self.old value.now) }
         ensures absent { OnFalse result (self.new ≡ self.old) }
     {
-        let from = seek(self.chunks.as_slice(), value, Cut::Below);
-        let Some(at) = first_token(self.chunks.as_slice(), from) else {
+        let from = seek(&self.chunks, value, Cut::Below);
+        let Some(at) = first_token(&self.chunks, from) else {
             return false;
         };
-        if !same(&self.chunks[at.chunk].values()[at.slot], value) {
+        if !same(&self.chunks.at(at.chunk).values()[at.slot], value) {
             return false;
         }
         take_out(&mut self.chunks, at);
@@ -85,12 +82,12 @@ impl Bag {
         ensures ok { OnOk result (self.new ≡ with_value value self.old) }
         ensures err { OnErr result (self.new ≡ self.old) }
     {
-        let alloc = *self.chunks.allocator();
+        let alloc = self.chunks.allocator();
         if self.chunks.len() == 0 {
             return put_first(&mut self.chunks, alloc, value);
         }
-        let from = seek(self.chunks.as_slice(), &value, Cut::Below);
-        if let Some(slot) = self.chunks[from.chunk].free_from(from.slot, &value) {
+        let from = seek(&self.chunks, &value, Cut::Below);
+        if let Some(slot) = self.chunks.at(from.chunk).free_from(from.slot, &value) {
             put_back(
                 &mut self.chunks,
                 SlotIndex {
@@ -100,7 +97,7 @@ impl Bag {
             );
             return Ok(());
         }
-        let past = seek(self.chunks.as_slice(), &value, Cut::UpTo);
+        let past = seek(&self.chunks, &value, Cut::UpTo);
         put_new(&mut self.chunks, alloc, past, value)
     }
 
@@ -109,10 +106,10 @@ impl Bag {
         ensures tokens { IfOk result (λ tokens. tokens ≡ self.now) }
         ensures sorted { IsSorted value_cmp self.now }
     {
-        let alloc = *self.chunks.allocator();
+        let alloc = self.chunks.allocator();
         let mut tokens = Vec::new(alloc);
-        for chunk in self.chunks.as_slice() {
-            chunk.append_to(alloc, &mut tokens)?;
+        for index in 0..self.chunks.len() {
+            self.chunks.at(index).append_to(alloc, &mut tokens)?;
         }
         Ok(Items::from_vec(tokens))
     }
@@ -122,7 +119,7 @@ impl Bag {
         ensures count { result ≡ length self.now }
         ensures sorted { IsSorted value_cmp self.now }
     {
-        count_before(self.chunks.as_slice(), self.chunks.len())
+        count_before(&self.chunks, self.chunks.len())
     }
 
     /// The token of this index in ascending order, from 0.
@@ -140,7 +137,18 @@ impl Bag {
         requires { index < length self.now }
         ensures { slice_get self.now index ≡ Some result.now }
     {
-        token_at(self.chunks.as_slice(), index)
+        token_at(&self.chunks, index)
+    }
+
+    /// Tokens that stand side by side in memory, from one that is there on.
+    pub(crate) fn run(&self, index: usize) -> &[Value]
+        requires { index < length self.now }
+        ensures some { 0 < length result.now }
+        ensures bound { index + length result.now ≤ length self.now }
+        ensures tokens { (k : ℕ) → k < length result.now →
+            slice_get self.now (index + k) ≡ slice_get result.now k }
+    {
+        run_at(&self.chunks, index)
     }
 
     /// How many tokens stand before a cut.
@@ -150,16 +158,16 @@ impl Bag {
         ensures rest { NoneBefore cut key.now (drop result self.now) }
         ensures ascend { Ascends self.now }
     {
-        let at = seek(self.chunks.as_slice(), key, cut);
+        let at = seek(&self.chunks, key, cut);
         if at.chunk >= self.chunks.len() {
             return 0;
         }
-        let chunk = &self.chunks[at.chunk];
+        let chunk = self.chunks.at(at.chunk);
         chunk.before() + chunk.rank(at.slot)
     }
 
     /// The allocator that the bag keeps.
     pub(crate) fn allocator(&self) -> Global {
-        *self.chunks.allocator()
+        self.chunks.allocator()
     }
 }

@@ -1,68 +1,67 @@
-//! A chunk of a bag: at most 64 values, which copies share, and which of them are tokens.
+//! A chunk of a bag, to be read: at most 64 values, and which of them are tokens.
 ghost use Rattle.std.specs.Prelude.{◌≡◌, ◌≢◌, ◌+◌, ◌<◌, ◌≤◌, ◌^◌, ◌↔◌, ℕ, suc, [], ◌∷◌, ◌++◌, true, false, take, drop, length, IfOk, IfSome, IfNone, IsTrue, slice_get, Some};
 ghost use Rattle.std.specs.List.{AllByRecursion};
 ghost use Rattle.rn_value.specs.declared.value.Value.{Value};
-ghost use Rattle.rn_bag.specs.Chunks.{Slots, HasRoom, tokens_of};
+ghost use Rattle.rn_bag.specs.Chunks.{Slots, HasRoom, IsChunk, tokens_of};
 ghost use Rattle.rn_bag.specs.Cuts.{AllBefore, NoneBelow, Ascends};
 ghost use Rattle.rn_bag.specs.Slots.{there_from};
 ghost use Rattle.rn_bag.specs.Words.{has_bit};
 
 use crate::cut::{Cut, stands_before};
+use crate::tag::Tag;
 use crate::words;
-use rn_items::{Items, NoMemory};
+use rn_items::NoMemory;
 use rn_value::{Value, copy, same};
 use std::alloc::Global;
 use std::marker::Model;
-use std::sync::Arc;
 
-/// Values in ascending order, which of them are tokens, and how many tokens stand in the chunks
-/// before this one. Values that aren't tokens any more stay until the chunk is made anew, so that
-/// taking one touches nothing that copies share.
+/// The values of a chunk in ascending order, which of them are tokens, and how many tokens stand in
+/// the chunks before this one. Values that aren't tokens any more stay until the chunk is made
+/// anew, so that taking one touches nothing that copies share.
 #[derive(Drop)]
-pub(crate) struct Chunk {
-    shared: Arc<Items<Value>>,
+pub(crate) struct Chunk<'a> {
+    list: &'a [Value],
     word: u64,
     count: usize,
     before: usize,
 }
 
-impl Model for Chunk {
+impl<'a> Model for Chunk<'a> {
     ghost use Rattle.rn_bag.specs.Chunks.{Slots, IsChunk, slots_code};
 
     ghost Value = { Slots };
 
     ghost coded = { slots_code };
 
-    ghost view = { λ chunk. record { values = chunk.shared.value; there = chunk.word; before = chunk.before } };
+    ghost view = { λ chunk. record {
+      values = chunk.list.now;
+      there = chunk.word;
+      before = chunk.before;
+    } };
 
-    ghost invariant = { λ chunk. IsChunk chunk.shared.value chunk.word chunk.count };
+    ghost invariant = { λ chunk. IsChunk chunk.list.now chunk.word chunk.count };
 }
 
-impl Chunk {
-    /// A chunk of these tokens. It says that none stands before it.
-    pub(crate) fn full(alloc: Global, tokens: Vec<Value>) -> Result<Chunk, NoMemory>
-        requires { HasRoom tokens.items }
-        ensures values { IfOk result (λ chunk. chunk.values ≡ tokens.items) }
-        ensures tokens { IfOk result (λ chunk. tokens_of chunk ≡ tokens.items) }
-        ensures before { IfOk result (λ chunk. chunk.before ≡ 0) }
+impl<'a> Chunk<'a> {
+    /// The chunk of a tag, whose values are these.
+    pub(crate) fn new(values: &'a [Value], tag: Tag) -> Chunk<'a>
+        requires { IsChunk values.now tag.word tag.count }
+        ensures { result ≡ record { values = values.now; there = tag.word; before = tag.before } }
     {
-        let count = tokens.len();
-        let word = words::all_below(count);
-        let shared = Arc::new(alloc, Items::from_vec(tokens))?;
-        Ok(Chunk {
-            shared,
-            word,
-            count,
-            before: 0,
-        })
+        Chunk {
+            list: values,
+            word: tag.word,
+            count: tag.count,
+            before: tag.before,
+        }
     }
 
     /// The values of the slots.
-    pub(crate) fn values(&self) -> &[Value]
+    pub(crate) fn values(&self) -> &'a [Value]
         ensures value { result.now ≡ self.now.values }
         ensures room { HasRoom self.now.values }
     {
-        self.shared.as_slice()
+        self.list
     }
 
     /// The set of the slots that hold a token.
@@ -87,48 +86,30 @@ impl Chunk {
         self.before
     }
 
-    /// The chunk says from now on that so many tokens stand before it.
-    pub(crate) fn set_before(&mut self, before: usize)
-        ensures values { self.new.values ≡ self.old.values }
-        ensures there { self.new.there ≡ self.old.there }
-        ensures before { self.new.before ≡ before }
+    /// The set of the slots that hold a token without one of them, and how many are in it.
+    pub(crate) fn without_slot(&self, slot: usize) -> (u64, usize)
+        requires inside { slot < length self.now.values }
+        requires there { has_bit self.now.there slot ≡ true }
+        ensures chunk { IsChunk self.now.values result.0 result.1 }
+        ensures tokens { there_from (has_bit result.0) 0 self.now.values
+            ≡ there_from (has_bit self.now.there) 0 (take slot self.now.values)
+            ++ there_from (has_bit self.now.there) (suc slot) (drop (suc slot) self.now.values) }
     {
-        self.before = before;
+        (words::without_bit(self.word, slot), self.count - 1)
     }
 
-    /// The slot holds no token from now on.
-    pub(crate) fn clear(&mut self, slot: usize)
-        requires inside { slot < length self.old.values }
-        requires there { has_bit self.old.there slot ≡ true }
-        ensures values { self.new.values ≡ self.old.values }
-        ensures tokens { tokens_of self.new ≡ there_from (has_bit self.old.there) 0 (take slot self.old.values) ++ there_from (has_bit self.old.there) (suc slot) (drop (suc slot) self.old.values) }
+    /// The set of the slots that hold a token with one more, and how many are in it.
+    pub(crate) fn with_slot(&self, slot: usize) -> (u64, usize)
+        requires inside { slot < length self.now.values }
+        requires free { has_bit self.now.there slot ≡ false }
+        ensures chunk { IsChunk self.now.values result.0 result.1 }
+        ensures tokens { (v : Value) → slice_get self.now.values slot ≡ Some v →
+            there_from (has_bit result.0) 0 self.now.values
+            ≡ there_from (has_bit self.now.there) 0 (take slot self.now.values)
+            ++ (v ∷ there_from (has_bit self.now.there) (suc slot)
+            (drop (suc slot) self.now.values)) }
     {
-        self.word = words::without_bit(self.word, slot);
-        self.count -= 1;
-    }
-
-    /// The slot holds a token from now on.
-    pub(crate) fn set(&mut self, slot: usize)
-        requires inside { slot < length self.old.values }
-        requires free { has_bit self.old.there slot ≡ false }
-        ensures values { self.new.values ≡ self.old.values }
-        ensures tokens { (v : Value) → slice_get self.old.values slot ≡ Some v → tokens_of self.new ≡ there_from (has_bit self.old.there) 0 (take slot self.old.values) ++ (v ∷ there_from (has_bit self.old.there) (suc slot) (drop (suc slot) self.old.values)) }
-    {
-        self.word = words::with_bit(self.word, slot);
-        self.count += 1;
-    }
-
-    /// The same chunk, which shares its values with the first.
-    pub(crate) fn copy(&self) -> Result<Chunk, NoMemory>
-        ensures { IfOk result (λ chunk. chunk ≡ self.now) }
-    {
-        let shared = Arc::try_clone(&self.shared)?;
-        Ok(Chunk {
-            shared,
-            word: self.word,
-            count: self.count,
-            before: self.before,
-        })
+        (words::with_bit(self.word, slot), self.count + 1)
     }
 
     /// Whether the last of the slots, and so each of them, stands before a cut.
@@ -151,10 +132,14 @@ impl Chunk {
         words::count(self.word, slot)
     }
 
-    /// The token of this index, by halving over how many stand before a slot.
-    pub(crate) fn nth(&self, index: usize) -> &Value
+    /// The slot of the token of this index, by halving over how many stand before a slot.
+    fn slot_of(&self, index: usize) -> usize
         requires { index < length (tokens_of self.now) }
-        ensures { slice_get (tokens_of self.now) index ≡ Some result.now }
+        ensures inside { result < length self.now.values }
+        ensures before { length (there_from (has_bit self.now.there) 0
+            (take result self.now.values)) ≤ index }
+        ensures after { index < length (there_from (has_bit self.now.there) 0
+            (take (result + 1) self.now.values)) }
     {
         let values = self.values();
         let mut low = 0;
@@ -167,7 +152,31 @@ impl Chunk {
                 high = middle;
             }
         }
-        &values[low]
+        low
+    }
+
+    /// The token of this index.
+    pub(crate) fn nth(&self, index: usize) -> &'a Value
+        requires { index < length (tokens_of self.now) }
+        ensures { slice_get (tokens_of self.now) index ≡ Some result.now }
+    {
+        let values = self.values();
+        &values[self.slot_of(index)]
+    }
+
+    /// Tokens that stand side by side in the slots, the first of which has this index. After them may
+    /// come more.
+    pub(crate) fn run_from(&self, index: usize) -> &'a [Value]
+        requires { index < length (tokens_of self.now) }
+        ensures some { 0 < length result.now }
+        ensures bound { index + length result.now ≤ length (tokens_of self.now) }
+        ensures tokens { (k : ℕ) → k < length result.now →
+            slice_get (tokens_of self.now) (index + k) ≡ slice_get result.now k }
+    {
+        let values = self.values();
+        let slot = self.slot_of(index);
+        let end = words::first_absent_from(self.there(), slot).min(values.len());
+        &values[slot..end]
     }
 
     /// Puts copies of the tokens after others.

@@ -1,6 +1,6 @@
 //! Looking tokens up, and going through a bag by the indices of its tokens in ascending order. Nothing
 //! but `with_first` takes memory, and nothing walks through tokens that it isn't asked for.
-ghost use Rattle.std.specs.Prelude.{◌≡◌, ◌≢◌, ◌-◌, ◌<◌, ◌≤◌, ◌↔◌, ℕ, take, drop, length, filter, IsTrue, IfOk, slice_get, Some};
+ghost use Rattle.std.specs.Prelude.{◌≡◌, ◌≢◌, ◌+◌, ◌-◌, ◌<◌, ◌≤◌, ◌↔◌, ℕ, take, drop, length, filter, IsTrue, IfOk, slice_get, Some};
 ghost use Rattle.std.specs.List.Sorted.{IsSorted};
 ghost use Rattle.rn_value.specs.Order.{value_cmp};
 ghost use Rattle.rn_value.specs.declared.value.Value.{Value};
@@ -67,6 +67,21 @@ impl Bag {
             None => self.len(),
             Some(value) => self.cut_at(value, Cut::UpTo),
         }
+    }
+
+    /// Tokens that stand side by side in memory, from the one of this index on: at least that one,
+    /// where it is there. After them may come more. So all tokens are gone through without looking
+    /// each of them up.
+    pub fn run_from(&self, index: usize) -> &[Value]
+        ensures some { index < length self.now → 0 < length result.now }
+        ensures bound { index < length self.now → index + length result.now ≤ length self.now }
+        ensures tokens { (k : ℕ) → k < length result.now →
+            slice_get self.now (index + k) ≡ slice_get result.now k }
+    {
+        if index >= self.len() {
+            return &[];
+        }
+        self.run(index)
     }
 
     /// The indices at which the tuples with this first part stand.

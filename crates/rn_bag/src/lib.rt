@@ -3,12 +3,15 @@
 
 mod bag;
 mod chunk;
+mod chunks;
 mod counting;
 mod cursor;
 mod cut;
 mod edits;
+mod pool;
 mod seek;
 mod sharing;
+mod tag;
 pub mod words;
 
 pub use bag::Bag;

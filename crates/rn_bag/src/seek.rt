@@ -5,7 +5,7 @@ ghost use Rattle.rn_bag.specs.Cuts.{AllBefore, NoneBefore, Ascends};
 ghost use Rattle.rn_bag.specs.SlotIndices.{tokens_before, tokens_after, values_before, values_after};
 ghost use Rattle.rn_bag.specs.Words.{has_bit};
 
-use crate::chunk::Chunk;
+use crate::chunks::Chunks;
 use crate::cut::{Cut, stands_before};
 use rn_value::Value;
 
@@ -37,7 +37,7 @@ pub(crate) fn slot_of(values: &[Value], key: &Value, cut: Cut) -> usize
 }
 
 /// How many of the chunks have slots that all stand before a cut.
-pub(crate) fn chunk_of(chunks: &[Chunk], key: &Value, cut: Cut) -> usize
+pub(crate) fn chunk_of(chunks: &Chunks, key: &Value, cut: Cut) -> usize
     requires { Ascends (values_in chunks.now) }
     ensures bound { result ≤ length chunks.now }
     ensures before { AllBefore cut key.now (values_in (take result chunks.now)) }
@@ -47,7 +47,7 @@ pub(crate) fn chunk_of(chunks: &[Chunk], key: &Value, cut: Cut) -> usize
     let mut high = chunks.len();
     while low < high {
         let middle = low + (high - low) / 2;
-        if chunks[middle].stands_before(key, cut) {
+        if chunks.at(middle).stands_before(key, cut) {
             low = middle + 1;
         } else {
             high = middle;
@@ -58,7 +58,7 @@ pub(crate) fn chunk_of(chunks: &[Chunk], key: &Value, cut: Cut) -> usize
 
 /// The slot before which all slots stand before a cut, and none from it on. It may be the end of the
 /// last chunk.
-pub(crate) fn seek(chunks: &[Chunk], key: &Value, cut: Cut) -> SlotIndex
+pub(crate) fn seek(chunks: &Chunks, key: &Value, cut: Cut) -> SlotIndex
     requires { Ascends (values_in chunks.now) }
     ensures before { AllBefore cut key.now (values_before chunks.now result.chunk result.slot) }
     ensures rest { NoneBefore cut key.now (values_after chunks.now result.chunk result.slot) }
@@ -67,7 +67,7 @@ pub(crate) fn seek(chunks: &[Chunk], key: &Value, cut: Cut) -> SlotIndex
 {
     let chunk = chunk_of(chunks, key, cut);
     if chunk < chunks.len() {
-        let slot = slot_of(chunks[chunk].values(), key, cut);
+        let slot = slot_of(chunks.at(chunk).values(), key, cut);
         return SlotIndex { chunk, slot };
     }
     if chunk == 0 {
@@ -75,12 +75,12 @@ pub(crate) fn seek(chunks: &[Chunk], key: &Value, cut: Cut) -> SlotIndex
     }
     SlotIndex {
         chunk: chunk - 1,
-        slot: chunks[chunk - 1].values().len(),
+        slot: chunks.at(chunk - 1).values().len(),
     }
 }
 
 /// The slot of the first token from a slot on.
-pub(crate) fn first_token(chunks: &[Chunk], from: SlotIndex) -> Option<SlotIndex>
+pub(crate) fn first_token(chunks: &Chunks, from: SlotIndex) -> Option<SlotIndex>
     ensures none { IfNone result (tokens_after chunks.now from.chunk from.slot ≡ []) }
     ensures before { IfSome result (λ p. tokens_before chunks.now p.chunk p.slot ≡ tokens_before chunks.now from.chunk from.slot) }
     ensures chunk { IfSome result (λ p. p.chunk < length chunks.now) }
@@ -89,7 +89,7 @@ pub(crate) fn first_token(chunks: &[Chunk], from: SlotIndex) -> Option<SlotIndex
 {
     let mut slot = from.slot;
     for chunk in from.chunk..chunks.len() {
-        if let Some(first) = chunks[chunk].first_from(slot) {
+        if let Some(first) = chunks.at(chunk).first_from(slot) {
             return Some(SlotIndex { chunk, slot: first });
         }
         slot = 0;

@@ -8,10 +8,10 @@ pub returns-then-count-eq-ROOM-clause-ok : goal.returns-then-count-eq-ROOM-claus
 returns-then-count-eq-ROOM-clause-ok c =
     on_ok_then _ _ c.put_after.result
     (λ after x is.
-    let same : c.index-chunk.result.now ≡ x = c.index-chunk.ensures ∙ sym (get_or_read c.args.chunks.now.items c.args.at.chunk x c.requires.chunk is c.index-chunk.result.now) in
+    let same : c.at-chunk.result ≡ x = c.at-chunk.ensures.chunk ∙ sym (get_or_read c.args.chunks.now c.args.at.chunk x c.requires.chunk is c.at-chunk.result) in
     let full = full_grown x c.args.at.slot c.args.value
     (c.if-at-values.true ∙ ap length c.values.ensures.value ∙ ap (λ (s : Slots). length s.values) same)
     (ap (λ (s : Slots). length (tokens_of s)) (sym same) ∙ sym c.count.ensures.count ∙ c.if-count-eq-ROOM.true)
     (subst (λ (s : Slots). HasRoom s.values) same c.values.ensures.room) in
-    subst (λ ws. Replaces c.args.chunks.now.items c.args.at.chunk ws c.put_after.new.chunks.items) full.1 (after x is full.0))
+    subst (λ ws. Replaces c.args.chunks.now c.args.at.chunk ws c.put_after.new.chunks) full.1 (after x is full.0))
     c.put_after.ensures.ok

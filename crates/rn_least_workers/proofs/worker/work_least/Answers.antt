@@ -1,6 +1,6 @@
 -- What is shown by each snapshot, and one round.
-use Rattle.std.proofs.Common.{ℕ, ◌<◌, ◌≤◌, ◌∙◌, List, length, ap, subst, sym, arith, rules}
-use Rattle.std.specs.Prelude.{Bool, true, false, IfSome}
+use Rattle.std.proofs.Common.{ℕ, ◌≡◌, ◌+◌, ◌<◌, ◌≤◌, ◌∙◌, List, length, ap, subst, sym, arith, rules}
+use Rattle.std.specs.Prelude.{Bool, true, false, IfSome, MatchBool}
 use Rattle.rn_model.specs.declared.log.Entry.{Entry}
 use Rattle.rn_worker.specs.Plans.{GrowsBy}
 use Rattle.rn_desk.specs.Passes.{fixed_of, mine, seen}
@@ -21,6 +21,12 @@ still_within true own more old turned new grows within later then =
     omega (arith, grows, within, later, then)
 still_within false own more old turned new grows within later then =
     let same = ap length grows in omega (arith, same, within, later, then)
+
+-- a tally counts them
+counted_with : (fired : Bool) (own more : List Entry) (old new : ℕ) → GrowsBy fired own more →
+    old ≡ length own → MatchBool fired (new ≡ old + 1) (new ≡ old) → new ≡ length more
+counted_with true own more old new grows is counted = omega (arith, grows, is, counted)
+counted_with false own more old new grows is counted = counted ∙ is ∙ ap length (sym grows)
 
 pub plan_at-plan-requires-clause-table : goal.plan_at-plan-requires-clause-table
 plan_at-plan-requires-clause-table g c =
@@ -98,7 +104,10 @@ loop-view-preserved g c =
       free = search rules;
       number = search rules;
       worker = search rules;
-      fired = search rules;
+      fired = counted_with c.act-left.result.done.fired (mine c.loop-view.pass)
+          (mine c.act-left.new.pass) _ _ c.act-left.ensures.mine c.loop-view.invariant.fired
+          c.count.ensures.fired
+          ∙ ap length (sym c.look_on-view.ensures.mine);
       within = subst (λ own. length own ≤ length (seen c.look_on-view.new.pass))
           (sym c.look_on-view.ensures.mine)
           (still_within c.act-left.result.done.fired (mine c.loop-view.pass)
@@ -107,7 +116,8 @@ loop-view-preserved g c =
           c.loop-view.invariant.within c.act-left.ensures.more
           (never_fewer (seen c.look_on-view.new.pass) (seen c.act-left.new.pass)
           c.look_on-view.ensures.entries));
-      swept = search rules;
+      swept = λ off. c.count.ensures.swept (c.loop-view.invariant.swept off)
+          (c.act-left.ensures.swept (c.plan_at-plan.ensures.none (c.is_due-due.ensures.never off)));
       some = search rules;
       follows = c.look_on-view.ensures.follows k
           (follow_then setup es (seen c.act-left.new.pass) c.in-Some.now c.act-left.result.view
@@ -127,7 +137,10 @@ loop-view-preserved-in-Some g c =
       free = search rules;
       number = search rules;
       worker = search rules;
-      fired = search rules;
+      fired = counted_with c.act-left.result.done.fired (mine c.loop-view.pass)
+          (mine c.act-left.new.pass) _ _ c.act-left.ensures.mine c.loop-view.invariant.fired
+          c.count.ensures.fired
+          ∙ ap length (sym c.look_on-view.ensures.mine);
       within = subst (λ own. length own ≤ length (seen c.look_on-view.new.pass))
           (sym c.look_on-view.ensures.mine)
           (still_within c.act-left.result.done.fired (mine c.loop-view.pass)
@@ -136,7 +149,8 @@ loop-view-preserved-in-Some g c =
           c.loop-view.invariant.within c.act-left.ensures.more
           (never_fewer (seen c.look_on-view.new.pass) (seen c.act-left.new.pass)
           c.look_on-view.ensures.entries));
-      swept = search rules;
+      swept = λ off. c.count.ensures.swept (c.loop-view.invariant.swept off)
+          (c.act-left.ensures.swept (c.plan_at-plan.ensures.none (c.is_due-due.ensures.never off)));
       some = search rules;
       follows = c.look_on-view.ensures.follows k
           (follow_then setup es (seen c.act-left.new.pass) c.in-Some.now c.act-left.result.view

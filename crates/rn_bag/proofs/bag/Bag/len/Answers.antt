@@ -7,4 +7,4 @@ use Rattle.rn_bag.proofs.BagLemmas.{tokens_ascend}
 use Rattle.rn_bag.proofs.bag.Bag.len.Goals as goal
 
 pub returns-clause-sorted : goal.returns-clause-sorted
-returns-clause-sorted c = subst (IsSorted value_cmp) c.self.view_is (sorted_of (tokens_in c.self.inside.chunks.items) (tokens_ascend c.self.inside.chunks.items c.self.invariant.ascend))
+returns-clause-sorted c = subst (IsSorted value_cmp) c.self.view_is (sorted_of (tokens_in c.self.inside.chunks) (tokens_ascend c.self.inside.chunks c.self.invariant.ascend))

@@ -7,7 +7,7 @@ use Rattle.rn_bag.proofs.BagLemmas.{tokens_ascend}
 use Rattle.rn_bag.proofs.bag.Bag.sorted_list.Goals as goal
 
 pub returns-in_err-append_to-clause-sorted : goal.returns-in_err-append_to-clause-sorted
-returns-in_err-append_to-clause-sorted c = subst (IsSorted value_cmp) c.self.view_is (sorted_of (tokens_in c.self.inside.chunks.items) (tokens_ascend c.self.inside.chunks.items c.self.invariant.ascend))
+returns-in_err-append_to-clause-sorted c = subst (IsSorted value_cmp) c.self.view_is (sorted_of (tokens_in c.self.inside.chunks) (tokens_ascend c.self.inside.chunks c.self.invariant.ascend))
 
 pub returns-clause-sorted : goal.returns-clause-sorted
-returns-clause-sorted c = subst (IsSorted value_cmp) c.self.view_is (sorted_of (tokens_in c.self.inside.chunks.items) (tokens_ascend c.self.inside.chunks.items c.self.invariant.ascend))
+returns-clause-sorted c = subst (IsSorted value_cmp) c.self.view_is (sorted_of (tokens_in c.self.inside.chunks) (tokens_ascend c.self.inside.chunks c.self.invariant.ascend))

@@ -1,7 +1,7 @@
 use Rattle.std.proofs.Common.{◌≤◌, ◌<◌, ◌-◌, length, take}
 use Rattle.rn_bag.specs.Slots.{there_from}
 use Rattle.rn_bag.specs.Words.{has_bit}
-use Rattle.rn_bag.proofs.chunk.Chunk.nth.Given as goal
+use Rattle.rn_bag.proofs.chunk.Chunk.slot_of.Given as goal
 
 abbrev pub invariant-loop-high : goal.invariant-loop-high
 invariant-loop-high l = record {
