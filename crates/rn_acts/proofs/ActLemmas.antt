@@ -1,12 +1,10 @@
 -- Actions one by one, and nodes one by one.
-use Rattle.std.proofs.Common.{◌≡◌, ℕ, ◌+◌, ◌<◌, Bool, true, false, List, [], ◌∷◌, ◌++◌, take, get_or}
-use Rattle.std.proofs.Common.{length, refl, sym, ap, ◌∙◌, append_assoc, reverse, subst}
+use Rattle.std.proofs.Common.{◌≡◌, ℕ, Bool, true, false, List, [], ◌∷◌}
+use Rattle.std.proofs.Common.{refl, sym, ap, ◌∙◌, append_assoc, subst}
 use Rattle.std.specs.Prelude.{Option, Some, None, option_map, option_and_then, if◌then◌else◌}
-use Rattle.std.specs.Prelude.{nat_eq, flat_map, IfSome}
-use Rattle.std.proofs.lemmas.List.{take_more, reverse-append}
+use Rattle.std.specs.Prelude.{flat_map, IfSome}
 use Rattle.std.proofs.lemmas.Option.{same_Some}
 use Rattle.rn_value.specs.declared.value.InstRef.TheVariants.{Old}
-use Rattle.rn_value.specs.declared.value.Value.{Value}
 use Rattle.rn_model.specs.declared.system.System.{System}
 use Rattle.rn_model.specs.declared.system.Action.{Action}
 use Rattle.rn_model.specs.declared.system.Action.TheVariants.{Set, Print}
@@ -15,34 +13,11 @@ use Rattle.rn_model.specs.Demands.{Reading, asked_at, puts}
 use Rattle.rn_model.specs.Evaluation.{worth}
 use Rattle.rn_model.specs.Firing.{Acts, Effects, with_set, with_out, after_actions, acts_before}
 use Rattle.rn_model.specs.Firing.{outputs_defined, node_acts, effects_with, all_effects}
-use Rattle.rn_model.specs.Lists.{value_beside}
 use Rattle.rn_model.specs.Systems.{transition_of}
 use Rattle.rn_table.specs.Changes.{values_at}
 use Rattle.rn_acts.specs.Acted.{ArePut, node_rows, nothing, with_acts, with_node, with_effects}
-use Rattle.rn_acts.specs.Acting.{action_of}
 use Rattle.rn_acts.specs.declared.acts.Acted.{Acted}
 use Rattle.rn_acts.proofs.RowLemmas.{OwnThis, rows_are}
-
--- what was set last is looked at first
-pub from_last : (set known : List (ℕ × Value)) (k x : ℕ) (d : ℕ × Value) → k < length set →
-    value_beside (reverse (take (k + 1) set) ++ known) x
-    ≡ (if nat_eq (get_or set k d).0 x then Some (get_or set k d).1
-    else value_beside (reverse (take k set) ++ known) x)
-from_last set known k x d low =
-    ap (λ ps. value_beside (reverse ps ++ known) x) (take_more set k d low)
-    ∙ ap (λ ps. value_beside (ps ++ known) x) (reverse-append (take k set) (get_or set k d ∷ []))
-
--- one action, and then the others
-pub one_action : (a : Action) (actions : List Action) (acts : Acts) →
-    after_actions (a ∷ actions) acts ≡ option_and_then (after_actions actions) (action_of a acts)
-one_action (Set x e) actions acts =
-    elim (worth e acts.env) as (λ o. option_and_then (λ v. after_actions actions (with_set x v acts)) o
-    ≡ option_and_then (after_actions actions) (option_map (λ v. with_set x v acts) o))
-    [ None ↦ refl | Some v ↦ refl ]
-one_action (Print e) actions acts =
-    elim (worth e acts.env) as (λ o. option_and_then (λ v. after_actions actions (with_out v acts)) o
-    ≡ option_and_then (after_actions actions) (option_map (λ v. with_out v acts) o))
-    [ None ↦ refl | Some v ↦ refl ]
 
 -- no action changes the instance
 keeps_this : (actions : List Action) (so_far acts : Acts) →

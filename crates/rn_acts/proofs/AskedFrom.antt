@@ -68,6 +68,7 @@ module _ {A : Type 0} (pick : ArcKind → Value → List A) where
   node_source system inst place r x true e there =
       (insts_apart r.node.inst inst ((Equal-is (inst_cmp r.node.inst inst)).0 e), there)
 
+  -- what is asked of a place is asked by an arc of a node on its instance
   pub asked_from : (system : System) (read : List Reading) (inst : InstRef) (place : ℕ) (x : A) →
       Contains (asked_at pick system read inst place) x → AskedFrom system read inst place x
   asked_from system read inst place x there =

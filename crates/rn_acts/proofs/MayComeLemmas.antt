@@ -140,6 +140,7 @@ module _ (system : System) (table m : Marking) (b : Binding) (depth : ℕ) (chan
         room = omega (arith, few, count);
       }
 
+-- the change of an enabled binding may come to a table that stands for the marking
 pub firings_may_come : FiringsMayCome
 firings_may_come system table m b depth change good form sound stands enabled of few = (
   may_come system table m b depth change good form sound stands enabled of few,

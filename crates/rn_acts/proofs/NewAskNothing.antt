@@ -102,6 +102,7 @@ module _ (system : System) (m : Marking) (b : Binding) (next n place : ℕ) (fit
       let new = on_new node node.inst there refl e in
       (New new.0 new.1, new.2, refl)
 
+  -- nothing is taken from a place of an instance that isn't there
   pub nothing_taken : taken_at system nb (Old n) place ≡ []
   nothing_taken = empty_of_none (taken_at system nb (Old n) place) (λ v has.
       let asked = from_ordered v (asked_at takes system (readings system nb) (Old n) place) has in
@@ -113,6 +114,7 @@ module _ (system : System) (m : Marking) (b : Binding) (next n place : ℕ) (fit
       let none : count_of before.asked (tokens m before.node.inst place) ≡ 0 = ap (λ i. count_of before.asked (tokens m i place)) new.1 ∙ ap (count_of before.asked) new.2 in
       omega (arith, some, enough, none))
 
+  -- and nothing is cleared there
   pub nothing_cleared : flat_map (λ vs. vs) (cleared_at system nb (Old n) place) ≡ []
   nothing_cleared = empty_of_none (flat_map (λ vs. vs) (cleared_at system nb (Old n) place)) (λ v has.
       let list = flat_source (λ vs. vs) (cleared_at system nb (Old n) place) v has in

@@ -10,6 +10,7 @@ use Rattle.rn_model.specs.Bindings.{IsNodeOf}
 use Rattle.rn_model.specs.Firing.{creations_of, made_by, numbered_inst, renamed_node, renamed_value}
 use Rattle.rn_acts.specs.Laws.{NumberingKeepsCreations, NumberingKeepsNodes}
 
+-- with numbers for its new instances a binding makes the same instances
 pub creations_kept : NumberingKeepsCreations
 creations_kept system b next =
     flat_map-map (made_by system) (renamed_node (numbered_inst (creations_of system b) next)) b.nodes
@@ -22,6 +23,7 @@ node_kept system name node own = record {
   values = length-map node.values (λ v. renamed_value v name) ∙ own.values;
 }
 
+-- and its nodes are still nodes of the system
 pub nodes_kept : NumberingKeepsNodes
 nodes_kept system b next own =
     let name = numbered_inst (creations_of system b) next in

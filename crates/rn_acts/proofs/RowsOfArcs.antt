@@ -1,5 +1,5 @@
 -- Rows stand at places that arcs of nodes name.
-use Rattle.std.proofs.Common.{◌≡◌, ℕ, zero, suc, Bool, true, false, cond, List, [], ◌∷◌, refl, sym, ap, ◌∙◌, subst, arith}
+use Rattle.std.proofs.Common.{◌≡◌, ℕ, List, [], ◌∷◌, refl, sym, ap, ◌∙◌, subst, arith}
 use Rattle.std.specs.Prelude.{Option, Some, None, All, Contains, IfSome, filter, flat_map, option_map}
 use Rattle.std.proofs.lemmas.List.Elements.{All-from_recursion}
 use Rattle.rn_value.specs.declared.value.InstRef.{InstRef}
@@ -14,7 +14,7 @@ use Rattle.rn_model.specs.Evaluation.{Env}
 use Rattle.rn_model.specs.Bindings.{env_of}
 use Rattle.rn_model.specs.Demands.{Reading, readings, asked_at, takes, clears, taken_at}
 use Rattle.rn_model.specs.Firing.{Effects, all_effects}
-use Rattle.rn_model.proofs.AskedValues.{contained_mapped, flat_source, from_ordered, later, map_source}
+use Rattle.rn_model.proofs.AskedValues.{contained_mapped, flat_source, from_ordered, map_source}
 use Rattle.rn_model.proofs.EnablingLemmas.{not_in_nil, the_one}
 use Rattle.rn_model.proofs.PutValues.{StaysSo, reading_stays}
 use Rattle.rn_model.proofs.ReadConditions.{each_in}
@@ -28,23 +28,11 @@ use Rattle.rn_acts.specs.Acted.{AreOfArcs, IsOfArc, arc_rows, node_rows, nothing
 use Rattle.rn_acts.specs.ChangeRows.{numbered_row, row_at}
 use Rattle.rn_acts.specs.declared.acts.Acted.{Acted}
 use Rattle.rn_acts.proofs.AskedFrom.{asked_from}
+use Rattle.rn_items.proofs.Lists.{in_filter}
 
 -- what is true of each element is true of all
 pub all_in : {X : Type 0} (P : X → Type 0) (xs : List X) → ((x : X) → Contains xs x → P x) → All P xs
 all_in P xs each = All-from_recursion P xs (each_in P xs each)
-
--- what passes a test is among those that do
-in_filter : {X : Type 0} (test : X → Bool) (xs : List X) (x : X) → Contains xs x → test x ≡ true →
-    Contains (filter test xs) x
-in_filter test [] x there passes = absurd (not_in_nil x there)
-in_filter test (y ∷ xs) x (zero, low, e) passes =
-    let here : test y ≡ true = ap test e ∙ passes in
-    subst (λ t. Contains (cond t (y ∷ filter test xs) (filter test xs)) x) (sym here)
-    (0, omega arith, e)
-in_filter test (y ∷ xs) x (suc k, low, e) passes =
-    let behind = in_filter test xs x (k, omega (arith, low), e) passes in
-    elim (test y) as (λ t. Contains (cond t (y ∷ filter test xs) (filter test xs)) x)
-    [ true ↦ later y x (filter test xs) behind | false ↦ behind ]
 
 -- Rows of demands.
 module _ (system : System) (b : Binding) where

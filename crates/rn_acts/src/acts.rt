@@ -8,10 +8,9 @@ ghost use Rattle.rn_acts.specs.Acted.{AreOfArcs, ArePut, nothing, with_node, wit
 
 use crate::acting::Acting;
 use crate::outputs::put_outputs;
-use rn_agree::transition_of;
 use rn_arcs::append;
 use rn_items::{Items, NoMemory};
-use rn_model::{Binding, Node, System};
+use rn_model::{Binding, Node, System, transition_of};
 use rn_table::Rows;
 use rn_value::Vals;
 use std::alloc::Global;

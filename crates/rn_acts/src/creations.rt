@@ -3,10 +3,9 @@ ghost use Rattle.std.specs.Prelude.{◌≡◌, ◌++◌, All, IfOk, OnOk, map};
 ghost use Rattle.rn_model.specs.Bindings.{IsNodeOf};
 ghost use Rattle.rn_model.specs.Firing.{creations_of, too_many};
 
-use rn_agree::transition_of;
 use rn_items::{Items, NoMemory};
 use rn_model::limits::GREATEST_INSTANCE;
-use rn_model::{Binding, Creation, Nums, System};
+use rn_model::{Binding, Creation, Nums, System, transition_of};
 use std::alloc::Global;
 
 /// Whether a firing that makes so many instances gives one of them a number above the greatest,

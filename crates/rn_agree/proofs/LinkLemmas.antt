@@ -1,7 +1,7 @@
 -- Nodes on paths, their children and their callers.
 use Rattle.std.proofs.Common.{◌≡◌, ◌≢◌, ℕ, suc, zero, ◌<◌, ◌≤◌, Bool, true, false, List, [], ◌∷◌}
 use Rattle.std.proofs.Common.{◌++◌, length, get_or, refl, sym, ap, ◌∙◌, subst, arith}
-use Rattle.std.specs.Prelude.{Some, None, find, nat_eq, nat_lt, slice_get, Contains, All, IsTrue}
+use Rattle.std.specs.Prelude.{Some, None, find, nat_eq, nat_lt, Contains, All, IsTrue}
 use Rattle.std.specs.Prelude.{◌↔◌}
 use Rattle.std.specs.Cmp.Lexicographic.{pointwise}
 use Rattle.std.specs.Cmp.Lexicographic.{slice_cmp}
@@ -12,7 +12,9 @@ use Rattle.std.proofs.lemmas.Cmp.{nat_cmp_total}
 use Rattle.std.proofs.lemmas.Bool.Decides.{nat_tests}
 use Rattle.std.proofs.lemmas.Option.{slice_get_within, slice_get-get_or, same_Some}
 use Rattle.std.proofs.lemmas.List.Elements.{All-contains, Contains-get_or}
+use Rattle.std.proofs.lemmas.List.{same_from_push}
 use Rattle.rn_items.proofs.Numbers.{same_numbers}
+use Rattle.rn_items.proofs.Lists.{element_at}
 use Rattle.rn_model.specs.declared.system.System.{System}
 use Rattle.rn_model.specs.declared.binding.Node.{Node}
 use Rattle.rn_model.specs.declared.binding.Binding.{Binding}
@@ -50,27 +52,9 @@ found_itself b node up (k, h, e) =
     found_there b.nodes node.path k node up h (ap (λ (n : Node). n.path) e)
     ∙ slice_get-get_or b.nodes k node h ∙ ap (λ n. Some n) e
 
-same_front : (p q : List ℕ) (i j : ℕ) → p ++ i ∷ [] ≡ q ++ j ∷ [] → (p ≡ q) × (i ≡ j)
-same_front [] [] i j e = let same : i ≡ j = cc in (refl, same)
-same_front [] (y ∷ []) i j e = absurd (let no : ⊥ = cc in no)
-same_front [] (y ∷ z ∷ q) i j e = absurd (let no : ⊥ = cc in no)
-same_front (x ∷ []) [] i j e = absurd (let no : ⊥ = cc in no)
-same_front (x ∷ z ∷ p) [] i j e = absurd (let no : ⊥ = cc in no)
-same_front (x ∷ p) (y ∷ q) i j e =
-    let first : x ≡ y = cc in
-    let others : p ++ i ∷ [] ≡ q ++ j ∷ [] = cc in
-    let rest = same_front p q i j others in
-    let whole : p ≡ q = rest.0 in
-    (cc, rest.1)
-
 not_empty : (p : List ℕ) (i : ℕ) → p ++ i ∷ [] ≢ []
 not_empty [] i e = let no : ⊥ = cc in no
 not_empty (x ∷ p) i e = let no : ⊥ = cc in no
-
-has_element : {X : Type 0} (xs : List X) (i : ℕ) → i < length xs →
-    (x : X) × (slice_get xs i ≡ Some x)
-has_element [] i h = let no : ⊥ = omega (arith, h) in absurd no
-has_element (x ∷ xs) i h = (get_or (x ∷ xs) i x, slice_get-get_or (x ∷ xs) i x h)
 
 -- A node whose path ends in this number.
 module _ (system : System) (b : Binding) (node : Node) (front : List ℕ) (last : ℕ)
@@ -79,7 +63,7 @@ module _ (system : System) (b : Binding) (node : Node) (front : List ℕ) (last 
       × (last < length (transition_of system caller).downlinks)
   caller_found has =
       let (caller, i, downlink, there, at, path) = has (λ e. not_empty front last (sym ends ∙ e)) in
-      let same = same_front front caller.path last i (sym ends ∙ path) in (
+      let same = same_from_push front caller.path last i (sym ends ∙ path) in (
         caller,
         subst (λ p. node_at b p ≡ Some caller) (sym same.0) (found_itself b caller up there),
         subst (λ j. j < length (transition_of system caller).downlinks) (sym same.1)
@@ -96,7 +80,7 @@ module _ (system : System) (b : Binding) (node : Node) (front : List ℕ) (last 
         let below : last < length (transition_of system caller).downlinks
         = let low : last < count = grind (arith, nat_tests) in subst (λ n. last < n) is low in
         let downlinks = (transition_of system caller).downlinks in
-        let (downlink, there) = has_element downlinks last below in (
+        let (downlink, there) = element_at downlinks last below in (
           caller,
           last,
           downlink,
@@ -137,7 +121,7 @@ module _ (system : System) (b : Binding) (node : Node) (up : AscendByPath b.node
       (k : ℕ) × (child : Node) × (k < length b.nodes) × (get_or b.nodes k child ≡ child)
       × (child.path ≡ node.path ++ i ∷ [])
   child_stands i h =
-      let (downlink, at) = has_element (transition_of system node).downlinks i h in
+      let (downlink, at) = element_at (transition_of system node).downlinks i h in
       let (child, on, answers) = has i downlink at in
       let ((k, low, e), path) = on_its_path b (node.path ++ i ∷ []) child on in
       (k, child, low, e, path)

@@ -1,16 +1,13 @@
 -- In a good system a binding of the shape agrees exactly where its parts do: values that stand for
 -- expressions have their kinds, since those of variables have.
-use Rattle.std.proofs.Common.{◌≡◌, ◌≢◌, ℕ, ◌<◌, Bool, true, false, List, [], ◌∷◌, ◌++◌, length}
+use Rattle.std.proofs.Common.{◌≡◌, ◌≢◌, ℕ, ◌<◌, Bool, List, [], ◌∷◌, ◌++◌, length}
 use Rattle.std.proofs.Common.{get_or, refl, sym, ◌∙◌, subst, arith}
-use Rattle.std.specs.Prelude.{Some, None, All, Contains, slice_get, zip, nat_eq, if◌then◌else◌}
+use Rattle.std.specs.Prelude.{Some, None, All, Contains, slice_get}
 use Rattle.std.specs.Prelude.{IsTrue, ◌↔◌}
 use Rattle.std.specs.List.{AllZip}
-use Rattle.std.proofs.lemmas.Bool.{eqb-true}
 use Rattle.std.proofs.lemmas.Option.{same_Some, slice_get-get_or}
 use Rattle.std.proofs.lemmas.List.Elements.{All-contains, Contains-get_or}
-use Rattle.rn_value.specs.Kinds.{HasKind}
 use Rattle.rn_value.specs.declared.value.Kind.{Kind}
-use Rattle.rn_value.specs.declared.value.Value.{Value}
 use Rattle.rn_model.specs.declared.expr.Expr.{Expr}
 use Rattle.rn_model.specs.declared.system.System.{System}
 use Rattle.rn_model.specs.declared.system.Transition.{Transition}
@@ -18,7 +15,7 @@ use Rattle.rn_model.specs.declared.system.Downlink.{Downlink}
 use Rattle.rn_model.specs.declared.system.Uplink.{Uplink}
 use Rattle.rn_model.specs.declared.binding.Node.{Node}
 use Rattle.rn_model.specs.declared.binding.Binding.{Binding}
-use Rattle.rn_model.specs.Lists.{HaveOneValue, value_beside}
+use Rattle.rn_model.specs.Lists.{HaveOneValue}
 use Rattle.rn_model.specs.Systems.{net_at, transition_of, var_kind, channel_kinds, uplink_args}
 use Rattle.rn_model.specs.Kinds.{HasExprKind}
 use Rattle.rn_model.specs.Evaluation.{Env, worth}
@@ -29,27 +26,9 @@ use Rattle.rn_model.specs.ExpressionLaws.{HaveKinds}
 use Rattle.rn_model.proofs.MarkingsOfRuns.{good_transition}
 use Rattle.rn_model.proofs.OperandKinds.{values_have_kinds}
 use Rattle.rn_model.proofs.AskedValues.{got_contained}
+use Rattle.rn_model.proofs.AgreeingValues.{beside_kind}
 use Rattle.rn_agree.specs.Agreeing.{IsReadable, NodeHolds, CallsAgree, AgreesInParts}
 use Rattle.rn_agree.proofs.LinkLemmas.{found_itself, on_its_path, links_of_shape, no_more_downlinks}
-
--- values beside their variables have their kinds, as in the proofs of the model
--- (`rn_model` proves it as well, in `AgreeingValues`, and for itself alone)
-beside_kind : (kinds : ℕ → Kind) (xs : List ℕ) (vs : List Value) →
-    AllZip (λ x v. HasKind v (kinds x)) xs vs → (x : ℕ) (v : Value) →
-    value_beside (zip xs vs) x ≡ Some v → HasKind v (kinds x)
-beside_kind kinds [] [] all x v e = absurd (let no : ⊥ = cc in no)
-beside_kind kinds [] (w ∷ vs) all x v e = absurd all
-beside_kind kinds (y ∷ xs) [] all x v e = absurd all
-beside_kind kinds (y ∷ xs) (w ∷ vs) all x v e =
-    first_or_later (nat_eq y x) refl (λ e. beside_kind kinds xs vs all.1 x v e) e
-  where
-    first_or_later : (same : Bool) → nat_eq y x ≡ same →
-        (value_beside (zip xs vs) x ≡ Some v → HasKind v (kinds x)) →
-        (if same then Some w else value_beside (zip xs vs) x) ≡ Some v → HasKind v (kinds x)
-    first_or_later true same later e =
-        subst (λ u. HasKind u (kinds x)) (same_Some w v e)
-        (subst (λ z. HasKind w (kinds z)) (eqb-true y x same) all.0)
-    first_or_later false same later e = later e
 
 -- arguments with values, of which each has a kind, have values of these kinds
 valued_left : (env other : Env) (kinds : ℕ → Kind) (es fs : List Expr) (ks : List Kind) →

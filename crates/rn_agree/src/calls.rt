@@ -11,9 +11,8 @@ ghost use Rattle.rn_agree.specs.Agreeing.{CallAgreesAt, CallsAgree, IsReadable};
 ghost use Rattle.rn_agree.specs.Paths.{AscendByPath};
 
 use crate::lookup::child_on;
-use crate::nodes::transition_of;
 use rn_calc::{NodeValues, have_one_value, read};
-use rn_model::{Binding, Downlink, Expr, Node, System, Transition};
+use rn_model::{Binding, Downlink, Expr, Node, System, Transition, transition_of};
 use rn_value::{InstRef, NoMemory, Value};
 use std::alloc::Global;
 

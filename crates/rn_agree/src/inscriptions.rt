@@ -13,9 +13,10 @@ ghost use Rattle.rn_agree.specs.Agreeing.{IsEqual};
 ghost use Rattle.rn_agree.specs.Agreeing.{IsReadable, NodeHolds};
 
 use crate::mentions::awaits_action;
-use crate::nodes::{net_of, transition_of};
 use rn_calc::{NodeValues, Values, have_one_value, is_true, read};
-use rn_model::{Cond, Creation, Expr, Net, NetArc, Node, System, Transition};
+use rn_model::{
+    Cond, Creation, Expr, Net, NetArc, Node, System, Transition, net_at, transition_of,
+};
 use rn_value::{InstRef, NoMemory, Value, has_kind};
 use std::alloc::Global;
 
@@ -129,7 +130,7 @@ fn have_own_kinds(system: &System, node: &Node) -> bool
     requires { IsReadable system.now node.now }
     ensures { IsTrue result ↔ HaveOwnKinds system.now node.now }
 {
-    let net = net_of(system, node);
+    let net = net_at(system, node.net);
     let transition = transition_of(system, node);
     have_kinds(net, transition.vars.as_slice(), node.values.as_slice())
 }

@@ -13,5 +13,4 @@ mod shape;
 pub use agreement::does_agree;
 pub use lookup::{child_index, child_on, node_index, node_on};
 pub use mentions::awaits_action;
-pub use nodes::transition_of;
 pub use shape::has_shape;

@@ -1,5 +1,5 @@
 //! How a node stands among the others: its children, its caller, and the creation of its instance.
-ghost use Rattle.std.specs.Prelude.{◌≡◌, ◌<◌, ◌≤◌, ◌↔◌, ◌∷◌, ◌++◌, [], All, Contains, IsTrue, Some};
+ghost use Rattle.std.specs.Prelude.{◌≡◌, ◌<◌, ◌≤◌, ◌↔◌, ◌∷◌, ◌++◌, [], All, IsTrue, Some};
 ghost use Rattle.std.specs.Prelude.{length};
 ghost use Rattle.rn_model.specs.declared.binding.Node.{Node as Occurrence};
 ghost use Rattle.rn_model.specs.Bindings.{IsNodeOf, Answers, IsOfCreation, node_at};
@@ -8,8 +8,8 @@ ghost use Rattle.rn_agree.specs.Paths.{AscendByPath};
 ghost use Rattle.rn_agree.specs.Parts.{HasChildren, HasCaller, IsLinked};
 
 use crate::lookup::{child_on, node_on};
-use crate::nodes::{answers, transition_of};
-use rn_model::{Binding, Node, System};
+use crate::nodes::answers;
+use rn_model::{Binding, Node, System, transition_of};
 use rn_value::InstRef;
 
 // Whether the child by downlink `i` of the node on a path is there and answers a channel.

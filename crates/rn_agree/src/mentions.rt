@@ -1,15 +1,9 @@
 //! Which outputs await an action.
 ghost use Rattle.std.specs.Prelude.{◌≡◌};
-ghost use Rattle.rn_model.specs.Systems.{is_output, awaits_action};
+ghost use Rattle.rn_model.specs.Systems.{awaits_action};
 
 use rn_calc::holds_action_var;
-use rn_model::{ArcKind, NetArc, Transition};
-
-fn is_output(kind: ArcKind) -> bool
-    ensures { result ≡ is_output kind }
-{
-    matches!(kind, ArcKind::Output | ArcKind::FlexOutput)
-}
+use rn_model::{NetArc, Transition, is_output};
 
 /// Whether an arc is an output that holds an action variable.
 pub fn awaits_action(transition: &Transition, arc: &NetArc) -> bool

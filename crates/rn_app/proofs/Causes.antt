@@ -1,5 +1,5 @@
 -- Each cause has its status.
-use Rattle.std.proofs.Common.{◌≡◌, ◌≢◌, ◌∙◌, ◌⊎◌, ◌≤◌, ℕ, List, [], Option, Some, None, Err, inl, inr, length, refl, sym, ap, subst, arith}
+use Rattle.std.proofs.Common.{◌≡◌, ◌∙◌, ◌⊎◌, ◌≤◌, ℕ, List, [], Option, Some, None, Err, inl, inr, length, refl, sym, ap, subst, arith}
 use Rattle.std.specs.Prelude.{IfSome, ⊤}
 use Rattle.rn_model.specs.declared.log.Options.{Options}
 use Rattle.rn_model.specs.Good.{IsInLimits}
@@ -7,9 +7,7 @@ use Rattle.rn_model.specs.declared.log.Reason.{Reason}
 use Rattle.rn_model.specs.declared.log.Reason.TheVariants as End
 use Rattle.rn_model.specs.declared.system.System.{System}
 use Rattle.rn_record.specs.RecordText.{IsFormat}
-use Rattle.rn_lookup.specs.declared.refusal.Refusal.{Refusal}
-use Rattle.rn_model.specs.declared.log.Told.{Told}
-use Rattle.rn_told.specs.Laws.{HoldsFew, OneReading}
+use Rattle.rn_told.specs.Laws.{OneReading}
 use Rattle.rn_told.specs.Runs.{Verdict, TellsRecord}
 use Rattle.rn_notation.specs.Limits.{longest_net_text, longest_text}
 use Rattle.rn_words.specs.declared.command.Command.{Command}

@@ -113,6 +113,7 @@ within_nothing (v ∷ vs) within =
     let there = is_counted v (v ∷ vs) (0, omega arith, refl) in
     absurd (let no : ⊥ = omega (arith, there, within v) in no)
 
+-- a test whether a list is empty is one whether it is within the empty list
 pub only_nothing : (r : Bool) (vs : List Value) → IsTrue r ↔ (vs ≡ []) →
     IsTrue r ↔ IsWithin vs []
 only_nothing r vs both = (

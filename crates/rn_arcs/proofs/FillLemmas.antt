@@ -4,7 +4,7 @@ use Rattle.std.proofs.Common.{List, [], ◌∷◌, ◌++◌, length, map, refl, 
 use Rattle.std.proofs.Common.{◌*◌, ◌^◌, take, get_or, arith}
 use Rattle.std.specs.Prelude.{⊤, ◌⊎◌, nat_eq, filter, fold}
 use Rattle.std.specs.Option.{option_map_or}
-use Rattle.std.specs.Ordering.{is_eq, is_lt}
+use Rattle.std.specs.Ordering.{is_eq}
 use Rattle.std.specs.List.{flat_map, sum_by, AllByRecursion}
 use Rattle.std.specs.List.Sorted.{IsPermutation, IsSortedByKey}
 use Rattle.std.proofs.lemmas.List.{append-nil, length-append, take_more}
@@ -12,7 +12,7 @@ use Rattle.std.proofs.lemmas.List.Elements.{All-contains, All-from_recursion, re
 use Rattle.std.proofs.lemmas.List.Folds.{flat_map-map}
 use Rattle.std.proofs.lemmas.List.Sorted.{All-permutation}
 use Rattle.std.proofs.lemmas.List.Sums.{sum_by-cons}
-use Rattle.rn_value.specs.Order.{inst_cmp, value_cmp}
+use Rattle.rn_value.specs.Order.{inst_cmp}
 use Rattle.rn_value.specs.declared.value.InstRef.{InstRef}
 use Rattle.rn_value.specs.declared.value.Value.{Value}
 use Rattle.rn_model.specs.declared.system.System.{System}
@@ -24,8 +24,9 @@ use Rattle.rn_model.specs.Bindings.{env_of}
 use Rattle.rn_model.specs.Demands.{Reading, puts, readings, asked_by_arc, asked_by_node, asked_at}
 use Rattle.rn_model.specs.Demands.{awaited_by_node, filled_at}
 use Rattle.rn_model.specs.Evaluation.{Env, worth}
-use Rattle.rn_model.specs.Lists.{with_value, ordered_values}
 use Rattle.rn_model.specs.Systems.{transition_of, puts_awaited}
+use Rattle.rn_model.proofs.LengthsByCounts.{ordered_length}
+use Rattle.rn_model.proofs.EachElement.{each_append}
 use Rattle.rn_arcs.specs.Demanded.{HasFills, fill_place, one_count}
 use Rattle.rn_arcs.specs.Fillings.{known_count, awaited_count, pours_of, arc_pours, node_pours}
 use Rattle.rn_arcs.specs.Fillings.{binding_pours, pour_place, fill_of, joined_pour, with_pour}
@@ -38,7 +39,6 @@ use Rattle.rn_arcs.proofs.Gathering.{at_place, at_place-append, at_place-one, at
 use Rattle.rn_arcs.proofs.JoiningItems.{joined_give}
 use Rattle.rn_arcs.proofs.PlaceOrder.{at_both}
 use Rattle.rn_arcs.proofs.RisingPlaces.{those_at, one_at, OneAt, joined_rise, rising_is_sorted}
-use Rattle.rn_arcs.proofs.RisingPlaces.{all_join}
 
 -- so many units
 abbrev pub units : ℕ → List ⊤
@@ -56,20 +56,6 @@ units_more zero n =
 units_more (suc m) n =
     let one : suc m + n ≡ suc (m + n) = omega arith in
     ap units one ∙ ap (λ us. tt ∷ us) (units_more m n)
-
--- how many values there are stays as they are put in order
-length_with : (v : Value) (vs : List Value) → length (with_value v vs) ≡ suc (length vs)
-length_with v [] = refl
-length_with v (w ∷ ws) = by_answer (is_lt (value_cmp w v)) (length_with v ws)
-  where
-    by_answer : (low : Bool) → length (with_value v ws) ≡ suc (length ws) →
-        length (cond low (w ∷ with_value v ws) (v ∷ w ∷ ws)) ≡ suc (suc (length ws))
-    by_answer true e = ap suc e
-    by_answer false e = refl
-
-length_ordered : (vs : List Value) → length (ordered_values vs) ≡ length vs
-length_ordered [] = refl
-length_ordered (v ∷ vs) = length_with v (ordered_values vs) ∙ ap suc (length_ordered vs)
 
 crosswise : (a b c d : ℕ) → (a + b) + (c + d) ≡ (a + c) + (b + d)
 crosswise a b c d = omega arith
@@ -209,7 +195,7 @@ module _ (k : InstPlace) where
       b.nodes
       ∙ ap (λ vs. length vs + length awaited) (sym (flat_map-map asked (reading system) b.nodes))
       ∙ ap (λ n. n + length awaited)
-      (sym (length_ordered (asked_at puts system (readings system b) k.0 k.1)))
+      (sym (ordered_length (asked_at puts system (readings system b) k.0 k.1)))
 
 -- each row counts something
 abbrev Counts : List Fill → Type 0
@@ -316,7 +302,7 @@ each_pours inst place (suc n) = (omega arith, tt)
 all_flat : {X Y : Type 0} (P : Y → Type 0) (f : X → List Y) (xs : List X) →
     ((x : X) → AllByRecursion P (f x)) → AllByRecursion P (flat_map f xs)
 all_flat P f [] each = tt
-all_flat P f (x ∷ xs) each = all_join P (f x) (flat_map f xs) (each x) (all_flat P f xs each)
+all_flat P f (x ∷ xs) each = each_append P (f x) (flat_map f xs) (each x) (all_flat P f xs each)
 
 all_pour : (system : System) (b : Binding) →
     AllByRecursion (λ p. 0 < p.count) (binding_pours system b)
@@ -325,7 +311,7 @@ all_pour system b =
     (λ node. all_flat (λ p. 0 < p.count)
     (arc_pours (transition_of system node) (env_of system node) node.inst)
     (transition_of system node).arcs
-    (λ arc. all_join (λ p. 0 < p.count)
+    (λ arc. each_append (λ p. 0 < p.count)
     (pours_of node.inst arc.place (awaited_count (transition_of system node) arc))
     (pours_of node.inst arc.place (known_count (env_of system node) arc))
     (each_pours node.inst arc.place (awaited_count (transition_of system node) arc))

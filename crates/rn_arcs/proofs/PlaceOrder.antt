@@ -33,6 +33,7 @@ same_place k l e =
     let same : (l.0, l.1) ≡ (k.0, k.1) = cc in
     same
 
+-- a place is equal to itself
 pub at_itself : (k : InstPlace) → is_at k k ≡ true
 at_itself k = (Equal-is (place_cmp k k)).1 (tied_itself place_total k)
 

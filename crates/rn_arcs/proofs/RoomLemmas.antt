@@ -21,6 +21,7 @@ use Rattle.rn_model.specs.Enabling.{HasRoom, MadeHasRoom, held_after}
 use Rattle.rn_model.specs.Firing.{Made, made_by, creations_of}
 use Rattle.rn_model.specs.Markings.{Marking, tokens, tokens_at}
 use Rattle.rn_model.specs.Systems.{net_at, transition_of, capacity}
+use Rattle.rn_model.proofs.EachElement.{each_append}
 use Rattle.rn_arcs.specs.Demanded.{HasFills, fill_place, one_count}
 use Rattle.rn_arcs.specs.Groups.{AreAsked, place_of}
 use Rattle.rn_arcs.specs.Places.{InstPlace, is_at}
@@ -32,7 +33,6 @@ use Rattle.rn_arcs.specs.declared.demands.Fill.{Fill}
 use Rattle.rn_arcs.specs.declared.room.Firing.{Firing}
 use Rattle.rn_arcs.specs.declared.seat.Seat.{Seat}
 use Rattle.rn_arcs.specs.declared.seat.Seat.TheVariants.{There}
-use Rattle.rn_arcs.proofs.RisingPlaces.{all_join}
 
 none_before : (n : ℕ) → 0 + n ≡ n
 none_before n = omega arith
@@ -204,7 +204,7 @@ module _ (f : Firing) (b : Binding) (asked : AreAsked false f.system.now b f.ask
       let rest = nodes_room nodes all.1 in
       let cs = (transition_of f.system.now node).creations in (
         (own_room node all.0.0, rest.0),
-        all_join (MadeHasRoom f.system.now b) (made_by f.system.now node)
+        each_append (MadeHasRoom f.system.now b) (made_by f.system.now node)
             (flat_map (made_by f.system.now) nodes)
             (all_made node.path 0 cs
             (λ j c at. subst (λ i. PlacesHaveRoom f c.net (New node.path i)) (sym (none_before j))
@@ -304,7 +304,7 @@ module _ (system : System) (m : Marking) (b : Binding) where
           λ n place most e cap. absurd (no_capacity system node.net place most own.0 cap),
           rest.0,
         ),
-        all_join (MadeHasRoom system b) (made_by system node) (flat_map (made_by system) nodes)
+        each_append (MadeHasRoom system b) (made_by system node) (flat_map (made_by system) nodes)
             (made_free node.path 0 (transition_of system node).creations own.1) rest.1,
       )
 

@@ -29,11 +29,6 @@ use Rattle.rn_arcs.proofs.PlaceOrder.{place_total}
 use Rattle.rn_arcs.proofs.RisingPlaces.{those_at, one_at, OneAt, all_map, Ups, sorted_of}
 use Rattle.rn_arcs.proofs.RisingPlaces.{not_below}
 
--- one row of the values that there are
-pub one_row-some : (vs : List Value) → (vs ≡ [] → ⊥) → one_row vs ≡ vs ∷ []
-one_row-some [] some = absurd (some refl)
-one_row-some (v ∷ vs) some = refl
-
 module _ (lists : Asked → List (List Value)) where
   abbrev rows : Asked → List Place2
   rows g = rows_of (place_of g) (lists g)

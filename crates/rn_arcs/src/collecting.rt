@@ -1,22 +1,13 @@
 //! The walk over the nodes and arcs of a binding.
 ghost use Rattle.std.specs.Prelude.{◌≡◌, ◌++◌, IfOk, OnOk};
-ghost use Rattle.rn_model.specs.Systems.{is_output};
-ghost use Rattle.rn_model.specs.Bindings.{env_of};
 ghost use Rattle.rn_arcs.specs.Asks.{arc_asks, node_asks, binding_asks};
 
 use crate::ask::Ask;
-use rn_calc::{NodeValues, Values, evaluate, find_transition};
+use rn_calc::{NodeValues, Values, evaluate};
 use rn_items::NoMemory;
-use rn_model::{ArcKind, Binding, NetArc, Node, System};
+use rn_model::{Binding, NetArc, Node, System, find_transition, is_output};
 use rn_value::{InstRef, copy_inst};
 use std::alloc::Global;
-
-/// Whether an arc puts the value of its inscription.
-fn is_output(kind: ArcKind) -> bool
-    ensures { result ≡ is_output kind }
-{
-    matches!(kind, ArcKind::Output | ArcKind::FlexOutput)
-}
 
 /// Adds what one arc asks, where its inscription has a value. Outputs are left out at will.
 fn add_ask<V: Values>(

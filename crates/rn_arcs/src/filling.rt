@@ -14,9 +14,9 @@ ghost use Rattle.rn_arcs.specs.Places.{InstPlace, place_cmp, is_at};
 
 use crate::ask::compare_places;
 use crate::demands::{Fill, Fills};
-use rn_calc::{NodeValues, Values, find_transition, holds_action_var, read};
+use rn_calc::{NodeValues, Values, holds_action_var, read};
 use rn_items::{Items, NoMemory};
-use rn_model::{ArcKind, Binding, NetArc, Node, System, Transition};
+use rn_model::{ArcKind, Binding, NetArc, Node, System, Transition, find_transition};
 use rn_value::{InstRef, Value, copy_inst};
 use std::alloc::Global;
 

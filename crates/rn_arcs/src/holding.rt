@@ -1,6 +1,6 @@
 //! What a table holds at a place of an instance, without a copy of any bag.
-ghost use Rattle.std.specs.Prelude.{◌≡◌, ◌<◌, ◌≤◌, ◌-◌, ◌↔◌};
-ghost use Rattle.std.specs.Prelude.{[], length, take, IsTrue, Contains, unwrap_or};
+ghost use Rattle.std.specs.Prelude.{◌≡◌, ◌<◌, ◌-◌, ◌↔◌};
+ghost use Rattle.std.specs.Prelude.{[], IsTrue, unwrap_or};
 ghost use Rattle.std.specs.List.Sorted.{IsSorted};
 ghost use Rattle.std.specs.Option.{option_copied};
 ghost use Rattle.rn_value.specs.Order.{value_cmp};
@@ -19,13 +19,6 @@ pub fn held(table: &Table, inst: &InstRef, place: u32, value: &Value) -> u64
     count_in(bag_at(table, inst, place), value)
 }
 
-/// Whether a value is at a place of an instance before the firing. It takes no memory.
-pub fn is_held(table: &Table, inst: &InstRef, place: u32, value: &Value) -> bool
-    ensures { IsTrue result ↔ Contains (tokens table.now.marking inst.now place) value.now }
-{
-    held(table, inst, place, value) > 0
-}
-
 /// How often a value is at a place of an instance, less how often it is among these, and 0 where it
 /// is among these more often. It looks at each of these once, and takes no memory.
 pub fn left(table: &Table, inst: &InstRef, place: u32, value: &Value, taken: &[Value]) -> u64
@@ -42,7 +35,7 @@ pub fn left(table: &Table, inst: &InstRef, place: u32, value: &Value, taken: &[V
 }
 
 /// The tokens of a place of an instance, where there are any.
-pub(crate) fn bag_at<'a>(table: &'a Table, inst: &InstRef, place: u32) -> Option<&'a Bag>
+pub fn bag_at<'a>(table: &'a Table, inst: &InstRef, place: u32) -> Option<&'a Bag>
     ensures { unwrap_or (option_copied result) [] ≡ tokens table.now.marking inst.now place }
 {
     match inst {

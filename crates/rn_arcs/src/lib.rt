@@ -18,6 +18,6 @@ mod values;
 pub use demands::{Demands, Fill, Fills, Place2, Places2, Takings};
 pub use filling::may_put;
 pub use fitting::fits;
-pub use holding::{held, is_held, left};
+pub use holding::{bag_at, held, left};
 pub use rows::{demands_of, takings_of};
 pub use values::{append, elements_of};

@@ -12,9 +12,8 @@ use crate::asked::Asked;
 use crate::demands::Fill;
 use crate::filling::fills_of;
 use crate::seat::Seat;
-use rn_calc::find_transition;
 use rn_items::NoMemory;
-use rn_model::{Binding, Creation, Node, Place, System};
+use rn_model::{Binding, Creation, Node, Place, System, find_transition, places_of};
 use rn_table::Table;
 use rn_value::{InstRef, Path, Vals};
 use std::alloc::Global;
@@ -23,10 +22,7 @@ use std::alloc::Global;
 fn net_is_limited(system: &System, net: u32) -> bool
     ensures { result ≡ net_is_limited system.now net }
 {
-    let Some(net) = system.nets.get(net as usize) else {
-        return false;
-    };
-    for place in net.places.as_slice() {
+    for place in places_of(system, net) {
         if place.max.is_some() {
             return true;
         }
@@ -147,10 +143,7 @@ impl Firing<'_> {
         requires { IsInOrder self.now }
         ensures { IsTrue result ↔ PlacesHaveRoom self.now net (seat_inst seat.now) }
     {
-        match self.system.nets.get(net as usize) {
-            None => true,
-            Some(net) => self.each_has_room(net.places.as_slice(), seat),
-        }
+        self.each_has_room(places_of(self.system, net), seat)
     }
 
     fn each_has_room(&self, places: &[Place], seat: &Seat<'_>) -> bool

@@ -1,19 +1,20 @@
 -- Ascending lists of values, and where a value stands in one.
 use Rattle.std.proofs.Common.{◌≡◌, ℕ, zero, suc, ◌+◌, ◌<◌, ◌≤◌, Bool, true, false, cond, List, [], ◌∷◌, ◌++◌, length, take, drop, get_or, length-take, refl, sym, ap, ◌∙◌, subst, arith}
-use Rattle.std.specs.Prelude.{not}
-use Rattle.std.proofs.lemmas.Bool.{false≢true, true≢false}
+use Rattle.std.proofs.lemmas.Bool.{false≢true, true≢false, not-true, not-false}
 use Rattle.std.proofs.lemmas.List.{take-append-drop, drop_more, drop-append-le}
 use Rattle.std.proofs.lemmas.List.Sorted.{ranks_by}
 use Rattle.std.specs.List.{AllByRecursion}
 use Rattle.std.specs.List.Sorted.{IsSorted}
-use Rattle.std.specs.Cmp.{Equal-is, tied_itself, IsStrictWeakOrder}
+use Rattle.std.specs.Cmp.{tied_itself, IsStrictWeakOrder}
 use Rattle.std.specs.Ordering.{is_lt, is_eq, ordering_reverse}
 use Rattle.std.specs.declared.cmp.Ordering.{Ordering}
 use Rattle.std.specs.declared.cmp.Ordering.TheVariants.{Less, Equal, Greater}
 use Rattle.rn_value.specs.Order.{value_cmp}
 use Rattle.rn_value.specs.OrderLaws.{value_cmp-total, value_cmp-apart}
 use Rattle.rn_value.specs.declared.value.Value.{Value}
+use Rattle.rn_value.proofs.SortedLists.{neither_way}
 use Rattle.rn_model.specs.Lists.{same_value, with_value, without_one}
+use Rattle.rn_model.proofs.AskedValues.{same_itself}
 use Rattle.rn_bag.specs.declared.cut.Cut.TheVariants.{UpTo}
 use Rattle.rn_bag.specs.Cuts.{is_before, AllBefore, NoneBefore, AllBelow, NoneBelow, Ascends}
 use Rattle.rn_bag.proofs.SlotLemmas.{all_prefix, all_suffix, all_weaker}
@@ -27,9 +28,6 @@ not_equal r Greater e h = absurd (false≢true h)
 -- a value isn't the same as one that is below it
 pub below_differs : (v w : Value) → is_lt (value_cmp w v) ≡ true → same_value v w ≡ false
 below_differs v w low = not_equal (value_cmp v w) (value_cmp w v) (value_cmp-total.antisymm v w) low
-
-pub same_itself : (v : Value) → same_value v v ≡ true
-same_itself v = (Equal-is (value_cmp v v)).1 (tied_itself value_cmp-total v)
 
 pub without_at : (v : Value) (xs ys : List Value) → AllBelow v xs → without_one (xs ++ v ∷ ys) v ≡ xs ++ ys
 without_at v [] ys low = ap (λ b. cond b ys (v ∷ without_one ys v)) (same_itself v)
@@ -47,24 +45,9 @@ with_at v (x ∷ xs) ys low high =
     ap (λ b. cond b (x ∷ with_value v (xs ++ ys)) (v ∷ x ∷ (xs ++ ys))) low.0
     ∙ ap (λ r. x ∷ r) (with_at v xs ys low.1 high)
 
--- neither is below the other
-neither_way : (r s : Ordering) → r ≡ ordering_reverse s → is_lt r ≡ false → is_lt s ≡ false → r ≡ Equal
-neither_way Less s e p q = absurd (false≢true (sym p))
-neither_way Equal s e p q = refl
-neither_way Greater Less e p q = absurd (false≢true (sym q))
-neither_way Greater Equal e p q = cc
-neither_way Greater Greater e p q = cc
-
+-- values of which neither is below the other are equal
 pub same_value_is : (v w : Value) → is_lt (value_cmp w v) ≡ false → is_lt (value_cmp v w) ≡ false → w ≡ v
 same_value_is v w p q = value_cmp-apart w v (neither_way (value_cmp w v) (value_cmp v w) (value_cmp-total.antisymm w v) p q)
-
-pub not_false : (b : Bool) → not b ≡ false → b ≡ true
-not_false true e = refl
-not_false false e = absurd (true≢false e)
-
-pub not_true : (b : Bool) → not b ≡ true → b ≡ false
-not_true true e = absurd (false≢true e)
-not_true false e = refl
 
 -- a value may also come after those that are equal to it
 pub with_past : (v : Value) (xs ys : List Value) → Ascends (xs ++ ys) → AllBefore UpTo v xs → NoneBelow v ys → with_value v (xs ++ ys) ≡ xs ++ v ∷ ys
@@ -73,7 +56,7 @@ with_past v (x ∷ xs) ys up low high =
     let rest : with_value v (xs ++ ys) ≡ xs ++ v ∷ ys = with_past v xs ys up.1 low.1 high in
     elim (is_lt (value_cmp x v)) as (λ t. is_lt (value_cmp x v) ≡ t → with_value v (x ∷ (xs ++ ys)) ≡ x ∷ (xs ++ v ∷ ys)) [
       | true ↦ λ e. ap (λ b. cond b (x ∷ with_value v (xs ++ ys)) (v ∷ x ∷ (xs ++ ys))) e ∙ ap (λ r. x ∷ r) rest
-      | false ↦ λ e. (let is : x ≡ v = same_value_is v x e (not_true (is_lt (value_cmp v x)) low.0) in
+      | false ↦ λ e. (let is : x ≡ v = same_value_is v x e (not-true (is_lt (value_cmp v x)) low.0) in
           let least : with_value v (xs ++ ys) ≡ v ∷ (xs ++ ys) = with_least v (xs ++ ys) (subst (λ z. NoneBelow z (xs ++ ys)) is up.0) in
           ap (λ b. cond b (x ∷ with_value v (xs ++ ys)) (v ∷ x ∷ (xs ++ ys))) e ∙ ap (λ z. v ∷ z ∷ (xs ++ ys)) is ∙ ap (λ r. v ∷ r) (sym least ∙ rest) ∙ ap (λ z. z ∷ (xs ++ v ∷ ys)) (sym is))
     ] refl
@@ -84,6 +67,7 @@ below x y = is_lt (value_cmp x y)
 pub order : IsStrictWeakOrder below
 order = ranks_by value_cmp-total (λ x. x)
 
+-- no value is below itself
 pub not_itself : (v : Value) → below v v ≡ false
 not_itself v = ap is_lt (tied_itself value_cmp-total v)
 
@@ -102,6 +86,7 @@ pub ascends_prefix : (xs ys : List Value) → Ascends (xs ++ ys) → Ascends xs
 ascends_prefix [] ys up = tt
 ascends_prefix (x ∷ xs) ys up = (all_prefix (λ z. below z x ≡ false) xs ys up.0, ascends_prefix xs ys up.1)
 
+-- a list in which no value is below one before it is sorted
 pub sorted_of : (vs : List Value) → Ascends vs → IsSorted value_cmp vs
 sorted_of [] up k d low high = absurd (let no : ⊥ = omega (arith, high) in no)
 sorted_of (v ∷ []) up k d low high = absurd (let no : ⊥ = omega (arith, high) in no)
@@ -128,4 +113,4 @@ equal_between v vs n m up order within is high =
 
 -- what stands after a value isn't below it
 pub none_below : (v : Value) (ys : List Value) → NoneBefore UpTo v ys → NoneBelow v ys
-none_below v ys high = all_weaker (λ z. is_before UpTo v z ≡ false) (λ z. below z v ≡ false) ys (λ z h. order.one_way v z (not_false (below v z) h)) high
+none_below v ys high = all_weaker (λ z. is_before UpTo v z ≡ false) (λ z. below z v ≡ false) ys (λ z h. order.one_way v z (not-false (below v z) h)) high

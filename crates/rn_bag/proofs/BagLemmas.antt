@@ -12,6 +12,7 @@ use Rattle.rn_value.specs.OrderLaws.{value_cmp-total, value_cmp-apart}
 use Rattle.rn_value.specs.declared.value.Value.{Value}
 use Rattle.rn_model.specs.Lists.{same_value, count_of, with_value, without_one}
 use Rattle.rn_model.proofs.ValueLists.{one_if, count_of-cons}
+use Rattle.rn_model.proofs.AskedValues.{same_itself}
 use Rattle.std.proofs.Math.Seq.{take-append_seam, drop-append_seam}
 use Rattle.rn_bag.specs.declared.cut.Cut.{Cut}
 use Rattle.rn_bag.specs.declared.cut.Cut.TheVariants.{UpTo}
@@ -21,7 +22,7 @@ use Rattle.rn_bag.specs.Chunks.{Slots, AreCounted, tokens_in, values_in}
 use Rattle.rn_bag.specs.SlotIndices.{tokens_before, tokens_after, values_before, values_after}
 use Rattle.rn_bag.specs.Words.{has_bit}
 use Rattle.rn_bag.proofs.SlotLemmas.{there_all, there_parts, there_joined, all_joined, all_prefix, all_suffix, all_weaker}
-use Rattle.rn_bag.proofs.AscendingLemmas.{below, below_differs, same_itself, without_at, with_at, with_past, none_below, ascends_suffix}
+use Rattle.rn_bag.proofs.AscendingLemmas.{below, below_differs, without_at, with_at, with_past, none_below, ascends_suffix}
 use Rattle.rn_bag.proofs.SlotIndexLemmas.{tokens_before_is, tokens_after_is, tokens_whole, all_tokens_before, all_tokens_after}
 use Rattle.rn_bag.proofs.CountLemmas.{counted_at}
 use Rattle.rn_bag.proofs.EditLemmas.{token_here, no_token_here, thin_prefix, at_get}

@@ -58,11 +58,13 @@ masked_count vs word mask n is size pos =
     ap length same ∙ chosen_count vs (bit_and word m) (subst (λ k. bit_and word m < 2 ^ k) (sym size) low) ∙ ap (λ k. ones (bit_and word k)) (sym is)
 
 module _ {A : Type 0} where
+  -- within the first of two joined lists, an index is one of that
   pub get_prefix : (xs ys : List A) (n : ℕ) → n < length xs → slice_get (xs ++ ys) n ≡ slice_get xs n
   get_prefix [] ys n within = absurd (omega arith)
   get_prefix (x ∷ xs) ys zero within = refl
   get_prefix (x ∷ xs) ys (suc n) within = get_prefix xs ys n (omega arith)
 
+  -- past it, it is one of the second, counted from the end of the first
   pub get_suffix : (xs ys : List A) (n : ℕ) → length xs ≤ n → slice_get (xs ++ ys) n ≡ slice_get ys (n - length xs)
   get_suffix [] ys n past = ap (slice_get ys) (let e : n ≡ n - 0 = omega arith in e)
   get_suffix (x ∷ xs) ys zero past = absurd (omega arith)

@@ -1,7 +1,7 @@
 -- Counting and looking up in an ascending list by where it is cut.
 use Rattle.std.proofs.Common.{◌≡◌, ◌≢◌, ℕ, zero, suc, ◌+◌, ◌-◌, ◌<◌, ◌≤◌, ◌↔◌, Bool, true, false, cond, Some, slice_get, List, [], ◌∷◌, ◌++◌, length, take, drop, get_or, append-nil, refl, sym, ap, ◌∙◌, subst, arith, inl, inr}
 use Rattle.std.specs.Prelude.{◌⊎◌, ◌||◌, filter, IsTrue}
-use Rattle.std.proofs.lemmas.Bool.{false≢true, true≢false, cases_lt}
+use Rattle.std.proofs.lemmas.Bool.{false≢true, true≢false, cases_lt, not-true, not-false, or_parts}
 use Rattle.std.proofs.lemmas.List.{take-append-drop, drop-take, drop-drop, take_more}
 use Rattle.std.proofs.lemmas.List.Elements.{filter-append}
 use Rattle.std.specs.List.{AllByRecursion}
@@ -14,10 +14,11 @@ use Rattle.rn_value.specs.declared.value.Value.{Value}
 use Rattle.rn_value.specs.declared.value.Value.TheVariants as Value
 use Rattle.rn_model.specs.Lists.{same_value, count_of, IsWithin}
 use Rattle.rn_model.proofs.ValueLists.{one_if, count_of-cons, same_is}
+use Rattle.rn_model.proofs.AskedValues.{same_itself}
 use Rattle.rn_bag.specs.declared.cut.Cut.TheVariants.{UpTo, BelowFirst, UpToFirst}
 use Rattle.rn_bag.specs.Cuts.{has_first, is_before, AllBefore, NoneBefore, AllBelow, NoneBelow, Ascends}
 use Rattle.rn_bag.proofs.SlotLemmas.{all_prefix, all_suffix, all_weaker}
-use Rattle.rn_bag.proofs.AscendingLemmas.{below, order, not_itself, below_differs, same_value_is, same_itself, not_true, not_false}
+use Rattle.rn_bag.proofs.AscendingLemmas.{below, order, not_itself, below_differs, same_value_is}
 use Rattle.rn_bag.proofs.CutLemmas.{first_not_below, not_first}
 use Rattle.rn_bag.proofs.EditLemmas.{element, at_get}
 
@@ -31,14 +32,14 @@ pub count_between : (v : Value) (xs : List Value) (i j : ℕ) → i ≤ length x
     count_of v xs + i ≡ j
 count_between v [] i j i_in j_in low high under over = omega arith
 count_between v (x ∷ xs) zero zero i_in j_in low high under over =
-    let other : one_if (same_value v x) ≡ 0 = ap one_if (lt_not_eq (value_cmp v x) (not_false (below v x) over.0)) in
+    let other : one_if (same_value v x) ≡ 0 = ap one_if (lt_not_eq (value_cmp v x) (not-false (below v x) over.0)) in
     omega (arith, other, count_of-cons v x xs, count_between v xs 0 0 (omega arith) (omega arith) tt high.1 tt over.1)
 count_between v (x ∷ xs) zero (suc j) i_in j_in low high under over =
-    let is : x ≡ v = same_value_is v x high.0 (not_true (below v x) under.0) in
+    let is : x ≡ v = same_value_is v x high.0 (not-true (below v x) under.0) in
     let here : one_if (same_value v x) ≡ 1 = ap (λ z. one_if (same_value z x)) (sym is) ∙ ap one_if (same_itself x) in
     omega (arith, here, count_of-cons v x xs, count_between v xs 0 j (omega arith) (omega arith) tt high.1 under.1 over)
 count_between v (x ∷ xs) (suc i) zero i_in j_in low high under over =
-    absurd (true≢false (sym (not_false (below v x) over.0) ∙ order.one_way x v low.0))
+    absurd (true≢false (sym (not-false (below v x) over.0) ∙ order.one_way x v low.0))
 count_between v (x ∷ xs) (suc i) (suc j) i_in j_in low high under over =
     let other : one_if (same_value v x) ≡ 0 = ap one_if (below_differs v x low.0) in
     omega (arith, other, count_of-cons v x xs, count_between v xs i j (omega arith) (omega arith) low.1 high under.1 over)
@@ -50,6 +51,7 @@ all_at P (x ∷ xs) zero k w all inside is = absurd (omega arith)
 all_at P (x ∷ xs) (suc r) zero w all inside is = let e : x ≡ w = cc in subst P e all.0
 all_at P (x ∷ xs) (suc r) (suc k) w all inside is = all_at P xs r k w all.1 (omega arith) is
 
+-- and so of each at an index from there on
 pub all_past : (P : Value → Type 0) (xs : List Value) (r k : ℕ) (w : Value) → AllByRecursion P (drop r xs) → r ≤ k → slice_get xs k ≡ Some w → P w
 all_past P [] r k w all past is = absurd (let no : ⊥ = cc in no)
 all_past P (x ∷ xs) zero zero w all past is = let e : x ≡ w = cc in subst P e all.0
@@ -80,32 +82,24 @@ module _ (xs : List Value) (index r : ℕ) (v : Value) (up : Ascends xs) (is : s
   pub other_later : index < r
   other_later = elim (cases_lt index r) [
     | inl low ↦ low
-    | inr past ↦ absurd (true≢false (sym (not_false (below v v) (all_past (λ z. is_before UpTo v z ≡ false) xs r index v over past is)) ∙ not_itself v))
+    | inr past ↦ absurd (true≢false (sym (not-false (below v v) (all_past (λ z. is_before UpTo v z ≡ false) xs r index v over past is)) ∙ not_itself v))
   ]
 
   pub other_equal : (k : ℕ) → index ≤ k → k < r → k < length xs → slice_get xs k ≡ slice_get xs index
   other_equal k later inside k_in =
       let e = element xs k k_in in
       let high : below e.0 v ≡ false = ascends_at xs index k v e.0 up later is e.1 in
-      let low : below v e.0 ≡ false = not_true (below v e.0) (all_at (λ z. is_before UpTo v z ≡ true) xs r k e.0 under inside e.1) in
+      let low : below v e.0 ≡ false = not-true (below v e.0) (all_at (λ z. is_before UpTo v z ≡ true) xs r k e.0 under inside e.1) in
       e.1 ∙ ap (λ z. Some z) (same_value_is v e.0 high low) ∙ sym is
 
   pub other_other : (k : ℕ) → r ≤ k → k < length xs → slice_get xs k ≢ slice_get xs index
   other_other k past k_in same =
       let at : slice_get xs k ≡ Some v = same ∙ is in
-      true≢false (sym (not_false (below v v) (all_past (λ z. is_before UpTo v z ≡ false) xs r k v over past at)) ∙ not_itself v)
-
-or_false : (a b : Bool) → (a || b) ≡ false → (a ≡ false) × (b ≡ false)
-or_false true b e = absurd (true≢false e)
-or_false false b e = (refl, e)
+      true≢false (sym (not-false (below v v) (all_past (λ z. is_before UpTo v z ≡ false) xs r k v over past at)) ∙ not_itself v)
 
 or_true : (a b : Bool) → (a || b) ≡ true → a ≡ false → b ≡ true
 or_true true b e f = absurd (true≢false f)
 or_true false b e f = e
-
-or_second : (a b : Bool) → b ≡ true → (a || b) ≡ true
-or_second true b e = refl
-or_second false b e = e
 
 filter_none : (t : Value → Bool) (xs : List Value) → AllByRecursion (λ z. t z ≡ false) xs → filter t xs ≡ []
 filter_none t [] none = refl
@@ -129,7 +123,7 @@ module _ (key : Value) (xs : List Value) (i j : ℕ) (i_in : i ≤ length xs) (j
     | inl less ↦ (let e = element xs j (omega arith) in
         let below_it : below e.0 T ≡ true = all_at (λ z. below z T ≡ true) xs i j e.0 low less e.1 in
         let out = all_past (λ z. is_before UpToFirst key z ≡ false) xs j j e.0 over (omega arith) e.1 in
-        absurd (true≢false (sym below_it ∙ (or_false (below e.0 T) (has_first key e.0) out).0)))
+        absurd (true≢false (sym below_it ∙ (or_parts (below e.0 T) (has_first key e.0) out).0)))
     | inr ok ↦ ok
   ]
 
@@ -142,7 +136,7 @@ module _ (key : Value) (xs : List Value) (i j : ℕ) (i_in : i ≤ length xs) (j
       ],
       elim (cases_lt k j) [
         | inl less ↦ less
-        | inr past ↦ absurd (true≢false (sym yes ∙ (or_false (below v T) (has_first key v) (all_past (λ z. is_before UpToFirst key z ≡ false) xs j k v over past at)).1))
+        | inr past ↦ absurd (true≢false (sym yes ∙ (or_parts (below v T) (has_first key v) (all_past (λ z. is_before UpToFirst key z ≡ false) xs j k v over past at)).1))
       ],
     ),
     λ both. or_true (below v T) (has_first key v) (all_at (λ z. is_before UpToFirst key z ≡ true) xs j k v under both.1 at) (all_past (λ z. below z T ≡ false) xs i k v high both.0 at),
@@ -157,7 +151,7 @@ module _ (key : Value) (xs : List Value) (i j : ℕ) (i_in : i ≤ length xs) (j
       let rest : drop i xs ≡ mid ++ drop (j - i) (drop i xs) = sym (take-append-drop (j - i) (drop i xs)) in
       let past : drop (j - i) (drop i xs) ≡ drop j xs = drop-drop (j - i) i xs ∙ ap (λ n. drop n xs) whole in
       let none_low : filter t (take i xs) ≡ [] = filter_none t (take i xs) (all_weaker (λ z. below z T ≡ true) (λ z. t z ≡ false) (take i xs) (λ z h. not_first key z h) low) in
-      let none_high : filter t (drop j xs) ≡ [] = filter_none t (drop j xs) (all_weaker (λ z. is_before UpToFirst key z ≡ false) (λ z. t z ≡ false) (drop j xs) (λ z h. (or_false (below z T) (t z) h).1) over) in
+      let none_high : filter t (drop j xs) ≡ [] = filter_none t (drop j xs) (all_weaker (λ z. is_before UpToFirst key z ≡ false) (λ z. t z ≡ false) (drop j xs) (λ z h. (or_parts (below z T) (t z) h).1) over) in
       let mid_high : AllByRecursion (λ z. below z T ≡ false) mid = all_prefix (λ z. below z T ≡ false) mid (drop (j - i) (drop i xs)) (subst (AllByRecursion (λ z. below z T ≡ false)) rest high) in
       let mid_under : AllByRecursion (λ z. is_before UpToFirst key z ≡ true) mid = subst (AllByRecursion (λ z. is_before UpToFirst key z ≡ true)) mid_is
       (all_suffix (λ z. is_before UpToFirst key z ≡ true) (take i (take j xs)) (drop i (take j xs)) (subst (AllByRecursion (λ z. is_before UpToFirst key z ≡ true)) (sym (take-append-drop i (take j xs))) under)) in
@@ -171,6 +165,7 @@ sorted_rest v vs sorted k d low high =
     let place : suc k + 1 ≡ suc (k + 1) = omega arith in
     subst (λ j. is_lt (value_cmp (get_or (v ∷ vs) j d) (get_or vs k d)) ≡ false) place (sorted (suc k) d (omega arith) (omega (arith, high)))
 
+-- in a sorted list no value is below one before it
 pub ascends_of : (vs : List Value) → IsSorted value_cmp vs → Ascends vs
 ascends_of [] sorted = tt
 ascends_of (v ∷ []) sorted = (tt, tt)

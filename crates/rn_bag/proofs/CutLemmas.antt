@@ -1,7 +1,7 @@
 -- Where an ascending list is cut: what stands before a cut, and the steps of halving.
 use Rattle.std.proofs.Common.{◌≡◌, ℕ, ◌+◌, ◌<◌, ◌≤◌, ◌↔◌, Bool, true, false, List, [], ◌∷◌, ◌++◌, length, take, drop, get_or, refl, sym, ap, ◌∙◌, subst, arith}
 use Rattle.std.specs.Prelude.{not, ◌||◌, ℤ}
-use Rattle.std.proofs.lemmas.Bool.{false≢true, true≢false}
+use Rattle.std.proofs.lemmas.Bool.{false≢true, true≢false, not-true}
 use Rattle.std.proofs.lemmas.List.{take-append-drop, take_all, drop_more, take_more}
 use Rattle.std.specs.Cmp.{Equal-is}
 use Rattle.std.specs.Ordering.{is_lt, ordering_then}
@@ -15,11 +15,12 @@ use Rattle.rn_value.specs.declared.value.Value.{Value, out-Value, roll-Value, ro
 use Rattle.rn_value.specs.declared.value.Value.TheVariants as Value
 use Rattle.rn_value.specs.declared.value.Value.TheOpen as V
 use Rattle.rn_model.specs.Lists.{same_value}
+use Rattle.rn_model.proofs.AskedValues.{same_itself}
 use Rattle.rn_bag.specs.declared.cut.Cut.{Cut}
 use Rattle.rn_bag.specs.declared.cut.Cut.TheVariants.{Below, UpTo, BelowFirst, UpToFirst}
 use Rattle.rn_bag.specs.Cuts.{has_first_step, has_first, is_before, AllBefore, NoneBefore, NoneBelow, Ascends}
 use Rattle.rn_bag.proofs.SlotLemmas.{all_joined, all_suffix, all_weaker}
-use Rattle.rn_bag.proofs.AscendingLemmas.{below, order, below_through, not_itself, same_value_is, same_itself, not_true, ascends_suffix}
+use Rattle.rn_bag.proofs.AscendingLemmas.{below, order, below_through, not_itself, same_value_is, ascends_suffix}
 
 -- tuples stand by their parts, after numbers and texts, and before lists and instances
 cmp_tuples : (xs ys : List Value) → value_cmp (Value.Tuple xs) (Value.Tuple ys) ≡ slice_cmp value_cmp xs ys
@@ -133,7 +134,7 @@ either_case false b false d f g e = g refl e
 -- what stands before a cut has all before it that it isn't below
 pub before_down : (cut : Cut) (key x y : Value) → below y x ≡ false → is_before cut key y ≡ true → is_before cut key x ≡ true
 before_down Below key x y up low = below_through x y key up low
-before_down UpTo key x y up low = ap not (order.chain key y x (not_true (below key y) low) up)
+before_down UpTo key x y up low = ap not (order.chain key y x (not-true (below key y) low) up)
 before_down BelowFirst key x y up low = below_through x y (Value.Tuple (key ∷ [])) up low
 before_down UpToFirst key x y up low =
     either_case (below x (Value.Tuple (key ∷ []))) (has_first key x) (below y (Value.Tuple (key ∷ []))) (has_first key y)

@@ -2,6 +2,7 @@
 use Rattle.std.proofs.Common.{◌≡◌, ◌≢◌, ℕ, zero, suc, ◌+◌, ◌-◌, ◌<◌, ◌≤◌, Some, slice_get, Result, Ok, Err, OnOk, OnErr, Bool, true, false, cond, List, [], ◌∷◌, ◌++◌, length, take, drop, get_or, set, append_assoc, append-nil, length-take, length-drop, length-append, refl, sym, ap, ◌∙◌, subst, arith}
 use Rattle.std.proofs.lemmas.List.{take-append-drop, take-append-le, take_more, take_all, drop_all, set_split, set_at, take-set, get_or_default}
 use Rattle.std.proofs.lemmas.List.Concat.{flat_map-append}
+use Rattle.std.proofs.lemmas.Bool.{not-true}
 use Rattle.std.specs.List.{AllByRecursion}
 use Rattle.rn_value.specs.declared.value.Value.{Value}
 use Rattle.rn_bag.specs.declared.cut.Cut.TheVariants.{UpTo}
@@ -12,7 +13,7 @@ use Rattle.rn_bag.specs.Tags.{IsFull}
 use Rattle.rn_bag.specs.SlotIndices.{tokens_before, tokens_after, values_before, values_after}
 use Rattle.rn_bag.specs.Words.{has_bit}
 use Rattle.rn_bag.proofs.SlotLemmas.{there_all, there_whole, there_parts, there_next, there_agrees, all_joined, all_prefix, all_suffix, all_weaker}
-use Rattle.rn_bag.proofs.AscendingLemmas.{below, order, not_true, none_below, ascends_suffix, ascends_prefix}
+use Rattle.rn_bag.proofs.AscendingLemmas.{below, order, none_below, ascends_suffix, ascends_prefix}
 use Rattle.rn_bag.proofs.SlotIndexLemmas.{tokens_before_is, tokens_after_is, values_before_is, values_after_is, values_parts, tokens_parts}
 
 -- one slot changes: the tokens before it, what it gives, and the tokens after it
@@ -116,7 +117,7 @@ pub ascends_around : (v : Value) (xs ys : List Value) → Ascends xs → Ascends
 ascends_around v [] ys up down low high = (none_below v ys high, down)
 ascends_around v (x ∷ xs) ys up down low high =
     let P : Value → Type 0 = λ z. below z x ≡ false in
-    let above : below v x ≡ false = not_true (below v x) low.0 in
+    let above : below v x ≡ false = not-true (below v x) low.0 in
     let later : AllByRecursion P ys = all_weaker (λ z. below z v ≡ false) P ys (λ z h. order.chain z v x h above) (none_below v ys high) in
     (all_joined P xs (v ∷ ys) up.0 (above, later), ascends_around v xs ys up.1 down low.1 high)
 

@@ -1,6 +1,6 @@
 -- Slots by the index of a chunk, and the index in it.
 use Rattle.std.proofs.Common.{◌≡◌, ℕ, zero, suc, ◌+◌, ◌<◌, ◌≤◌, true, false, List, [], ◌∷◌, ◌++◌, length, take, drop, get_or, append_assoc, append-nil, length-drop, refl, sym, ap, ◌∙◌, subst, arith}
-use Rattle.std.proofs.lemmas.List.{take-append-drop, take_more, take_all, drop_all, get_or_read}
+use Rattle.std.proofs.lemmas.List.{take-append-drop, take_more, take_all, drop_all}
 use Rattle.std.proofs.lemmas.List.Concat.{flat_map-append}
 use Rattle.std.specs.List.{AllByRecursion}
 use Rattle.rn_value.specs.declared.value.Value.{Value}
@@ -168,7 +168,3 @@ next_after ss i n x within is none =
 -- another slot of the same chunk, with the same tokens before it
 pub same_before : (ss : List Slots) (i m n : ℕ) (x : Slots) → i < length ss → x ≡ get_or ss i x → there_from (has_bit x.there) 0 (take m x.values) ≡ there_from (has_bit x.there) 0 (take n x.values) → tokens_before ss i m ≡ tokens_before ss i n
 same_before ss i m n x within is same = tokens_before_is ss i m x within is ∙ ap (λ r. tokens_in (take i ss) ++ r) same ∙ sym (tokens_before_is ss i n x within is)
-
--- what is known of a chunk that was read
-pub at_chunk : (P : Slots → Type 0) (ss : List Slots) (i : ℕ) (x : Slots) → i < length ss → x ≡ get_or ss i x → P x → (d : Slots) → P (get_or ss i d)
-at_chunk P ss i x within is here d = subst P (get_or_read ss i x within is d) here

@@ -36,23 +36,12 @@ module _ {A : Type 0} where
       ap (λ b. cond b (x ∷ there_from t (suc n) xs) (there_from t (suc n) xs)) (in' n (omega arith) (omega arith))
       ∙ ap (λ r. x ∷ r) (there_whole t (suc n) xs (λ i low high. in' i (omega arith) (omega arith)))
 
-  pub there_at : (t : ℕ → Bool) (n : ℕ) (xs : List A) (y : A) (ys : List A) → t (n + length xs) ≡ true →
-      there_from t n (xs ++ y ∷ ys) ≡ there_from t n xs ++ y ∷ there_from t (suc (n + length xs)) ys
-  there_at t n xs y ys e =
-      there_joined t n xs (y ∷ ys)
-      ∙ ap (λ b. there_from t n xs ++ cond b (y ∷ there_from t (suc (n + length xs)) ys) (there_from t (suc (n + length xs)) ys)) e
-
-  pub there_not_at : (t : ℕ → Bool) (n : ℕ) (xs : List A) (y : A) (ys : List A) → t (n + length xs) ≡ false →
-      there_from t n (xs ++ y ∷ ys) ≡ there_from t n xs ++ there_from t (suc (n + length xs)) ys
-  there_not_at t n xs y ys e =
-      there_joined t n xs (y ∷ ys)
-      ∙ ap (λ b. there_from t n xs ++ cond b (y ∷ there_from t (suc (n + length xs)) ys) (there_from t (suc (n + length xs)) ys)) e
-
   -- what holds of all items holds of those
   all_kept : (P : A → Type 0) (b : Bool) (x : A) (xs : List A) → P x → AllByRecursion P xs → AllByRecursion P (cond b (x ∷ xs) xs)
   all_kept P true x xs here rest = (here, rest)
   all_kept P false x xs here rest = rest
 
+  -- what holds of all items holds of those whose numbers pass
   pub there_all : (P : A → Type 0) (t : ℕ → Bool) (n : ℕ) (xs : List A) → AllByRecursion P xs → AllByRecursion P (there_from t n xs)
   there_all P t n [] all = tt
   there_all P t n (x ∷ xs) all = all_kept P (t n) x (there_from t (suc n) xs) all.0 (there_all P t (suc n) xs all.1)

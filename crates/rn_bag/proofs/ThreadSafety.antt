@@ -18,5 +18,6 @@ pool_sync = search (items.the_send, items.the_sync, shared.the_send, shared.the_
 pub bag_send : IsSend bag.the_row
 bag_send = search (pool_send, sendable, crosses) depth 40 fits 20000
 
+-- threads may share a bag
 pub bag_sync : IsSync bag.the_row
 bag_sync = search (pool_sync, sendable, crosses) depth 40 fits 20000

@@ -8,6 +8,7 @@ use Rattle.rn_value.specs.contracts.value.Value as token
 use Rattle.rn_bag.specs.Cuts.{Ascends}
 use Rattle.rn_bag.specs.Slots.{there_from}
 use Rattle.rn_bag.specs.Words.{has_bit}
+use Rattle.rn_bag.specs.declared.words.TheConstants.{ROOM}
 
 -- A chunk: the values of its slots, the set of the slots that hold a token, and how many tokens it
 -- says stand in the chunks before it.
@@ -39,7 +40,7 @@ tokens_in = flat_map tokens_of
 -- a chunk has a slot, and at most 64 of them
 pub record HasRoom (values : List Value) : Type 0 where
   pub filled : 0 < length values
-  pub small : length values ≤ 64
+  pub small : length values ≤ ROOM
 
 -- the fields of a chunk: it has slots, and counts its tokens
 pub record IsChunk (values : List Value) (there count : ℕ) : Type 0 where
@@ -51,7 +52,7 @@ pub record IsChunk (values : List Value) (there count : ℕ) : Type 0 where
 abbrev pub AreCounted : ℕ → ℕ → List Slots → Type 0
 AreCounted k n [] = ⊤
 AreCounted k n (s ∷ ss) =
-    (s.before ≡ n) × (n ≤ 64 * k) × AreCounted (suc k) (n + length (tokens_of s)) ss
+    (s.before ≡ n) × (n ≤ ROOM * k) × AreCounted (suc k) (n + length (tokens_of s)) ss
 
 -- the values of slots ascend over all chunks, also of those without a token, and tokens are counted
 pub record AreSound (chunks : List Slots) : Type 0 where

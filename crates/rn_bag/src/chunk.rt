@@ -1,5 +1,5 @@
 //! A chunk of a bag, to be read: at most 64 values, and which of them are tokens.
-ghost use Rattle.std.specs.Prelude.{◌≡◌, ◌≢◌, ◌+◌, ◌<◌, ◌≤◌, ◌^◌, ◌↔◌, ℕ, suc, [], ◌∷◌, ◌++◌, true, false, take, drop, length, IfOk, IfSome, IfNone, IsTrue, slice_get, Some};
+ghost use Rattle.std.specs.Prelude.{◌≡◌, ◌+◌, ◌<◌, ◌≤◌, ◌↔◌, ℕ, suc, [], ◌∷◌, ◌++◌, true, false, take, drop, length, IfOk, IfSome, IfNone, IsTrue, slice_get, Some};
 ghost use Rattle.std.specs.List.{AllByRecursion};
 ghost use Rattle.rn_value.specs.declared.value.Value.{Value};
 ghost use Rattle.rn_bag.specs.Chunks.{Slots, HasRoom, IsChunk, tokens_of};
@@ -9,7 +9,7 @@ ghost use Rattle.rn_bag.specs.Words.{has_bit};
 
 use crate::cut::{Cut, stands_before};
 use crate::tag::Tag;
-use crate::words;
+use crate::words::{self, ROOM};
 use rn_items::NoMemory;
 use rn_value::{Value, copy, same};
 use std::alloc::Global;
@@ -74,7 +74,7 @@ impl<'a> Chunk<'a> {
     /// How many tokens there are.
     pub(crate) fn count(&self) -> usize
         ensures count { result ≡ length (tokens_of self.now) }
-        ensures bound { result ≤ 64 }
+        ensures bound { result ≤ ROOM }
     {
         self.count
     }
@@ -126,7 +126,7 @@ impl<'a> Chunk<'a> {
     pub(crate) fn rank(&self, slot: usize) -> usize
         requires { slot ≤ length self.now.values }
         ensures rank { result ≡ length (there_from (has_bit self.now.there) 0 (take slot self.now.values)) }
-        ensures bound { result ≤ 64 }
+        ensures bound { result ≤ ROOM }
     {
         let _room = self.values();
         words::count(self.word, slot)
@@ -231,7 +231,7 @@ impl<'a> Chunk<'a> {
         value: Value,
     ) -> Result<Vec<Value>, NoMemory>
         requires { slot ≤ length self.now.values }
-        ensures size { IfOk result (λ tokens. (0 < length tokens.items) × (length tokens.items ≤ 65)) }
+        ensures size { IfOk result (λ tokens. (0 < length tokens.items) × (length tokens.items ≤ ROOM + 1)) }
         ensures tokens { IfOk result (λ tokens. tokens.items ≡ there_from (has_bit self.now.there) 0 (take slot self.now.values) ++ (value ∷ there_from (has_bit self.now.there) slot (drop slot self.now.values))) }
     {
         let values = self.values();
@@ -252,7 +252,7 @@ fn copy_there(
     index: usize,
     tokens: &mut Vec<Value>,
 ) -> Result<(), NoMemory>
-    requires { index + length values.now ≤ 64 }
+    requires { index + length values.now ≤ ROOM }
     ensures { IfOk result (λ _. tokens.new.items ≡ tokens.old.items ++ there_from (has_bit there) index values.now) }
 {
     for (i, value) in values.iter().enumerate() {

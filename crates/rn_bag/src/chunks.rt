@@ -1,11 +1,12 @@
 //! The chunks of a bag, which contracts see as a list of chunks.
-ghost use Rattle.std.specs.Prelude.{◌≡◌, ◌+◌, ◌*◌, ◌^◌, ◌<◌, ◌≤◌, ℕ, [], ◌∷◌, ◌++◌, length, take, drop, suc, set, slice_index_or as get_or, IfOk, OnOk, OnErr};
+ghost use Rattle.std.specs.Prelude.{◌≡◌, ◌+◌, ◌*◌, ◌^◌, ◌<◌, ◌≤◌, [], ◌∷◌, ◌++◌, length, take, drop, suc, set, slice_index_or as get_or, IfOk, OnOk, OnErr};
 ghost use Rattle.rn_bag.specs.Chunks.{Slots, HasRoom, IsChunk, tokens_of};
 ghost use Rattle.rn_bag.specs.Tags.{IsFull};
 
 use crate::chunk::Chunk;
 use crate::pool::Pool;
 use crate::tag::Tag;
+use crate::words::ROOM;
 use rn_items::NoMemory;
 use rn_value::Value;
 use std::alloc::Global;
@@ -71,7 +72,7 @@ impl Chunks {
     /// How many chunks there are. Each takes 32 bytes, so their tokens can be counted.
     pub(crate) fn len(&self) -> usize
         ensures count { result ≡ length self.now }
-        ensures small { 64 * length self.now < 2 ^ 64 }
+        ensures small { ROOM * length self.now < 2 ^ 64 }
     {
         self.tags.as_slice().len()
     }
@@ -80,7 +81,7 @@ impl Chunks {
     pub(crate) fn at(&self, index: usize) -> Chunk<'_>
         requires { index < length self.now }
         ensures chunk { result ≡ get_or self.now index result }
-        ensures small { 64 * length self.now < 2 ^ 64 }
+        ensures small { ROOM * length self.now < 2 ^ 64 }
     {
         let tag = self.tags.as_slice()[index];
         Chunk::new(self.pool.get(tag.at).get().as_slice(), tag)
@@ -90,8 +91,8 @@ impl Chunks {
     pub(crate) fn count(&self, index: usize) -> usize
         requires { index < length self.now }
         ensures count { (x : Slots) → x ≡ get_or self.now index x → result ≡ length (tokens_of x) }
-        ensures bound { result ≤ 64 }
-        ensures small { 64 * length self.now < 2 ^ 64 }
+        ensures bound { result ≤ ROOM }
+        ensures small { ROOM * length self.now < 2 ^ 64 }
     {
         self.tags.as_slice()[index].count
     }

@@ -1,8 +1,9 @@
 //! How many tokens stand before each chunk, and looking for a token by its index.
-ghost use Rattle.std.specs.Prelude.{◌≡◌, ◌<◌, ◌≤◌, ◌+◌, ◌*◌, ℕ, length, take, IsTrue, slice_get, Some};
+ghost use Rattle.std.specs.Prelude.{◌≡◌, ◌<◌, ◌≤◌, ◌+◌, ◌*◌, ℕ, length, take, slice_get, Some};
 ghost use Rattle.rn_bag.specs.Chunks.{AreCounted, tokens_in, values_in};
 
 use crate::chunks::Chunks;
+use crate::words::ROOM;
 use rn_value::Value;
 
 /// How many tokens stand in the chunks before this index.
@@ -10,7 +11,7 @@ pub(crate) fn count_before(chunks: &Chunks, index: usize) -> usize
     requires inside { index ≤ length chunks.now }
     requires counted { AreCounted 0 0 (take index chunks.now) }
     ensures count { result ≡ length (tokens_in (take index chunks.now)) }
-    ensures bound { result ≤ 64 * index }
+    ensures bound { result ≤ ROOM * index }
 {
     if index == 0 {
         return 0;

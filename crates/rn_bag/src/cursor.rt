@@ -5,7 +5,7 @@ ghost use Rattle.std.specs.List.Sorted.{IsSorted};
 ghost use Rattle.rn_value.specs.Order.{value_cmp};
 ghost use Rattle.rn_value.specs.declared.value.Value.{Value};
 ghost use Rattle.rn_model.specs.Lists.{count_of, IsWithin};
-ghost use Rattle.rn_bag.specs.Cuts.{AllBelow, NoneBelow, Ascends, has_first};
+ghost use Rattle.rn_bag.specs.Cuts.{AllBelow, NoneBelow, has_first};
 
 use crate::bag::Bag;
 use crate::cut::Cut;

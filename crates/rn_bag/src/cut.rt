@@ -5,7 +5,7 @@ ghost use Rattle.rn_value.specs.Order.{value_cmp};
 ghost use Rattle.rn_value.specs.declared.value.Value.TheVariants as Value;
 ghost use Rattle.rn_bag.specs.Cuts.{has_first, is_before};
 
-use rn_value::{Value, cmp, same};
+use rn_value::{Value, cmp};
 
 /// A cut at a key: before the key or after it, or before or after the tuples with that first part.
 #[derive(Clone, Copy)]

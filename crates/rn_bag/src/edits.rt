@@ -1,5 +1,5 @@
 //! Changes of one chunk among others.
-ghost use Rattle.std.specs.Prelude.{◌≡◌, ◌<◌, ◌≤◌, ℕ, suc, [], ◌∷◌, ◌++◌, true, false, length, take, drop, slice_index_or, slice_get, Some, OnOk, OnErr};
+ghost use Rattle.std.specs.Prelude.{◌≡◌, ◌<◌, ◌≤◌, suc, [], ◌∷◌, ◌++◌, true, false, length, take, drop, slice_index_or, slice_get, Some, OnOk, OnErr, ◌+◌};
 ghost use Rattle.rn_value.specs.declared.value.Value.{Value};
 ghost use Rattle.rn_bag.specs.Chunks.{Slots, AreSound, Replaces, tokens_of, tokens_in, values_in};
 ghost use Rattle.rn_bag.specs.Cuts.{AllBefore, NoneBefore, Ascends};
@@ -149,7 +149,7 @@ fn replace(
 ) -> Result<(), NoMemory>
     requires at { at < length chunks.old }
     requires some { 0 < length tokens.items }
-    requires few { length tokens.items ≤ 65 }
+    requires few { length tokens.items ≤ ROOM + 1 }
     ensures ok { OnOk result (Replaces chunks.old at tokens.items chunks.new) }
     ensures err { OnErr result (chunks.new ≡ chunks.old) }
 {
@@ -181,7 +181,7 @@ fn put_one(
 ) -> Result<(), NoMemory>
     requires at { at < length chunks.old }
     requires some { 0 < length tokens.items }
-    requires few { length tokens.items ≤ 64 }
+    requires few { length tokens.items ≤ ROOM }
     ensures ok { OnOk result (Replaces chunks.old at tokens.items chunks.new) }
     ensures err { OnErr result (chunks.new ≡ chunks.old) }
 {
@@ -196,8 +196,8 @@ fn put_two(
     tokens: Vec<Value>,
 ) -> Result<(), NoMemory>
     requires at { at < length chunks.old }
-    requires many { 64 < length tokens.items }
-    requires few { length tokens.items ≤ 65 }
+    requires many { ROOM < length tokens.items }
+    requires few { length tokens.items ≤ ROOM + 1 }
     ensures ok { OnOk result (Replaces chunks.old at tokens.items chunks.new) }
     ensures err { OnErr result (chunks.new ≡ chunks.old) }
 {

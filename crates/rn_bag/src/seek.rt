@@ -1,6 +1,6 @@
 //! Slots by their indices, and looking for them by halving.
-ghost use Rattle.std.specs.Prelude.{◌≡◌, ◌<◌, ◌≤◌, ◌↔◌, ℕ, [], ◌∷◌, ◌++◌, suc, true, take, drop, length, slice_index_or as get_or, IfSome, IfNone, IsTrue, slice_get, Some};
-ghost use Rattle.rn_bag.specs.Chunks.{Slots, tokens_in, values_in};
+ghost use Rattle.std.specs.Prelude.{◌≡◌, ◌<◌, ◌≤◌, [], true, take, drop, length, slice_index_or as get_or, IfSome, IfNone, Some};
+ghost use Rattle.rn_bag.specs.Chunks.{Slots, values_in};
 ghost use Rattle.rn_bag.specs.Cuts.{AllBefore, NoneBefore, Ascends};
 ghost use Rattle.rn_bag.specs.SlotIndices.{tokens_before, tokens_after, values_before, values_after};
 ghost use Rattle.rn_bag.specs.Words.{has_bit};

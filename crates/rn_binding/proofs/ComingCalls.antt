@@ -1,6 +1,7 @@
 -- When the entry of a node may come in.
 use Rattle.std.proofs.Common.{◌≡◌, ℕ, true, false, List, [], ◌∷◌, ◌++◌, length}
 use Rattle.std.proofs.Common.{length-append, sym, ap, ◌∙◌, subst, arith}
+use Rattle.std.proofs.lemmas.List.{same_from_push}
 use Rattle.std.specs.Prelude.{Contains, Option, None, Some, slice_get}
 use Rattle.std.specs.List.{list_any}
 use Rattle.rn_value.specs.declared.value.InstRef.{InstRef}
@@ -23,13 +24,13 @@ use Rattle.rn_growing.specs.Decisions.{head_of, AreOn}
 use Rattle.rn_growing.specs.Equations.{read_at, IsForcedTo}
 use Rattle.rn_growing.specs.Grown.{IsNew}
 use Rattle.rn_growing.specs.Turns.{AreInTurn, MayCome}
-use Rattle.rn_growing.proofs.Followers.{snoc_equal, decision_in, equations, entered_by}
+use Rattle.rn_growing.proofs.Followers.{decision_in, equations, entered_by}
 use Rattle.rn_growing.proofs.Growth.{some_equal}
-use Rattle.rn_growing.proofs.SameUnknowns.{path_itself}
 use Rattle.rn_growing.specs.Decided.{enters}
 use Rattle.rn_binding.specs.Passing.{IsGiven, IsOut}
 use Rattle.rn_binding.proofs.Deciding.{not_entered, entered_is_in}
 use Rattle.rn_growing.proofs.NewThings.{none_passes}
+use Rattle.rn_items.proofs.Numbers.{numbers_themselves}
 
 module _ (system : System) (b : Binding) (given : IsGiven system b) (ds : List Decision)
     (turns : AreInTurn system ds) (node : Node)
@@ -51,14 +52,14 @@ module _ (system : System) (b : Binding) (given : IsGiven system b) (ds : List D
   pub is_new : (caller : Option Caller) → IsNew ds (Entered (head_of node) caller)
   is_new caller (Entered h c) there same =
       none_passes (enters node.path) ds (Entered h c) fresh there
-      (subst (λ p. enters p (Entered h c) ≡ true) same (path_itself h.path))
+      (subst (λ p. enters p (Entered h c) ≡ true) same (numbers_themselves h.path))
   is_new caller (Found h k v) there same = absurd same
   is_new caller (Computed h site way v) there same = absurd same
 
   module _ (front : List ℕ) (i : ℕ) (path : node.path ≡ front ++ i ∷ []) where
     its_caller : (c : Node) (j : ℕ) (dl : Downlink) → Calls system b c j dl node →
         (c.path ≡ front) × (j ≡ i)
-    its_caller c j dl calls = snoc_equal c.path front j i (sym calls.path ∙ path)
+    its_caller c j dl calls = same_from_push c.path front j i (sym calls.path ∙ path)
 
     on_front : (c : Node) (j : ℕ) (dl : Downlink) → Calls system b c j dl node →
         node_at b front ≡ Some c

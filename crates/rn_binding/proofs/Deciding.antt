@@ -19,7 +19,7 @@ use Rattle.rn_growing.specs.declared.decision.Decision.TheVariants.{Entered, Fou
 use Rattle.rn_growing.specs.Decisions.{site_of, head_of, IsOn, AreOn}
 use Rattle.rn_growing.specs.Layouts.{same_site}
 use Rattle.rn_growing.specs.Turns.{SameThing}
-use Rattle.rn_growing.proofs.SameUnknowns.{both_true, same_path, site_is}
+use Rattle.rn_growing.proofs.SameUnknowns.{site_is}
 use Rattle.rn_growing.proofs.SameUnknowns.{site_itself, as_site, site_of-is}
 use Rattle.rn_growing.proofs.NewThings.{some_passes, none_passes, alike, both_are}
 use Rattle.rn_growing.proofs.SoundItems.{items_sound}
@@ -27,6 +27,8 @@ use Rattle.rn_growing.proofs.Followers.{item_in, decision_in, closed_entry, clos
 use Rattle.rn_growing.proofs.Followers.{closed_computed}
 use Rattle.rn_growing.specs.Decided.{enters, finds, computes}
 use Rattle.rn_binding.specs.Passing.{IsDecided}
+use Rattle.rn_items.proofs.Numbers.{same_numbers}
+use Rattle.rn_items.proofs.Bools.{both_true}
 
 module _ (system : System) (b : Binding) (depth : ℕ) (shape : Shape system b depth)
     (ds : List Decision) (items : List Item) (on : AreOn system b ds items) where
@@ -71,7 +73,7 @@ module _ (system : System) (b : Binding) (depth : ℕ) (shape : Shape system b d
   -- by the test for entries
   entry_by : (path : List ℕ) (d : Decision) → enters path d ≡ true →
       (head : Head) × (caller : Option Caller) × (d ≡ Entered head caller) × (head.path ≡ path)
-  entry_by path (Entered head caller) e = (head, caller, refl, same_path head.path path e)
+  entry_by path (Entered head caller) e = (head, caller, refl, same_numbers head.path path e)
   entry_by path (Found head k v) e = absurd (let no : ⊥ = cc in no)
   entry_by path (Computed head site way v) e = absurd (let no : ⊥ = cc in no)
 
@@ -107,7 +109,7 @@ module _ (system : System) (b : Binding) (depth : ℕ) (shape : Shape system b d
           let both = both_true (pointwise nat_eq h.path node.path) (nat_eq j k) f in
           let it = item_in system b ds items on (Found h j v) there in
           closed_found system b depth shape items k v node x own (Found h j v) it.0
-          (sym (same_path h.path node.path both.0), sym (eqb-true j k both.1)) it.1 it.2
+          (sym (same_numbers h.path node.path both.0), sym (eqb-true j k both.1)) it.1 it.2
       by (Entered h c) there f = absurd (let no : ⊥ = cc in no)
       by (Computed h site way v) there f = absurd (let no : ⊥ = cc in no)
 
@@ -140,9 +142,9 @@ module _ (system : System) (b : Binding) (depth : ℕ) (shape : Shape system b d
           let it = item_in system b ds items on (Computed h at along v) there in
           closed_computed system b depth shape items site v node (site_of site) hole refl own
           (Computed h at along v) it.0 (
-            sym (same_path h.path node.path both.0),
+            sym (same_numbers h.path node.path both.0),
             sym (ap site_of (site_is at site rest.0)),
-            sym (same_path along hole.way rest.1),
+            sym (same_numbers along hole.way rest.1),
           ) it.1 it.2
       by (Entered h c) there f = absurd (let no : ⊥ = cc in no)
       by (Found h k v) there f = absurd (let no : ⊥ = cc in no)

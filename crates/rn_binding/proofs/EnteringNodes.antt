@@ -1,10 +1,9 @@
 -- The entry of a node, by what is known of its caller; and the entry of the start.
 use Rattle.std.proofs.Common.{◌≡◌, ℕ, Bool, true, false, List, [], ◌∷◌, ◌++◌}
-use Rattle.std.proofs.Common.{refl, sym, ap, ◌∙◌, subst, arith}
-use Rattle.std.specs.Prelude.{Contains, None, Some, find, nat_eq, slice_get}
+use Rattle.std.proofs.Common.{refl, sym, subst, arith}
+use Rattle.std.specs.Prelude.{Contains, None, Some, nat_eq, slice_get}
 use Rattle.std.specs.List.{list_any}
 use Rattle.std.specs.Cmp.Lexicographic.{pointwise}
-use Rattle.std.proofs.lemmas.Option.{same_Some}
 use Rattle.rn_value.specs.declared.value.InstRef.{InstRef}
 use Rattle.rn_value.specs.declared.value.Value.TheVariants as Worth
 use Rattle.rn_model.specs.declared.system.System.{System}
@@ -23,29 +22,21 @@ use Rattle.rn_growing.specs.Decisions.{head_of}
 use Rattle.rn_growing.specs.Equations.{read_at, IsForcedTo}
 use Rattle.rn_growing.specs.Grown.{Grown, IsNew, Tries}
 use Rattle.rn_growing.specs.Turns.{MayCome, AreInTurn}
-use Rattle.rn_growing.proofs.SameUnknowns.{same_path}
 use Rattle.rn_growing.specs.Decided.{enters}
 use Rattle.rn_binding.specs.Passing.{IsGiven, IsFollowed, IsOut, BringsItem}
 use Rattle.rn_binding.proofs.Coming.{tried}
 use Rattle.rn_binding.proofs.Deciding.{entered_is_in}
 use Rattle.rn_binding.proofs.ComingCalls.{unforced_out, may_be_called, is_new}
 use Rattle.rn_binding.proofs.ComingValues.{already}
-
-found_passes : {X : Type 0} (test : X → Bool) (xs : List X) (y : X) → find test xs ≡ Some y →
-    test y ≡ true
-found_passes test [] y e = absurd (let no : ⊥ = cc in no)
-found_passes test (x ∷ xs) y e = elim (test x) as (λ t. test x ≡ t → test y ≡ true) [
-  | true ↦ λ passes.
-      let same : x ≡ y = same_Some x y (rw passes at e) in ap test (sym same) ∙ passes
-  | false ↦ λ fails. found_passes test xs y (rw fails at e)
-] refl
+use Rattle.rn_items.proofs.Lists.{find_passes}
+use Rattle.rn_items.proofs.Numbers.{same_numbers}
 
 -- a node that is found has the path
 pub on_path : (b : Binding) (path : List ℕ) (node : Node) → node_at b path ≡ Some node →
     node.path ≡ path
 on_path b path node e =
-    same_path node.path path
-    (found_passes (λ (n : Node). pointwise nat_eq n.path path) b.nodes node e)
+    same_numbers node.path path
+    (find_passes (λ (n : Node). pointwise nat_eq n.path path) b.nodes node e)
 
 -- the target of a downlink is forced to be an instance
 abbrev pub IsTold : Grown → Head → ℕ → Downlink → InstRef → Type 0

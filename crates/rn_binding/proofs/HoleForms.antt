@@ -30,6 +30,7 @@ with_last (part ∷ parts) tail i =
     ∙ sym (append_assoc (map (within_part i) (holes_in part)) (holes_of_parts (i + 1) (map with_holes parts)) (map (within_part ((i + 1) + length parts)) (holes_in tail)))
     ∙ ap (λ j. (map (within_part i) (holes_in part) ++ holes_of_parts (i + 1) (map with_holes parts)) ++ map (within_part j) (holes_in tail)) place
 
+-- the holes of a list with a tail are those of its parts, and then those of the tail
 pub holes-Cons : (parts : List Expr) (tail : Expr) →
     holes_in (E.Cons parts tail) ≡ holes_of_parts 0 (map with_holes parts) ++ map (within_part (length parts)) (holes_in tail)
 holes-Cons parts tail = holes_in-Cons parts tail ∙ with_last parts tail 0 ∙ from_zero
@@ -40,6 +41,7 @@ holes-Cons parts tail = holes_in-Cons parts tail ∙ with_last parts tail 0 ∙ 
         let none : 0 + length parts ≡ length parts = omega arith in
         ap (λ n. holes_of_parts 0 (map with_holes parts) ++ map (within_part n) (holes_in tail)) none
 
+-- `step()` has none
 pub holes-Step : holes_in E.Step ≡ []
 holes-Step = ap holes_in (sym E.rolls-Step) ∙ para-roll-Expr (List Hole) holes_step O.Step
 

@@ -32,16 +32,6 @@ module _ (system : System) (b : Binding) where
       IsDecided system ds item → IsDecided system more item
   stays_decided ds more item stay (d, there, is) = (d, stay d there, is)
 
-  pub none_tried : (g : Grown) → IsFollowed system b g → IsPassed system b g [] g []
-  none_tried g followed = record {
-    followed = followed;
-    stay = λ d there. there;
-    items = λ item there. there;
-    covered = λ item there. inr there;
-    few = omega arith;
-    stuck = λ e. (refl, λ item there. absurd (none_in item there));
-  }
-
   module _ (old : Grown) (tried left : List Item) (now : Grown) (item : Item) (next : Grown)
       (passed : IsPassed system b old tried now left) (followed : IsFollowed system b next) where
     -- one more that is in

@@ -90,11 +90,6 @@ all_before (p ∷ ps) all i m next h same =
     (subst (HaveTheSame (picked (p ∷ ps) all ++ item_of at ∷ [])) (sym rest)
     (same_more (picked (p ∷ ps) all) (map item_of (drop m (p ∷ ps))) (item_of at) same))
 
--- at an index that is within
-pub within_at : (parts : List Part) (ks : List ℕ) (k i : ℕ) → AllWithin parts ks → k < length ks →
-    i ≡ get_or ks k 0 → i < length parts
-within_at parts ks k i all h is = subst (λ j. j < length parts) (sym is) (all k 0 h)
-
 -- and the item there is among those that are picked
 pub picked_there : (parts : List Part) (ks : List ℕ) (k i : ℕ) (part : Part) → k < length ks →
     i ≡ get_or ks k 0 → i < length parts → part ≡ get_or parts i part →

@@ -3,13 +3,13 @@ ghost use Rattle.std.specs.Prelude.{◌≡◌, ◌++◌, ◌∷◌, [], OnOk, If
 ghost use Rattle.std.specs.List.{enumerate_from};
 ghost use Rattle.rn_model.specs.Systems.{uplink_args};
 ghost use Rattle.rn_model.specs.Derivation.{sites_of, sides_of, args_of, uplink_arg, downlink_arg};
-ghost use Rattle.rn_model.specs.Derivation.{holes_in, holes_of_parts, finds_token};
+ghost use Rattle.rn_model.specs.Derivation.{holes_in, holes_of_parts};
 ghost use Rattle.rn_growing.specs.Decisions.{site_of};
 ghost use Rattle.rn_binding.specs.Applications.{application_of, with_holes, hole_within};
 ghost use Rattle.rn_binding.specs.Applications.{holes_at, arc_site};
 
 use rn_growing::{Site, Way};
-use rn_model::{ArcKind, Downlink, Expr, NetArc, Transition};
+use rn_model::{Downlink, Expr, NetArc, Transition, finds_token};
 use rn_value::NoMemory;
 use std::alloc::Global;
 
@@ -166,12 +166,6 @@ fn put_downlinks<'a>(
         put_downlink_args(alloc, i, downlinks[i].args.as_slice(), found)?;
     }
     Ok(())
-}
-
-fn finds_token(kind: ArcKind) -> bool
-    ensures { result ≡ finds_token kind }
-{
-    matches!(kind, ArcKind::Input | ArcKind::Test | ArcKind::Reserve)
 }
 
 // Puts those of the inscriptions of arcs that find a token.

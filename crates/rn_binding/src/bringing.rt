@@ -11,10 +11,10 @@ ghost use Rattle.rn_binding.specs.Passing.{IsGiven, IsFollowed, BringsItem};
 use crate::forcing::is_expr_forced;
 use crate::headed::Headed;
 use crate::part::Part;
-use rn_agree::{node_index, transition_of};
+use rn_agree::node_index;
 use rn_calc::{NodeValues, evaluate};
 use rn_growing::{Caller, Growing, Head, Site, Way, copy_head};
-use rn_model::{Binding, Expr, NetArc, Node, System};
+use rn_model::{Binding, Expr, NetArc, Node, System, transition_of};
 use rn_value::NoMemory;
 use std::alloc::Global;
 

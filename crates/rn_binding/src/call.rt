@@ -4,7 +4,7 @@ ghost use Rattle.rn_agree.specs.Paths.{AscendByPath};
 use crate::applications::uplink_args;
 use rn_agree::{child_index, node_index};
 use rn_growing::Site;
-use rn_model::{Binding, Downlink, Expr, Node, System, Transition};
+use rn_model::{Binding, Downlink, Expr, Node, System, find_transition};
 
 /// The caller of a node, told by its index, and the downlink that calls.
 #[derive(Drop)]
@@ -13,19 +13,13 @@ pub(crate) struct Call<'a> {
     pub(crate) downlink: &'a Downlink,
 }
 
-/// The transition of a node, where there is one.
-pub(crate) fn transition_at<'a>(system: &'a System, node: &Node) -> Option<&'a Transition> {
-    let net = system.nets.get(node.net as usize)?;
-    net.transitions.get(node.transition as usize)
-}
-
 /// The call of a node. The start has none.
 pub(crate) fn call_of<'a>(system: &'a System, binding: &Binding, node: &Node) -> Option<Call<'a>>
     requires ascending { AscendByPath binding.now.nodes }
 {
     let (i, front) = node.path.as_slice().split_last()?;
     let caller = node_index(binding, front)?;
-    let transition = transition_at(system, binding.nodes.get(caller)?)?;
+    let transition = find_transition(system, binding.nodes.get(caller)?)?;
     let downlink = transition.downlinks.get(*i as usize)?;
     Some(Call { caller, downlink })
 }
@@ -40,7 +34,7 @@ pub(crate) fn across<'a>(
 ) -> Option<(usize, &'a Expr)>
     requires ascending { AscendByPath binding.now.nodes }
 {
-    let transition = transition_at(system, node)?;
+    let transition = find_transition(system, node)?;
     match site {
         Site::Left(k) => {
             let (_, right) = transition.equalities.get(k)?;
@@ -57,7 +51,7 @@ pub(crate) fn across<'a>(
         Site::DownlinkArg(i, k) => {
             let i = u32::try_from(i).ok()?;
             let child = child_index(binding, node.path.as_slice(), i)?;
-            let answer = transition_at(system, binding.nodes.get(child)?)?;
+            let answer = find_transition(system, binding.nodes.get(child)?)?;
             Some((child, uplink_args(answer).get(k)?))
         }
         Site::Target(_) | Site::Inscription(_) => None,

@@ -2,14 +2,13 @@
 ghost use Rattle.rn_agree.specs.Paths.{AscendByPath};
 
 use crate::applications::uplink_args;
-use crate::call::{across, call_of, part_on, transition_at};
+use crate::call::{across, call_of, part_on};
 use crate::equations::{put_equation, put_equations};
 use crate::event::{Edge, Event};
-use crate::forcing::put_vars;
 use crate::part::Part;
 use rn_agree::node_index;
 use rn_growing::Site;
-use rn_model::{Binding, Expr, Node, System};
+use rn_model::{Binding, Expr, Node, System, find_transition, put_vars};
 use rn_value::NoMemory;
 use std::alloc::Global;
 
@@ -24,7 +23,7 @@ fn put_node(
 ) -> Result<(), NoMemory>
     requires ascending { AscendByPath binding.now.nodes }
 {
-    let Some(transition) = transition_at(system, node) else {
+    let Some(transition) = find_transition(system, node) else {
         return Ok(());
     };
     for k in 0..transition.equalities.len() {
@@ -123,7 +122,7 @@ fn put_entry(
 ) -> Result<(), NoMemory>
     requires ascending { AscendByPath binding.now.nodes }
 {
-    if let Some(transition) = transition_at(system, node) {
+    if let Some(transition) = find_transition(system, node) {
         put_forced(i, n, transition.vars.as_slice(), edges)?;
     }
     let Some(call) = call_of(system, binding, node) else {

@@ -1,7 +1,6 @@
 //! Where the values of variables go through equations.
 use crate::event::{Edge, Event};
-use crate::forcing::put_vars;
-use rn_model::Expr;
+use rn_model::{Expr, put_vars};
 use rn_value::NoMemory;
 use std::alloc::Global;
 

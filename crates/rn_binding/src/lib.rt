@@ -19,4 +19,3 @@ mod propagating;
 pub use applications::{Application, applications_of};
 pub use candidate::{Candidate, NotSound};
 pub use certifying::certify;
-pub use forcing::put_vars;

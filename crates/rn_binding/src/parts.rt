@@ -3,25 +3,14 @@ ghost use Rattle.std.specs.Prelude.{◌≡◌, ◌++◌, All, OnOk, IfOk, map, f
 ghost use Rattle.std.specs.List.{enumerate_from};
 ghost use Rattle.rn_model.specs.Bindings.{IsNodeOf};
 ghost use Rattle.rn_model.specs.Derivation.{computed_at, sites_of, node_items};
-ghost use Rattle.rn_model.specs.Derivation.{finds_values};
 ghost use Rattle.rn_binding.specs.Parts.{item_of, found_at};
 
 use crate::applications::{Application, applications_of};
 use crate::headed::Headed;
 use crate::part::Part;
-use rn_agree::transition_of;
-use rn_model::{ArcKind, NetArc, System, Transition};
+use rn_model::{NetArc, System, Transition, finds_values, transition_of};
 use rn_value::NoMemory;
 use std::alloc::Global;
-
-fn finds_values(kind: ArcKind) -> bool
-    ensures { result ≡ finds_values kind }
-{
-    matches!(
-        kind,
-        ArcKind::Input | ArcKind::Test | ArcKind::Reserve | ArcKind::Clear
-    )
-}
 
 // Puts what the arcs of a node find.
 fn put_found<'a>(

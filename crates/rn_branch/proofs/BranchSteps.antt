@@ -100,16 +100,6 @@ module _ (sought : Sought) (inside self : Grown) (view : inside ≡ self)
           (subst (λ g. IsOnly (Leads sought g.decisions) (Some b)) view
           (only.0 (passes.0 is)))
 
-  -- Alternatives that mean none are passed.
-  pub passed_are_vain : (ds : List Decision) → ds ≡ inside.decisions → (point : Point) (a : ℕ) →
-      offered sought ds point a ≡ None →
-      NoneLeads (Leads sought) (self.decisions ++ offers sought self.decisions point a ∷ [])
-  passed_are_vain ds are point a none =
-      subst (λ g. NoneLeads (Leads sought)
-      (g.decisions ++ offers sought g.decisions point a ∷ [])) view
-      (none_offered sought inside branch_inside point a
-      (ap (λ es. offered sought es point a) (sym are) ∙ none))
-
   -- Decisions that are made,
   module _ (ds : List Decision) (are : ds ≡ inside.decisions)
       (start : MayStart sought.system sought.marking sought.start) where

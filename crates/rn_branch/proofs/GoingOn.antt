@@ -1,5 +1,5 @@
 -- How a branch goes on, by what a look at all that is asked said.
-use Rattle.std.proofs.Common.{◌≡◌, ◌<◌, ℕ, List, [], ◌∷◌, length, refl, sym, ap, ◌∙◌, subst}
+use Rattle.std.proofs.Common.{◌≡◌, ◌<◌, List, [], ◌∷◌, length, refl, ap, ◌∙◌}
 use Rattle.std.proofs.Common.{arith}
 use Rattle.std.specs.Prelude.{Some, None}
 use Rattle.std.proofs.lemmas.Option.{slice_get-get_or}
@@ -96,11 +96,6 @@ same_next Done = refl
 same_next Stuck = refl
 same_next (Forced site) = refl
 same_next (Choose site of first) = (first, refl)
-
-pub chosen_next : (next : Next Point) (site : Point) (of first begin : ℕ) →
-    next ≡ Choose site of first → IsSameButFirst next (Choose site of begin)
-chosen_next next site of first begin is =
-    subst (λ told. IsSameButFirst told (Choose site of begin)) (sym is) (begin, refl)
 
 -- Before any decision it goes on with the start.
 pub begins : (sought : Sought) (ds : List Decision) (ends : Type 0) →

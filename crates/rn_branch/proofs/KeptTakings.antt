@@ -50,25 +50,6 @@ takes_one system d inst other place another v w one two =
       ),
     )
 
--- what is the same as what a decision takes
-pub takes_same : (system : System) (d : Decision) (inst other : InstRef) (place another : ℕ)
-    (v w : Value) → Takes system d inst place v → place ≡ another → inst ≡ other → v ≡ w →
-    Takes system d other another w
-takes_same system d inst other place another v w takes at on is =
-    subst (λ u. Takes system d other another u) is
-    (subst (λ i. Takes system d i another v) on
-    (subst (λ p. Takes system d inst p v) at takes))
-
--- nothing is kept at first
-pub no_takings : (system : System) (ds : List Decision) (t : Takings) →
-    length t.counts.items ≡ 0 → AreTakings system ds t
-no_takings system ds t none = record {
-  within = omega (arith, none);
-  each = λ i n d inst place v there at takes.
-      absurd (let low = slice_get_within t.counts.items i n there in
-      let no : ⊥ = omega (arith, none, low) in no);
-}
-
 -- of what is kept of a decision, the decisions up to all that is kept take so much
 pub kept_so_far : (system : System) (ds : List Decision) (t : Takings) (i n : ℕ) (d : Decision)
     (inst : InstRef) (place : ℕ) (v : Value) → AreTakings system ds t →

@@ -29,7 +29,7 @@ use Rattle.rn_search.specs.Points.{tokens_of, holes_of, net_called, called_at, i
 use Rattle.rn_search.specs.Missing.{MayStart}
 use Rattle.rn_search.specs.Room.{room}
 use Rattle.rn_search.specs.Standing.{AreSound, IsHead, MayBeMade}
-use Rattle.rn_search.proofs.Allowed.{start_is_allowed}
+use Rattle.rn_search.proofs.Allowed.{start_is_allowed, only_one_is}
 use Rattle.rn_search.proofs.Alternatives.{from_map, from_and_then, none_leads_nowhere}
 use Rattle.rn_search.proofs.Falling.{room_falls}
 use Rattle.rn_search.proofs.Offered.{leading_is_solvable}
@@ -59,15 +59,11 @@ first_enters system (Found head k v) may = absurd (not_in_nil (Entered head may.
 first_enters system (Computed head site way v) may =
     absurd (not_in_nil (Entered head may.0.0) may.0.1)
 
-only_one : (a : ℕ) (x d : Decision) → only_at a x ≡ Some d → x ≡ d
-only_one zero x d e = some_equal x d e
-only_one (suc a) x d e = absurd (let no : ⊥ = cc in no)
-
 -- An alternative that may be made first is the start's.
 offered_first : (sought : Sought) (point : Point) (a : ℕ) (head : Head) →
     offered sought [] point a ≡ Some (Entered head None) → head ≡ sought.start
 offered_first sought P.Start a head is =
-    let same = only_one a (Entered sought.start None) (Entered head None) is in
+    let same = only_one_is a (Entered sought.start None) (Entered head None) is in
     ap node_on (sym same)
 offered_first sought (P.Token node k from) a head is =
     let on = node_of sought [] node in
@@ -77,7 +73,7 @@ offered_first sought (P.Token node k from) a head is =
     absurd (let no : ⊥ = cc in no)
 offered_first sought (P.List node k) a head is =
     let on = node_of sought [] node in
-    let other = only_one a (Found on k (Value.List (tokens_of sought on k)))
+    let other = only_one_is a (Found on k (Value.List (tokens_of sought on k)))
     (Entered head None) is in
     absurd (let no : ⊥ = cc in no)
 offered_first sought (P.Result node k n) a head is =
@@ -85,7 +81,7 @@ offered_first sought (P.Result node k n) a head is =
     let got = from_and_then
     (λ hole. only_at a (Computed on (as_site hole.0) hole.1.way (Value.Int n)))
     (slice_get (holes_of (transition_in sought.system on)) k) (Entered head None) is in
-    let other = only_one a (Computed on (as_site got.0.0) got.0.1.way (Value.Int n))
+    let other = only_one_is a (Computed on (as_site got.0.0) got.0.1.way (Value.Int n))
     (Entered head None) got.2 in
     absurd (let no : ⊥ = cc in no)
 offered_first sought (P.Call node i called) a head is =

@@ -6,9 +6,9 @@ ghost use Rattle.rn_branch.specs.GoingOn.{IsSameButFirst};
 
 use crate::taking::{MANY, is_same_old, takes_token, taking_of};
 use rn_choices::Next;
-use rn_growing::Decision;
+use rn_growing::{Decision, transition_in};
 use rn_model::System;
-use rn_search::{Point, Problem, transition_in};
+use rn_search::{Point, Problem};
 use rn_value::{InstRef, Value};
 
 /// In how many of the newest decisions a token is looked for that is taken of the same place.

@@ -2,8 +2,7 @@
 //! over choices (`rn_choices`) knows neither nets nor tokens. Alternatives that lead nowhere are
 //! given up before their decision; the rest of *enabled* is looked at where the binding is made
 //! (`docs/SEARCH.md`, 'What it does next').
-ghost use Rattle.std.specs.Prelude.{◌≡◌, ◌↔◌, IfOk, [], ◌++◌, ◌∷◌, IsTrue, map};
-ghost use Rattle.rn_growing.specs.Equations.{IsSolvable};
+ghost use Rattle.std.specs.Prelude.{◌≡◌, ◌↔◌, IfOk, [], IsTrue, map};
 ghost use Rattle.rn_binding.specs.Applications.{application_of};
 ghost use Rattle.rn_growing.specs.Decisions.{transition_in};
 ghost use Rattle.rn_growing.specs.Grown.{HasFewCreations};

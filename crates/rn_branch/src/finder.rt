@@ -8,9 +8,9 @@ ghost use Rattle.rn_branch.specs.Finders.{IsKnownPart, IsPassed, IsFinder};
 
 use crate::part::next_with_part;
 use rn_bag::Bag;
-use rn_growing::{Decision, Growing, Head};
+use rn_growing::{Decision, Growing, Head, transition_in};
 use rn_model::{ArcKind, Expr, NetArc};
-use rn_search::{Problem, transition_in};
+use rn_search::Problem;
 use rn_value::{InstRef, NoMemory, Value};
 use std::alloc::Global;
 
@@ -22,7 +22,8 @@ pub(crate) struct Finder<'a> {
     held: &'a Bag,
 }
 
-// Whether an arc finds a token.
+// Whether an arc finds a token. Its clause says what a finder needs, that the arc finds something;
+// that of the call in `rn_model` doesn't.
 fn finds_token(kind: ArcKind) -> bool
     ensures { IsTrue result → finds_values kind ≡ true }
 {

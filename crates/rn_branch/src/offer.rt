@@ -5,9 +5,9 @@ ghost use Rattle.std.specs.Prelude.{IfSome};
 ghost use Rattle.rn_branch.specs.Offers.{IsOffer};
 
 use rn_bag::Bag;
-use rn_growing::{Decision, Head};
+use rn_growing::{Decision, Head, transition_in};
 use rn_model::{NetArc, Transition};
-use rn_search::{Problem, transition_in};
+use rn_search::Problem;
 use rn_value::{InstRef, Value};
 
 /// A token of the place of a node's arc.

@@ -3,10 +3,9 @@
 //! nodes to find it. It only decides which nodes are looked at first (`docs/SEARCH.md`, 'What it
 //! does next').
 use crate::entered::Entries;
-use rn_growing::{Decision, Site};
+use rn_growing::{Decision, Site, transition_in};
 use rn_looking::Kept;
 use rn_model::{Expr, System, Transition};
-use rn_search::transition_in;
 use rn_value::NoMemory;
 use std::alloc::Global;
 

@@ -7,9 +7,8 @@ ghost use Rattle.rn_value.specs.declared.value.Value.{Value as Taken};
 ghost use Rattle.rn_model.specs.Demands.{takes};
 ghost use Rattle.rn_branch.specs.Takings.{Takes};
 
-use rn_growing::Decision;
+use rn_growing::{Decision, transition_in};
 use rn_model::{ArcKind, System};
-use rn_search::transition_in;
 use rn_value::{InstRef, Value, same};
 
 /// From so many decisions on, what they take is found by its key, and choices begin behind it.

@@ -14,7 +14,7 @@ use crate::trial::Trial;
 use rn_calc::is_true;
 use rn_growing::{Growing, Head};
 use rn_looking::{put_guard, values_but};
-use rn_model::{Cond, Transition};
+use rn_model::Transition;
 use rn_value::{NoMemory, Value};
 use std::alloc::Global;
 

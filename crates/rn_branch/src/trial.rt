@@ -1,7 +1,6 @@
 //! What a guard is read under where one of its variables is a token: the token where it stands, and
 //! the values of the others as they are kept. So a guard is worked out for each token of a choice
 //! before anything of it is decided or copied (`docs/SEARCH.md`, 'A binding grows by decisions').
-ghost use Rattle.std.specs.Prelude.{◌≡◌, option_copied};
 
 use rn_calc::Values;
 use rn_value::{InstRef, Value};

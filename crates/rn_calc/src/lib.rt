@@ -17,6 +17,6 @@ pub use conditions::{holds, is_true};
 pub use evaluation::{calc, evaluate};
 pub use given::{Given, VarVals};
 pub use mentions::holds_action_var;
-pub use node_values::{NodeValues, find_transition};
-pub use reading::{Reading, has_value, have_one_value, read};
+pub use node_values::NodeValues;
+pub use reading::{Reading, have_one_value, read};
 pub use values::Values;

@@ -1,21 +1,11 @@
 //! The values of a node's variables, lent.
-ghost use Rattle.std.specs.Prelude.{◌≡◌, MatchOption};
+ghost use Rattle.std.specs.Prelude.{◌≡◌};
 ghost use Rattle.rn_model.specs.Bindings.{env_of};
-ghost use Rattle.rn_model.specs.Systems.{empty_transition, transition_of};
 ghost use Rattle.rn_calc.specs.NodeValues.{lent_env};
 
 use crate::values::Values;
-use rn_model::{Node, System, Transition};
+use rn_model::{Node, System, find_transition};
 use rn_value::{InstRef, Value};
-
-/// The transition that occurs in a node, where the system has it.
-pub fn find_transition<'a>(system: &'a System, node: &Node) -> Option<&'a Transition>
-    ensures { MatchOption result (transition_of system.now node.now ≡ empty_transition)
-        (λ t. t.now ≡ transition_of system.now node.now) }
-{
-    let net = system.nets.get(node.net as usize)?;
-    net.transitions.get(node.transition as usize)
-}
 
 /// What the expressions of a node are read under: its instance, and its values, each beside the
 /// variable of the same index. Nothing is copied, and there is no step.

@@ -71,20 +71,3 @@ pub fn have_one_value<V: Values, W: Values>(
         _ => Ok(false),
     }
 }
-
-/// Whether an expression has this value.
-pub fn has_value<V: Values>(
-    alloc: Global,
-    expr: &Expr,
-    values: &V,
-    value: &Value,
-) -> Result<bool, NoMemory>
-    requires step { IfSome (V.env values.now).step (λ n. n ≤ greatest_step) }
-    ensures { IfOk result (λ yes. IsTrue yes
-        ↔ (worth expr.now (V.env values.now) ≡ Some value.now)) }
-{
-    match read(alloc, expr, values)? {
-        Some(found) => Ok(same(found.get(), value)),
-        None => Ok(false),
-    }
-}

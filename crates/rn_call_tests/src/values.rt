@@ -2,7 +2,7 @@
 ghost use Rattle.std.specs.Prelude.{◌≤◌, IfOk};
 ghost use Rattle.rn_model.specs.Limits.{greatest_step};
 
-use rn_calc::{Given, calc, has_value};
+use rn_calc::{Given, calc};
 use rn_items::Items;
 use rn_model::limits::GREATEST_STEP;
 use rn_model::{
@@ -32,17 +32,10 @@ fn number_of(alloc: Global, x: u32) -> Result<Option<i64>, NoMemory> {
     }
 }
 
-fn is_number(alloc: Global, x: u32, number: i64) -> Result<bool, NoMemory> {
-    let given = given(alloc)?;
-    has_value(alloc, &Expr::Var(x), &given, &Value::Int(number))
-}
-
 #[test]
 fn a_variable_is_computed(rt: HostRuntime) -> Result<(), Fail> {
     assert_eq!(rt; number_of(rt.alloc(), 3)?, Some(7));
     assert_eq!(rt; number_of(rt.alloc(), 4)?, None);
-    assert!(rt; is_number(rt.alloc(), 3, 7)?);
-    assert!(rt; !is_number(rt.alloc(), 3, 8)?);
     Ok(())
 }
 

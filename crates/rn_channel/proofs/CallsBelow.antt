@@ -1,6 +1,6 @@
 -- Calls below the nodes of a binding.
-use Rattle.std.proofs.Common.{ℕ, zero, suc, ◌≡◌, ◌∙◌, ◌+◌, ◌-◌, ◌<◌, ◌≤◌, List, [], ◌∷◌, ◌++◌, length, Bool, true, false}
-use Rattle.std.proofs.Common.{◌&&◌, Option, Some, None, refl, sym, ap, subst, arith, nat_lt, nat_eq, Contains, true≢false, get_or}
+use Rattle.std.proofs.Common.{ℕ, zero, suc, ◌≡◌, ◌∙◌, ◌+◌, ◌-◌, ◌<◌, ◌≤◌, List, [], ◌∷◌, length, Bool, true, false}
+use Rattle.std.proofs.Common.{◌&&◌, Some, refl, sym, ap, subst, arith, nat_lt, Contains, true≢false, get_or}
 use Rattle.std.specs.Prelude.{◌||◌, slice_get, unwrap_or, All}
 use Rattle.std.specs.List.{list_any, list_all}
 use Rattle.std.proofs.lemmas.List.{length-append}
@@ -9,14 +9,12 @@ use Rattle.std.proofs.lemmas.Bool.{eq-eqb}
 use Rattle.std.proofs.lemmas.Bool.Decides.{nat_tests}
 use Rattle.rn_items.proofs.Bools.{both_true, true_both}
 use Rattle.rn_model.specs.declared.system.System.{System}
-use Rattle.rn_model.specs.declared.system.Net.{Net}
 use Rattle.rn_model.specs.declared.system.Transition.{Transition}
 use Rattle.rn_model.specs.declared.system.Downlink.{Downlink}
-use Rattle.rn_model.specs.declared.system.Uplink.{Uplink}
 use Rattle.rn_model.specs.declared.binding.Node.{Node}
 use Rattle.rn_model.specs.declared.binding.Binding.{Binding}
-use Rattle.rn_model.specs.Systems.{transition_of, transition_at, net_at, empty_net, empty_transition}
-use Rattle.rn_model.specs.Bindings.{Shape, Calls, Answers, IsNodeOf}
+use Rattle.rn_model.specs.Systems.{transition_of, net_at, empty_net, empty_transition}
+use Rattle.rn_model.specs.Bindings.{Shape, IsNodeOf}
 use Rattle.rn_model.specs.Good.{Good}
 use Rattle.rn_model.proofs.MarkingsOfRuns.{good_transition}
 use Rattle.rn_channel.specs.Answering.{is_of}

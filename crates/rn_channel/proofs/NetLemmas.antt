@@ -1,5 +1,5 @@
 -- What is kept of each net, at its number.
-use Rattle.std.proofs.Common.{ℕ, zero, suc, ◌≡◌, ◌∙◌, ◌<◌, ◌≤◌, List, [], ◌∷◌, ◌++◌, length, Option, None, Some}
+use Rattle.std.proofs.Common.{ℕ, zero, suc, ◌≡◌, ◌<◌, ◌≤◌, List, [], ◌∷◌, ◌++◌, length, None}
 use Rattle.std.proofs.Common.{refl, sym, ap, subst, arith, get_or}
 use Rattle.std.specs.Prelude.{unwrap_or, slice_get}
 use Rattle.rn_model.specs.declared.system.System.{System}

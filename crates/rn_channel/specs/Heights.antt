@@ -1,16 +1,16 @@
 -- How many levels of calls a transition needs below it.
-use Rattle.std.specs.Prelude.{ℕ, zero, suc, ◌≡◌, ◌<◌, ◌-◌, Bool, true, false, List, Option, Some, None}
+use Rattle.std.specs.Prelude.{ℕ, zero, suc, ◌≡◌, ◌<◌, ◌-◌, Bool, true, false, Option, Some, None}
 use Rattle.std.specs.Prelude.{◌&&◌, length, Contains, nat_lt}
 use Rattle.std.specs.List.{list_any, list_all}
 use Rattle.rn_model.specs.declared.system.System.{System}
 use Rattle.rn_model.specs.declared.system.Net.{Net}
 use Rattle.rn_model.specs.declared.system.Transition.{Transition}
-use Rattle.rn_model.specs.declared.system.Downlink.{Downlink}
 use Rattle.rn_model.specs.declared.binding.Node.{Node}
 use Rattle.rn_model.specs.declared.binding.Binding.{Binding}
 use Rattle.rn_model.specs.Systems.{transition_of}
 use Rattle.rn_model.specs.Bindings.{Shape}
 use Rattle.rn_model.specs.Good.{Good}
+use Rattle.rn_model.specs.Limits.{greatest_depth}
 use Rattle.rn_channel.specs.Answering.{is_of}
 
 -- whether each call of a transition goes to a channel that is answered
@@ -35,9 +35,10 @@ is_answered system (suc k) channel =
 abbrev pub suffices : System → ℕ → Transition → Bool
 suffices system k t = calls_answered (is_answered system k) t
 
--- the number is the least that suffices; of none it is known that no number up to 16 suffices
+-- the number is the least that suffices; of none it is known that no number up to the greatest depth
+-- suffices
 abbrev pub IsLeastHeight : System → Transition → Option ℕ → Type 0
-IsLeastHeight system t None = (j : ℕ) → j < 17 → suffices system j t ≡ false
+IsLeastHeight system t None = (j : ℕ) → j < suc greatest_depth → suffices system j t ≡ false
 IsLeastHeight system t (Some k) =
     (suffices system k t ≡ true) × ((j : ℕ) → j < k → suffices system j t ≡ false)
 

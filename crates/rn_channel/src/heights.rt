@@ -1,5 +1,5 @@
 //! How many levels of calls a transition needs below it.
-ghost use Rattle.std.specs.Prelude.{◌≡◌, ◌<◌, ◌≤◌, ◌||◌, ℕ, IfOk, length, false};
+ghost use Rattle.std.specs.Prelude.{◌≡◌, ◌<◌, ◌||◌, ℕ, IfOk, length, false};
 ghost use Rattle.std.specs.Prelude.{slice_index_or, ◌&&◌};
 ghost use Rattle.rn_channel.specs.Answering.{is_of};
 ghost use Rattle.std.specs.List.{list_any};
@@ -89,7 +89,7 @@ fn next_level(alloc: Global, system: &System, level: &[bool]) -> Result<Vec<bool
 /// For each number of levels up to the greatest depth, which channels fewer levels suffice to
 /// answer.
 pub(crate) fn levels_of(alloc: Global, system: &System) -> Result<Vec<Items<bool>>, NoMemory>
-    ensures len { IfOk result (λ levels. length levels.items ≡ 17) }
+    ensures len { IfOk result (λ levels. length levels.items ≡ suc GREATEST_DEPTH) }
     ensures each { IfOk result (λ levels. AreLevelsFrom system.now 0 levels.items) }
 {
     let mut levels = Vec::new(alloc);
@@ -104,7 +104,7 @@ pub(crate) fn levels_of(alloc: Global, system: &System) -> Result<Vec<Items<bool
 
 // The least number of levels that suffices below a transition.
 fn height_of(levels: &[Items<bool>], transition: &Transition) -> Option<u32>
-    requires { length levels.now ≡ 17 }
+    requires { length levels.now ≡ suc GREATEST_DEPTH }
     ensures { (system : System) → AreLevelsFrom system 0 levels.now →
         result ≡ least_height system transition.now 0 (length levels.now) }
 {
@@ -122,7 +122,7 @@ pub(crate) fn heights_of(
     levels: &[Items<bool>],
     net: &Net,
 ) -> Result<Items<Option<u32>>, NoMemory>
-    requires { length levels.now ≡ 17 }
+    requires { length levels.now ≡ suc GREATEST_DEPTH }
     ensures { (system : System) → AreLevelsFrom system 0 levels.now → IfOk result (λ heights.
         heights ≡ map (λ t. least_height system t 0 (length levels.now)) net.now.transitions) }
 {

@@ -9,7 +9,7 @@ ghost use Rattle.rn_channel.specs.Uplinks.{AreUplinksOf};
 use crate::heights::{heights_of, levels_of};
 use crate::rows::{Rows, row_of, rows_of};
 use rn_items::{Items, NoMemory};
-use rn_model::{Net, System};
+use rn_model::System;
 use std::alloc::Global;
 
 /// What is kept of one net.

@@ -10,7 +10,6 @@ use Rattle.rn_value.specs.declared.value.Kind.{ind-Kind, out-roll-Kind, roll-Kin
 use Rattle.rn_value.specs.declared.value.Kind.TheVariants as Kind
 use Rattle.rn_value.specs.declared.value.Kind.TheOpen as K
 use Rattle.rn_model.specs.Kinds.{same_kind, same_kind_step}
-use Rattle.rn_model.proofs.KindsOfValues.{same_is_equal}
 use Rattle.rn_net.specs.declared.kinds.PKind.{PKind, PKind-F, ind-PKind, fold-roll-PKind}
 use Rattle.rn_net.specs.declared.kinds.PKindForm.{PKindForm, map-PKindForm, roll-PKindForm}
 use Rattle.rn_net.specs.declared.kinds.PKindForm.{fold-PKindForm, fold-roll-PKindForm}
@@ -18,11 +17,11 @@ use Rattle.rn_net.specs.declared.kinds.PKindForm.TheOpen as F
 use Rattle.rn_net.specs.Kinds.{kind_at}
 use Rattle.rn_declared.specs.declared.pattern.Pattern.{Pattern}
 use Rattle.rn_declared.specs.declared.pattern.Pattern.TheOpen as P
-use Rattle.rn_declared.specs.Patterns.{gives_step, gives_kind, share, pattern_of, pattern_step}
+use Rattle.rn_declared.specs.Patterns.{gives_step, gives_kind, pattern_of, pattern_step}
 use Rattle.rn_numbered.specs.Numbered.{kind_of, kind_of_form}
 use Rattle.rn_numbered.proofs.NumberedForms.{form_kind, kind-at}
 use Rattle.rn_declared.proofs.PatternKinds.{gives-Int, gives-Text, gives-Tuple, gives-List}
-use Rattle.rn_declared.proofs.PatternKinds.{gives-Net, share_gives}
+use Rattle.rn_declared.proofs.PatternKinds.{gives-Net}
 
 abbrev same_at : K.Kind-F Kind → K.Kind-F Kind → Bool
 same_at x z = same_kind_step (map-Kind Kind (Kind → Bool) same_kind x) z
@@ -85,6 +84,7 @@ form_pattern = fold-PKindForm Pattern Pattern pattern_step (λ kind. kind.form)
 abbrev FormGivesItself : PKindForm → Type 0
 FormGivesItself form = (k : Kind) → gives_kind (form_pattern form) k ≡ same_kind (form_kind form) k
 
+-- the pattern of a kind is that of its form, wherever it stands
 pub pattern-at : (s : Spot) (f : PKindForm) → pattern_of (kind_at s f) ≡ form_pattern f
 pattern-at s f =
     fold-roll-PKind Pattern Pattern pattern_step (λ kind. kind.form) (record { form = f; spot = s })
@@ -177,12 +177,3 @@ gives_itself = ind-PKind FormGivesItself GivesItself
     (λ x y is. subst (λ (w : PKind-F PKindForm PKind). GivesItself (kind_at w.spot w.form)) is
     (λ k. ap (λ p. gives_kind p k) (pattern-at y.spot y.form.0) ∙ y.form.1 k
     ∙ sym (ap (λ l. same_kind l k) (kind-at y.spot y.form.0))))
-
--- what shares a kind with a declared one gives it
-pub fits_declared : (kind : PKind) (q : Pattern) → share (pattern_of kind) q ≡ true →
-    gives_kind q (kind_of kind) ≡ true
-fits_declared kind q e =
-    let found = share_gives (pattern_of kind) q e in
-    let same : kind_of kind ≡ found.0 =
-    same_is_equal (kind_of kind) found.0 (sym (gives_itself kind found.0) ∙ found.1) in
-    ap (gives_kind q) same ∙ found.2

@@ -1,7 +1,7 @@
 -- The variables of an expression in which nothing is broken are declared and may stand there,
 -- `step()` stands only where it may, and its tuples don't have too many parts. Where it holds no
 -- name that passes a test, none of its variables has such a name.
-use Rattle.std.proofs.Common.{◌≡◌, ℕ, ℤ, Bool, true, false, ◌&&◌, ◌||◌, not, List, [], ◌∷◌}
+use Rattle.std.proofs.Common.{◌≡◌, ℕ, ℤ, Bool, true, false, ◌&&◌, not, List, [], ◌∷◌}
 use Rattle.std.proofs.Common.{◌++◌, map}
 use Rattle.std.proofs.Common.{refl, sym, ap, ◌∙◌, subst, length, arith}
 use Rattle.std.specs.Prelude.{flat_map, is_none, nat_le}
@@ -37,7 +37,7 @@ use Rattle.rn_numbered.proofs.NumberedForms.{Numbered, form_expr}
 use Rattle.rn_numbered.proofs.NumberedForms.{expr-at, expr-roll}
 use Rattle.rn_check.proofs.ExpressionKinds.{seen-roll}
 use Rattle.rn_declared.proofs.Faultless.{both_nil, unbroken, holds, within_limit}
-use Rattle.std.proofs.lemmas.Bool.{le-leb}
+use Rattle.std.proofs.lemmas.Bool.{le-leb, or_parts}
 
 -- the equations of expressions
 module _ {A : Type 0} (step : O.Expr-F A → A) where
@@ -84,10 +84,6 @@ Held = (List ℕ → Bool) → Bool
 
 abbrev form_holds : PForm → Held
 form_holds = fold-PForm Held Held holds_form (λ e. e.form)
-
-neither_true : (a b : Bool) → (a || b) ≡ false → (a ≡ false) × (b ≡ false)
-neither_true true b e = absurd (let no : ⊥ = cc in no)
-neither_true false b e = (refl, e)
 
 module _ (at : Where) (var : List ℕ → ℕ) where
   -- the number is that of a name that is declared and may stand there
@@ -180,7 +176,7 @@ module _ (at : Where) (var : List ℕ → ℕ) where
       AllByRecursion (StandsFree test) (concat (map vars_in (exprs parts)))
   all_free test [] none e = tt
   all_free test (part ∷ parts) none e =
-      let both = neither_true (holds_name part.0 test)
+      let both = or_parts (holds_name part.0 test)
       (list_any (λ held. held test) (map holds_name (bare parts))) e in
       each_append (StandsFree test) (vars_in (expr_of part.0 var))
       (concat (map vars_in (exprs parts)))
@@ -347,7 +343,7 @@ module _ (at : Where) (var : List ℕ → ℕ) where
         free = λ test e h.
             let none = both_nil elements.faults (t.faults ++ fits) e in
             let here = both_nil t.faults fits none.1 in
-            let held = neither_true
+            let held = or_parts
             (list_any (λ held. held test) (map holds_name (bare parts)))
             (holds_name tail.0 test) h in
             subst (AllByRecursion (StandsFree test)) (sym (at-Cons vars_step es last))
@@ -393,7 +389,7 @@ module _ (at : Where) (var : List ℕ → ℕ) where
             (b.1.steps (operand_faultless (seen_of b.0 at) none.1) m);
         free = λ test e h.
             let none = both_nil left right e in
-            let held = neither_true (holds_name a.0 test) (holds_name b.0 test) h in
+            let held = or_parts (holds_name a.0 test) (holds_name b.0 test) h in
             subst (AllByRecursion (StandsFree test)) (sym (at-Op vars_step op v w))
             (each_append (StandsFree test) (vars_in v) (vars_in w)
             (a.1.free test (operand_faultless (seen_of a.0 at) none.0) held.0)

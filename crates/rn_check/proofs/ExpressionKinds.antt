@@ -46,6 +46,7 @@ Forms = Spot → Where → Seen
 abbrev pub form_seen : PForm → Forms
 form_seen = fold-PForm Forms Parts seen_form (λ e. e.form e.spot)
 
+-- what is seen of an expression is what is seen of its form at its spot
 pub seen-at : (s : Spot) (f : PForm) → seen_of (at_spot s f) ≡ form_seen f s
 seen-at s f =
     fold-roll-PExpr Forms Parts seen_form (λ e. e.form e.spot) (record { form = f; spot = s })

@@ -419,6 +419,7 @@ pub checked_systems_are_good : CheckedSystemsAreGood
 checked_systems_are_good plain system checked good =
     subst Good (sym checked.means) (system_good plain checked.unbroken good)
 
+-- a text in which nothing is broken means a good system
 pub checked_texts_are_good : CheckedTextsAreGood
 checked_texts_are_good bytes plain system spelled checked =
     checked_systems_are_good plain system checked

@@ -6,7 +6,7 @@ use Rattle.std.proofs.Common.{inr}
 use Rattle.std.specs.Prelude.{Contains, filter, nat_eq, flat_map, if◌then◌else◌, slice_index}
 use Rattle.std.specs.List.{AllByRecursion, range_with_len}
 use Rattle.std.specs.List.Sorted.{IsStrictlyIncreasing}
-use Rattle.std.proofs.lemmas.Bool.{eqb-true, eq-eqb}
+use Rattle.std.proofs.lemmas.Bool.{eqb-true, eq-eqb, not-true}
 use Rattle.std.proofs.lemmas.Bool.Decides.{nat_tests}
 use Rattle.std.proofs.lemmas.List.FromFn.{length-range_with_len}
 use Rattle.std.proofs.lemmas.List.Kept.{IsStrictlyIncreasing-filter}
@@ -16,7 +16,6 @@ use Rattle.rn_model.specs.Systems.{vars_in}
 use Rattle.rn_model.specs.Good.{HasItsVars, occurring, set_var, all_exprs}
 use Rattle.rn_model.proofs.AskedValues.{later}
 use Rattle.rn_occurring.specs.TransitionVars.{is_among, with_vars}
-use Rattle.rn_declared.proofs.DeclaredNames.{any_left}
 
 pub among_there : (xs : List ℕ) (x : ℕ) → is_among xs x ≡ true → Contains xs x
 among_there [] x e = absurd (let no : ⊥ = cc in no)
@@ -105,17 +104,10 @@ each_below count (y ∷ ys) x all e =
       | inr there ↦ each_below count ys x all.1 there
     ]
 
-pub among_left : (xs ys : List ℕ) (x : ℕ) → is_among xs x ≡ true → is_among (xs ++ ys) x ≡ true
-among_left xs ys x e = any_left (nat_eq x) xs ys e
-
 pub among_right : (xs ys : List ℕ) (x : ℕ) → is_among ys x ≡ true → is_among (xs ++ ys) x ≡ true
 among_right [] ys x e = e
 among_right (z ∷ xs) ys x e =
     or_right (nat_eq x z) (is_among (xs ++ ys) x) (among_right xs ys x e)
-
-negated : (b : Bool) → not b ≡ true → b ≡ false
-negated true e = absurd (let no : ⊥ = cc in no)
-negated false e = refl
 
 not_among : (b : Bool) → (b ≡ true → ⊥) → not b ≡ true
 not_among true never = absurd (never refl)
@@ -155,7 +147,7 @@ module _ (count : ℕ) (t : Transition) (below : AllByRecursion (λ x. x < count
             among_there (occurring t) x both.0,
             λ acts_there.
                 let no : true ≡ false =
-                sym (acts x (there_among _ x acts_there)) ∙ negated (is_among acted x) both.1 in
+                sym (acts x (there_among _ x acts_there)) ∙ not-true (is_among acted x) both.1 in
                 let no : ⊥ = cc in no,
           ),
       λ occurs.

@@ -24,7 +24,7 @@ use Rattle.rn_net.specs.declared.plain.PPlace.{PPlace}
 use Rattle.rn_net.specs.declared.plain.PChannel.{PChannel}
 use Rattle.rn_declared.specs.declared.pattern.Pattern.{Pattern}
 use Rattle.rn_declared.specs.Patterns.{gives_kind, pattern_of}
-use Rattle.rn_declared.specs.Names.{same_name, number_from, number_among}
+use Rattle.rn_declared.specs.Names.{same_name, number_among}
 use Rattle.rn_rules.specs.Systems.{scope_of}
 use Rattle.rn_declared.specs.Channels.{channel_from, same_channel}
 use Rattle.rn_numbered.specs.Numbered.{kind_of, value_of, capacity_of}

@@ -9,6 +9,7 @@ use Rattle.std.specs.List.{AllByRecursion, AllZip}
 use Rattle.std.proofs.lemmas.List.{length-map}
 use Rattle.std.proofs.lemmas.List.Elements.{All-from_recursion}
 use Rattle.std.proofs.lemmas.Option.{same_Some}
+use Rattle.std.proofs.lemmas.Bool.{not-false}
 use Rattle.rn_value.specs.declared.value.Kind.{Kind, out-Kind, roll-Kind, roll-out-Kind}
 use Rattle.rn_value.specs.declared.value.Kind.TheVariants as Kind
 use Rattle.rn_value.specs.declared.value.Kind.TheOpen as K
@@ -77,10 +78,6 @@ use Rattle.rn_numbered.proofs.NumberedForms.{Numbered, form_expr}
 use Rattle.rn_check.proofs.ScopeKinds.{channel_of, place_of, the_var, the_place, the_channel}
 use Rattle.rn_check.proofs.ScopeKinds.{the_net, vars_are_known}
 use Rattle.rn_check.proofs.ConditionParts.{comparisons_have}
-
-unnot : (b : Bool) → not b ≡ false → b ≡ true
-unnot true e = refl
-unnot false e = absurd (let no : ⊥ = cc in no)
 
 -- this kind alone comes of the pattern
 abbrev Only : Pattern → Kind → Type 0
@@ -277,7 +274,7 @@ module _ (plain : Plain) (net : PNet) where
       net_var None is known typed = absurd (let no : ⊥ = cc in no)
       net_var (Some p) is known typed =
           let v = the_var plain net var.text p is in
-          let shares : share p Pattern.Net ≡ true = unnot (share p Pattern.Net) typed in
+          let shares : share p Pattern.Net ≡ true = not-false (share p Pattern.Net) typed in
           let found = share_gives p Pattern.Net shares in
           let same : kind_of v.0.kind ≡ found.0 =
           only_declared v.0.kind found.0 (ap (λ p. gives_kind p found.0) v.1 ∙ found.1) in
@@ -331,7 +328,7 @@ module _ (plain : Plain) (net : PNet) where
             let variable = unbroken (is_clear kind && not (is_variable e)) Rule.Inscription s.spot
             both.1 in
             let cleared : is_clear kind ≡ true = ap is_clear is_clearing in
-            variable_is to.var e (unnot (is_variable e)
+            variable_is to.var e (not-false (is_variable e)
             (ap (λ b. b && not (is_variable e)) (sym cleared) ∙ variable));
       }
 

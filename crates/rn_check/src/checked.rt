@@ -15,7 +15,6 @@ use rn_model::System;
 use rn_net::Plain;
 use rn_numbering::system_of;
 use rn_rules::first_fault;
-use rn_value::NoMemory;
 use std::alloc::Global;
 
 /// The system that a net text means, or why it means none.

@@ -1,6 +1,6 @@
 //! What a search works on: something that grows by decisions towards a solution.
 
-ghost use Rattle.std.specs.Prelude.{◌≡◌, ◌+◌, ◌<◌, ◌≤◌, ◌++◌, ◌∷◌, [], ℕ, List, length, take, true};
+ghost use Rattle.std.specs.Prelude.{◌≡◌, ◌+◌, ◌<◌, ◌≤◌, ◌++◌, ◌∷◌, [], ℕ, List, length, take};
 ghost use Rattle.std.specs.Prelude.{false, IsTrue, IfOk};
 ghost use Rattle.rn_choices.specs.Leading.{Says, NoneLeads, IsOnly};
 

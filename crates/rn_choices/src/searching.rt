@@ -1,6 +1,6 @@
 //! The search: steps forward, going back to the newest choice, and its public calls.
 
-ghost use Rattle.std.specs.Prelude.{◌≡◌, ◌+◌, ◌<◌, ◌≤◌, ◌++◌, ◌∷◌, ◌⊎◌, ◌↔◌, [], ℕ, length, take};
+ghost use Rattle.std.specs.Prelude.{◌≡◌, ◌+◌, ◌<◌, ◌≤◌, ◌⊎◌, ◌↔◌, [], take};
 ghost use Rattle.std.specs.Prelude.{true, false, IsTrue, IfOk, IfSome, IfNone, IsSome, IsNone};
 ghost use Rattle.std.specs.Prelude.{MatchOption, Some, Contains, AllPairs, ◌≢◌};
 ghost use Rattle.rn_choices.specs.Waiting.{WaitsAt, Waits, IsLeft, WasMet, Stand, StandBelow};

@@ -56,7 +56,7 @@ fn has_clash(clashes: &[Clash], values: &[usize]) -> bool
 }
 
 impl<'a> Grows for Filling<'a> {
-    ghost use Rattle.std.specs.Prelude.{◌≡◌, ◌<◌, ◌≤◌, ◌-◌, length, slice_index};
+    ghost use Rattle.std.specs.Prelude.{◌≡◌, ◌<◌, ◌-◌, length, slice_index};
     ghost use Rattle.rn_choices_uses.specs.Puzzles.{Leads, FitIn, leads_shorter, leads_one_way};
 
     type Problem = Puzzle<'a>;

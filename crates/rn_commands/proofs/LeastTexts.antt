@@ -3,7 +3,7 @@ use Rattle.std.proofs.Common.{◌≡◌, ℕ, List, [], ◌∷◌, refl, ap, ◌
 use Rattle.rn_value.specs.declared.value.Value.{Value}
 use Rattle.rn_model.specs.declared.binding.Binding.{Binding}
 use Rattle.rn_model.specs.Runs.{Firing}
-use Rattle.rn_least.specs.Laws.{AreAlike, LeastLogsAreAlike, bindings_of, printed_by}
+use Rattle.rn_least.specs.Laws.{bindings_of, printed_by}
 use Rattle.rn_least.proofs.OneRun.{least_logs_are_alike}
 use Rattle.rn_commands.specs.LeastLaws.{LeastTextsAreOne, all_by}
 use Rattle.rn_commands.specs.Runs.{run_text}

@@ -3,7 +3,7 @@ use Rattle.std.proofs.Common.{◌≡◌, ◌≢◌, ◌∙◌, ◌<◌, ◌+◌,
 use Rattle.std.specs.Prelude.{IsTrue, false, nat_eq}
 use Rattle.std.proofs.lemmas.Bool.{false≢true}
 use borrow.Author.Tests.{eq-eqb}
-use Rattle.std.proofs.lemmas.List.{length-append, length-drop, take-append-drop}
+use Rattle.std.proofs.lemmas.List.{length-append, take-append-drop}
 use Rattle.rn_items.specs.Memory.{no_memory}
 use Rattle.rn_value.proofs.Numerals.{numeral_digit}
 use Rattle.rn_model.specs.declared.system.System.{System}
@@ -27,7 +27,7 @@ use Rattle.rn_answer.specs.Lines.{number_line, spot_line}
 use Rattle.rn_answer.specs.NetTexts.{RefusesNet, RefusesPlain}
 use Rattle.rn_answer.specs.Refusing.{Stops, done, refusal}
 use Rattle.rn_answer.proofs.Causes.{net_refused}
-use Rattle.rn_commands.specs.Migrating.{MigrateComesTo, NetMigratesTo, already_line, migrated_pair}
+use Rattle.rn_commands.specs.Migrating.{MigrateComesTo, NetMigratesTo, migrated_pair}
 use Rattle.rn_commands.specs.Parts.{HasParts, after_line, first_line, is_parting, line_length}
 use Rattle.rn_commands.specs.Replaying.{line_code, record_line}
 

@@ -1,6 +1,6 @@
 -- What the moves of a record come to.
 use Rattle.std.proofs.Common.{◌≡◌, ◌∙◌, ℕ, List, refl, sym, ap, subst, inl, inr}
-use Rattle.std.specs.Prelude.{Some, length, ◌⊎◌}
+use Rattle.std.specs.Prelude.{length}
 use Rattle.rn_model.specs.declared.system.System.{System}
 use Rattle.rn_model.specs.declared.log.Options.{Options}
 use Rattle.rn_model.specs.declared.log.Told.{Told}

@@ -1,5 +1,5 @@
 //! The command `counts`: how many bindings are enabled after each firing of the least run.
-ghost use Rattle.std.specs.Prelude.{◌≡◌, ◌≢◌, ◌≤◌, ◌++◌, ◌⊎◌, None, IfOk, OnOk};
+ghost use Rattle.std.specs.Prelude.{◌≡◌, ◌≢◌, ◌++◌, ◌⊎◌, None, IfOk, OnOk};
 ghost use Rattle.rn_model.specs.Good.{Good, IsInLimits};
 ghost use Rattle.rn_incr.specs.Counts.{IsCounted};
 ghost use Rattle.rn_answer.specs.NetTexts.{RefusesNet};

@@ -1,5 +1,5 @@
 //! Runs that are due: all is done for them but what needs threads.
-ghost use Rattle.std.specs.Prelude.{◌≡◌, ◌≤◌, IfOk, IfErr};
+ghost use Rattle.std.specs.Prelude.{◌≤◌, IfOk, IfErr};
 ghost use Rattle.rn_model.specs.Good.{Good, IsInLimits};
 ghost use Rattle.rn_gen.specs.Workload.{workload};
 ghost use Rattle.rn_record.specs.RecordText.{IsFormat};

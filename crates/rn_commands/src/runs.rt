@@ -2,7 +2,6 @@
 ghost use Rattle.std.specs.Prelude.{◌≡◌, ◌≢◌, ◌⊎◌, None, IfOk};
 ghost use Rattle.rn_model.specs.Good.{IsInLimits};
 ghost use Rattle.rn_record.specs.RecordText.{IsFormat};
-ghost use Rattle.rn_fire.specs.States.{State};
 ghost use Rattle.rn_commands.specs.Ends.{fault_line, IsClosedBy, IsWrittenBy};
 ghost use Rattle.rn_answer.specs.NetTexts.{RefusesNet};
 ghost use Rattle.rn_answer.specs.Refusing.{Concludes};

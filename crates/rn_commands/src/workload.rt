@@ -2,7 +2,6 @@
 ghost use Rattle.std.specs.Prelude.{◌≡◌, ◌≢◌, ◌≤◌, ◌++◌, None, IfOk, IfSome, OnOk};
 ghost use Rattle.rn_items.specs.Memory.{no_memory};
 ghost use Rattle.rn_model.specs.Good.{Good, IsInLimits};
-ghost use Rattle.rn_fire.specs.States.{State};
 ghost use Rattle.rn_gen.specs.Workload.{workload};
 ghost use Rattle.rn_commands.specs.Ends.{end_line};
 ghost use Rattle.rn_answer.specs.NetTexts.{Accepted};

@@ -140,6 +140,7 @@ list_meets p here q k e g =
     ap (λ p. gives_kind p k) same
     ∙ list_at p (out-Pattern q) k here (sym (gives-List p k) ∙ e) (sym (gives-out q k) ∙ g)
 
+-- a kind that comes of two patterns comes of what they have in common
 pub gives_both : (p : Pattern) → Meets p
 gives_both = by_pattern Meets (record {
   any = any_meets;

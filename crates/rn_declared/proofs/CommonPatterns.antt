@@ -1,23 +1,18 @@
 -- What a pattern has in common with itself, and with one of another form.
 use Rattle.std.proofs.Common.{◌≡◌, ◌≢◌, List, [], ◌∷◌, map, refl, sym, ap, ◌∙◌}
 use Rattle.std.specs.List.{AllByRecursion}
-use Rattle.rn_declared.specs.declared.pattern.Pattern.{Pattern, out-Pattern, roll-Pattern, map-Pattern}
-use Rattle.rn_declared.specs.declared.pattern.Pattern.{fold_out-Pattern, roll-out-Pattern}
+use Rattle.rn_declared.specs.declared.pattern.Pattern.{Pattern, map-Pattern, roll-out-Pattern}
 use Rattle.rn_declared.specs.declared.pattern.Pattern.TheVariants as Pattern
 use Rattle.rn_declared.specs.declared.pattern.Pattern.TheOpen as P
 use Rattle.rn_declared.specs.declared.numbered.Form.{Form}
 use Rattle.rn_declared.specs.declared.numbered.Form.TheVariants as F
 use Rattle.rn_declared.specs.Forms.{pattern_of_form}
 use Rattle.rn_declared.specs.Patterns.{both_of, both_step, all_both}
-use Rattle.rn_declared.proofs.PatternKinds.{by_pattern}
+use Rattle.rn_declared.proofs.PatternKinds.{by_pattern, both-out}
 use Rattle.rn_declared.proofs.SamePatterns.{opened, opened_is}
 
 abbrev both_at : P.Pattern-F Pattern → P.Pattern-F Pattern → Pattern
 both_at x y = both_step (map-Pattern Pattern (Pattern → Pattern) both_of x) y
-
-both-out : (p q : Pattern) → both_of p q ≡ both_at (out-Pattern p) (out-Pattern q)
-both-out p q =
-    ap (λ f. f q) (fold_out-Pattern (Pattern → Pattern) (λ p q. both_step p (out-Pattern q)) p)
 
 all_with_any : (ps : List Pattern) → AllByRecursion (λ p. both_of p Pattern.Any ≡ p) ps →
     map (λ both. both Pattern.Any) (map both_of ps) ≡ ps
@@ -69,6 +64,7 @@ both_kept [] = refl
 both_kept (p ∷ ps) =
     ap (λ q. q ∷ map (λ both. both Pattern.Any) (map both_of ps)) (both_any p) ∙ ap (λ qs. p ∷ qs) (both_kept ps)
 
+-- the pattern of any kind has with another just that in common
 pub any_both : (q : Pattern) → both_of Pattern.Any q ≡ q
 any_both q = both-out Pattern.Any q ∙ rw Pattern.outs-Any (roll-out-Pattern q)
 

@@ -18,9 +18,11 @@ use Rattle.rn_declared.specs.Faults.{broken_if, past_limit}
 use Rattle.rn_declared.specs.Names.{same_name, name_faults, names_faults, declared_faults}
 use Rattle.rn_declared.proofs.Faultless.{both_nil, unbroken, holds, within_limit}
 
+-- what passes the test as at most a number is at most it
 pub nat_le_holds : (a b : ℕ) → nat_le a b ≡ true → a ≤ b
 nat_le_holds a b e = grind (arith, nat_tests)
 
+-- what passes in a list passes in one that goes on
 pub any_left : {A : Type 0} (p : A → Bool) (xs ys : List A) → list_any p xs ≡ true →
     list_any p (xs ++ ys) ≡ true
 any_left p [] ys e = absurd (let no : ⊥ = cc in no)
@@ -30,6 +32,7 @@ any_left p (x ∷ xs) ys e =
       | inr later ↦ or_right (p x) (list_any p (xs ++ ys)) (any_left p xs ys later)
     ]
 
+-- a list has an element that passes where its last one does
 pub any_last : {A : Type 0} (p : A → Bool) (xs : List A) (y : A) → p y ≡ true →
     list_any p (xs ++ y ∷ []) ≡ true
 any_last p [] y e = or_left (p y) false e
@@ -38,6 +41,7 @@ any_last p (x ∷ xs) y e = or_right (p x) (list_any p (xs ++ y ∷ [])) (any_la
 abbrev pub IsIn : List (List ℕ) → List ℕ → Type 0
 IsIn names name = list_any (λ declared. same_name declared name) names ≡ true
 
+-- a name in which nothing is broken isn't too long, and wasn't declared before
 pub short_and_new : (before : List (List ℕ)) (name : PName) → name_faults before name ≡ [] →
     (length name.text ≤ longest_name)
     × (list_any (λ declared. same_name declared name.text) before ≡ false)
@@ -93,16 +97,19 @@ module _ {X Y : Type 0} (get : X → PName) (f : X → Y) (name_of : Y → List 
   abbrev spots : List X → List Spot
   spots xs = map (λ name. name.spot) (map get xs)
 
+  -- names that are declared without fault are all different
   pub declared_apart : (most : ℕ) (xs : List X) → declared_faults most (map get xs) ≡ [] →
       AllPairs (λ y z. name_of y ≢ name_of z) (map f xs)
   declared_apart most xs e =
       names_apart [] xs (both_nil (names_faults [] (map get xs)) (past_limit most (spots xs)) e).0
 
+  -- none of them is too long
   pub declared_short : (most : ℕ) (xs : List X) → declared_faults most (map get xs) ≡ [] →
       AllByRecursion (λ x. length (get x).text ≤ longest_name) xs
   declared_short most xs e =
       names_short [] xs (both_nil (names_faults [] (map get xs)) (past_limit most (spots xs)) e).0
 
+  -- there aren't more than there may be
   pub declared_few : (most : ℕ) (xs : List X) → declared_faults most (map get xs) ≡ [] →
       length (map f xs) ≤ most
   declared_few most xs e =

@@ -14,6 +14,7 @@ pub both_nil : {A : Type 0} (xs ys : List A) → xs ++ ys ≡ [] → (xs ≡ [])
 both_nil [] ys e = (refl, e)
 both_nil (x ∷ xs) ys e = absurd (let no : ⊥ = cc in no)
 
+-- where the lists of all elements, joined, are empty, each of them is
 pub each_nil : {A B : Type 0} (f : A → List B) (xs : List A) → flat_map f xs ≡ [] →
     AllByRecursion (λ x. f x ≡ []) xs
 each_nil f [] e = tt
@@ -26,6 +27,7 @@ pub unbroken : (b : Bool) (rule : Rule) (spot : Spot) → broken_if b rule spot 
 unbroken true rule spot e = absurd (let no : ⊥ = cc in no)
 unbroken false rule spot e = refl
 
+-- and what has to hold does
 pub holds : (b : Bool) (rule : Rule) (spot : Spot) → broken_if (not b) rule spot ≡ [] → b ≡ true
 holds true rule spot e = refl
 holds false rule spot e = absurd (let no : ⊥ = cc in no)
@@ -39,6 +41,7 @@ none_past rule most spots e =
       | inr (few, none) ↦ few
     ]
 
+-- so where no limit is passed there aren't more
 pub within_limit : (most : ℕ) (spots : List Spot) → past_limit most spots ≡ [] →
     length spots ≤ most
 within_limit most spots e = none_past R.Limit most spots e

@@ -1,12 +1,9 @@
 -- Lists of constants beside lists of patterns.
-use Rattle.std.proofs.Common.{◌≡◌, ◌≢◌, Bool, true, false, ◌&&◌, List, [], ◌∷◌, length, map, refl, arith}
+use Rattle.std.proofs.Common.{◌≡◌, ◌≢◌, false, List, [], ◌∷◌, length, map, refl, arith}
+use Rattle.std.proofs.lemmas.Bool.{and_right}
 use Rattle.rn_net.specs.declared.constants.PConst.{PConst}
 use Rattle.rn_declared.specs.declared.pattern.Pattern.{Pattern}
 use Rattle.rn_declared.specs.Declarations.{fits, all_fit}
-
-and_false : (b c : Bool) → c ≡ false → (b && c) ≡ false
-and_false true c e = e
-and_false false c e = refl
 
 -- lists of different lengths don't fit
 pub all_fit_lengths : (parts : List PConst) (patterns : List Pattern) →
@@ -15,4 +12,4 @@ all_fit_lengths [] [] apart = absurd (apart refl)
 all_fit_lengths [] (q ∷ qs) apart = refl
 all_fit_lengths (p ∷ ps) [] apart = refl
 all_fit_lengths (p ∷ ps) (q ∷ qs) apart =
-    and_false (fits p q) (all_fit (map fits ps) qs) (all_fit_lengths ps qs (λ e. apart (omega arith)))
+    and_right (fits p q) (all_fit (map fits ps) qs) (all_fit_lengths ps qs (λ e. apart (omega arith)))

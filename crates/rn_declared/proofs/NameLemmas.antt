@@ -4,9 +4,7 @@ use Rattle.std.proofs.Common.{length, map, take, drop, get_or, refl, sym, ap, �
 use Rattle.std.proofs.Common.{add-one, drop-cons, zero-add}
 use Rattle.std.proofs.lemmas.List.{length-take-le}
 use Rattle.std.proofs.lemmas.List.{take_more, map-append, length-map}
-use Rattle.std.specs.Prelude.{is_some, slice_get, ◌≤◌}
-use Rattle.std.proofs.Common.{zero}
-use Rattle.std.proofs.lemmas.Option.{slice_get_past}
+use Rattle.std.specs.Prelude.{is_some, ◌≤◌}
 use Rattle.std.proofs.lemmas.List.{drop_all}
 use Rattle.std.specs.List.{list_any}
 use Rattle.rn_inscript.specs.declared.inscriptions.PName.{PName}
@@ -86,23 +84,6 @@ names_told_more names i x found known h is old =
     ∙ ap (λ ns. first_from (first_from known (name_faults before x)) (names_faults ns (drop (i + 1) names))) all
     ∙ sym (first_from-append (name_faults before x) (names_faults (before ++ x.text ∷ []) (drop (i + 1) names)) known)
     ∙ ap (λ ns. first_from known (names_faults before ns)) (sym rest)
-
--- an element of a list, seen by a function
-pub map_item : {X Y : Type 0} (f : X → Y) (xs : List X) (i : ℕ) (x : X) → i < length xs →
-    x ≡ get_or xs i x → f x ≡ get_or (map f xs) i (f x)
-map_item f [] i x h is = absurd (let no : ⊥ = omega arith in no)
-map_item f (y ∷ ys) zero x h is = ap f is
-map_item f (y ∷ ys) (suc i) x h is = map_item f ys i x (omega arith) is
-
-pub slice_item : {X Y : Type 0} (f : X → Y) (xs : List X) (i : ℕ) (x : X) → i < length xs →
-    x ≡ get_or xs i x → slice_get (map f xs) i ≡ Some (f x)
-slice_item f [] i x h is = absurd (let no : ⊥ = omega arith in no)
-slice_item f (y ∷ ys) zero x h is = ap (λ z. Some (f z)) (sym is)
-slice_item f (y ∷ ys) (suc i) x h is = slice_item f ys i x (omega arith) is
-
-pub no_item : {X Y : Type 0} (f : X → Y) (xs : List X) (i : ℕ) → length xs ≤ i →
-    slice_get (map f xs) i ≡ None
-no_item f xs i h = slice_get_past (map f xs) i (omega (arith, length-map xs f))
 
 pub length_names : {X : Type 0} (f : X → PName) (xs : List X) (i : ℕ) → i < length xs →
     i < length (map f xs)

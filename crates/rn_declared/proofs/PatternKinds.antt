@@ -53,6 +53,7 @@ pub gives-out : (p : Pattern) (k : Kind) → gives_kind p k ≡ gives_at (out-Pa
 gives-out p k =
     ap (λ f. f k) (fold_out-Pattern (Kind → Bool) (λ p kind. gives_step p (out-Kind kind)) p)
 
+-- which kinds come of a pattern of each form
 pub gives-Any : (k : Kind) → gives_kind Pattern.Any k ≡ true
 gives-Any k = gives-out Pattern.Any k ∙ rw Pattern.outs-Any
 
@@ -76,6 +77,7 @@ gives-Net k = gives-out Pattern.Net k ∙ rw Pattern.outs-Net
 abbrev share_at : P.Pattern-F Pattern → P.Pattern-F Pattern → Bool
 share_at x y = share_step (map-Pattern Pattern (Pattern → Bool) share x) y
 
+-- whether two patterns share a kind, by the layers of both
 pub share-out : (p q : Pattern) → share p q ≡ share_at (out-Pattern p) (out-Pattern q)
 share-out p q =
     ap (λ f. f q) (fold_out-Pattern (Pattern → Bool) (λ p q. share_step p (out-Pattern q)) p)
@@ -265,6 +267,7 @@ list_within p here q e k g =
     let both = list_at p (out-Pattern q) k here shared (sym (ap (λ p. gives_kind p k) same) ∙ g) in
     (gives-List p k ∙ both.0, gives-out q k ∙ both.1)
 
+-- what comes of what two patterns that share a kind have in common comes of both
 pub both_gives : (p : Pattern) → Within p
 both_gives = by_pattern Within (record {
   any = any_within;
@@ -302,6 +305,7 @@ some_list p (k, is) = (
   gives-List p (Kind.List k) ∙ ap (gives_step (P.List (gives_kind p))) (Kind.outs-List k) ∙ is,
 )
 
+-- some kind comes of each pattern
 pub gives_some : (p : Pattern) → GivesSome p
 gives_some = by_pattern GivesSome (record {
   any = (Kind.Int, gives-Any Kind.Int);

@@ -1,13 +1,10 @@
 -- Lists of patterns beside one another.
-use Rattle.std.proofs.Common.{◌≡◌, ◌≢◌, ℕ, zero, suc, Bool, true, false, ◌&&◌, List, [], ◌∷◌, ◌++◌, length}
+use Rattle.std.proofs.Common.{◌≡◌, ◌≢◌, ℕ, zero, suc, false, List, [], ◌∷◌, ◌++◌, length}
 use Rattle.std.proofs.Common.{map, refl, sym, ap, ◌∙◌, ◌+◌, ◌<◌, drop, get_or, slice_get, unwrap_or, arith}
 use Rattle.std.proofs.Common.{add-one, append_assoc, drop-cons, drop_of_length-le}
+use Rattle.std.proofs.lemmas.Bool.{and_right}
 use Rattle.rn_declared.specs.declared.pattern.Pattern.{Pattern}
 use Rattle.rn_declared.specs.Patterns.{share, all_share, both_of, all_both}
-
-and_false : (b c : Bool) → c ≡ false → (b && c) ≡ false
-and_false true c e = e
-and_false false c e = refl
 
 -- lists of different lengths share nothing
 pub all_share_lengths : (parts others : List Pattern) → length parts ≢ length others →
@@ -16,7 +13,7 @@ all_share_lengths [] [] apart = absurd (apart refl)
 all_share_lengths [] (q ∷ qs) apart = refl
 all_share_lengths (p ∷ ps) [] apart = refl
 all_share_lengths (p ∷ ps) (q ∷ qs) apart =
-    and_false (share p q) (all_share (map share ps) qs)
+    and_right (share p q) (all_share (map share ps) qs)
     (all_share_lengths ps qs (λ e. apart (omega arith)))
 
 -- one more of both, where the second may have ended before

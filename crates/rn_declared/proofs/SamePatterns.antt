@@ -1,23 +1,17 @@
 -- A pattern shares a kind with itself.
 use Rattle.std.proofs.Common.{◌≡◌, Bool, true, List, [], ◌∷◌, ◌&&◌, map, refl, sym, ap, ◌∙◌}
-use Rattle.std.proofs.Common.{subst}
 use Rattle.std.specs.List.{AllByRecursion}
-use Rattle.rn_declared.specs.declared.pattern.Pattern.{Pattern, out-Pattern, roll-Pattern, map-Pattern}
-use Rattle.rn_declared.specs.declared.pattern.Pattern.{fold_out-Pattern, roll-out-Pattern, ind-Pattern}
+use Rattle.rn_declared.specs.declared.pattern.Pattern.{Pattern, out-Pattern, map-Pattern}
 use Rattle.rn_declared.specs.declared.pattern.Pattern.TheVariants as Pattern
 use Rattle.rn_declared.specs.declared.pattern.Pattern.TheOpen as P
 use Rattle.rn_declared.specs.declared.numbered.Form.{Form}
 use Rattle.rn_declared.specs.declared.numbered.Form.TheVariants as F
 use Rattle.rn_declared.specs.Forms.{pattern_of_form}
-use Rattle.rn_declared.proofs.PatternKinds.{by_pattern}
+use Rattle.rn_declared.proofs.PatternKinds.{by_pattern, share-out}
 use Rattle.rn_declared.specs.Patterns.{share, share_step, all_share}
 
 abbrev share_at : P.Pattern-F Pattern → P.Pattern-F Pattern → Bool
 share_at x y = share_step (map-Pattern Pattern (Pattern → Bool) share x) y
-
-share-out : (p q : Pattern) → share p q ≡ share_at (out-Pattern p) (out-Pattern q)
-share-out p q =
-    ap (λ f. f q) (fold_out-Pattern (Pattern → Bool) (λ p q. share_step p (out-Pattern q)) p)
 
 all_selves : (ps : List Pattern) → AllByRecursion (λ p. share p p ≡ true) ps →
     all_share (map share ps) ps ≡ true

@@ -1,7 +1,7 @@
 -- What is told of the elements of a list, one after another.
 use Rattle.std.proofs.Common.{◌≡◌, ℕ, ◌+◌, ◌<◌, List, [], ◌∷◌, ◌++◌, length, map, take, get_or, sym, ap, ◌∙◌, Option}
 use Rattle.std.proofs.Common.{append-nil, refl}
-use Rattle.std.proofs.lemmas.List.{take_more, map-append}
+use Rattle.std.proofs.lemmas.List.{take_more}
 use Rattle.std.proofs.lemmas.Grind.{flat_map-append}
 use Rattle.std.specs.Prelude.{flat_map}
 use Rattle.std.proofs.lemmas.List.Folds.{flat_map-map}
@@ -13,11 +13,13 @@ use Rattle.rn_declared.specs.declared.fault.Fault.{Fault}
 use Rattle.rn_declared.specs.Faults.{first_from, first_with, past_limit}
 use Rattle.rn_declared.specs.Declarations.{Part, parts_faults, kind_part, kind_form_faults, const_part, const_form_faults}
 
+-- the first of joined faults is that of the later ones where that of the earlier ones is known
 pub first_from-append : (xs ys : List Fault) (known : Option Fault) →
     first_from known (xs ++ ys) ≡ first_from (first_from known xs) ys
 first_from-append [] ys known = refl
 first_from-append (x ∷ xs) ys known = first_from-append xs ys (first_with known x)
 
+-- and so it is where three lists are joined
 pub told_of_three : (a b c : List Fault) (known : Option Fault) →
     first_from (first_from (first_from known a) b) c ≡ first_from known (a ++ b ++ c)
 told_of_three a b c known =
@@ -35,13 +37,6 @@ told_more faults xs i x known h is =
     ∙ ap (first_from known) (flat_map-append faults (take i xs) (x ∷ []))
     ∙ ap (λ more. first_from known (flat_map faults (take i xs) ++ more)) (append-nil (faults x))
     ∙ first_from-append (flat_map faults (take i xs)) (faults x) known)
-
--- one more, seen by a function
-pub map_more : {X Y : Type 0} (f : X → Y) (xs : List X) (i : ℕ) (x : X) → i < length xs →
-    x ≡ get_or xs i x → map f (take (i + 1) xs) ≡ map f (take i xs) ++ f x ∷ []
-map_more f xs i x h is =
-    ap (map f) (take_more xs i x h ∙ ap (λ y. take i xs ++ y ∷ []) (sym is))
-    ∙ map-append f (take i xs) (x ∷ [])
 
 -- what is told of the parts of a tuple, which stand at these spots
 pub parts_told : {X : Type 0} (part : X → Part) (spot : X → Spot) → ((x : X) → (part x).spot ≡ spot x) →

@@ -1,6 +1,6 @@
 -- How large a pattern is: larger than each of its parts.
 use Rattle.std.specs.Prelude.{◌≡◌, ◌≤◌, ◌<◌, ℕ, ◌+◌, ◌*◌, List, [], ◌∷◌, map, max}
-use Rattle.std.proofs.Common.{refl, ap, ◌∙◌, sym, arith}
+use Rattle.std.proofs.Common.{refl, ap, ◌∙◌, arith}
 use denote.Param.Weighed.{most}
 use Rattle.rn_declared.specs.declared.pattern.Pattern.{Pattern, fold-Pattern, fold_out-Pattern}
 use Rattle.rn_declared.specs.declared.pattern.Pattern.TheVariants as Pattern

@@ -1,5 +1,5 @@
 //! The first of the faults that were told so far.
-ghost use Rattle.std.specs.Prelude.{◌≡◌, ◌↔◌, ℕ, None, IsTrue, List, cond, is_none};
+ghost use Rattle.std.specs.Prelude.{◌≡◌, None};
 ghost use Rattle.rn_declared.specs.Faults.{number_of, counts_before, first_with, first_from, broken};
 ghost use Rattle.rn_declared.specs.Faults.{broken_if, report_of};
 

@@ -1,9 +1,8 @@
 //! Kinds and constants: what is broken in them is told.
 ghost use Rattle.std.specs.Prelude.{◌≡◌, IsTrue, map, flat_map};
 ghost use Rattle.std.specs.List.{list_all};
-ghost use Rattle.rn_declared.specs.Faults.{first_from, past_limit};
-ghost use Rattle.rn_declared.specs.Patterns.{pattern_of};
-ghost use Rattle.rn_declared.specs.Declarations.{kind_part, kind_faults, const_part, parts_faults, fits, all_fit};
+ghost use Rattle.rn_declared.specs.Faults.{first_from};
+ghost use Rattle.rn_declared.specs.Declarations.{kind_part, const_part, parts_faults, fits, all_fit};
 
 use crate::first::First;
 use crate::located::tell_past;

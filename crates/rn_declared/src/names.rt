@@ -1,7 +1,7 @@
 //! Declarations of names: what is broken in them is told, and each gets its number.
-ghost use Rattle.std.specs.Prelude.{◌≡◌, ◌++◌, ℕ, List, Option, OnOk, IfOk, map, is_some, length};
+ghost use Rattle.std.specs.Prelude.{◌≡◌, ℕ, List, OnOk, IfOk, map, is_some, length};
 ghost use Rattle.rn_declared.specs.Faults.{first_from, past_limit};
-ghost use Rattle.rn_declared.specs.Names.{number_among, declared_faults, names_faults};
+ghost use Rattle.rn_declared.specs.Names.{number_among, declared_faults};
 ghost use Rattle.rn_declared.specs.Tables.{found_in, with_name, name_told};
 
 use crate::fault::Rule;

@@ -1,5 +1,5 @@
 //! Patterns that know their number among those of a list.
-ghost use Rattle.std.specs.Prelude.{◌≡◌, ℕ, IsTrue, IfOk, Some, IfSome, map, slice_get, unwrap_or};
+ghost use Rattle.std.specs.Prelude.{◌≡◌, IsTrue, IfOk, Some, IfSome, map, slice_get, unwrap_or};
 ghost use Rattle.rn_declared.specs.Patterns.{share, all_share, both_of, all_both};
 ghost use Rattle.rn_declared.specs.declared.pattern.Pattern.TheVariants as Pattern;
 ghost use Rattle.rn_declared.specs.Forms.{pattern_of_form};

@@ -1,8 +1,8 @@
 //! Tables of names: the number of the first declaration of each.
-ghost use Rattle.std.specs.Prelude.{◌≡◌, ◌+◌, ◌<◌, ◌^◌, ◌↔◌, ℕ, [], Option, None, Some, IfOk, OnOk, IsTrue, List, is_none, option_copied};
+ghost use Rattle.std.specs.Prelude.{◌≡◌, ◌<◌, ℕ, Option, None, IfOk, OnOk, List, is_none};
 ghost use Rattle.rn_declared.specs.Tables.{found_in, with_name};
 
-use crate::pattern::{Pattern, Patterns};
+use crate::pattern::Patterns;
 use rn_items::Items;
 use rn_value::{NoMemory, Str, copy_text};
 use std::alloc::Global;

@@ -13,9 +13,11 @@ module _ {A : Type 0} where
   StartsWith-append xs ys zs s = (s.0 ++ zs, ap (λ l. l ++ zs) s.1 ∙ append_assoc ys s.0 zs)
 
 module _ {I : Type 0} (author : I → ℕ) (n : ℕ) where
+  -- what one authored of two joined lists is what one did of each, joined
   pub authored-append : (xs ys : List I) → authored author n (xs ++ ys) ≡ authored author n xs ++ authored author n ys
   authored-append xs ys = filter-append _ xs ys
 
+  -- one authored nothing of an entry by another
   pub authored_by_other : (e : I) → author e ≢ n → authored author n (e ∷ []) ≡ []
   authored_by_other e other = ap (λ b. cond b (e ∷ []) []) (ne_eqb (author e) n other)
 

@@ -1,6 +1,6 @@
 -- The rule of the desk: what holds between any two atomic steps, in every schedule.
 -- Word 0 is the next ticket, word 1 the ticket that is served, word 2 the length of the history.
-use Rattle.std.specs.Prelude.{◌≡◌, ◌⊎◌, ℕ, ◌+◌, ◌%◌, ◌<◌, ◌≤◌, ◌==◌, Bool, true, false, List, [], ◌∷◌, length, Option, Some, None, if◌then◌else◌}
+use Rattle.std.specs.Prelude.{◌≡◌, ◌⊎◌, ℕ, ◌+◌, ◌%◌, ◌^◌, ◌<◌, ◌≤◌, ◌==◌, Bool, true, false, List, [], ◌∷◌, length, Option, Some, None, if◌then◌else◌}
 use mathlib.Core.Option as maybe
 use lib.ListN.{get_elem?}
 use Rattle.atomic_table.specs.Table.{State}
@@ -23,7 +23,7 @@ Every P (x ∷ xs) = P x × Every P xs
 
 -- a number as a word has it
 abbrev pub wrapped : ℕ → ℕ
-wrapped n = n % 18446744073709551616
+wrapped n = n % 2 ^ 64
 
 -- the ticket that a seat in this role has
 abbrev pub ticket_of : Role → Option ℕ

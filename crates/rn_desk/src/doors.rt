@@ -3,6 +3,7 @@
 //! promised of doors: who wakes looks at the ticket that is served, so waking for no reason does no
 //! harm.
 ghost use Rattle.std.specs.Prelude.{◌≡◌, ◌<◌};
+ghost use Rattle.rn_desk.specs.declared.doors.TheConstants.{DOORS};
 
 use atomic_table::{Play, Table, TableRule};
 use rn_items::NoMemory;
@@ -35,12 +36,12 @@ const SHUT: u64 = 1;
 #[derive(Drop)]
 pub(crate) struct Doors {
     table: Table<(), (), (), NoRule, Global>,
-    ghost words: { table.shared.table_id.words ≡ 64 },
+    ghost words: { table.shared.table_id.words ≡ DOORS },
 }
 
 // The door of a ticket.
 fn door_of(ticket: u64) -> usize
-    ensures { result < 64 }
+    ensures { result < DOORS }
 {
     (ticket % DOORS) as usize
 }
@@ -74,7 +75,7 @@ impl Doors {
 
     // Writes a door's word, and returns what it was.
     fn set(&self, door: usize, word: u64) -> u64
-        requires { door < 64 }
+        requires { door < DOORS }
     {
         let (was, _seat) = self.table.shared.swap_new_seat::<NoRule>(door, word);
         was

@@ -7,7 +7,7 @@ use Rattle.rn_model.specs.declared.log.Entry.TheVariants.{Fire, End}
 use Rattle.rn_model.specs.declared.log.Reason.{Reason}
 use Rattle.rn_model.specs.Runs.{Firing, entries_of}
 use Rattle.rn_model.proofs.AskedValues.{got_contained, map_source}
-use Rattle.rn_fire.specs.States.{firings_in, end_in}
+use Rattle.rn_fire.specs.States.{firings_in, end_in, State, logged}
 
 abbrev pub entry_of : Firing → Entry
 entry_of f = Fire f.worker f.binding f.outs
@@ -18,6 +18,7 @@ firings_of [] None = refl
 firings_of [] (Some reason) = refl
 firings_of (f ∷ fs) ended = ap (λ gs. f ∷ gs) (firings_of fs ended)
 
+-- their end is that of the log
 pub end_of_entries : (fs : List Firing) (ended : Option Reason) → end_in (entries_of fs ended) ≡ ended
 end_of_entries [] None = refl
 end_of_entries [] (Some reason) = refl
@@ -40,6 +41,10 @@ ended_more fs reason = ap (λ es. es ++ End reason ∷ []) (append-nil (map entr
 pub count_going : (fs : List Firing) → length (entries_of fs None) ≡ length fs
 count_going fs = ap length (append-nil (map entry_of fs)) ∙ length-map fs entry_of
 
+pub going_count : (s : State) → s.ended ≡ None → length (logged s) ≡ length s.fired
+going_count s going = ap (λ e. length (entries_of s.fired e)) going ∙ count_going s.fired
+
+-- and with an end there is one more
 pub count_ended : (fs : List Firing) (reason : Reason) →
     length (entries_of fs (Some reason)) ≡ length fs + 1
 count_ended fs reason =

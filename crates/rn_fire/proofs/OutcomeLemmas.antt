@@ -1,8 +1,7 @@
 -- What a firing comes to, by what its actions give and how many instances it makes.
-use Rattle.std.proofs.Common.{◌≡◌, ℕ, ◌+◌, ◌*◌, ◌≤◌, ◌&&◌, Bool, true, false, List, [], ◌∷◌, length, map, refl, sym, ap, ◌∙◌, subst, arith}
-use Rattle.std.specs.Prelude.{Option, Some, None, Err, flat_map, option_map, nat_lt}
+use Rattle.std.proofs.Common.{◌≡◌, ℕ, ◌+◌, ◌*◌, ◌≤◌, Bool, true, false, List, [], ◌∷◌, length, map, refl, sym, ap, ◌∙◌, subst, arith}
+use Rattle.std.specs.Prelude.{Option, Some, None, Err, flat_map, option_map}
 use Rattle.std.specs.List.{AllByRecursion}
-use Rattle.std.proofs.lemmas.Bool.Decides.{nat_tests}
 use Rattle.std.proofs.lemmas.List.{length-append, length-map}
 use Rattle.std.proofs.lemmas.List.FromFn.{length-enumerate_from}
 use Rattle.std.proofs.lemmas.List.Elements.{recursion_from_All}
@@ -39,6 +38,7 @@ use Rattle.rn_model.specs.Good.{Good}
 use Rattle.rn_model.specs.Markings.{Marking}
 use Rattle.rn_model.specs.Systems.{transition_of}
 use Rattle.rn_model.proofs.MarkingsOfRuns.{good_transition}
+use Rattle.rn_model.proofs.NumbersOfRuns.{stays_within}
 
 -- an undefined action
 pub no_effects : (o : Option Effects) → option_map (λ fx. fx.outs) o ≡ None → o ≡ None
@@ -51,11 +51,6 @@ some_effects None outs e = absurd (let no : ⊥ = cc in no)
 some_effects (Some fx) outs e = let same : outs ≡ fx.outs = cc in (fx, refl, same)
 
 module _ (system : System) (b : Binding) (next step : ℕ) where
-  pub action_fault : effects system b next step ≡ None → (m : Marking) → m.next ≡ next →
-      fire system m b step ≡ Err Fault.Action
-  action_fault none m is =
-      ap (firing_result system m b) (ap (λ k. effects system b k step) is ∙ none)
-
   pub instances_fault : (fx : Effects) → effects system b next step ≡ Some fx →
       too_many next (length (creations_of system b)) ≡ true → (m : Marking) → m.next ≡ next →
       fire system m b step ≡ Err Fault.Instances
@@ -63,16 +58,6 @@ module _ (system : System) (b : Binding) (next step : ℕ) where
       let more : too_many m.next (length (creations_of system b)) ≡ true =
       ap (λ k. too_many k (length (creations_of system b))) is ∙ many in
       ap (firing_result system m b) (ap (λ k. effects system b k step) is ∙ are) ∙ rw more refl
-
--- a firing that doesn't make too many stays within the numbers
-pub stays_within : (next made : ℕ) → next ≤ 1000001 → too_many next made ≡ false → next + made ≤ 1000001
-stays_within next made low few = by_some (nat_lt 0 made) (nat_lt 1000001 (next + made)) refl refl few
-  where
-    by_some : (some over : Bool) → nat_lt 0 made ≡ some → nat_lt 1000001 (next + made) ≡ over →
-        some && over ≡ false → next + made ≤ 1000001
-    by_some true true s o e = absurd (let no : ⊥ = cc in no)
-    by_some true false s o e = grind (arith, nat_tests)
-    by_some false over s o e = let none : made ≤ 0 = grind (arith, nat_tests) in omega (arith, low, none)
 
 -- A binding of the shape has at most 200 creations a node.
 few_by_node : (system : System) (node : Node) → Good system → IsNodeOf system node →

@@ -1,5 +1,5 @@
 -- A state that goes back to its first firings.
-use Rattle.std.proofs.Common.{◌≡◌, ℕ, ◌≤◌, List, ◌++◌, length, map, sym, ap, ◌∙◌, subst, arith}
+use Rattle.std.proofs.Common.{◌≡◌, ℕ, ◌≤◌, List, length, map, sym, ap, ◌∙◌, subst, arith}
 use Rattle.std.specs.Prelude.{Option, None, drop, take}
 use Rattle.std.proofs.lemmas.List.{append-nil, length-map, take-append-drop, take-append-le, take-map}
 use Rattle.rn_model.specs.declared.log.Entry.{Entry}
@@ -9,7 +9,7 @@ use Rattle.rn_model.specs.Runs.{Firing, Log, end_entries, end_of, entries_of}
 use Rattle.rn_model.proofs.RunLemmas.{prefixes_are_logs}
 use Rattle.rn_table.specs.Tables.{Kept, IsTableOf}
 use Rattle.rn_fire.specs.declared.setup.Setup.{Setup}
-use Rattle.rn_fire.specs.States.{State, KeepsState, state_of, firings_in, end_in}
+use Rattle.rn_fire.specs.States.{KeepsState, state_of, firings_in, end_in}
 use Rattle.rn_fire.proofs.EntryLemmas.{entry_of}
 use Rattle.rn_fire.proofs.StateLemmas.{keeps, state_with}
 

@@ -91,6 +91,7 @@ still_dead s seen is was = by_rest (drop seen s.fired) refl
         absurd (dead_runs_stop s.setup.system s.setup.options.depth (take seen s.fired) gs f was.dead
         (subst (Run s.setup.system s.setup.options.depth) whole is.log.run))
 
+-- an end that can't be there isn't
 pub going_on : (ended : Option Reason) → ¬ (¬ (ended ≡ None)) → ended ≡ None
 going_on None some = refl
 going_on (Some reason) some = absurd (some (λ e. let no : ⊥ = cc in no))

@@ -12,6 +12,7 @@ use Rattle.rn_table.proofs.ThreadSafety.{table_send}
 pub system_send : IsSend system.the_row
 system_send = search system_sends depth 40 fits 20000
 
+-- threads may share a system
 pub system_sync : IsSync system.the_row
 system_sync = search system_syncs depth 40 fits 20000
 

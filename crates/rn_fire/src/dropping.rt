@@ -3,7 +3,7 @@ ghost use Rattle.std.specs.Prelude.{◌≡◌, ℕ, Contains, nat_eq};
 ghost use Rattle.std.specs.List.{list_any};
 ghost use Rattle.rn_model.specs.Liveness.{IsLive};
 ghost use Rattle.rn_model.specs.LivenessLaws.{without_instances};
-ghost use Rattle.rn_fire.specs.States.{State, end_marking};
+ghost use Rattle.rn_fire.specs.States.{end_marking};
 
 use crate::state::SimState;
 

@@ -1,8 +1,7 @@
 //! The ends of a log other than by an undefined firing. None of these calls takes memory.
-ghost use Rattle.std.specs.Prelude.{◌≡◌, ◌+◌, ◌≤◌, ◌<◌, None, length, vec_capacity};
+ghost use Rattle.std.specs.Prelude.{◌≡◌, None};
 ghost use Rattle.rn_model.specs.declared.log.Reason.TheVariants as End;
 ghost use Rattle.rn_fire.specs.Ends.{EndsAtLimit, EndsDead, MayEndBy, MayGoOn, WasDead, with_end};
-ghost use Rattle.rn_fire.specs.States.{State};
 
 use crate::state::SimState;
 use rn_items::NoMemory;

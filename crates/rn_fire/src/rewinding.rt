@@ -3,7 +3,6 @@ ghost use Rattle.std.specs.Prelude.{◌≡◌, ◌≤◌, None, length, take};
 ghost use Rattle.rn_model.specs.Liveness.{Stands};
 ghost use Rattle.rn_model.specs.Runs.{end_of};
 ghost use Rattle.rn_table.specs.Tables.{IsTableOf};
-ghost use Rattle.rn_fire.specs.States.{State};
 
 use crate::state::SimState;
 use rn_table::Table;

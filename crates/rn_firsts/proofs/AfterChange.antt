@@ -1,56 +1,26 @@
 -- What is left at a later marking of what is known.
-use Rattle.std.proofs.Common.{◌≡◌, ◌<◌, ◌≤◌, ℕ, zero, suc, Bool, true, false, List, [], ◌∷◌, length, map, refl, sym, ap, ◌∙◌, subst}
-use Rattle.std.proofs.Common.{inl, inr, ⊎_elim, eq-eqb, arith}
-use Rattle.std.proofs.lemmas.Bool.{eqb-true}
-use Rattle.std.specs.Prelude.{◌⊎◌, Option, Some, None, nat_eq, Contains, All, is_none, slice_get, unwrap_or, option_and_then}
-use Rattle.std.proofs.lemmas.List.Elements.{Contains-get_or}
-use Rattle.std.proofs.lemmas.Option.{unwrap_or-slice_get}
+use Rattle.std.proofs.Common.{◌≡◌, ◌<◌, ℕ, false, List, [], map, refl, sym, ap, ◌∙◌, subst}
+use Rattle.std.proofs.Common.{⊎_elim, arith}
+use Rattle.std.specs.Prelude.{◌⊎◌, Option, Some, None, nat_eq, Contains, All, slice_get, unwrap_or, option_and_then}
+use Rattle.std.proofs.lemmas.Option.{slice_get_past}
 use Rattle.rn_model.specs.declared.system.System.{System}
 use Rattle.rn_model.specs.declared.binding.Binding.{Binding}
 use Rattle.rn_model.specs.Enabling.{Enabled}
 use Rattle.rn_model.specs.Liveness.{IsLive, starts, held, mentions}
 use Rattle.rn_model.specs.Markings.{Marking, Instance, instance_at, tokens_at}
-use Rattle.rn_model.specs.Systems.{empty_transition, may_start, net_at, transition_at}
 use Rattle.rn_model.proofs.AfterFiring.{found_number}
 use Rattle.rn_model.proofs.AskedValues.{contained_mapped}
 use Rattle.rn_model.proofs.DeadInstances.{live_there}
 use Rattle.rn_model.proofs.EnablingLemmas.{not_in_nil}
 use Rattle.rn_model.proofs.MarkingsOfRuns.{found_is_there}
-use Rattle.rn_model.proofs.LiveByRounds.{contained_any}
 use Rattle.rn_reach.specs.Reach.{Reach, itself, further, RefersTo, StartsIn}
 use Rattle.rn_reach.proofs.ReachLemmas.{reach_decides}
 use Rattle.rn_holders.specs.Holders.{HasItsHolders, HaveTheseHolders, KeepHolders, MentionNear, held_by}
 use Rattle.rn_found.specs.Idle.{AreIdle, IsIn}
 use Rattle.rn_found.specs.Starting.{HasStartIn, start_of}
-use Rattle.rn_found.proofs.StartingBindings.{IsStartOf, is_start_of, may_start_there}
+use Rattle.rn_found.proofs.StartingBindings.{is_start_of, may_start_there, net_may_start}
 use Rattle.rn_firsts.specs.Known.{ComesAfter, HasFewPlaces, HaveLiveHolders, IsLookedAt}
-
--- a number is in a list or it isn't
-in_or_not : (xs : List ℕ) (n : ℕ) → Contains xs n ⊎ (¬ Contains xs n)
-in_or_not [] n = inr (not_in_nil n)
-in_or_not (x ∷ xs) n = by (nat_eq x n) refl (in_or_not xs n)
-  where
-    by : (same : Bool) → nat_eq x n ≡ same → Contains xs n ⊎ (¬ Contains xs n) →
-        Contains (x ∷ xs) n ⊎ (¬ Contains (x ∷ xs) n)
-    by true e rest = inl (zero, omega arith, eqb-true x n e)
-    by false e (inl (k, within, at)) = inl (suc k, omega (arith, within), at)
-    by false e (inr not) = inr out
-      where
-        out : ¬ Contains (x ∷ xs) n
-        out (zero, within, at) =
-            let same : nat_eq x n ≡ true = eq-eqb x n at in let no : ⊥ = cc in no
-        out (suc k, within, at) = not (k, omega (arith, within), at)
-
--- the net of a start may start
-net_may_start : (system : System) (m : Marking) (number net t : ℕ) →
-    IsStartOf system m number net t → may_start system net ≡ true
-net_may_start system m number net t start =
-    let transitions = (net_at system net).transitions in
-    let at = unwrap_or-slice_get transitions t empty_transition in
-    contained_any (λ t. is_none t.uplink) transitions (transition_at system net t)
-    (subst (Contains transitions) (sym at)
-    (Contains-get_or transitions t empty_transition start.there))
-    (ap is_none start.uplink)
+use Rattle.rn_items.proofs.Numbers.{in_or_not}
 
 -- with an instance that is live an enabled binding starts
 live_start : (system : System) (m : Marking) (depth n : ℕ) (b : Binding) →
@@ -162,11 +132,6 @@ live_holders system m numbers holders are these holder n live refers =
     (subst (λ xs. Contains xs holder) (sym are)
     (subst (Contains (map (λ (i : Instance). i.number) m.instances)) number listed)) refers
 
-none_past : {X : Type 0} (xs : List X) (k : ℕ) → length xs ≤ k → slice_get xs k ≡ None
-none_past [] k h = refl
-none_past (x ∷ xs) zero h = absurd (let no : ⊥ = omega (arith, h) in no)
-none_past (x ∷ xs) (suc k) h = none_past xs k (omega (arith, h))
-
 -- past the places of an instance lies no token
 pub few_are_near : (m : Marking) → HasFewPlaces m → MentionNear m
 few_are_near m few holder n place v far has = by_there (instance_at m holder) refl
@@ -177,7 +142,7 @@ few_are_near m few holder n place v far has = by_there (instance_at m holder) re
         (option_and_then (λ i. slice_get i.places place) o) []) v) e has))
     by_there (Some i) e =
         let low = few holder i e in
-        let none = none_past i.places place (omega (arith, low, far)) in
+        let none = slice_get_past i.places place (omega (arith, low, far)) in
         absurd (not_in_nil v (subst (λ o. Contains (unwrap_or o []) v) none
         (subst (λ o. Contains (unwrap_or (option_and_then (λ i. slice_get i.places place) o) []) v)
         e has)))

@@ -10,7 +10,6 @@ use rn_holders::hold_all;
 use rn_items::NoMemory;
 use rn_model::Nums;
 use rn_table::Table;
-use std::alloc::Global;
 use std::collections::BTreeSet;
 
 // The holders at a table, of all that its instances refer to.

@@ -2,7 +2,7 @@
 //! a table before that is searched, or given up where this is dearer or memory runs out. So what is
 //! known is so of this table, however the search before ended (`docs/SEARCH.md`, 'What is searched
 //! again').
-ghost use Rattle.std.specs.Prelude.{◌≡◌, ◌≢◌, ◌↔◌, ℕ, ⊤, IfOk, OnOk, IfSome, IsNone, MatchOption, Contains};
+ghost use Rattle.std.specs.Prelude.{◌≡◌, ◌↔◌, ℕ, ⊤, IfOk, OnOk, IfSome, IsNone, MatchOption, Contains};
 ghost use Rattle.rn_model.specs.declared.system.System.{System as Whole};
 ghost use Rattle.rn_model.specs.Enabling.{Enabled, DeadAt};
 ghost use Rattle.rn_model.specs.Good.{Good};

@@ -1,18 +1,15 @@
 -- The first of bindings by where they start.
 use Rattle.std.proofs.Common.{◌≡◌, ◌≢◌, ◌<◌, ◌≤◌, ◌+◌, ℕ, zero, suc, List, [], ◌∷◌, length, get_or}
-use Rattle.std.proofs.Common.{subst, sym, refl, ap, ◌∙◌, arith, ⊎_elim, true, false}
+use Rattle.std.proofs.Common.{subst, sym, refl, ap, ◌∙◌, arith, ⊎_elim}
 use Rattle.std.specs.Prelude.{Option, Some, None, Contains, IsNone, IfSome, ◌↔◌, ⊤, find, nat_le}
 use Rattle.std.specs.Prelude.{nat_eq}
 use Rattle.std.specs.List.{AllAdjacentBelow}
 use Rattle.std.specs.List.Sorted.{IsPermutation, IsSorted}
-use Rattle.std.specs.Ordering.{is_lt, nat_cmp, ordering_then}
+use Rattle.std.specs.Ordering.{nat_cmp, ordering_then}
 use Rattle.std.specs.Cmp.{nat_cmp_is}
 use Rattle.std.specs.Cmp.Lexicographic.{pointwise, slice_cmp}
-use Rattle.std.specs.declared.cmp.Ordering.{Ordering}
 use Rattle.std.specs.declared.cmp.Ordering.TheVariants.{Less, Equal, Greater}
-use Rattle.std.proofs.lemmas.List.{get_or_default}
-use Rattle.std.proofs.lemmas.List.Elements.{Contains-get_or}
-use Rattle.std.proofs.lemmas.List.Sorted.{ranks_by, sorted_far, Contains-permutation, IsPermutation-sym}
+use Rattle.std.proofs.lemmas.List.Sorted.{Contains-permutation, IsPermutation-sym}
 use Rattle.rn_value.specs.Order.{value_cmp}
 use Rattle.rn_model.specs.declared.system.System.{System}
 use Rattle.rn_model.specs.declared.binding.Binding.{Binding}
@@ -20,8 +17,6 @@ use Rattle.rn_model.specs.declared.binding.Node.{Node}
 use Rattle.rn_model.specs.Enabling.{Enabled, DeadAt}
 use Rattle.rn_model.specs.Markings.{Marking, net_of}
 use Rattle.rn_model.specs.Order.{binding_cmp, node_cmp}
-use Rattle.rn_model.specs.OrderLaws.{binding_cmp-total}
-use Rattle.rn_model.specs.Systems.{net_at}
 use Rattle.rn_model.proofs.EnablingLemmas.{not_in_nil}
 use Rattle.rn_model.proofs.MarkingsOfRuns.{found_is_there}
 use Rattle.rn_growing.specs.Decisions.{head_of}
@@ -31,11 +26,10 @@ use Rattle.rn_channel.specs.declared.uplinks.Uplinks.{Uplinks}
 use Rattle.rn_table.specs.Tables.{Kept}
 use Rattle.rn_found.specs.First.{IsFirstAmong, IsFirstOf}
 use Rattle.rn_found.specs.Starting.{AreJust, HasStartIn, IsSearchable, start_of}
-use Rattle.rn_found.proofs.JustThese.{just_none}
 use Rattle.rn_found.proofs.Numbers.{less_or_not}
 use Rattle.rn_found.proofs.Ordered.{sorted_is_least}
-use Rattle.rn_found.proofs.StartingBindings.{HasStartBelow, HasStartBefore, all_before, all_below}
-use Rattle.rn_found.proofs.StartingBindings.{before_first, more_before, more_below, one_net, starts_among, starts_in}
+use Rattle.rn_found.proofs.StartingBindings.{HasStartBelow, HasStartBefore}
+use Rattle.rn_found.proofs.StartingBindings.{before_first, one_net, starts_among, starts_in}
 
 -- the first of some that are sorted is the first of them
 pub first_sorted : (found sorted : List Binding) → IsPermutation found sorted →
@@ -54,18 +48,6 @@ none_sorted (b ∷ bs) sorted moved none =
     let there = Contains-permutation (b ∷ bs) sorted b moved (0, omega arith, refl) in
     absurd (let no : ⊥ = omega (arith, there.1, none) in no)
 
--- the first of just those of which something holds
-pub first_of_just : (system : System) (m : Marking) (depth : ℕ) (Of : Binding → Type 0)
-    (found : List Binding) (first : Option Binding) → AreJust system m depth Of found →
-    IsFirstAmong found first → IsFirstOf system m depth Of first
-first_of_just system m depth Of found None just none =
-    λ b enabled of. not_in_nil b (subst (λ xs. Contains xs b) none (just.all b enabled of))
-first_of_just system m depth Of found (Some b) just (there, least) = (
-  (just.so b there).0,
-  (just.so b there).1,
-  λ c enabled of. least c (just.all c enabled of),
-)
-
 not_below_root : (p q : List ℕ) → q ≡ [] → slice_cmp nat_cmp p q ≡ Less → ⊥
 not_below_root [] q root less =
     let here : slice_cmp nat_cmp [] [] ≡ Less = subst (λ r. slice_cmp nat_cmp [] r ≡ Less) root less in
@@ -78,7 +60,7 @@ not_below_root (x ∷ xs) q root less =
     no
 
 -- of ascending nodes that on the root is the first
-root_is_first : (nodes : List Node) (node : Node) →
+pub root_is_first : (nodes : List Node) (node : Node) →
     AllAdjacentBelow (λ x y. slice_cmp nat_cmp x.path y.path ≡ Less) nodes (length nodes) →
     Contains nodes node → node.path ≡ [] → (rest : List Node) × (nodes ≡ node ∷ rest)
 root_is_first [] node up (k, within, at) root = absurd (let no : ⊥ = omega (arith, within) in no)
@@ -246,6 +228,7 @@ least_of_all system m depth None first = tt
 least_of_all system m depth (Some b) (enabled, any, least) =
     (enabled, λ c other. least c other tt)
 
+-- there is no first of all exactly where no binding is enabled
 pub none_of_all : (system : System) (m : Marking) (depth : ℕ) (found : Option Binding) →
     IsFirstOf system m depth (λ b. ⊤) found → IsNone found ↔ DeadAt system m depth
 none_of_all system m depth None first = (λ is b enabled. first b enabled tt, λ dead. refl)

@@ -19,6 +19,7 @@ sound_fit : (system : System) (m : Marking) → HasSoundTokens system m → HasF
 sound_fit system m sound n net place v is there =
     let token = sound n net place v is there in (token.kind, token.old)
 
+-- the initial tokens of a good system fit
 pub initial_tokens_fit : InitialTokensFit
 initial_tokens_fit system good =
     sound_fit system _ (initial_tokens_are_sound system good)
@@ -35,6 +36,7 @@ same_instance system table m n net stands is =
     let number = found_number table.instances n i found.1 in
     found.1 ∙ sym (subst (λ k. instance_at m k ≡ Some i) number kept)
 
+-- the tokens of a table fit that stands for a marking whose tokens are sound
 pub standing_tokens_fit : StandingTokensFit
 standing_tokens_fit system table m sound stands n net place v is there =
     let same = same_instance system table m n net stands is in

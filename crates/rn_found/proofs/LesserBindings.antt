@@ -1,6 +1,6 @@
 -- A search for the bindings that are less than one: where a branch of it may be given up, and what is
 -- the first.
-use Rattle.std.proofs.Common.{◌≡◌, ◌<◌, ◌+◌, ℕ, zero, suc, Bool, true, false, List, [], ◌∷◌, length}
+use Rattle.std.proofs.Common.{◌≡◌, ◌<◌, ◌+◌, ℕ, zero, suc, List, [], ◌∷◌, length}
 use Rattle.std.proofs.Common.{subst, sym, refl, ap, ◌∙◌, arith, ⊎_elim, get_or}
 use Rattle.std.specs.Prelude.{Option, Some, None, Contains, ◌↔◌, ◌⊎◌, nat_eq, zip}
 use Rattle.std.specs.Prelude.{if◌then◌else◌, IfNone, IfSome, drop, slice_get}
@@ -8,7 +8,6 @@ use Rattle.std.specs.Ordering.{ordering_then, ordering_reverse}
 use Rattle.std.specs.Cmp.Lexicographic.{slice_cmp}
 use Rattle.std.specs.declared.cmp.Ordering.{Ordering}
 use Rattle.std.specs.declared.cmp.Ordering.TheVariants.{Less, Equal, Greater}
-use Rattle.std.proofs.lemmas.Bool.{eqb-true, eq-eqb}
 use Rattle.std.proofs.lemmas.List.Elements.{All-contains}
 use Rattle.rn_value.specs.Order.{value_cmp}
 use Rattle.rn_value.specs.declared.value.Value.{Value}
@@ -31,25 +30,14 @@ use Rattle.rn_growing.specs.Equations.{IsForcedTo}
 use Rattle.rn_growing.specs.Grown.{Grown}
 use Rattle.rn_growing.proofs.Growth.{some_equal}
 use Rattle.rn_search.specs.Missing.{MayStart}
-use Rattle.rn_search.specs.Sought.{Sought, Leads, StartsAt}
+use Rattle.rn_search.specs.Sought.{Sought, Leads}
 use Rattle.rn_search.proofs.Known.{forced_are_its_values}
+use Rattle.rn_search.proofs.OneBinding.{passed, here_is}
 use Rattle.rn_looking.specs.Forced.{IsVarForcedTo}
-use Rattle.rn_found.specs.First.{IsFirstAmong, IsFirstOf}
+use Rattle.rn_found.specs.First.{IsFirstAmong}
 use Rattle.rn_found.specs.Lesser.{LeadsBelow, IsFirstLed, IsLesserBranch, IsPast, IsPastFirst}
-use Rattle.rn_found.proofs.Branches.{led}
 use Rattle.rn_found.proofs.FirstBindings.{begins, by_first, by_values}
 use Rattle.rn_found.proofs.StartingBindings.{head_is}
-
--- Values beside numbers that ascend.
-passed : (x y : ℕ) (w : Value) (rest : Option Value) (same : Bool) → nat_eq x y ≡ same → x < y →
-    (if same then Some w else rest) ≡ rest
-passed x y w rest true e low =
-    let is : x ≡ y = eqb-true x y e in absurd (let no : ⊥ = omega (arith, is, low) in no)
-passed x y w rest false e low = refl
-
-here_is : (x : ℕ) (w : Value) (rest : Option Value) → (if nat_eq x x then Some w else rest) ≡
-    Some w
-here_is x w rest = rw (eq-eqb x x refl) refl
 
 later : (x y : ℕ) (xs : List ℕ) → Contains xs y → Contains (x ∷ xs) y
 later x y xs (k, within, at) = (suc k, omega (arith, within), at)
@@ -176,12 +164,6 @@ first_of_lesser sought than found (Some b) known all (there, least) =
         let up = binding_cmp-total.trans b than c below (flipped c than is) in
         let no : ⊥ = cc in
         no
-
--- it is the first of those that start there
-pub first_led : (sought : Sought) (b : Binding) → IsFirstLed sought b →
-    IsFirstOf sought.system sought.marking sought.depth (λ c. StartsAt c sought.start) (Some b)
-first_led sought b (leads, least) =
-    (leads.enabled, leads.starts, λ c enabled starts. least c (led sought c enabled starts))
 
 -- and where none is listed, the known one is
 pub first_unless_lesser : (sought : Sought) (than : Binding) (found : List Binding)

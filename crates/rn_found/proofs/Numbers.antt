@@ -1,25 +1,18 @@
 -- Going through ascending numbers by the first one from a number on.
 use Rattle.std.proofs.Common.{◌≡◌, ◌≤◌, ◌<◌, ℕ, zero, suc, List, [], ◌∷◌, map, length}
 use Rattle.std.proofs.Common.{Bool, true, false, subst, refl, ap, arith, ◌⊎◌, cond}
-use Rattle.std.specs.Prelude.{Some, None, Contains, AllPairs, All, filter, find, nat_le}
+use Rattle.std.specs.Prelude.{Some, None, Contains, AllPairs, filter, find, nat_le}
 use Rattle.std.specs.List.Sorted.{IsStrictlyIncreasing}
 use Rattle.std.proofs.lemmas.Bool.Decides.{nat_tests}
 use Rattle.std.proofs.lemmas.List.Elements.{All-map}
 use Rattle.std.proofs.lemmas.List.{get_or-map}
 use Rattle.std.proofs.lemmas.List.Kept.{AllPairs-from_increasing, AllPairs-filter, AllPairs-cons}
 use Rattle.rn_model.proofs.EnablingLemmas.{not_in_nil}
+use Rattle.rn_items.proofs.Lists.{pairs_head, pairs_tail}
 
+-- a number is less than another, or isn't
 pub less_or_not : (n k : ℕ) → (n < k) ⊎ (k ≤ n)
 less_or_not n k = grind arith
-
-tail_pairs : {X : Type 0} (R : X → X → Type 0) (x : X) (xs : List X) → AllPairs R (x ∷ xs) →
-    AllPairs R xs
-tail_pairs R x xs pairs i j d less within =
-    pairs (suc i) (suc j) d (omega arith) (omega arith)
-
-head_pairs : {X : Type 0} (R : X → X → Type 0) (x : X) (xs : List X) → AllPairs R (x ∷ xs) →
-    All (R x) xs
-head_pairs R x xs pairs k d within = pairs 0 (suc k) d (omega arith) (omega arith)
 
 -- pairs of the results of a function, and of what it is applied to
 mapped_pairs : {X Y : Type 0} (R : Y → Y → Type 0) (f : X → Y) (xs : List X) →
@@ -27,8 +20,8 @@ mapped_pairs : {X Y : Type 0} (R : Y → Y → Type 0) (f : X → Y) (xs : List 
 mapped_pairs R f [] pairs = λ i j d less within. absurd (omega (arith, within))
 mapped_pairs R f (x ∷ xs) pairs =
     AllPairs-cons R (f x) (map f xs)
-    (All-map (R (f x)) f xs (head_pairs (λ a b. R (f a) (f b)) x xs pairs))
-    (mapped_pairs R f xs (tail_pairs (λ a b. R (f a) (f b)) x xs pairs))
+    (All-map (R (f x)) f xs (pairs_head (λ a b. R (f a) (f b)) x xs pairs))
+    (mapped_pairs R f xs (pairs_tail (λ a b. R (f a) (f b)) x xs pairs))
 
 pairs_before : {X Y : Type 0} (R : Y → Y → Type 0) (f : X → Y) (xs : List X) →
     AllPairs R (map f xs) → AllPairs (λ a b. R (f a) (f b)) xs
@@ -37,7 +30,7 @@ pairs_before R f (x ∷ xs) pairs =
     AllPairs-cons (λ a b. R (f a) (f b)) x xs
     (λ k d within. subst (R (f x)) (get_or-map f xs k d (f d) within)
     (pairs 0 (suc k) (f d) (omega arith) (omega (arith, length_of f xs))))
-    (pairs_before R f xs (tail_pairs R (f x) (map f xs) pairs))
+    (pairs_before R f xs (pairs_tail R (f x) (map f xs) pairs))
   where
     length_of : {A B : Type 0} (g : A → B) (ys : List A) → length (map g ys) ≡ length ys
     length_of g [] = refl
@@ -69,7 +62,7 @@ first_from from (x ∷ xs) n rise is =
           )
       | false ↦ λ less later.
           let under : x < from = grind (arith, nat_tests) in
-          let rest = first_from from xs n (tail_pairs (λ m n. m < n) x xs rise) later in (
+          let rest = first_from from xs n (pairs_tail (λ m n. m < n) x xs rise) later in (
             rest.0,
             λ k there below. by_place k there below under rest.1,
           )

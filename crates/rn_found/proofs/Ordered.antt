@@ -1,5 +1,5 @@
 -- Bindings in order, each once.
-use Rattle.std.proofs.Common.{◌≡◌, ◌≢◌, ◌<◌, ◌+◌, ℕ, List, length, get_or, Bool, false}
+use Rattle.std.proofs.Common.{◌≡◌, ◌≢◌, ◌+◌, List, length, get_or, Bool, false}
 use Rattle.std.proofs.Common.{subst, sym, refl, ap, ◌∙◌, arith, Decides}
 use Rattle.std.specs.Prelude.{Contains, AllPairs}
 use Rattle.std.specs.List.{AllAdjacentBelow}

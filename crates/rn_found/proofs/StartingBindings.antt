@@ -47,6 +47,7 @@ pub record IsStartOf (system : System) (m : Marking) (number net t : ℕ) : Type
   pub there : t < length (net_at system net).transitions
   pub uplink : (transition_at system net t).uplink ≡ None
 
+-- it is so where the start may start a firing
 pub is_start_of : (system : System) (m : Marking) (number net t : ℕ) →
     MayStart system m (start_of number net t) → IsStartOf system m number net t
 is_start_of system m number net t may = record {
@@ -137,7 +138,7 @@ no_uplink : (t : Transition) → t.uplink ≡ None → is_none t.uplink ≡ true
 no_uplink t is = ap is_none is
 
 -- the net of a start may start
-net_may_start : (system : System) (m : Marking) (number net t : ℕ) →
+pub net_may_start : (system : System) (m : Marking) (number net t : ℕ) →
     IsStartOf system m number net t → may_start system net ≡ true
 net_may_start system m number net t start =
     let transitions = (net_at system net).transitions in
@@ -363,20 +364,6 @@ module _ (system : System) (uplinks : Uplinks) (table : Kept) (depth : ℕ)
         none_from from table.starting none starts.0 (starts_among b starts.0 enabled starts.1),
         starts.1,
       ))
-
-  -- with the next one, it is no more
-  pub more_none : (from next number : ℕ) →
-      find (λ n. nat_le next n) table.starting ≡ Some number →
-      AreNoStartsBetween system table depth from next →
-      IsNoStartIn system table.marking depth number →
-      AreNoStartsBetween system table depth from (number + 1)
-  more_none from next number first before none k least below there = ⊎_elim
-      (λ (less : k < next). before k least less there)
-      (λ (not_less : next ≤ k).
-      let after = before_first system uplinks table next number k searched first there not_less in
-      let same : number ≡ k = omega arith in
-      subst (IsNoStartIn system table.marking depth) same none)
-      (less_or_not k next)
 
   -- up to the next one
   pub none_up_to : (from next number end : ℕ) →

@@ -1,34 +1,20 @@
 -- A search that makes no choice.
-use Rattle.std.proofs.Common.{◌≡◌, ◌≢◌, List, [], ◌∷◌, ◌++◌, subst, sym, ap, ◌∙◌}
+use Rattle.std.proofs.Common.{◌≡◌, ◌≢◌, List, [], subst, sym, ap, ◌∙◌}
 use Rattle.std.specs.Prelude.{Option, Some, None}
 use Rattle.std.specs.Ordering.{ordering_reverse}
 use Rattle.std.specs.declared.cmp.Ordering.TheVariants.{Less, Greater}
 use Rattle.rn_model.specs.declared.binding.Binding.{Binding}
 use Rattle.rn_model.specs.Order.{binding_cmp}
 use Rattle.rn_model.specs.OrderLaws.{binding_cmp-total}
-use Rattle.rn_choices.specs.Leading.{IsOnly, NoneLeads}
+use Rattle.rn_choices.specs.Leading.{IsOnly}
 use Rattle.rn_growing.specs.declared.decision.Decision.{Decision}
 use Rattle.rn_search.specs.Sought.{Sought, Leads, StartsAt}
-use Rattle.rn_search.proofs.Following.{fewer_lead}
 use Rattle.rn_found.specs.First.{IsFirstOf}
 use Rattle.rn_found.proofs.Branches.{led}
 
 -- all that is looked for follows the decisions
 abbrev pub AllLed : Sought → List Decision → Type 0
 AllLed sought ds = (b : Binding) → Leads sought [] b → Leads sought ds b
-
--- what is the only one to which they lead is the only one that is looked for
-pub only_of_all : (sought : Sought) (ds : List Decision) (found : Option Binding) →
-    AllLed sought ds → IsOnly (Leads sought ds) found → IsOnly (Leads sought []) found
-only_of_all sought ds None all none = λ b leads. none b (all b leads)
-only_of_all sought ds (Some b) all (leads, only) =
-    (fewer_lead sought [] ds b leads, λ c also. only c (all c also))
-
--- where a further decision leads nowhere to which all are led, nothing is looked for
-pub none_of_led : (sought : Sought) (ds : List Decision) (d : Decision) → AllLed sought ds →
-    ((b : Binding) → Leads sought ds b → Leads sought (ds ++ d ∷ []) b) →
-    NoneLeads (Leads sought) (ds ++ d ∷ []) → IsOnly (Leads sought []) None
-none_of_led sought ds d all forced none = λ b leads. none b (forced b (all b leads))
 
 not_above_itself : (b : Binding) → binding_cmp b b ≢ Greater
 not_above_itself b above =

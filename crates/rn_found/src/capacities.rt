@@ -5,10 +5,10 @@
 ghost use Rattle.std.specs.Prelude.{◌≡◌, [], length, slice_get, unwrap_or};
 ghost use Rattle.rn_model.specs.RoomLaws.{is_plain_at, moves_list, putters_at, puts_one};
 ghost use Rattle.rn_model.specs.RoomLaws.{takers_at, takes_one};
-ghost use Rattle.rn_model.specs.Systems.{capacity, net_at};
+ghost use Rattle.rn_model.specs.Systems.{capacity};
 ghost use Rattle.rn_found.specs.Starting.{lacks_room, overfills};
 
-use rn_model::{ArcKind, NetArc, Place, System, Transition};
+use rn_model::{ArcKind, NetArc, System, Transition, places_of};
 use rn_table::Inst;
 
 // Whether an arc takes one token.
@@ -62,16 +62,6 @@ fn is_plain_at(transition: &Transition, place: u32) -> bool
     let arcs = transition.arcs.as_slice();
     arcs.iter()
         .all(|arc| !(arc.place == place && moves_list(arc.kind)))
-}
-
-// The places of a net.
-fn places_of(system: &System, net: u32) -> &[Place]
-    ensures { result.now ≡ (net_at system.now net).places }
-{
-    match system.nets.get(net as usize) {
-        Some(net) => net.places.as_slice(),
-        None => &[],
-    }
 }
 
 // The capacity of a place of a net, where it has one.

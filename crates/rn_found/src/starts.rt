@@ -4,29 +4,18 @@
 //! starts').
 ghost use Rattle.std.specs.Prelude.{◌≡◌, ◌<◌, ◌↔◌, ℕ, IfOk, IsTrue, length};
 ghost use Rattle.std.specs.List.{list_any};
-ghost use Rattle.rn_model.specs.Derivation.{finds_token};
 ghost use Rattle.rn_model.specs.Good.{Good};
-ghost use Rattle.rn_model.specs.Systems.{net_at, transition_at};
+ghost use Rattle.rn_model.specs.Systems.{net_at};
 ghost use Rattle.rn_found.specs.Starting.{MayStartBy, is_starved, start_of};
 
 use crate::capacities::lacks_room;
 use rn_growing::Head;
 use rn_items::Items;
-use rn_model::{ArcKind, NetArc, System, Transition};
+use rn_model::{NetArc, System, finds_token, transitions_of};
 use rn_shared::Shared;
 use rn_table::Inst;
 use rn_value::{InstRef, NoMemory};
 use std::alloc::Global;
-
-// The transitions of a net.
-fn transitions_of(system: &System, net: u32) -> &[Transition]
-    ensures { result.now ≡ (net_at system.now net).transitions }
-{
-    match system.nets.get(net as usize) {
-        Some(net) => net.transitions.as_slice(),
-        None => &[],
-    }
-}
 
 /// How many transitions a net has.
 pub(crate) fn transition_count(system: &System, net: u32) -> u32
@@ -34,13 +23,6 @@ pub(crate) fn transition_count(system: &System, net: u32) -> u32
     ensures { result ≡ length (net_at system.now net).transitions }
 {
     transitions_of(system, net).len() as u32
-}
-
-// Whether an arc finds a token, so that no binding has it while its place is empty.
-fn finds_token(kind: ArcKind) -> bool
-    ensures { result ≡ finds_token kind }
-{
-    matches!(kind, ArcKind::Input | ArcKind::Test | ArcKind::Reserve)
 }
 
 // Whether an arc finds a token and its place at an instance is empty.

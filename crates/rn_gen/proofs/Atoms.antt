@@ -3,6 +3,7 @@ use Rattle.std.proofs.Common.{◌≡◌, ℕ, zero, suc, pos, Bool, true, false,
 use Rattle.std.specs.Prelude.{unwrap_or}
 use Rattle.std.specs.List.{flat_map}
 use Rattle.std.proofs.Math.Dec.{T, leb→le}
+use Rattle.std.proofs.lemmas.Bool.{not-true}
 use Rattle.rn_items.proofs.Bools.{both_true}
 use Rattle.rn_value.specs.Characters.{is_letter, is_digit, is_name_byte}
 use Rattle.rn_value.specs.Words.{begins_with, is_identifier, index_of, reserved_words}
@@ -11,7 +12,6 @@ use Rattle.rn_notation.specs.Tokens.{IsGap, IsToken}
 use Rattle.rn_notation.specs.Reading.{Piece, gap, token, bytes_of, StandsBefore, ArePieces, tokens_after}
 use Rattle.rn_notation.specs.declared.token.TokenKind.{TokenKind}
 use Rattle.rn_notation.specs.declared.token.TokenKind.TheVariants.{Name, Word, Number, Sign}
-use Rattle.rn_gen.proofs.Streams.{is_false}
 
 -- a blank, or a token that these bytes are
 pub data Atom : Type 0 where
@@ -63,20 +63,20 @@ stands (blank c) rest h = IsGap.blank h
 stands (name text) rest h =
     let stops = begins_with is_name_byte rest in let among = index_of reserved_words text in
     let all = three (is_identifier text) (not stops) (is_none among) h in
-    IsToken.name all.0 (is_false stops all.1) (is_absent among all.2)
+    IsToken.name all.0 (not-true stops all.1) (is_absent among all.2)
 stands (word text) rest h =
     let stops = begins_with is_name_byte rest in let among = index_of reserved_words text in
     let all = three (is_identifier text) (not stops) (is_some among) h in
-    IsToken.word all.0 (is_false stops all.1) (is_there among all.2)
+    IsToken.word all.0 (not-true stops all.1) (is_there among all.2)
 stands (number digits) rest h =
     let stops = begins_with is_digit rest in
     let all = three (are_digits digits) (not stops) (nat_le (number_of digits) greatest_number) h in
-    IsToken.number all.0 (is_false stops all.1)
+    IsToken.number all.0 (not-true stops all.1)
     (leb→le (number_of digits) greatest_number (subst T (sym all.2) tt))
 stands (sign text) rest h =
     let opens = opens_comment (text ++ rest) in let among = index_of signs text in
     let all = three (is_some among) (is_longest_sign text (text ++ rest)) (not opens) h in
-    IsToken.sign (is_there among all.0) all.1 (is_false opens all.2)
+    IsToken.sign (is_there among all.0) all.1 (not-true opens all.2)
 
 abbrev pub pieces_of : List Atom → List Piece
 pieces_of = map piece_of

@@ -1,5 +1,6 @@
 -- Tokens of which only the kinds are known.
-use Rattle.std.proofs.Common.{◌≡◌, ℕ, zero, suc, Bool, true, false, not, ◌&&◌, List, [], ◌∷◌, map, refl, sym, ap, get_or, true≢false}
+use Rattle.std.proofs.Common.{◌≡◌, ℕ, zero, suc, Bool, true, not, ◌&&◌, List, [], ◌∷◌, map, refl, ap, get_or}
+use Rattle.std.proofs.lemmas.Bool.{not-true}
 use Rattle.rn_items.proofs.Bools.{both_true}
 use Rattle.rn_notation.specs.declared.token.Token.{Token}
 use Rattle.rn_notation.specs.declared.token.TokenKind.{TokenKind}
@@ -27,14 +28,10 @@ abbrev pub are_shallow : Region → List TokenKind → Bool
 are_shallow r [] = true
 are_shallow r (kind ∷ kinds) = not (is_too_deep r kind) && are_shallow (after r kind) kinds
 
-pub is_false : (b : Bool) → not b ≡ true → b ≡ false
-is_false false h = refl
-is_false true h = absurd (true≢false (sym h))
-
 pub is_shallow : (r : Region) (tokens : List Token) →
     are_shallow r (map (λ t. t.kind) tokens) ≡ true → IsShallow r tokens
 is_shallow r [] h = tt
 is_shallow r (t ∷ tokens) h =
     let deep = is_too_deep r t.kind in
     let both = both_true (not deep) (are_shallow (after r t.kind) (map (λ u. u.kind) tokens)) h in
-    (is_false deep both.0, is_shallow (after r t.kind) tokens both.1)
+    (not-true deep both.0, is_shallow (after r t.kind) tokens both.1)

@@ -12,5 +12,6 @@ pub fn workload_laws()
     ensures canonical { WorkloadIsCanonical }
     ensures not_refused { WorkloadIsNotRefused }
 {
+    // For its clauses: a text spells one system at most, and is then refused for no reason.
     net_laws();
 }

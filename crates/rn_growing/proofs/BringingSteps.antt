@@ -15,7 +15,7 @@ use Rattle.rn_model.specs.declared.system.NetArc.{NetArc}
 use Rattle.rn_model.specs.declared.system.Creation.{Creation}
 use Rattle.rn_model.specs.declared.system.Downlink.{Downlink}
 use Rattle.rn_model.specs.Lists.{HaveOneValue}
-use Rattle.rn_model.specs.Systems.{uplink_args, empty_transition}
+use Rattle.rn_model.specs.Systems.{uplink_args}
 use Rattle.rn_model.specs.Derivation.{Assignment, left, right, uplink_arg, downlink_arg, arc}
 use Rattle.rn_growing.specs.declared.decision.Head.{Head}
 use Rattle.rn_growing.specs.declared.decision.Caller.{Caller}
@@ -216,16 +216,6 @@ module _ (system : System) (head : Head) (caller : Option Caller) (t : Transitio
 none_there : {A : Type 0} (k : ℕ) (x : A) → slice_get [] k ≡ Some x → ⊥
 none_there k x at = let no : ⊥ = cc in no
 
--- a node without a transition brings nothing
-pub entry_nothing : (system : System) (head : Head) (caller : Option Caller) →
-    transition_in system head ≡ empty_transition → (a : Assignment) →
-    EntryBrings system a head caller
-entry_nothing system head caller is a = (entry_is system head caller empty_transition is a).1 (
-  ((λ k e at. absurd (none_there k e at)), (λ k c at. absurd (none_there k c at))),
-  λ from downlink named there k e f at along.
-      absurd (none_there k f (subst (λ u. slice_get (uplink_args u) k ≡ Some f) is along)),
-)
-
 -- the arguments of a call
 module _ (system : System) (head : Head) (from : Caller) where
   pub call_is : (downlink : Downlink) →
@@ -245,18 +235,6 @@ module _ (system : System) (head : Head) (from : Caller) where
         a) (same_Some downlink d (sym there ∙ here)) all),
     λ held. held from downlink refl there,
   )
-
-  pub no_call : slice_get (transition_in system from.head).downlinks from.downlink ≡ None →
-      (a : Assignment) → ArgsHold system head (Some from) a
-  no_call none a other d named at =
-      let same : from ≡ other = same_Some from other named in
-      let here : slice_get (transition_in system from.head).downlinks from.downlink ≡ Some d =
-      subst (λ o. slice_get (transition_in system o.head).downlinks o.downlink ≡ Some d)
-      (sym same) at in
-      absurd (let no : ⊥ = cc in no)
-
-pub not_called : (system : System) (head : Head) (a : Assignment) → ArgsHold system head None a
-not_called system head a from d named at = absurd (let no : ⊥ = cc in no)
 
 -- the inscription of an arc has the value that it finds
 pub found_is : (system : System) (head : Head) (k : ℕ) (v : Value) (x : NetArc) →
@@ -312,15 +290,6 @@ then_gets_answer (Err e) old mid new term id v equation builds more is gets = tt
 then_gets_answer (Ok told) old mid new term id v equation builds more is gets =
     brings_alike old new (λ a. term a ≡ Some v) equation told is
     (then_gets old mid new term id v told builds more gets)
-
--- a term without a value never has one
-pub never_has : (old new : LaidState) (term : Assignment → Option Value) (v : Value)
-    (equation : Assignment → Type 0) → NeverHas old term →
-    ((a : Assignment) → equation a → term a ≡ Some v) → BringsIn old equation new false
-never_has old new term v equation never is a given held =
-    let none : term a ≡ None = never a given in
-    let some : term a ≡ Some v = is a held in
-    let no : ⊥ = cc in no
 
 -- two terms that were built one after the other have one value
 pub two_terms_answer : {E : Type 0} (result : Result Bool E) (start first second end : LaidState)

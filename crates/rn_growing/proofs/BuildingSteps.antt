@@ -72,6 +72,7 @@ module _ (head : Head) (site : D.Site) (way : List ℕ) (e : Expr) where
   abbrev seen : Assignment → Unknowns
   seen a = along way (unknowns_at a head site)
 
+  -- what is read there, by the form of the expression
   pub int_is : (n : ℤ) → e ≡ E.Int n → (a : Assignment) → Some (Value.Int n) ≡ whole a
   int_is n is a = sym (ap (λ x. term_value x (seen a)) is ∙ term_value-Int n (seen a))
 

@@ -1,10 +1,9 @@
 -- Bindings that follow decisions.
 use Rattle.std.proofs.Common.{◌≡◌, ℕ, zero, suc, ◌<◌, ◌≤◌, List, [], ◌∷◌, ◌++◌, length, take}
-use Rattle.std.proofs.Common.{get_or, refl, sym, ap, ◌∙◌, subst, arith, length-append}
+use Rattle.std.proofs.Common.{refl, sym, ap, ◌∙◌, subst, arith, length-append}
 use Rattle.std.specs.Prelude.{Option, Some, None, ◌↔◌, slice_get, All, Contains}
 use Rattle.std.proofs.lemmas.Option.{slice_get-get_or, slice_get_within}
-use Rattle.std.proofs.lemmas.List.{length-take-le}
-use Rattle.std.proofs.Math.Seq.{take-append_seam, get_or-append_seam}
+use Rattle.std.proofs.lemmas.List.{length-take-le, same_from_push}
 use Rattle.rn_value.specs.declared.value.Value.{Value}
 use Rattle.rn_value.specs.declared.value.Value.TheVariants as Value
 use Rattle.rn_model.specs.declared.system.System.{System}
@@ -15,7 +14,7 @@ use Rattle.rn_model.specs.declared.binding.Binding.{Binding}
 use Rattle.rn_model.specs.Lists.{HaveOneValue}
 use Rattle.rn_model.specs.Systems.{transition_of, vars_in}
 use Rattle.rn_model.specs.Bindings.{Shape, Calls, node_at}
-use Rattle.rn_model.specs.Derivation.{Assignment, Hole, holes_in, sites_of, finds_values, Item}
+use Rattle.rn_model.specs.Derivation.{Assignment, Hole, sites_of, Item}
 use Rattle.rn_model.specs.Derivation.{entry, found, computed, items_of, EntryHolds, Holds}
 use Rattle.rn_model.specs.Derivation.{Satisfies, Forced, MayEnter, term_value_at, uplink_arg}
 use Rattle.rn_model.specs.Derivation.{downlink_arg, target, arc}
@@ -38,16 +37,6 @@ use Rattle.rn_growing.proofs.SameUnknowns.{as_site, as_site-is}
 use Rattle.rn_growing.proofs.SoundItems.{items_sound, one_hole}
 use Rattle.rn_growing.proofs.Growth.{turns_front, at_in, some_equal}
 use Rattle.rn_model.proofs.Rounds.{all_more, closed_decide}
-
-pub snoc_equal : (p q : List ℕ) (i j : ℕ) → p ++ i ∷ [] ≡ q ++ j ∷ [] → (p ≡ q) × (i ≡ j)
-snoc_equal p q i j e =
-    let long : length p ≡ length q =
-    omega (arith, ap length e, length-append p (i ∷ []), length-append q (j ∷ [])) in (
-      sym (take-append_seam p (i ∷ [])) ∙ ap (take (length p)) e
-          ∙ ap (λ n. take n (q ++ j ∷ [])) long ∙ take-append_seam q (j ∷ []),
-      sym (get_or-append_seam p i [] 0) ∙ ap (λ xs. get_or xs (length p) 0) e
-          ∙ ap (λ n. get_or (q ++ j ∷ []) n 0) long ∙ get_or-append_seam q j [] 0,
-    )
 
 no_snoc : (p : List ℕ) (i : ℕ) → [] ≡ p ++ i ∷ [] → ⊥
 no_snoc p i e = let no : ⊥ = omega (arith, ap length e, length-append p (i ∷ [])) in no
@@ -94,6 +83,7 @@ module _ (system : System) (b : Binding) where
       (k : ℕ) × (slice_get xs k ≡ Some x)
   in_place xs x (k, h, e) = (k, slice_get-get_or xs k x h ∙ ap Some e)
 
+  -- each decision is on one of the items
   pub item_in : (ds : List Decision) (items : List Item) → AreOn system b ds items → (d : Decision) →
       Contains ds d → (item : Item) × Contains items item × On d item
   item_in ds items on d there =
@@ -101,6 +91,7 @@ module _ (system : System) (b : Binding) where
       let it = item_of ds items on place.0 d place.1 in
       (it.0, at_in items place.0 it.0 it.1, it.2)
 
+  -- and on each item is one of the decisions
   pub decision_in : (ds : List Decision) (items : List Item) → AreOn system b ds items →
       (item : Item) → Contains items item → (d : Decision) × Contains ds d × On d item
   decision_in ds items on item there =
@@ -222,6 +213,7 @@ module _ (system : System) (b : Binding) where
       computed_alike a head site way v node s hole on
 
   module _ (depth : ℕ) (shape : Shape system b depth) where
+    -- nodes of the binding on one path are one
     pub same_node : (x y : Node) → Contains b.nodes x → Contains b.nodes y → x.path ≡ y.path → x ≡ y
     same_node x y here there same =
         some_equal x y (sym (node_at-path system b depth x shape here) ∙ ap (node_at b) same
@@ -246,7 +238,7 @@ module _ (system : System) (b : Binding) where
               subst (λ o. (c : Node) × Contains b.nodes c × (o.head ≡ head_of c) ×
               (node.path ≡ c.path ++ o.downlink ∷ [])) same (c.0, c.1.1, c.1.2, path);
           forth = λ d i dl calls.
-              let both = snoc_equal c.0.path d.path from.downlink i (sym path ∙ calls.path) in
+              let both = same_from_push c.0.path d.path from.downlink i (sym path ∙ calls.path) in
               let same : c.0 ≡ d = same_node c.0 d c.1.1 calls.caller_there both.0 in
               ap (λ h. Some (record { head = h; downlink = from.downlink }))
               (c.1.2 ∙ ap head_of same)
@@ -267,6 +259,7 @@ module _ (system : System) (b : Binding) where
         (is_on_entry head caller d item node e f is)
         (turns.came k (Entered head caller) (at ∙ ap Some e))
 
+    -- the equations of the items are those that the decisions bring
     pub equations : (ds : List Decision) (items : List Item) → AreOn system b ds items →
         AreInTurn system ds → (a : Assignment) →
         Satisfies system b (Contains items) a ↔ Solves system ds a
@@ -413,6 +406,7 @@ module _ (system : System) (b : Binding) where
     closed_entry items h c node there is (Found o j w) it same inside on = absurd same
     closed_entry items h c node there is (Computed o at along w) it same inside on = absurd same
 
+    -- so is what an arc finds
     pub closed_found : (items : List Item) (k : ℕ) (v : Value) (node : Node) (x : NetArc) →
         Contains (items_of system b) (found node k x) → (e : Decision) (it : Item) →
         SameThing (Found (head_of node) k v) e → Contains items it → On e it →
@@ -435,6 +429,7 @@ module _ (system : System) (b : Binding) where
     closed_found items k v node x own (Entered o f) it same inside on = absurd same
     closed_found items k v node x own (Computed o at along w) it same inside on = absurd same
 
+    -- and so is the value of an operator application
     pub closed_computed : (items : List Item) (site : Site) (v : Value) (node : Node) (s : D.Site)
         (hole : Hole) → site_of site ≡ s → Contains (items_of system b) (computed node s hole) →
         (e : Decision) (it : Item) → SameThing (Computed (head_of node) site hole.way v) e →
@@ -514,6 +509,7 @@ module _ (system : System) (b : Binding) where
           (same_thing two.0 one.0 item two.2 one.2));
     }
 
+    -- where one of the decisions is on a node's entry, the node was entered
     pub entered_by : (ds : List Decision) (d : Decision) (node : Node) → Contains ds d →
         On d (entry node) → IsEntered ds (head_of node)
     entered_by ds (Entered head caller) node there on =
@@ -563,6 +559,7 @@ module _ (system : System) (b : Binding) where
         closed_computed items (as_site s) (Value.Tuple []) node s hole (as_site-is s) there other.0
         it.0 other.2 it.1 it.2
 
+-- decisions in turn say of a binding that follows them what the items do that they decide
 pub followers_are_decided : FollowersAreDecided
 followers_are_decided system b depth ds items shape on turns some = record {
   equations = equations system b depth shape ds items on turns;
@@ -571,11 +568,13 @@ followers_are_decided system b depth ds items shape on turns some = record {
   closed = closed system b depth shape ds items on turns;
 }
 
+-- where none may come in, it is derived just where all is decided and its variables are forced
 pub closed_decisions_decide : ClosedDecisionsDecide
 closed_decisions_decide system b depth ds items shape on turns some all =
     closed_decide system b depth items shape (come system b depth shape ds items on turns some)
     (closed system b depth shape ds items on turns all)
 
+-- one more decision, on an item of the binding, is followed too
 pub follows_on : FollowsOn
 follows_on system b [] [] d item on there is = ((there, is), tt)
 follows_on system b [] (other ∷ items) d item on there is = absurd on
@@ -593,6 +592,7 @@ decided_by system b a (computed node s hole) holds = (
   (refl, as_site-is s, refl, holds),
 )
 
+-- where a binding has the shape and agrees, some decision is on each of its items
 pub each_is_decided : EachIsDecided
 each_is_decided system b depth shape agrees item there =
     let own = own_values_satisfy system b depth shape agrees in

@@ -24,9 +24,11 @@ use Rattle.rn_growing.proofs.Telling.{assigned, assigned_reads}
 use Rattle.rn_growing.specs.Grown.{Grown, IsNew, Says, laid_at, IsEarlier}
 use Rattle.rn_growing.specs.Grown.{KeepsGrowing, Tries, TriesIn}
 
+-- equal options hold equal values
 pub some_equal : {A : Type 0} (x y : A) → Some x ≡ Some y → x ≡ y
 some_equal x y e = cc
 
+-- what is read at an index within a list stands there
 pub stands_at : {A : Type 0} (xs : List A) (k : ℕ) (x : A) → k < length xs → x ≡ get_or xs k x →
     slice_get xs k ≡ Some x
 stands_at xs k x within is = slice_get-get_or xs k x within ∙ ap Some (sym is)
@@ -93,6 +95,7 @@ laid_twice laid one other before within =
     })
     (take-take one.slots other.slots laid.slots slots)
 
+-- the first so many of decisions in turn are in turn
 pub turns_front : (system : System) (ds : List Decision) (n : ℕ) → n ≤ length ds →
     AreInTurn system ds → AreInTurn system (take n ds)
 turns_front system ds n room turns = record {
@@ -161,9 +164,11 @@ earlier_stays old new frame grows earlier =
           (arith, earlier.1, longer_slots old.slots new.slots grows.slots),
     )
 
+-- a list with one more element holds it
 pub contains_last : {A : Type 0} (xs : List A) (y : A) → Contains (xs ++ y ∷ []) y
 contains_last xs y = Contains-append_right xs (y ∷ []) y (0, omega arith, refl)
 
+-- a list of one element holds no other
 pub only_one : {A : Type 0} (y x : A) → Contains (y ∷ []) x → y ≡ x
 only_one y x (zero, h, e) = e
 only_one y x (suc k, h, e) = absurd (let no : ⊥ = omega (arith, h) in no)
@@ -193,9 +198,11 @@ says_more system old new ds d says adds keeps laid = record {
   );
 }
 
+-- what stands at an index is in the list
 pub at_in : {A : Type 0} (xs : List A) (k : ℕ) (x : A) → slice_get xs k ≡ Some x → Contains xs x
 at_in xs k x at = (k, slice_get_within xs k x at, get_or_from_slice_get xs k x x at)
 
+-- decisions in turn stay so with one more that may come in and is new
 pub turns_more : (system : System) (ds : List Decision) (d : Decision) → AreInTurn system ds →
     MayCome system ds d → IsNew ds d → AreInTurn system (ds ++ d ∷ [])
 turns_more system ds d turns may new = record {

@@ -19,7 +19,9 @@ use Rattle.rn_growing.specs.Layouts.{id_of, same_unknown}
 use Rattle.rn_growing.specs.Indexed.{AreIndexed, IsSought, is_slot}
 use Rattle.rn_chains.proofs.ChainSteps.{either}
 use Rattle.rn_growing.proofs.Growth.{either_at, front_at}
-use Rattle.rn_growing.proofs.SameUnknowns.{both_true, same_path, unknown_is}
+use Rattle.rn_growing.proofs.SameUnknowns.{unknown_is}
+use Rattle.rn_items.proofs.Numbers.{same_numbers}
+use Rattle.rn_items.proofs.Bools.{both_true}
 
 is_false : (b : Bool) → ¬ (b ≡ true) → b ≡ false
 is_false true never = absurd (never refl)
@@ -103,7 +105,7 @@ module _ (path : List ℕ) (u : Unknown) where
   slot_alike slot passes =
       let both = both_true (same_unknown slot.unknown u) (pointwise nat_eq slot.path path)
       passes in
-      ap (λ p. unknown_key p slot.unknown) (same_path slot.path path both.1)
+      ap (λ p. unknown_key p slot.unknown) (same_numbers slot.path path both.1)
       ∙ ap (unknown_key path) (unknown_is slot.unknown u both.0)
 
   pub no_id : (slots : List Slot) →
@@ -139,7 +141,7 @@ slot_found slots keys path u i slot are at passes =
     let both = both_true (same_unknown slot.unknown u) (pointwise nat_eq slot.path path) passes in
     first_id path u slots i slot at
     (ap (λ v. id_of (take i slots) path v) (sym (unknown_is slot.unknown u both.0))
-    ∙ ap (λ p. id_of (take i slots) p slot.unknown) (sym (same_path slot.path path both.1))
+    ∙ ap (λ p. id_of (take i slots) p slot.unknown) (sym (same_numbers slot.path path both.1))
     ∙ are.apart i slot at) passes
 
 pub slot_pushed : (slots : List Slot) (keys : List ℕ) (slot : Slot) → AreIndexed slots keys →

@@ -27,13 +27,13 @@ use Rattle.rn_growing.specs.Layouts.{Layout, asked, id_of, same_unknown, IsLaidI
 use Rattle.rn_growing.specs.Building.{IsMade}
 use Rattle.std.specs.Prelude.{Contains, All, map}
 use Rattle.std.proofs.lemmas.List.Elements.{All-contains}
-use Rattle.rn_growing.proofs.SameUnknowns.{path_itself, same_path, both_true, unknown_itself}
+use Rattle.std.proofs.lemmas.Option.{same_Some}
+use Rattle.rn_growing.proofs.SameUnknowns.{unknown_itself}
 use Rattle.rn_growing.proofs.SameUnknowns.{unknown_is}
 use Rattle.rn_growing.specs.Grown.{BringsIn}
 use Rattle.rn_growing.specs.Laid.{LaidState, Gives, Grows, GoesBack, Builds, Equates}
-
-pub some_equal : (v w : Value) → Some v ≡ Some w → v ≡ w
-some_equal v w e = cc
+use Rattle.rn_items.proofs.Numbers.{same_numbers, numbers_themselves}
+use Rattle.rn_items.proofs.Bools.{both_true}
 
 kept_choice : (b : Bool) (o p q : Option ℕ) (id : ℕ) → (p ≡ Some id → q ≡ Some id) →
     (if b then o else p) ≡ Some id → (if b then o else q) ≡ Some id
@@ -112,7 +112,7 @@ module _ (s new : State) (slots : List Slot) (laid : IsLaidIn (id_of slots) s) (
     one_value first second is_p is_q a vs sat reads one =
         let left : Some (value_at vs p) ≡ Some one.0 = sym (is_p a vs sat reads) ∙ one.1 in
         let right : Some (value_at vs q) ≡ Some one.0 = sym (is_q a vs sat reads) ∙ one.2 in
-        some_equal (value_at vs p) (value_at vs q) (left ∙ sym right)
+        same_Some (value_at vs p) (value_at vs q) (left ∙ sym right)
 
     pub equated : Equates before p q after true
     equated first second is_p is_q = record {
@@ -147,7 +147,7 @@ module _ (s new : State) (slots : List Slot) (laid : IsLaidIn (id_of slots) s) (
       never (
         given.0,
         given.1,
-        some_equal (value_at given.0 p) (value_at given.0 q)
+        same_Some (value_at given.0 p) (value_at given.0 q)
             (left ∙ sym right),
       )
 
@@ -281,7 +281,7 @@ module _ (path : List ℕ) (u : Unknown) (n : ℕ) where
   id_of-last [] p v id is =
       of_test (same_unknown u v && pointwise nat_eq path p) id (IsBeforeOrNew [] p v id)
       (λ yes same. let both = both_true (same_unknown u v) (pointwise nat_eq path p) yes in
-      inr (same_path path p both.1, unknown_is u v both.0, same)) is
+      inr (same_numbers path p both.1, unknown_is u v both.0, same)) is
   id_of-last (other ∷ slots) p v id is =
       here_or_before (same_unknown other.unknown v && pointwise nat_eq other.path p)
       (Some other.id) (id_of slots p v) (id_of (slots ++ new_slot ∷ []) p v) id
@@ -294,7 +294,7 @@ module _ (path : List ℕ) (u : Unknown) (n : ℕ) where
 
   pub id_of-new : (slots : List Slot) → id_of slots path u ≡ None →
       id_of (slots ++ new_slot ∷ []) path u ≡ Some n
-  id_of-new [] none = rw (unknown_itself u, path_itself path) refl
+  id_of-new [] none = rw (unknown_itself u, numbers_themselves path) refl
   id_of-new (other ∷ slots) none =
       none_behind (same_unknown other.unknown u && pointwise nat_eq other.path path)
       (Some other.id) (id_of slots path u) (id_of (slots ++ new_slot ∷ []) path u)

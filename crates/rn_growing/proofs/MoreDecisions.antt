@@ -31,6 +31,7 @@ pub entered_by_more : EnteredByMore
 entered_by_more ds more head (caller, there) =
     (caller, Contains-append_left ds more (Entered head caller) there)
 
+-- what is forced to a value stays so as more decisions come in
 pub forced_by_more : ForcedByMore
 forced_by_more system ds more term v forced a solves =
     forced a (λ d there. solves d (Contains-append_left ds more d there))

@@ -13,8 +13,10 @@ use Rattle.rn_growing.specs.Following.{NewEntries, NewFinds, NewValues}
 use Rattle.rn_growing.specs.Grown.{IsNew}
 use Rattle.rn_growing.specs.Layouts.{same_site}
 use Rattle.rn_growing.specs.Turns.{SameThing}
-use Rattle.rn_growing.proofs.SameUnknowns.{both_true, path_itself, same_path, site_is}
+use Rattle.rn_growing.proofs.SameUnknowns.{site_is}
 use Rattle.rn_growing.proofs.SameUnknowns.{site_itself, as_site, site_of-is}
+use Rattle.rn_items.proofs.Numbers.{same_numbers, numbers_themselves}
+use Rattle.rn_items.proofs.Bools.{both_true}
 
 -- some element passes a test, or none does
 abbrev pub Passes : {A : Type 0} → (A → Bool) → List A → Type 0
@@ -28,6 +30,7 @@ by_first p x xs false here others e =
     let room = rest.1.1 in
     (rest.0, (suc rest.1.0, omega (arith, room), rest.1.2), rest.2)
 
+-- where some element passes, one that does is in the list
 pub some_passes : {A : Type 0} (p : A → Bool) (xs : List A) → list_any p xs ≡ true → Passes p xs
 some_passes p [] e = absurd (let no : ⊥ = cc in no)
 some_passes p (x ∷ xs) e = by_first p x xs (p x) refl (some_passes p xs) e
@@ -36,6 +39,7 @@ after_first : (first rest : Bool) → (first || rest) ≡ false → rest ≡ fal
 after_first true rest e = absurd (let no : ⊥ = cc in no)
 after_first false rest e = e
 
+-- where none passes, no element of the list does
 pub none_passes : {A : Type 0} (p : A → Bool) (xs : List A) (x : A) → list_any p xs ≡ false →
     Contains xs x → p x ≡ true → ⊥
 none_passes p [] x e (k, h, is) passes = let no : ⊥ = omega (arith, h) in no
@@ -48,8 +52,9 @@ none_passes p (y ∷ ys) x e (suc k, h, is) passes =
 
 -- a path that is the same on both sides
 pub alike : (p q : List ℕ) → p ≡ q → pointwise nat_eq p q ≡ true
-alike p q e = subst (λ r. pointwise nat_eq p r ≡ true) e (path_itself p)
+alike p q e = subst (λ r. pointwise nat_eq p r ≡ true) e (numbers_themselves p)
 
+-- a conjunction of true tests is true
 pub both_are : (p q : Bool) → p ≡ true → q ≡ true → p && q ≡ true
 both_are true q e f = f
 both_are false q e f = absurd (let no : ⊥ = cc in no)
@@ -71,6 +76,7 @@ module _ (d : Decision) (test : Decision → Bool)
     λ none e there same. none_passes test decisions e none there (passes e same),
   )
 
+-- an entry is new just where no decision enters a node on its path
 pub new_entries : NewEntries
 new_entries decisions head caller =
     new_by_test (Entered head caller) (enters head.path) passes fails decisions
@@ -81,10 +87,11 @@ new_entries decisions head caller =
     passes (Computed other at along w) same = absurd same
 
     fails : (e : Decision) → enters head.path e ≡ true → SameThing e (Entered head caller)
-    fails (Entered other from) is = same_path other.path head.path is
+    fails (Entered other from) is = same_numbers other.path head.path is
     fails (Found other j w) is = absurd (let no : ⊥ = cc in no)
     fails (Computed other at along w) is = absurd (let no : ⊥ = cc in no)
 
+-- what an arc finds is new just where no decision is on that arc of its node
 pub new_finds : NewFinds
 new_finds decisions head k v =
     new_by_test (Found head k v) (finds head.path k) passes fails decisions
@@ -99,10 +106,11 @@ new_finds decisions head k v =
     fails : (e : Decision) → finds head.path k e ≡ true → SameThing e (Found head k v)
     fails (Found other j w) is =
         let both = both_true (pointwise nat_eq other.path head.path) (nat_eq j k) is in
-        (same_path other.path head.path both.0, eqb-true j k both.1)
+        (same_numbers other.path head.path both.0, eqb-true j k both.1)
     fails (Entered other from) is = absurd (let no : ⊥ = cc in no)
     fails (Computed other at along w) is = absurd (let no : ⊥ = cc in no)
 
+-- the value of an operator application is new just where no decision is on that
 pub new_values : NewValues
 new_values decisions head site way v =
     new_by_test (Computed head site way v) (computes head.path site way) passes fails decisions
@@ -125,9 +133,9 @@ new_values decisions head site way v =
         let both = both_true (pointwise nat_eq other.path head.path)
         (same_site at site && pointwise nat_eq along way) is in
         let rest = both_true (same_site at site) (pointwise nat_eq along way) both.1 in (
-          same_path other.path head.path both.0,
+          same_numbers other.path head.path both.0,
           ap site_of (site_is at site rest.0),
-          same_path along way rest.1,
+          same_numbers along way rest.1,
         )
     fails (Entered other from) is = absurd (let no : ⊥ = cc in no)
     fails (Found other j w) is = absurd (let no : ⊥ = cc in no)

@@ -4,6 +4,7 @@ use Rattle.std.proofs.Common.{sym, ap, ◌∙◌, subst, arith, length-append}
 use Rattle.std.specs.Prelude.{Some, None, Contains, All}
 use Rattle.std.proofs.lemmas.List.Elements.{All-contains}
 use Rattle.std.proofs.lemmas.List.{get_or-take, take-take, take_all}
+use Rattle.std.proofs.lemmas.Option.{same_Some}
 use Rattle.std.proofs.Math.Seq.{get_or-append_seam}
 use Rattle.rn_value.specs.declared.value.Value.{Value}
 use Rattle.rn_value.specs.declared.value.Value.TheVariants as Value
@@ -20,7 +21,7 @@ use Rattle.rn_growing.specs.Layouts.{id_of, IsLaidIn, AreRead}
 use Rattle.rn_growing.specs.Laid.{LaidState}
 use Rattle.rn_growing.specs.Building.{PutsBefore}
 use Rattle.rn_growing.proofs.LaidSteps.{term_before, term_after, reads_before, reads_on}
-use Rattle.rn_growing.proofs.LaidSteps.{laid_later, both_before, some_equal}
+use Rattle.rn_growing.proofs.LaidSteps.{laid_later, both_before}
 use Rattle.rn_growing.proofs.BuildingSteps.{values_kept}
 
 module _ (s : State) (slots : List Slot) (ids : List ℕ) (tail : ℕ) (keeps : Keeps s)
@@ -118,7 +119,7 @@ module _ (s : State) (slots : List Slot) (ids : List ℕ) (tail : ℕ) (keeps : 
       pub never_put : ¬ MayBeOne with_list n tail → PutsBefore was ids tail now_laid None
       never_put never a rest is given others e =
           let there : value_at given.0 tail ≡ Value.List others =
-          some_equal (value_at given.0 tail) (Value.List others)
+          same_Some (value_at given.0 tail) (Value.List others)
           (sym (is a given.0 given.1 given.2) ∙ e) in
           never (
             both given.0 others,
@@ -195,7 +196,7 @@ module _ (s : State) (slots : List Slot) (ids : List ℕ) (tail : ℕ) (keeps : 
                 let vs = given.0.0 in
                 let sat = given.0.1 in
                 let there : value_at vs tail ≡ Value.List given.1.0 =
-                some_equal (value_at vs tail) (Value.List given.1.0)
+                same_Some (value_at vs tail) (Value.List given.1.0)
                 (sym (is a vs sat given.0.2) ∙ given.1.1) in
                 let on = two_on vs given.1.0 sat in
                 let goes = (says (both vs given.1.0) on.each).1

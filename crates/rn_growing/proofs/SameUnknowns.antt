@@ -1,5 +1,5 @@
 -- Unknowns and paths that are the same.
-use Rattle.std.proofs.Common.{◌≡◌, ℕ, Bool, true, false, ◌&&◌, List, [], ◌∷◌, refl, ap, ◌∙◌}
+use Rattle.std.proofs.Common.{◌≡◌, true, refl, ap, ◌∙◌}
 use Rattle.std.specs.Prelude.{nat_eq}
 use Rattle.std.specs.Cmp.Lexicographic.{pointwise}
 use Rattle.std.proofs.lemmas.Bool.{eqb-true, eq-eqb}
@@ -11,25 +11,10 @@ use Rattle.rn_growing.specs.declared.slot.Unknown.{Unknown}
 use Rattle.rn_growing.specs.declared.slot.Unknown.TheVariants.{Var, Hole}
 use Rattle.rn_growing.specs.Decisions.{site_of}
 use Rattle.rn_growing.specs.Layouts.{same_site, same_unknown}
+use Rattle.rn_items.proofs.Numbers.{same_numbers, numbers_themselves}
+use Rattle.rn_items.proofs.Bools.{both_true}
 
-pub path_itself : (p : List ℕ) → pointwise nat_eq p p ≡ true
-path_itself [] = refl
-path_itself (i ∷ p) = rw (eq-eqb i i refl, path_itself p) refl
-
-pub both_true : (a b : Bool) → a && b ≡ true → (a ≡ true) × (b ≡ true)
-both_true true b e = (refl, e)
-both_true false b e = absurd (let no : ⊥ = cc in no)
-
-pub same_path : (p q : List ℕ) → pointwise nat_eq p q ≡ true → p ≡ q
-same_path [] [] e = refl
-same_path [] (j ∷ q) e = absurd (let no : ⊥ = cc in no)
-same_path (i ∷ p) [] e = absurd (let no : ⊥ = cc in no)
-same_path (i ∷ p) (j ∷ q) e =
-    let both = both_true (nat_eq i j) (pointwise nat_eq p q) e in
-    let first : i ≡ j = eqb-true i j both.0 in
-    let rest : p ≡ q = same_path p q both.1 in
-    cc
-
+-- a site is the same as itself
 pub site_itself : (s : Site) → same_site s s ≡ true
 site_itself (Left k) = eq-eqb k k refl
 site_itself (Right k) = eq-eqb k k refl
@@ -38,6 +23,7 @@ site_itself (Target k) = eq-eqb k k refl
 site_itself (DownlinkArg i k) = rw (eq-eqb i i refl, eq-eqb k k refl) refl
 site_itself (Inscription k) = eq-eqb k k refl
 
+-- sites that the test takes as the same are equal
 pub site_is : (s t : Site) → same_site s t ≡ true → s ≡ t
 site_is (Left k) (Left j) e = ap Left (eqb-true k j e)
 site_is (Right k) (Right j) e = ap Right (eqb-true k j e)
@@ -51,13 +37,13 @@ site_is _ _ e = absurd (let no : ⊥ = cc in no)
 
 pub unknown_itself : (u : Unknown) → same_unknown u u ≡ true
 unknown_itself (Var x) = eq-eqb x x refl
-unknown_itself (Hole site way) = rw (site_itself site, path_itself way) refl
+unknown_itself (Hole site way) = rw (site_itself site, numbers_themselves way) refl
 
 pub unknown_is : (u v : Unknown) → same_unknown u v ≡ true → u ≡ v
 unknown_is (Var x) (Var y) e = ap Var (eqb-true x y e)
 unknown_is (Hole site way) (Hole other along) e =
     let both = both_true (same_site site other) (pointwise nat_eq way along) e in
-    ap (λ s. Hole s way) (site_is site other both.0) ∙ ap (Hole other) (same_path way along both.1)
+    ap (λ s. Hole s way) (site_is site other both.0) ∙ ap (Hole other) (same_numbers way along both.1)
 unknown_is _ _ e = absurd (let no : ⊥ = cc in no)
 
 -- a site in the words of code
@@ -69,6 +55,7 @@ as_site (D.target i) = Target i
 as_site (D.downlink_arg i k) = DownlinkArg i k
 as_site (D.arc k) = Inscription k
 
+-- a site in the words of code, and back, is itself
 pub as_site-is : (s : D.Site) → site_of (as_site s) ≡ s
 as_site-is (D.left k) = refl
 as_site-is (D.right k) = refl
@@ -77,6 +64,7 @@ as_site-is (D.target i) = refl
 as_site-is (D.downlink_arg i k) = refl
 as_site-is (D.arc k) = refl
 
+-- and so is a site of code in the words of definitions, and back
 pub site_of-is : (s : Site) → as_site (site_of s) ≡ s
 site_of-is (Left k) = refl
 site_of-is (Right k) = refl

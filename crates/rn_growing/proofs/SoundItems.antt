@@ -73,6 +73,7 @@ module _ (system : System) (b : Binding) where
       (sites_of (transition_of system node)) in
       (there, each_append Sound founds holes (arcs_sound node there) (holes_sound node there))
 
+  -- each item of a binding is of a node of it, and of what its transition has there
   pub items_sound : (item : Item) → Contains (items_of system b) item → IsSoundItem system b item
   items_sound item there =
       All-contains Sound (items_of system b) item

@@ -2,6 +2,7 @@
 use Rattle.std.specs.Prelude.{Bool, true, false, IsTrue, is_some}
 use Rattle.std.proofs.Common.{◌<◌, length}
 use Rattle.std.proofs.Common.{◌≡◌, ℕ, List, [], refl, sym, ap, ◌∙◌, subst, pos}
+use Rattle.std.proofs.lemmas.Option.{same_Some}
 use Rattle.std.specs.Prelude.{Option, Some, None, Result, Ok, Err, IfOk, ◌↔◌}
 use Rattle.std.specs.Option.{option_map_or}
 use Rattle.rn_value.specs.declared.value.Value.{Value}
@@ -138,9 +139,6 @@ given_ground laid path u id (Some w) at told = (
   λ all. refl,
 )
 
-some_value : (v w : Value) → Some v ≡ Some w → v ≡ w
-some_value v w e = cc
-
 pub forced_answer : {E : Type 0} (result : Result (Option Value) E) (system : System)
     (laid : LaidState) (ds : List Decision) (path : List ℕ) (u : Unknown) → Says system laid ds →
     IfOk result (λ told. (v : Value) → (told ≡ Some v) ↔ IsGiven laid path u v) →
@@ -150,7 +148,7 @@ forced_answer (Err e) system laid ds path u says told = tt
 forced_answer (Ok o) system laid ds path u says told = λ v. (
   λ e a solves. ap Some ((told v).0 e a ((says.exact a).0 solves)),
   λ forced. (told v).1
-      (λ a given. some_value (asked a path u) v (forced a ((says.exact a).1 given))),
+      (λ a given. same_Some (asked a path u) v (forced a ((says.exact a).1 given))),
 )
 
 pub forced_told : {E : Type 0} (result : Result Bool E) (system : System) (laid : LaidState)
@@ -164,6 +162,6 @@ forced_told (Ok yes_or_no) system laid ds path u says told = (
       (given.0, λ a solves. ap Some (given.1 a ((says.exact a).0 solves))),
   λ forced. told.1 (
     forced.0,
-    λ a given. some_value (asked a path u) forced.0 (forced.1 a ((says.exact a).1 given)),
+    λ a given. same_Some (asked a path u) forced.0 (forced.1 a ((says.exact a).1 given)),
   ),
 )

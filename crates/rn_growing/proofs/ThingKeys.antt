@@ -11,23 +11,25 @@ use Rattle.rn_growing.specs.declared.thing.Thing.TheVariants as T
 use Rattle.rn_growing.specs.Layouts.{same_site}
 use Rattle.rn_growing.specs.Keys.{stirred, path_key, hole_key}
 use Rattle.rn_growing.specs.Decided.{decision_key, thing_key, is_on}
-use Rattle.rn_growing.proofs.SameUnknowns.{both_true, same_path, site_is}
+use Rattle.rn_growing.proofs.SameUnknowns.{site_is}
+use Rattle.rn_items.proofs.Numbers.{same_numbers}
+use Rattle.rn_items.proofs.Bools.{both_true}
 
 pub thing_alike : (thing : Thing) (d : Decision) → is_on thing d ≡ true →
     decision_key d ≡ thing_key thing
 thing_alike (T.Entry path) (Entered head caller) e =
-    ap (λ p. stirred (path_key p) 8) (same_path head.path path.now e)
+    ap (λ p. stirred (path_key p) 8) (same_numbers head.path path.now e)
 thing_alike (T.Found path k) (Found head j v) e =
     let both = both_true (pointwise nat_eq head.path path.now) (nat_eq j k) e in
-    ap (λ p. stirred (stirred (path_key p) 9) j) (same_path head.path path.now both.0)
+    ap (λ p. stirred (stirred (path_key p) 9) j) (same_numbers head.path path.now both.0)
     ∙ ap (λ n. stirred (stirred (path_key path.now) 9) n) (eqb-true j k both.1)
 thing_alike (T.Computed path site way) (Computed head at along v) e =
     let both = both_true (pointwise nat_eq head.path path.now)
     (same_site at site && pointwise nat_eq along way.now) e in
     let rest = both_true (same_site at site) (pointwise nat_eq along way.now) both.1 in
-    ap (λ p. hole_key p at along) (same_path head.path path.now both.0)
+    ap (λ p. hole_key p at along) (same_numbers head.path path.now both.0)
     ∙ ap (λ s. hole_key path.now s along) (site_is at site rest.0)
-    ∙ ap (hole_key path.now site) (same_path along way.now rest.1)
+    ∙ ap (hole_key path.now site) (same_numbers along way.now rest.1)
 thing_alike (T.Entry path) _ e = absurd (let no : ⊥ = cc in no)
 thing_alike (T.Found path k) _ e = absurd (let no : ⊥ = cc in no)
 thing_alike (T.Computed path site way) _ e = absurd (let no : ⊥ = cc in no)

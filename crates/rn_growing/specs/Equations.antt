@@ -9,7 +9,7 @@ use Rattle.rn_model.specs.declared.system.Creation.{Creation}
 use Rattle.rn_model.specs.declared.system.Downlink.{Downlink}
 use Rattle.rn_model.specs.Lists.{HaveOneValue}
 use Rattle.rn_model.specs.Systems.{uplink_args}
-use Rattle.rn_model.specs.Derivation.{Assignment, term_value, left, right, uplink_arg, target}
+use Rattle.rn_model.specs.Derivation.{Assignment, term_value, left, right, uplink_arg}
 use Rattle.rn_model.specs.Derivation.{downlink_arg, arc}
 use Rattle.rn_model.specs.Derivation as D
 use Rattle.rn_growing.specs.declared.decision.Head.{Head}

@@ -29,10 +29,14 @@ first_decisions n g = record { system = g.system; decisions = take n g.decisions
 abbrev pub IsNew : List Decision → Decision → Type 0
 IsNew decisions d = (e : Decision) → Contains decisions e → ¬ SameThing e d
 
--- no transition has more creations than the name of a new instance can number
+-- how many creations of a node the names of new instances can number
+abbrev pub most_numbered : ℕ
+most_numbered = 256
+
+-- no transition has more creations than can be numbered
 abbrev pub HasFewCreations : System → Type 0
 HasFewCreations system =
-    All (λ net. All (λ t. length t.creations ≤ 256) net.transitions) system.nets
+    All (λ net. All (λ t. length t.creations ≤ most_numbered) net.transitions) system.nets
 
 -- The store says what the decisions bring: the assignments that satisfy that are just those that
 -- it gives.

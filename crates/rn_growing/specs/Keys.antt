@@ -4,13 +4,14 @@ use Rattle.std.specs.Prelude.{ℕ, ◌+◌, ◌*◌, ◌%◌, ◌^◌, List, [],
 use Rattle.rn_growing.specs.declared.decision.Site.{Site}
 use Rattle.rn_growing.specs.declared.decision.Site.TheVariants.{Left, Right, UplinkArg, Target}
 use Rattle.rn_growing.specs.declared.decision.Site.TheVariants.{DownlinkArg, Inscription}
+use Rattle.rn_growing.specs.declared.keys.TheConstants.{FACTOR}
 use Rattle.rn_growing.specs.declared.slot.Slot.{Slot}
 use Rattle.rn_growing.specs.declared.slot.Unknown.{Unknown}
 use Rattle.rn_growing.specs.declared.slot.Unknown.TheVariants.{Var, Hole}
 
 -- one more number goes into a key
 unfoldable pub stirred : ℕ → ℕ → ℕ
-stirred key n = (key * 16777619 % 2 ^ 64 + n) % 2 ^ 64
+stirred key n = (key * FACTOR % 2 ^ 64 + n) % 2 ^ 64
 
 -- and all of a list, one after another
 abbrev pub all_stirred : ℕ → List ℕ → ℕ

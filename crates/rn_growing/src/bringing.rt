@@ -11,7 +11,7 @@ ghost use Rattle.rn_growing.specs.Decisions.{site_of, transition_in};
 ghost use Rattle.rn_growing.specs.Entering.{AllHold, ArgHolds, ArgsHold};
 ghost use Rattle.rn_growing.specs.Entering.{CreationHolds, EqualityHolds};
 ghost use Rattle.rn_growing.specs.Equations.{Brings, read_at};
-ghost use Rattle.rn_growing.specs.Grown.{BringsIn, HasFewCreations, TriesIn};
+ghost use Rattle.rn_growing.specs.Grown.{BringsIn, HasFewCreations, TriesIn, most_numbered};
 ghost use Rattle.rn_growing.specs.Laid.{Grows};
 ghost use Rattle.rn_growing.specs.declared.decision.Decision.TheVariants as D;
 
@@ -20,7 +20,7 @@ use crate::decision::{Caller, Decision, Head, Site, Way};
 use crate::laid::Laid;
 use crate::slot::Unknown;
 use rn_items::Items;
-use rn_model::{Creation, Expr, System, Transition};
+use rn_model::{Creation, Expr, System, Transition, transition_at};
 use rn_value::{InstRef, NoMemory, Value, copy};
 use std::alloc::Global;
 
@@ -81,14 +81,11 @@ fn bring(
 }
 
 /// The transition of a node, where there is one.
-fn transition_of<'a>(system: &'a System, head: &Head) -> Option<&'a Transition>
+pub fn transition_in<'a>(system: &'a System, head: &Head) -> Option<&'a Transition>
     ensures { unwrap_or (option_copied result) empty_transition
         ≡ transition_in system.now head.now }
 {
-    match system.nets.get(head.net as usize) {
-        Some(net) => net.transitions.get(head.transition as usize),
-        None => None,
-    }
+    transition_at(system, head.net, head.transition)
 }
 
 /// The entry of a node brings its equalities, its creations, and the arguments of its call.
@@ -104,7 +101,7 @@ fn bring_entry(
         (λ a. Brings system.now a (D.Entered head.now caller.now)) laid.new yes) }
     ensures grows { Grows laid.old laid.new }
 {
-    let transition = match transition_of(system, head) {
+    let transition = match transition_in(system, head) {
         Some(transition) => transition,
         None => return Ok(true),
     };
@@ -154,7 +151,7 @@ fn bring_creations(
     head: &Head,
     creations: &[Creation],
 ) -> Result<bool, NoMemory>
-    requires { length creations.now ≤ 256 }
+    requires { length creations.now ≤ most_numbered }
     ensures brings { IfOk result
         (λ yes. BringsIn laid.old (AllHold (CreationHolds head.now creations.now)) laid.new yes) }
     ensures grows { Grows laid.old laid.new }
@@ -186,7 +183,7 @@ fn bring_call(
         Some(from) => from,
         None => return Ok(true),
     };
-    let calling = match transition_of(system, &from.head) {
+    let calling = match transition_in(system, &from.head) {
         Some(calling) => calling,
         None => return Ok(true),
     };
@@ -208,7 +205,7 @@ fn bring_call(
 fn args_of<'a>(system: &'a System, head: &Head) -> &'a [Expr]
     ensures { result.now ≡ uplink_args (transition_in system.now head.now) }
 {
-    match transition_of(system, head) {
+    match transition_in(system, head) {
         Some(transition) => match &transition.uplink {
             Some(uplink) => uplink.args.as_slice(),
             None => &[],
@@ -288,7 +285,7 @@ fn bring_found(
         (λ a. Brings system.now a (D.Found head.now arc value.now)) laid.new yes) }
     ensures grows { Grows laid.old laid.new }
 {
-    let transition = match transition_of(system, head) {
+    let transition = match transition_in(system, head) {
         Some(transition) => transition,
         None => return Ok(true),
     };

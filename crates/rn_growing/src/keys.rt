@@ -2,16 +2,19 @@
 //! that are the same have one key, but two with one key may differ, since keys wrap around. So
 //! whoever finds one compares it, and no answer depends on how keys spread.
 ghost use Rattle.std.specs.Prelude.{◌≡◌};
-ghost use Rattle.rn_growing.specs.Keys.{all_stirred, hole_key, path_key, site_key, stirred};
+ghost use Rattle.rn_growing.specs.Keys.{hole_key, path_key, site_key, stirred};
 
 use crate::decision::Site;
+
+/// What a key is multiplied by before one more number goes into it.
+const FACTOR: usize = 16777619;
 
 /// One more number goes into a key.
 #[tactic(auto, unfolding(crate::specs::Keys::stirred))]
 pub(crate) fn stir(key: usize, n: usize) -> usize
     ensures { result ≡ stirred key n }
 {
-    key.wrapping_mul(16777619).wrapping_add(n)
+    key.wrapping_mul(FACTOR).wrapping_add(n)
 }
 
 /// The key of the node on a path.

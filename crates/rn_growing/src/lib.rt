@@ -16,6 +16,7 @@ mod slot;
 mod slots;
 mod thing;
 
+pub use bringing::transition_in;
 pub use decision::{Caller, Decision, Decisions, Head, Site, Way, copy_head};
 pub use growing::Growing;
 pub use laws::{followers_are_decided, good_systems_open, more_decisions, new_is_undecided};

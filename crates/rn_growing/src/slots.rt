@@ -38,7 +38,6 @@ pub(crate) struct Slots {
 
 impl Model for Slots {
     ghost use Rattle.std.specs.Prelude.{List};
-    ghost use Rattle.std.specs.Coded.{codes};
     ghost use Rattle.rn_growing.specs.declared.slot.Slot.{Slot};
     ghost use Rattle.rn_growing.specs.Indexed.{AreIndexed};
 

@@ -97,6 +97,7 @@ joins_as Has Is {a = a} to from joins = record {
 
 -- one more of a list
 module _ (xs : List ℕ) (i : ℕ) (within : i < length xs) where
+  -- what is among the first with one more is among these or is that one
   pub taken_more : (n : ℕ) → Contains (take (i + 1) xs) n →
       Contains (take i xs) n ⊎ (n ≡ get_or xs i 0)
   taken_more n has = elim (Contains-push_cases (take i xs) (get_or xs i 0) n

@@ -1,5 +1,5 @@
 //! The instances that reach some of others, found from these backwards.
-ghost use Rattle.std.specs.Prelude.{◌≡◌, ◌↔◌, ◌<◌, ◌^◌, ℕ, Some, IsTrue, nat_eq, length, Contains, IfOk, OnOk};
+ghost use Rattle.std.specs.Prelude.{◌≡◌, ◌↔◌, ◌<◌, ℕ, Some, IsTrue, nat_eq, Contains, IfOk, OnOk};
 ghost use Rattle.std.specs.List.{IsDistinct};
 ghost use Rattle.rn_reach.specs.Reach.{ReachesOne, RefersTo};
 ghost use Rattle.rn_holders.specs.Holders.{MentionNear, HaveHolders, HasItsHolders, held_by};

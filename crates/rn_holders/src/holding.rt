@@ -1,5 +1,5 @@
 //! Lists of the instances that may refer to each instance.
-ghost use Rattle.std.specs.Prelude.{◌≡◌, ◌<◌, ◌≤◌, ◌^◌, ℕ, Some, [], length, Contains, OnOk, slice_index_or};
+ghost use Rattle.std.specs.Prelude.{◌≡◌, ◌<◌, ℕ, length, Contains, OnOk};
 ghost use Rattle.rn_reach.specs.Reach.{RefersTo};
 ghost use Rattle.rn_holders.specs.Holders.{MentionNear, KeepHolders, HaveTheseHolders, held_by};
 

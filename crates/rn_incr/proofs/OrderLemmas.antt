@@ -1,7 +1,7 @@
 -- The order of bindings by the instances in which they start, and lists in order.
-use Rattle.std.proofs.Common.{◌≡◌, ◌≢◌, ◌<◌, ◌+◌, ℕ, zero, suc, List, [], ◌∷◌, length, get_or}
+use Rattle.std.proofs.Common.{◌≡◌, ◌≢◌, ◌<◌, ◌+◌, ℕ, List, [], ◌∷◌, length, get_or}
 use Rattle.std.proofs.Common.{false, refl, sym, ap, subst, ◌∙◌, arith}
-use Rattle.std.specs.Prelude.{Contains, AllPairs}
+use Rattle.std.specs.Prelude.{AllPairs}
 use Rattle.std.specs.List.{AllAdjacentBelow}
 use Rattle.std.specs.List.Sorted.{IsSorted}
 use Rattle.std.specs.Cmp.{nat_cmp_is}
@@ -20,6 +20,7 @@ use Rattle.rn_model.specs.Markings.{Marking}
 use Rattle.rn_model.specs.Order.{node_cmp, binding_cmp}
 use Rattle.rn_model.specs.OrderLaws.{binding_cmp-total}
 use Rattle.rn_found.specs.Starting.{HasStartIn}
+use Rattle.rn_found.proofs.FirstBindings.{root_is_first}
 use Rattle.rn_incr.proofs.StartLemmas.{starts_with}
 
 -- where each is less than the next, each is another one
@@ -36,25 +37,6 @@ adjacent_apart xs up i j d less within same =
     = subst (λ b. is_lt (binding_cmp b (get_or xs (i + 1) d)) ≡ false) (sym same) far in
     let no : ⊥ = cc in
     no
-
-no_path_below : (p : List ℕ) → slice_cmp nat_cmp p [] ≡ Less → ⊥
-no_path_below [] less = let no : ⊥ = cc in no
-no_path_below (i ∷ p) less = let no : ⊥ = cc in no
-
--- in ascending order of paths a node on the empty path comes first
-pub first_on_no_path : (nodes : List Node) (node : Node) →
-    AllAdjacentBelow (λ x y. slice_cmp nat_cmp x.path y.path ≡ Less) nodes (length nodes) →
-    Contains nodes node → node.path ≡ [] → (rest : List Node) × (nodes ≡ node ∷ rest)
-first_on_no_path [] node up (k, within, at) path = absurd (let no : ⊥ = omega (arith, within) in no)
-first_on_no_path (x ∷ rest) node up (zero, within, at) path = (rest, ap (λ y. y ∷ rest) at)
-first_on_no_path (x ∷ rest) node up (suc k, within, at) path =
-    let nodes = x ∷ rest in
-    let place : k + 1 ≡ suc k = omega arith in
-    let below : slice_cmp nat_cmp (get_or nodes k node).path (get_or nodes (k + 1) node).path ≡ Less
-    = up k node (omega (arith, within)) in
-    let here : get_or nodes (k + 1) node ≡ node = ap (λ j. get_or nodes j node) place ∙ at in
-    absurd (no_path_below (get_or nodes k node).path
-    (subst (λ p. slice_cmp nat_cmp (get_or nodes k node).path p ≡ Less) (ap (λ n. n.path) here ∙ path) below))
 
 then_less : (o p q : Ordering) → o ≡ Equal → p ≡ Less → ordering_then o (ordering_then p q) ≡ Less
 then_less o p q tied less =
@@ -82,8 +64,8 @@ pub lower_is_less : (system : System) (m : Marking) (depth : ℕ) (b c : Binding
 lower_is_less system m depth b c n k first second one other low =
     let x = starts_with system m depth b n first one in
     let y = starts_with system m depth c k second other in
-    let head = first_on_no_path b.nodes x.0 first.shape.ascending x.1 x.2 in
-    let next = first_on_no_path c.nodes y.0 second.shape.ascending y.1 y.2 in
+    let head = root_is_first b.nodes x.0 first.shape.ascending x.1 x.2 in
+    let next = root_is_first c.nodes y.0 second.shape.ascending y.1 y.2 in
     let numbers : nat_cmp n k ≡ Less = sym (nat_cmp_is n k Less low) in
     let insts : inst_cmp x.0.inst y.0.inst ≡ Less
     = subst (λ i. inst_cmp i y.0.inst ≡ Less) (sym x.3)

@@ -4,6 +4,7 @@ use Rattle.std.proofs.Common.{refl, sym, ap, ◌∙◌, subst, arith}
 use Rattle.std.specs.Prelude.{All, Contains, Option, Some, None, nat_eq, slice_get, unwrap_or, option_map, option_and_then}
 use Rattle.std.specs.Option.{option_map_or}
 use Rattle.std.proofs.lemmas.List.Elements.{All-contains, All-head, All-tail}
+use Rattle.std.proofs.lemmas.Option.{slice_get_past}
 use Rattle.rn_value.specs.Kinds.{HasKind, value_has_kind, kind_step}
 use Rattle.rn_value.specs.declared.value.Kind.{Kind, out-Kind}
 use Rattle.rn_value.specs.declared.value.Kind.TheVariants as Kind
@@ -53,11 +54,6 @@ false_unless : (b : Bool) → (b ≡ true → ⊥) → b ≡ false
 false_unless true not = absurd (not refl)
 false_unless false not = refl
 
-none_past_end : {X : Type 0} (xs : List X) (k : ℕ) → length xs ≤ k → slice_get xs k ≡ None
-none_past_end [] k h = refl
-none_past_end (x ∷ xs) zero h = absurd (let no : ⊥ = omega (arith, h) in no)
-none_past_end (x ∷ xs) (suc k) h = none_past_end xs k (omega (arith, h))
-
 few_at : (system : System) (nets : List Net) (k : ℕ) → All (IsGoodNet system) nets →
     length (unwrap_or (slice_get nets k) empty_net).places ≤ 1000
 few_at system [] k all = omega arith
@@ -75,7 +71,7 @@ fit_near system m good fit holder n place v far has = by_there (instance_at m ho
     by_there (Some i) e =
         let net : net_of m holder ≡ Some i.net = ap (option_map (λ (j : Instance). j.net)) e in
         let few = few_at system system.nets i.net good.nets in
-        let past = none_past_end (net_at system i.net).places place (omega (arith, far, few)) in
+        let past = slice_get_past (net_at system i.net).places place (omega (arith, far, few)) in
         let kind : place_kind system i.net place ≡ unkinded =
         ap (λ (o : Option Place). option_map_or (λ place. place.kind) o unkinded) past in
         false_unless (mentions v n) (λ mention. empty_mentions v n

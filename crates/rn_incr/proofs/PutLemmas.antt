@@ -16,7 +16,7 @@ use Rattle.rn_incr.specs.Kept.{some_in, AreBusy, AreNear, AreNoted, ArePut, Grow
 use Rattle.rn_incr.specs.Kept.{numbers_of, put_in}
 use Rattle.rn_incr.proofs.BusyLemmas.{not_both, now_in, still_in, grows_on, grown_near}
 use Rattle.rn_incr.proofs.ListedLemmas.{past_default}
-use Rattle.rn_incr.proofs.RefreshLemmas.{in_or_not}
+use Rattle.rn_items.proofs.Numbers.{in_or_not}
 
 same_or_not : (i j : ℕ) → (i ≡ j) ⊎ (i ≢ j)
 same_or_not zero zero = inl refl

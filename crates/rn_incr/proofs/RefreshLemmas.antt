@@ -1,8 +1,6 @@
 -- Lists and holders after a change.
-use Rattle.std.proofs.Common.{◌≡◌, ℕ, Bool, true, false, List, [], map, refl, sym, ap, subst, inl, inr, ⊎_elim, eq-eqb}
-use Rattle.std.proofs.lemmas.Bool.{eqb-true}
+use Rattle.std.proofs.Common.{◌≡◌, ℕ, List, [], map, refl, sym, ap, subst, ⊎_elim}
 use Rattle.std.specs.Prelude.{◌⊎◌, ◌↔◌, Option, Some, None, nat_eq, Contains, slice_get, unwrap_or, option_and_then}
-use Rattle.std.specs.List.{list_any}
 use Rattle.rn_model.specs.declared.binding.Binding.{Binding}
 use Rattle.rn_model.specs.declared.system.System.{System}
 use Rattle.rn_model.specs.Enabling.{Enabled}
@@ -10,7 +8,6 @@ use Rattle.rn_model.specs.Markings.{Marking, Instance, instance_at, tokens_at}
 use Rattle.rn_model.proofs.AfterFiring.{found_number}
 use Rattle.rn_model.proofs.AskedValues.{contained_mapped}
 use Rattle.rn_model.proofs.EnablingLemmas.{not_in_nil}
-use Rattle.rn_model.proofs.LiveByRounds.{any_contained, contained_any}
 use Rattle.rn_model.proofs.MarkingsOfRuns.{found_is_there}
 use Rattle.rn_reach.specs.Reach.{RefersTo, ReachesOne, DifferAtMostIn}
 use Rattle.rn_reach.proofs.ChangedInstances.{changes_are_reached_in_both, others_stay}
@@ -18,17 +15,7 @@ use Rattle.rn_holders.specs.Holders.{HaveHolders, KeepHolders, HaveTheseHolders}
 use Rattle.rn_found.specs.Starting.{HasStartIn}
 use Rattle.rn_incr.specs.Lists.{IsListOf, IsNumberOf}
 use Rattle.rn_incr.proofs.StartLemmas.{starts_in_it}
-
--- a number is in a list or it isn't
-pub in_or_not : (xs : List ℕ) (n : ℕ) → Contains xs n ⊎ (¬ Contains xs n)
-in_or_not xs n = by_test (list_any (nat_eq n) xs) refl
-  where
-    by_test : (is : Bool) → list_any (nat_eq n) xs ≡ is → Contains xs n ⊎ (¬ Contains xs n)
-    by_test true e = let same = any_contained (nat_eq n) xs e in
-        inl (subst (Contains xs) (sym (eqb-true n same.0 same.2)) same.1)
-    by_test false e = inr (λ there.
-        let any = contained_any (nat_eq n) xs n there (eq-eqb n n refl) in
-        let no : ⊥ = cc in no)
+use Rattle.rn_items.proofs.Numbers.{in_or_not}
 
 module _ (system : System) (m other : Marking) (changed : List ℕ) (depth : ℕ)
     (differ : DifferAtMostIn changed m other) where

@@ -53,6 +53,7 @@ module _ (s : State) (l : Listed) (followed : IsFollowed s l) where
   at_end P here =
       subst (λ d. P (end_marking s) d) followed.depth (subst (λ m. P m l.depth) followed.at here)
 
+  -- the least binding at their marking is the least at the end of the state's firings
   pub least_now : (b : Binding) → IsLeast s.setup.system l.marking l.depth b →
       IsLeast s.setup.system (end_marking s) s.setup.options.depth b
   least_now b = at_end (λ m d. IsLeast s.setup.system m d b)
@@ -63,6 +64,7 @@ module _ (s : State) (l : Listed) (followed : IsFollowed s l) where
 
 -- Where a log hasn't ended, all its entries are firings.
 module _ (s : State) (seen : ℕ) (going : s.ended ≡ None) (count : seen ≡ length (logged s)) where
+  -- then as many were seen as there are firings
   pub all_seen : seen ≡ length s.fired
   all_seen = count ∙ ap (λ e. length (entries_of s.fired e)) going ∙ count_going s.fired
 
@@ -84,18 +86,21 @@ module _ (s : State) (seen : ℕ) (going : s.ended ≡ None) (count : seen ≡ l
 
 -- After a firing the table still has all, where it had.
 module _ (old new : State) (f : Firing) (fires : HasFired old f new) where
+  -- the setup is as before
   pub same_setup : new.setup ≡ old.setup
   same_setup = ap (λ s. s.setup) fires.state
 
   pub one_fired : new.fired ≡ old.fired ++ f ∷ []
   one_fired = ap (λ s. s.fired) fires.state
 
+  -- the log goes on where it did
   pub still_going : old.ended ≡ None → new.ended ≡ None
   still_going going = ap (λ s. s.ended) fires.state ∙ going
 
   end_is : end_marking new ≡ end_of old.setup.system (old.fired ++ f ∷ [])
   end_is = ap end_marking fires.state
 
+  -- the table is the marking at the end where it was
   pub still_whole : old.table.marking ≡ end_marking old → new.table.marking ≡ end_marking new
   still_whole whole =
       fires.table
@@ -109,17 +114,20 @@ module _ (old new : State) (f : Firing) (fires : HasFired old f new) where
       ∙ take-append-le seen old.fired (f ∷ []) (omega (arith, all))
       ∙ take_all seen old.fired (omega (arith, all))
 
+  -- the end of as many firings as there were is the end before
   pub end_before : (seen : ℕ) → seen ≡ length old.fired →
       end_of new.setup.system (take seen new.fired) ≡ end_marking old
   end_before seen all =
       ap (λ x. end_of x.system (take seen new.fired)) same_setup
       ∙ ap (end_of old.setup.system) (before_it seen all)
 
+  -- there are at least as many firings as there were
   pub within_it : (seen : ℕ) → seen ≡ length old.fired → seen ≤ length new.fired
   within_it seen all =
       let count = ap length one_fired ∙ length-append old.fired (f ∷ []) in
       omega (arith, all, count)
 
+  -- there is one firing more
   pub count_fired : length new.fired ≡ length old.fired + 1
   count_fired = ap length one_fired ∙ length-append old.fired (f ∷ [])
 

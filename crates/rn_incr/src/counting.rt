@@ -1,5 +1,5 @@
 //! How many bindings the lists have, and the first of them.
-ghost use Rattle.std.specs.Prelude.{◌≡◌, ◌↔◌, IfSome, IsNone};
+ghost use Rattle.std.specs.Prelude.{◌↔◌, IfSome, IsNone};
 ghost use Rattle.std.specs.Option.{option_copied};
 ghost use Rattle.rn_model.specs.declared.system.System.{System as Whole};
 ghost use Rattle.rn_model.specs.Enabling.{DeadAt};

@@ -1,5 +1,5 @@
 //! Which instances may refer to which.
-ghost use Rattle.std.specs.Prelude.{◌≡◌, IfOk, OnOk, OnErr, ℕ, Contains};
+ghost use Rattle.std.specs.Prelude.{IfOk};
 ghost use Rattle.rn_model.specs.Good.{Good};
 ghost use Rattle.rn_search.specs.Problems.{HasFitTokens};
 ghost use Rattle.rn_holders.specs.Holders.{HaveHolders};

@@ -1,7 +1,6 @@
 //! The kept lists of enabled bindings.
-ghost use Rattle.std.specs.Prelude.{◌≡◌, [], ℕ, IfOk, OnOk, length, slice_index_or};
+ghost use Rattle.std.specs.Prelude.{◌≡◌, [], ℕ, IfOk, slice_index_or};
 ghost use Rattle.rn_model.specs.Good.{Good};
-ghost use Rattle.rn_model.specs.Markings.{Marking};
 ghost use Rattle.rn_search.specs.Problems.{HasFitTokens};
 ghost use Rattle.rn_channel.specs.Uplinks.{AreUplinksOf};
 ghost use Rattle.rn_table.specs.Tables.{IsTableOf};

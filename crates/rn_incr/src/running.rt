@@ -7,7 +7,7 @@ ghost use Rattle.rn_model.specs.Runs.{end_of};
 ghost use Rattle.rn_fire.specs.States.{end_marking};
 ghost use Rattle.rn_incr.specs.Counts.{AreCounts, IsCounted};
 ghost use Rattle.rn_incr.specs.Following.{Advances, IsFollowed, Steps};
-ghost use Rattle.rn_incr.specs.Lists.{AreListsOf, IsCount};
+ghost use Rattle.rn_incr.specs.Lists.{AreListsOf};
 
 use crate::lists::{Lists, open_lists};
 use rn_channel::Uplinks;

@@ -1,29 +1,19 @@
 //! How many of the instances that reach a changed one may start a firing.
-ghost use Rattle.std.specs.Prelude.{◌≡◌, ◌≢◌, ℕ, false, Contains, AllPairs};
+ghost use Rattle.std.specs.Prelude.{◌≡◌, ◌≢◌, false, Contains, AllPairs};
 ghost use Rattle.std.specs.Option.{option_map_or};
 ghost use Rattle.rn_model.specs.Markings.{net_of};
 ghost use Rattle.rn_model.specs.Systems.{may_start};
 ghost use Rattle.rn_incr.specs.Lists.{IsNumberOf, MayStartIn};
 
 use rn_model::System;
-use rn_table::{Table, has_start};
-
-// Whether a net has a transition without uplink.
-fn net_starts(system: &System, net: u32) -> bool
-    ensures { result ≡ may_start system.now net }
-{
-    match system.nets.get(net as usize) {
-        Some(net) => has_start(net.transitions.as_slice()),
-        None => false,
-    }
-}
+use rn_table::{Table, starts};
 
 // Whether an instance is kept and its net has a transition without uplink.
 fn starts_at(system: &System, table: &Table, number: u32) -> bool
     ensures { result ≡ option_map_or (may_start system.now) (net_of table.now.marking number) false }
 {
     match table.net_of(number) {
-        Some(net) => net_starts(system, net),
+        Some(net) => starts(system, net),
         None => false,
     }
 }

@@ -3,7 +3,6 @@ use crate::anew::WORKLOAD;
 use crate::nets::{options_of, system_of};
 use rn_incr::run_counts;
 use rn_model::{Entry, Reason};
-use std::alloc::Global;
 use std::test::Fail;
 
 const TOKENS: &[u8] = b"net main { var x: int; place p: int = 2, 1; trans t { in p: x; } }";

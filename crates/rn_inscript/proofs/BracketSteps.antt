@@ -1,5 +1,5 @@
 -- Brackets are passed: levels open and close.
-use Rattle.std.proofs.Common.{◌≡◌, ℕ, ◌+◌, ◌<◌, ◌≤◌, ◌⊎◌, inl, inr, true, false, Bool, ◌||◌, List, [], ◌∷◌, ◌++◌, length, drop, refl, sym, ◌∙◌, ap, subst, append_assoc, arith, nat_le}
+use Rattle.std.proofs.Common.{◌≡◌, ℕ, ◌+◌, ◌<◌, true, false, Bool, ◌||◌, List, [], ◌∷◌, ◌++◌, length, drop, refl, sym, ◌∙◌, ap, subst, append_assoc, arith, nat_le}
 use Rattle.std.specs.Prelude.{Result, Ok, Err}
 use Rattle.rn_notation.specs.declared.token.Token.{Token}
 use Rattle.rn_notation.specs.declared.token.TokenKind.{TokenKind}
@@ -7,11 +7,11 @@ use Rattle.rn_notation.specs.declared.token.TokenKind.TheVariants.{Sign}
 use Rattle.rn_inscript.specs.declared.cursor.Seen.{Seen}
 use Rattle.rn_inscript.specs.declared.fault.InscriptFault.{InscriptFault}
 use Rattle.rn_inscript.specs.declared.fault.InscriptFault.TheVariants as Fault
-use Rattle.rn_inscript.specs.Levels.{Level, bracket, negative, Count, without_minuses, levels_at, goes_too_far, after_token}
-use Rattle.rn_inscript.specs.Stages.{Phrases, Then, Done, Takes, BeginAlike, Ends, Stage, CanEnd, Fails, IsSoFar, ReadsFrom, IsNext, IsNextSign, IsNotNextSign, strength, ready, ended}
-use Rattle.rn_inscript.proofs.StageLemmas.{begin, change, inner, inner_fails}
+use Rattle.rn_inscript.specs.Levels.{Level, bracket, Count, without_minuses, levels_at, goes_too_far, after_token}
+use Rattle.rn_inscript.specs.Stages.{Phrases, Then, Done, Takes, Ends, Stage, CanEnd, Fails, IsSoFar, ReadsFrom, IsNext, IsNextSign, strength, ready, ended}
+use Rattle.rn_inscript.proofs.StageLemmas.{change, inner, inner_fails}
 use Rattle.rn_inscript.proofs.CountSteps.{le-false, le-true}
-use Rattle.rn_inscript.proofs.Passing.{alike-cons, pass, far_next, stuck_sign}
+use Rattle.rn_inscript.proofs.Passing.{pass, far_next}
 
 -- a token of a kind, wherever it stands
 abbrev pub any : TokenKind → Token
@@ -139,14 +139,8 @@ abbrev pub IsNeutral : ℕ → Type 0
 IsNeutral k = (levels : List Level) (operators : ℕ) →
     (goes_too_far (ended levels operators) (Sign k) ≡ false) × (after_token (ended levels operators) (Sign k) ≡ ready (without_minuses levels) operators)
 
-pub neutral-comma : IsNeutral 6
-neutral-comma levels operators = (refl, refl)
-
 pub neutral-colon : IsNeutral 8
 neutral-colon levels operators = (refl, refl)
-
-pub neutral-equals : IsNeutral 9
-neutral-equals levels operators = (refl, refl)
 
 pub neutral_passed : {A : Type 0} {n k operators : ℕ} {X Y : Phrases A} {start : List Token} {first : Count} {levels around : List Level} (tokens : List Token) (at : ℕ) {t : Token} →
     IsNeutral k → Stage n X start first Y (drop at tokens) (ended levels operators) → IsNext tokens at t → t.kind ≡ Sign k → without_minuses levels ≡ around →

@@ -1,6 +1,6 @@
 -- What the productions of conditions say of a next token.
-use Rattle.std.proofs.Common.{◌≡◌, ℕ, ◌+◌, ◌<◌, ◌≤◌, ◌⊎◌, inl, inr, true, false, Bool, ◌||◌, List, [], ◌∷◌, ◌++◌, length, drop, refl, sym, ◌∙◌, ap, subst, arith, nat_eq, nat_le}
-use Rattle.std.specs.Prelude.{Option, Some, None, ⊤, Result, Ok, Err}
+use Rattle.std.proofs.Common.{◌≡◌, ℕ, ◌+◌, ◌<◌, ◌≤◌, ◌⊎◌, inl, inr, List, [], ◌∷◌, ◌++◌, length, drop, refl, sym, ◌∙◌, ap, subst, arith}
+use Rattle.std.specs.Prelude.{Some, ⊤, Err}
 use Rattle.std.proofs.lemmas.Bool.Decides.{nat_tests}
 use Rattle.std.proofs.lemmas.Grind.{common_steps}
 use Rattle.rn_notation.specs.declared.token.Token.{Token}
@@ -14,19 +14,18 @@ use Rattle.rn_inscript.specs.declared.exprs.PExpr.{PExpr}
 use Rattle.rn_inscript.specs.declared.conds.PCond.{PCond}
 use Rattle.rn_inscript.specs.declared.conds.PSimple.{PSimple}
 use Rattle.rn_inscript.specs.declared.conds.PSimple.TheVariants as S
-use Rattle.rn_inscript.specs.Signs.{and_sign, or_sign, not_sign, open_paren, close_paren, compare_of}
+use Rattle.rn_inscript.specs.Signs.{not_sign, compare_of}
 use Rattle.rn_inscript.specs.Expressions.{IsExpr}
 use Rattle.rn_inscript.specs.Conditions.{IsCond, IsAlternatives, IsMoreAlternatives, IsBoth, IsMoreBoth, IsSimple, any_of}
-use Rattle.rn_inscript.specs.Levels.{Level, bracket, Count, without_minuses, goes_too_far, after_token}
-use Rattle.rn_inscript.specs.Stages.{Phrases, Then, Done, Takes, BeginAlike, Ends, Stage, CanEnd, Fails, IsSoFar, Reads, ReadsFrom, IsNext, IsNextOf, IsNoneOf, IsNextSign, IsNotNextSign, IsBadOpening, strength, ready, ended, past, past_operator}
+use Rattle.rn_inscript.specs.Levels.{Level, Count, without_minuses}
+use Rattle.rn_inscript.specs.Stages.{Phrases, Then, Done, BeginAlike, Ends, Stage, CanEnd, Fails, IsSoFar, Reads, IsNextOf, IsNoneOf, IsNotNextSign, strength, ready, past_operator}
 use Rattle.rn_inscript.proofs.StageLemmas.{begin, change, inner, inner_fails}
-use Rattle.rn_inscript.proofs.CountSteps.{IsBinary, binary-sign, binary-small, binary-after, binary-far, le-false, le-true}
-use Rattle.rn_inscript.proofs.Passing.{alike-cons, pass, far_next, stuck_next, stuck_sign}
-use Rattle.rn_inscript.proofs.BracketSteps.{any, can_end_then, can_end_takes, can_end_done, can_end_by, done_follow, opening-paren, opening_passed, opening_far, closing-paren, inside_fails, inside_read, close_read}
-use Rattle.rn_inscript.proofs.Chains.{Chain, Joined}
+use Rattle.rn_inscript.proofs.CountSteps.{IsBinary, binary-sign, binary-small, binary-after, binary-far}
+use Rattle.rn_inscript.proofs.Passing.{alike-cons, pass, far_next}
+use Rattle.rn_inscript.proofs.BracketSteps.{any, can_end_then, can_end_done, can_end_by, done_follow}
+use Rattle.rn_inscript.proofs.Chains.{Joined}
 use Rattle.rn_inscript.proofs.OneSign.{sign_of, sign-is, sign-some}
 use Rattle.rn_inscript.proofs.ExpressionPhrases.{zero-expr}
-use Rattle.rn_inscript.proofs.OperandPhrases.{begins_expr, expr-begins}
 
 pub sign-binary : (k : ℕ) → 10 ≤ k → (kind : TokenKind) (u : ⊤) → sign_of k kind ≡ Some u → IsBinary kind
 sign-binary k high kind u is = subst IsBinary (sym (sign-is k kind u is)) (binary-sign k high)

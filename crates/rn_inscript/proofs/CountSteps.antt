@@ -1,14 +1,15 @@
 -- What one token does to the levels and operators.
-use Rattle.std.proofs.Common.{◌≡◌, ℕ, ◌+◌, ◌*◌, ◌<◌, ◌≤◌, Bool, true, false, not, ◌&&◌, ◌||◌, ◌⊎◌, inl, inr, List, [], ◌∷◌, length, refl, sym, ◌∙◌, ap, subst, nat_eq, nat_le, arith}
-use Rattle.std.specs.Prelude.{Some, None}
+use Rattle.std.proofs.Common.{◌≡◌, ℕ, ◌+◌, ◌<◌, ◌≤◌, true, false, List, nat_le, arith}
+use Rattle.std.specs.Prelude.{Some}
 use Rattle.std.proofs.lemmas.Bool.Decides.{nat_tests}
 use Rattle.std.proofs.lemmas.Grind.{common_steps}
+use Rattle.std.proofs.Math.Bool.{and-false}
 use Rattle.rn_notation.specs.declared.token.TokenKind.{TokenKind}
 use Rattle.rn_notation.specs.declared.token.TokenKind.TheVariants.{Name, Word, Number, Text, Sign}
 use Rattle.rn_model.specs.declared.expr.OpKind.{OpKind}
 use Rattle.rn_inscript.specs.Signs.{plus_of, times_of}
-use Rattle.rn_inscript.specs.Levels.{Level, bracket, negative, Count, after_token, goes_too_far, without_minuses, opens, closes, is_operator, is_minus, is_paren, ends_operand}
-use Rattle.rn_inscript.specs.Stages.{ready, ended, strength, sign_strength}
+use Rattle.rn_inscript.specs.Levels.{Level, after_token, goes_too_far, without_minuses, opens, closes, is_operator, is_minus, is_paren, ends_operand}
+use Rattle.rn_inscript.specs.Stages.{ready, ended, strength}
 
 pub le-false : (m n : ℕ) → n < m → nat_le m n ≡ false
 le-false m n h = grind (arith, nat_tests)
@@ -61,10 +62,6 @@ plus-strength (Number n) op h = cc
 plus-strength (Text s) op h = cc
 plus-strength (Word k) op h = cc
 
-and-false : (b : Bool) → (b && false) ≡ false
-and-false true = refl
-and-false false = refl
-
 pub binary-small : {kind : TokenKind} (levels : List Level) (operators : ℕ) → IsBinary kind → operators < 256 →
     goes_too_far (ended levels operators) kind ≡ false
 binary-small levels operators b h = grind (arith, nat_tests, common_steps, b.opens_none, le-false 256 operators h)
@@ -76,10 +73,3 @@ binary-far levels operators b h = grind (arith, nat_tests, common_steps, b.opera
 pub binary-after : {kind : TokenKind} (levels : List Level) {around : List Level} (operators : ℕ) → IsBinary kind → without_minuses levels ≡ around →
     after_token (ended levels operators) kind ≡ ready around (operators + 1)
 binary-after {kind = kind} levels operators b h = rw (b.opens_none, b.closes_none, b.no_paren, b.operator, b.no_end, and-false (is_minus kind), h)
-
--- brackets
-pub opening-small : (around : List Level) (operators levels : ℕ) → levels + length around ≡ 64 → 0 < levels → nat_le 64 (length around) ≡ false
-opening-small around operators levels fits some = le-false 64 (length around) (omega (arith, fits, some))
-
-pub opening-far : (around : List Level) (levels : ℕ) → levels + length around ≡ 64 → levels ≡ 0 → nat_le 64 (length around) ≡ true
-opening-far around levels fits none = le-true 64 (length around) (omega (arith, fits, none))

@@ -1,20 +1,15 @@
 -- What the productions of expressions say of a next token.
-use Rattle.std.proofs.Common.{◌≡◌, ℕ, ◌+◌, ◌<◌, ◌≤◌, ◌⊎◌, inl, inr, true, false, Bool, List, [], ◌∷◌, ◌++◌, length, drop, refl, sym, ◌∙◌, ap, subst, arith, pos, nat_eq}
-use Rattle.std.specs.Prelude.{Option, Some, None, codes, ⊤}
-use Rattle.std.proofs.lemmas.Bool.Decides.{nat_tests}
-use Rattle.std.proofs.lemmas.Grind.{common_steps}
-use Rattle.rn_notation.specs.declared.token.Spot.{Spot}
+use Rattle.std.proofs.Common.{◌≡◌, ◌+◌, ◌⊎◌, inl, inr, List, [], ◌∷◌, ◌++◌, refl, ap, pos}
+use Rattle.std.specs.Prelude.{Some, ⊤}
 use Rattle.rn_notation.specs.declared.token.Token.{Token}
-use Rattle.rn_notation.specs.declared.token.TokenKind.{TokenKind}
-use Rattle.rn_notation.specs.declared.token.TokenKind.TheVariants.{Name, Word, Number, Text, Sign}
+use Rattle.rn_notation.specs.declared.token.TokenKind.TheVariants.{Number}
 use Rattle.rn_model.specs.declared.expr.OpKind.{OpKind}
 use Rattle.rn_inscript.specs.declared.exprs.PExpr.{PExpr}
-use Rattle.rn_inscript.specs.declared.exprs.PForm.TheVariants as F
-use Rattle.rn_inscript.specs.Signs.{plus_of, times_of, minus, open_paren, close_paren, open_bracket, close_bracket, open_brace, close_brace, comma, colon, this_word}
-use Rattle.rn_inscript.specs.Expressions.{IsExpr, IsTerms, IsProduct, IsFactors, IsUnary, IsPrimary, IsListed, IsExprs, IsMoreExprs, joined, at_spot}
-use Rattle.rn_inscript.specs.Stages.{Phrases, Then, Done, Takes, BeginAlike, Ends, CanEnd, strength}
+use Rattle.rn_inscript.specs.Signs.{plus_of, times_of}
+use Rattle.rn_inscript.specs.Expressions.{IsExpr, IsTerms, IsProduct, IsFactors, IsUnary, IsPrimary, IsExprs, IsMoreExprs, joined}
+use Rattle.rn_inscript.specs.Stages.{Then, CanEnd, strength}
 use Rattle.rn_inscript.proofs.CountSteps.{times-strength, plus-strength}
-use Rattle.rn_inscript.proofs.Chains.{Chain, Joined}
+use Rattle.rn_inscript.proofs.Chains.{Joined}
 use Rattle.rn_inscript.proofs.BracketSteps.{any}
 use Rattle.rn_inscript.proofs.OneSign.{sign_of, sign-is, sign-some}
 
@@ -30,9 +25,6 @@ zero-product = (zero-unary.0, zero-unary.1, λ rest. IsProduct.product (zero-una
 
 pub zero-expr : CanEnd IsExpr
 zero-expr = (zero-product.0, zero-product.1, λ rest. IsExpr.sum (zero-product.2 rest) IsTerms.no_more_terms)
-
-pub zero-exprs : CanEnd IsExprs
-zero-exprs = (zero-expr.0, zero-expr.1 ∷ [], λ rest. IsExprs.exprs (zero-expr.2 rest) IsMoreExprs.no_more_exprs)
 
 factors-split : {a e : PExpr} {ts rest : List Token} → IsFactors a ts e rest →
     ((e ≡ a) × (rest ≡ ts)) ⊎ ((t : Token) × (us : List Token) × (op : OpKind) × (ts ≡ t ∷ us) × (times_of t.kind ≡ Some op) × Then IsUnary (λ b. IsFactors (joined op a b)) us e rest)

@@ -1,6 +1,6 @@
 -- The stages of reading the forms of inscriptions.
-use Rattle.std.proofs.Common.{◌≡◌, ℕ, ◌+◌, ◌<◌, ◌≤◌, ◌⊎◌, inl, inr, true, false, Bool, List, [], ◌∷◌, ◌++◌, length, drop, refl, sym, ◌∙◌, ap, subst, append_assoc, arith, nat_eq}
-use Rattle.std.specs.Prelude.{Option, Some, None, Result, Ok, Err}
+use Rattle.std.proofs.Common.{◌≡◌, ℕ, ◌+◌, ◌≤◌, ◌⊎◌, inl, inr, false, List, [], ◌∷◌, length, drop, refl, sym, ◌∙◌, ap, subst, arith, nat_eq}
+use Rattle.std.specs.Prelude.{Some, Err}
 use Rattle.std.proofs.lemmas.Bool.Decides.{nat_tests}
 use Rattle.std.proofs.lemmas.Grind.{common_steps}
 use Rattle.rn_notation.specs.declared.token.Token.{Token}
@@ -11,25 +11,23 @@ use Rattle.rn_inscript.specs.declared.cursor.Seen.{Seen}
 use Rattle.rn_inscript.specs.declared.fault.InscriptFault.{InscriptFault}
 use Rattle.rn_inscript.specs.declared.fault.InscriptFault.TheVariants as Fault
 use Rattle.rn_inscript.specs.declared.exprs.PExpr.{PExpr}
-use Rattle.rn_inscript.specs.declared.exprs.PForm.{PForm}
 use Rattle.rn_inscript.specs.declared.conds.PCond.{PCond}
 use Rattle.rn_inscript.specs.declared.inscriptions.PName.{PName}
 use Rattle.rn_inscript.specs.declared.inscriptions.PInscribed.{PInscribed}
 use Rattle.rn_inscript.specs.declared.inscriptions.PInscribed.TheVariants as I
-use Rattle.rn_inscript.specs.Signs.{colon, equals, open_paren, close_paren, guard_word, action_word, print_word, new_word, arc_of, target_of}
-use Rattle.rn_inscript.specs.Expressions.{IsExpr, IsListed, at_spot}
+use Rattle.rn_inscript.specs.Signs.{colon, equals, guard_word, action_word, print_word, arc_of}
+use Rattle.rn_inscript.specs.Expressions.{IsExpr}
 use Rattle.rn_inscript.specs.Conditions.{IsCond}
-use Rattle.rn_inscript.specs.Inscriptions.{IsInscribed, IsCall, name_at, absent}
-use Rattle.rn_inscript.specs.Levels.{Level, bracket, Count, goes_too_far, after_token}
-use Rattle.rn_inscript.specs.Stages.{Phrases, Then, Done, BeginAlike, Ends, Stage, CanEnd, Fails, IsSoFar, Reads, ReadsFrom, IsNext, IsNextKind, HasNoNext, strength, ready, ended, past}
-use Rattle.rn_inscript.specs.NextNames.{IsNotNextKind, IsNextName, IsNotName, IsNoName, IsEquality, IsNoCreation}
-use Rattle.rn_inscript.proofs.StageLemmas.{begin, change, inner, inner_fails}
-use Rattle.rn_inscript.proofs.Passing.{alike-cons, pass, stuck_next}
-use Rattle.rn_inscript.proofs.BracketSteps.{any, can_end_then, can_end_done, can_end_by, done_follow, opening-paren, opening_passed}
+use Rattle.rn_inscript.specs.Inscriptions.{IsInscribed, absent}
+use Rattle.rn_inscript.specs.Levels.{Count, goes_too_far, after_token}
+use Rattle.rn_inscript.specs.Stages.{Phrases, Then, Done, BeginAlike, Ends, Stage, CanEnd, IsSoFar, Reads, IsNext, IsNextKind, ready, ended, past}
+use Rattle.rn_inscript.specs.NextNames.{IsNotNextKind, IsNextName, IsNoName}
+use Rattle.rn_inscript.proofs.StageLemmas.{begin, change}
+use Rattle.rn_inscript.proofs.Passing.{alike-cons, pass}
+use Rattle.rn_inscript.proofs.BracketSteps.{can_end_then, can_end_done}
 use Rattle.rn_inscript.proofs.ExpressionPhrases.{zero-expr}
-use Rattle.rn_inscript.proofs.ConditionPhrases.{zero-cond}
-use Rattle.rn_inscript.proofs.WithTokens.{WithKind, WithName, with_kind_ends, with_name_ends, with_kind_read, with_kind_stuck, with_name_read, with_name_fails, last_fails, last_read}
-use Rattle.rn_inscript.proofs.InscriptionPhrases.{ArcEnd, PrintEnd, SetEnd, CallEnd, NewEnd, DownEnd, arc-only, arc-on, guard-only, guard-on, action-only, action-on, call-only, call-on, uplink-only, uplink-on, target-only, new-on, down-on, equality-on}
+use Rattle.rn_inscript.proofs.WithTokens.{WithName, with_kind_ends, with_kind_read, with_kind_stuck, with_name_read, with_name_fails, last_fails, last_read}
+use Rattle.rn_inscript.proofs.InscriptionPhrases.{ArcEnd, PrintEnd, SetEnd, arc-only, arc-on, guard-only, guard-on, action-only, action-on}
 
 -- the start of an inscription
 abbrev pub starts : List Token → Seen → Phrases PInscribed → List Token → Count → Type 0

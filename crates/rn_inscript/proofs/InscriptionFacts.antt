@@ -1,16 +1,15 @@
 -- From the form of an inscription to the inscription.
-use Rattle.std.proofs.Common.{◌≡◌, ℕ, ◌+◌, ◌<◌, ◌≤◌, List, [], ◌∷◌, ◌++◌, length, drop, refl, sym, ◌∙◌, ap, subst, arith}
+use Rattle.std.proofs.Common.{◌≡◌, ℕ, ◌+◌, List, [], ◌∷◌, ◌++◌, drop, sym, ◌∙◌, ap, subst}
 use Rattle.std.specs.Prelude.{Result, Ok, Err}
 use Rattle.std.specs.Result.{IsErrAnd}
 use Rattle.std.proofs.lemmas.Result.{err_from_is_err_and}
-use Rattle.rn_notation.specs.declared.token.Spot.{Spot}
 use Rattle.rn_notation.specs.declared.token.Token.{Token}
 use Rattle.rn_inscript.specs.declared.fault.InscriptFault.{InscriptFault}
 use Rattle.rn_inscript.specs.declared.fault.InscriptFault.TheVariants as Fault
 use Rattle.rn_inscript.specs.declared.inscriptions.PInscribed.{PInscribed}
 use Rattle.rn_inscript.specs.declared.inscriptions.PInscription.{PInscription}
 use Rattle.rn_inscript.specs.Inscriptions.{IsInscribed, IsInscription}
-use Rattle.rn_inscript.specs.Readings.{Wholes, IsPrefix, IsLongest, IsReading, IsStopped, IsDeep, IsRefusal, IsAnswer}
+use Rattle.rn_inscript.specs.Readings.{Wholes, IsPrefix, IsLongest, IsReading, IsRefusal, IsAnswer}
 use Rattle.rn_inscript.proofs.ReadingFacts.{wholes}
 use Rattle.rn_inscript.proofs.InscriptionPhrases.{inscribed-some}
 

@@ -1,17 +1,15 @@
 -- What the forms of inscriptions say of their first token.
-use Rattle.std.proofs.Common.{◌≡◌, ℕ, ◌+◌, ◌<◌, ◌≤◌, ◌⊎◌, inl, inr, true, false, Bool, ◌||◌, List, [], ◌∷◌, ◌++◌, refl, sym, ◌∙◌, ap, subst, arith, nat_eq}
-use Rattle.std.specs.Prelude.{Option, Some, None}
+use Rattle.std.proofs.Common.{◌≡◌, ℕ, ◌⊎◌, inl, inr, true, false, Bool, List, [], ◌∷◌, refl, sym, ◌∙◌, ap, subst, arith, nat_eq}
+use Rattle.std.specs.Prelude.{Some, None}
 use Rattle.std.specs.List.{list_any}
 use Rattle.std.proofs.lemmas.Bool.Decides.{nat_tests}
 use Rattle.std.proofs.lemmas.Grind.{common_steps}
-use Rattle.rn_notation.specs.declared.token.Spot.{Spot}
 use Rattle.rn_notation.specs.declared.token.Token.{Token}
 use Rattle.rn_notation.specs.declared.token.TokenKind.{TokenKind}
 use Rattle.rn_notation.specs.declared.token.TokenKind.TheVariants.{Name, Word, Number, Text, Sign}
 use Rattle.rn_model.specs.declared.system.ArcKind.{ArcKind}
 use Rattle.rn_inscript.specs.declared.exprs.PExpr.{PExpr}
 use Rattle.rn_inscript.specs.declared.exprs.PForm.{PForm}
-use Rattle.rn_inscript.specs.declared.exprs.PForm.TheVariants as F
 use Rattle.rn_inscript.specs.declared.inscriptions.PName.{PName}
 use Rattle.rn_inscript.specs.declared.inscriptions.PInscribed.{PInscribed}
 use Rattle.rn_inscript.specs.declared.inscriptions.PInscribed.TheVariants as I
@@ -31,13 +29,6 @@ arc-words (Name s) a h = cc
 arc-words (Number n) a h = cc
 arc-words (Text s) a h = cc
 arc-words (Sign k) a h = cc
-
-targets-begin : (kind : TokenKind) (form : PForm) → target_of kind ≡ Some form → begins_expr kind ≡ true
-targets-begin (Word k) form h = grind (arith, nat_tests, common_steps)
-targets-begin (Name s) form h = refl
-targets-begin (Number n) form h = cc
-targets-begin (Text s) form h = cc
-targets-begin (Sign k) form h = cc
 
 targets-no-arcs : (kind : TokenKind) (form : PForm) → target_of kind ≡ Some form → arc_of kind ≡ None
 targets-no-arcs (Word k) form h = grind (arith, nat_tests, common_steps)

@@ -1,43 +1,39 @@
 -- The stages of reading calls, links and equalities.
-use Rattle.std.proofs.Common.{◌≡◌, ℕ, ◌+◌, ◌<◌, ◌≤◌, ◌⊎◌, inl, inr, true, false, Bool, List, [], ◌∷◌, ◌++◌, length, drop, refl, sym, ◌∙◌, ap, subst, append_assoc, arith, nat_eq}
-use Rattle.std.specs.Prelude.{Option, Some, None, Result, Ok, Err}
+use Rattle.std.proofs.Common.{◌≡◌, ℕ, ◌+◌, ◌<◌, ◌≤◌, ◌⊎◌, inl, inr, true, false, List, [], ◌∷◌, ◌++◌, length, drop, refl, sym, ◌∙◌, ap, subst, arith, nat_eq}
+use Rattle.std.specs.Prelude.{Some, None, Result, Ok, Err}
 use Rattle.std.proofs.lemmas.Bool.Decides.{nat_tests}
 use Rattle.std.proofs.lemmas.Grind.{common_steps}
 use Rattle.rn_notation.specs.declared.token.Token.{Token}
 use Rattle.rn_notation.specs.declared.token.TokenKind.{TokenKind}
 use Rattle.rn_notation.specs.declared.token.TokenKind.TheVariants.{Name, Word, Number, Text, Sign}
-use Rattle.rn_model.specs.declared.system.ArcKind.{ArcKind}
 use Rattle.rn_inscript.specs.declared.cursor.Seen.{Seen}
 use Rattle.rn_inscript.specs.declared.fault.InscriptFault.{InscriptFault}
 use Rattle.rn_inscript.specs.declared.fault.InscriptFault.TheVariants as Fault
 use Rattle.rn_inscript.specs.declared.exprs.PExpr.{PExpr}
 use Rattle.rn_inscript.specs.declared.exprs.PForm.{PForm}
-use Rattle.rn_inscript.specs.declared.conds.PCond.{PCond}
 use Rattle.rn_inscript.specs.declared.inscriptions.PName.{PName}
 use Rattle.rn_inscript.specs.declared.inscriptions.PInscribed.{PInscribed}
 use Rattle.rn_inscript.specs.declared.inscriptions.PInscribed.TheVariants as I
-use Rattle.rn_inscript.specs.Signs.{colon, equals, open_paren, close_paren, guard_word, action_word, print_word, new_word, arc_of, target_of}
+use Rattle.rn_inscript.specs.Signs.{colon, equals, open_paren, close_paren, new_word, target_of}
 use Rattle.rn_inscript.specs.Expressions.{IsExpr, IsListed, at_spot}
-use Rattle.rn_inscript.specs.Conditions.{IsCond}
-use Rattle.rn_inscript.specs.Inscriptions.{IsInscribed, IsCall, name_at, absent}
-use Rattle.rn_inscript.specs.Levels.{Level, bracket, Count, goes_too_far, after_token}
-use Rattle.rn_inscript.specs.Stages.{Phrases, Then, Done, BeginAlike, Ends, Stage, CanEnd, Fails, IsSoFar, Reads, ReadsFrom, IsNext, IsNextKind, HasNoNext, strength, ready, ended, past}
-use Rattle.rn_inscript.specs.NextNames.{IsNotNextKind, IsNextName, IsNotName, IsNoName, IsEquality, IsNoCreation}
+use Rattle.rn_inscript.specs.Inscriptions.{IsInscribed, IsCall, name_at}
+use Rattle.rn_inscript.specs.Levels.{bracket, Count, goes_too_far, after_token}
+use Rattle.rn_inscript.specs.Stages.{Phrases, Then, Done, BeginAlike, Ends, Stage, CanEnd, IsSoFar, Reads, ReadsFrom, IsNext, IsNextKind, HasNoNext, strength, ready, ended, past}
+use Rattle.rn_inscript.specs.NextNames.{IsNotNextKind, IsNextName, IsNoName, IsEquality, IsNoCreation}
 use Rattle.rn_inscript.proofs.StageLemmas.{alike-append, begin, change, inner, inner_fails}
 use Rattle.rn_inscript.proofs.Passing.{alike-cons, pass, stuck_next}
-use Rattle.rn_inscript.proofs.BracketSteps.{any, can_end_then, can_end_done, can_end_by, done_follow, opening-paren, opening_passed}
+use Rattle.rn_inscript.proofs.BracketSteps.{any, can_end_then, can_end_done, can_end_by, done_follow}
 use Rattle.rn_inscript.proofs.ExpressionPhrases.{zero-expr}
-use Rattle.rn_inscript.proofs.ConditionPhrases.{zero-cond}
 use Rattle.rn_inscript.specs.Expressions.{IsPrimary, IsUnary, IsProduct, IsFactors, IsTerms}
 use Rattle.rn_inscript.specs.declared.exprs.PForm.TheVariants as F
-use Rattle.rn_inscript.specs.Signs.{minus, plus_of, times_of}
+use Rattle.rn_inscript.specs.Signs.{plus_of, times_of}
 use Rattle.rn_inscript.proofs.FormReading.{starts, begins}
 use Rattle.rn_inscript.proofs.ExpressionPhrases.{products, sums}
 use Rattle.rn_inscript.proofs.InscriptionPhrases.{not-target, leads, other-only, word-only, inscribed-some}
 use Rattle.rn_inscript.proofs.OperandPhrases.{expr-some}
 use Rattle.rn_inscript.proofs.BracketSteps.{whole_reads}
-use Rattle.rn_inscript.proofs.WithTokens.{WithKind, WithName, with_kind_ends, with_name_ends, with_kind_read, with_kind_stuck, with_name_read, with_name_fails, last_fails, last_read}
-use Rattle.rn_inscript.proofs.InscriptionPhrases.{ArcEnd, PrintEnd, SetEnd, CallEnd, NewEnd, DownEnd, arc-only, arc-on, guard-only, guard-on, action-only, action-on, call-only, call-on, uplink-only, uplink-on, target-only, new-on, down-on, equality-on}
+use Rattle.rn_inscript.proofs.WithTokens.{WithKind, WithName, with_kind_ends, with_kind_read, with_kind_stuck, with_name_read, with_name_fails, last_fails, last_read}
+use Rattle.rn_inscript.proofs.InscriptionPhrases.{CallEnd, NewEnd, DownEnd, call-only, call-on, uplink-only, uplink-on, target-only, new-on, down-on, equality-on}
 
 -- a target that a colon follows is a whole expression
 target-primary : {t u : Token} {ts mid : List Token} {a : PExpr} (form : PForm) → target_of t.kind ≡ Some form → u.kind ≡ colon → IsPrimary (t ∷ u ∷ ts) a mid → mid ≡ u ∷ ts
@@ -80,9 +76,6 @@ listed-empty = (any close_paren ∷ [], [], λ rest. IsListed.nothing refl)
 
 call-end-ends : (p : PName) → CanEnd (CallEnd p)
 call-end-ends p = with_kind_ends open_paren (Then (IsListed close_paren) (λ es. Done (p, es))) (can_end_then (IsListed close_paren) (λ es. Done (p, es)) listed-empty (λ es. can_end_done (p, es)))
-
-call-ends : CanEnd IsCall
-call-ends = can_end_by (WithName CallEnd) IsCall (with_name_ends CallEnd call-end-ends) call-on
 
 pub channel_fails : (tokens : List Token) (seen : Seen) (e : InscriptFault) → seen.at ≤ length tokens → IsNoName tokens seen.at e → Reads 1 IsCall tokens seen [] (Err e)
 channel_fails tokens seen e inside bad = with_name_fails CallEnd tokens seen.at e (call_begins (drop seen.at tokens) (ready [] seen.operators)) inside call-end-ends bad

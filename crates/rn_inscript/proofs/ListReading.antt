@@ -1,27 +1,25 @@
 -- The stages of reading lists of expressions, variables and `step()`.
-use Rattle.std.proofs.Common.{◌≡◌, ℕ, ◌+◌, ◌<◌, ◌≤◌, ◌⊎◌, inl, inr, true, false, Bool, ◌||◌, List, [], ◌∷◌, ◌++◌, length, drop, refl, sym, ◌∙◌, ap, subst, arith, nat_le}
-use Rattle.std.specs.Prelude.{Result, Ok, Err, codes}
+use Rattle.std.proofs.Common.{◌≡◌, ℕ, ◌+◌, ◌<◌, ◌≤◌, ◌⊎◌, inl, inr, true, false, List, [], ◌∷◌, length, drop, refl, sym, ◌∙◌, ap, subst, arith}
+use Rattle.std.specs.Prelude.{Err, codes}
 use Rattle.rn_notation.specs.declared.token.Spot.{Spot}
 use Rattle.rn_notation.specs.declared.token.Token.{Token}
 use Rattle.rn_notation.specs.declared.token.TokenKind.{TokenKind}
-use Rattle.rn_notation.specs.declared.token.TokenKind.TheVariants.{Name, Word, Number, Text, Sign}
+use Rattle.rn_notation.specs.declared.token.TokenKind.TheVariants.{Name, Sign}
 use Rattle.rn_inscript.specs.declared.exprs.PExpr.{PExpr}
 use Rattle.rn_inscript.specs.declared.exprs.PForm.TheVariants as F
 use Rattle.rn_inscript.specs.declared.cursor.Seen.{Seen}
 use Rattle.rn_inscript.specs.declared.fault.InscriptFault.{InscriptFault}
 use Rattle.rn_inscript.specs.declared.fault.InscriptFault.TheVariants as Fault
-use Rattle.rn_inscript.specs.Signs.{minus, open_paren, close_paren, open_bracket, close_bracket, open_brace, close_brace, comma, colon, this_word}
-use Rattle.rn_inscript.specs.Expressions.{IsExpr, IsUnary, IsPrimary, IsListed, IsExprs, at_spot}
-use Rattle.rn_inscript.specs.Levels.{Level, bracket, negative, Count, without_minuses, levels_at, goes_too_far, after_token}
-use Rattle.rn_inscript.specs.Stages.{Phrases, Then, Done, Takes, BeginAlike, Ends, Stage, CanEnd, Fails, IsSoFar, Reads, ReadsFrom, IsNext, HasNoNext, IsNextSign, IsNotNextSign, IsClose, strength, ready, ended, past, past_operator}
+use Rattle.rn_inscript.specs.Signs.{open_paren, close_paren, open_brace, close_brace, colon}
+use Rattle.rn_inscript.specs.Expressions.{IsExpr, IsPrimary, IsListed, IsExprs, at_spot}
+use Rattle.rn_inscript.specs.Levels.{Level, bracket, Count}
+use Rattle.rn_inscript.specs.Stages.{Phrases, Then, Done, Takes, BeginAlike, Ends, Stage, CanEnd, Fails, IsSoFar, Reads, ReadsFrom, IsNext, IsNextSign, IsNotNextSign, IsClose, strength, ready, ended, past}
 use Rattle.rn_inscript.proofs.StageLemmas.{begin, change, inner, inner_fails}
-use Rattle.rn_inscript.proofs.CountSteps.{le-false, le-true}
-use Rattle.rn_inscript.proofs.Passing.{alike-cons, pass, far_next, stuck_next, stuck_sign}
-use Rattle.rn_inscript.proofs.BracketSteps.{any, can_end_then, can_end_takes, can_end_done, can_end_by, takes_follow, done_follow, whole_reads, IsOpening, opening-brace, opening-bracket, opening-paren, opening_passed, opening_far}
+use Rattle.rn_inscript.proofs.Passing.{alike-cons, pass, stuck_sign}
+use Rattle.rn_inscript.proofs.BracketSteps.{can_end_takes, can_end_by, takes_follow, opening-brace, opening-paren, opening_passed, opening_far}
 use Rattle.rn_inscript.proofs.BracketSteps.{IsClosing, closing-brace, closing-bracket, closing-paren, neutral-colon, neutral_passed, inside_fails, inside_read, close_read, close_first}
-use Rattle.rn_inscript.proofs.ExpressionPhrases.{zero-expr, zero-exprs, zero-unary, zero-primary}
 use Rattle.rn_inscript.proofs.OperandReading.{paren_stage}
-use Rattle.rn_inscript.proofs.OperandPhrases.{begins_primary, begins_expr, primary-begins, primary-some, number-only, text-only, this-only, name-only, paren-only, bracket-only, brace-only, StepEnd, ListEnd, ListInside, ListedInside, listed-only, listed-on, exprs-begin, exprs-some, minus-only, no-minus}
+use Rattle.rn_inscript.proofs.OperandPhrases.{begins_expr, name-only, brace-only, StepEnd, ListEnd, ListInside, ListedInside, listed-only, listed-on, exprs-begin, exprs-some}
 
 -- what stands after an opening bracket
 listed_begins : (k : ℕ) (start : List Token) (first : Count) → Stage 6 (IsListed (Sign k)) start first (ListedInside (Sign k)) start first

@@ -1,5 +1,5 @@
 -- The next token, as a list of tokens lends it.
-use Rattle.std.proofs.Common.{◌≡◌, ℕ, ◌+◌, ◌<◌, ◌≤◌, List, [], ◌∷◌, length, drop, get_or, Option, Some, None, slice_get, sym, ap, ◌∙◌, ◌⊎◌, inl, inr}
+use Rattle.std.proofs.Common.{◌≡◌, ℕ, ◌+◌, ◌<◌, List, [], ◌∷◌, length, drop, Option, Some, None, slice_get, sym, ap, ◌∙◌, inl, inr}
 use Rattle.std.specs.Prelude.{MatchOption}
 use Rattle.std.specs.Option.{option_map}
 use Rattle.std.proofs.lemmas.Option.{slice_get_within, get_or_from_slice_get, slice_get_cases}
@@ -9,6 +9,7 @@ use Rattle.rn_notation.specs.declared.token.Token.{Token}
 use Rattle.rn_notation.specs.declared.token.TokenRef.{TokenRef}
 use Rattle.rn_inscript.specs.Stages.{IsNext, HasNoNext}
 
+-- a token that is lent at an index is next there, and where none is, none is next
 pub next_lent : (tokens : List Token) (at : ℕ) (t : Option TokenRef) → option_map lent t ≡ slice_get tokens at →
     MatchOption t (HasNoNext tokens at) (λ t. IsNext tokens at (lent t))
 next_lent tokens at None is = elim (slice_get_cases tokens at).1 as (λ w. drop at tokens ≡ []) [

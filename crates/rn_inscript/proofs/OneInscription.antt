@@ -1,9 +1,8 @@
 -- A list of tokens is one condition, and one inscription, at most.
-use Rattle.std.proofs.Common.{◌≡◌, ℕ, ◌+◌, ◌<◌, ◌≤◌, ◌⊎◌, inl, inr, true, false, Bool, List, [], ◌∷◌, ◌++◌, length, drop, refl, sym, ◌∙◌, ap, subst, arith}
-use Rattle.std.specs.Prelude.{Option, Some, None}
+use Rattle.std.proofs.Common.{◌≡◌, ◌+◌, ◌<◌, inl, inr, true, false, List, [], ◌∷◌, ◌++◌, refl, sym, ◌∙◌, ap, subst, arith}
+use Rattle.std.specs.Prelude.{Some}
 use Rattle.rn_notation.specs.declared.token.Token.{Token}
-use Rattle.rn_notation.specs.declared.token.TokenKind.{TokenKind}
-use Rattle.rn_notation.specs.declared.token.TokenKind.TheVariants.{Name, Word, Number, Text, Sign}
+use Rattle.rn_notation.specs.declared.token.TokenKind.TheVariants.{Name}
 use Rattle.rn_model.specs.declared.expr.CompareKind.{CompareKind}
 use Rattle.rn_inscript.specs.declared.exprs.PExpr.{PExpr}
 use Rattle.rn_inscript.specs.declared.exprs.PForm.{PForm}
@@ -15,13 +14,13 @@ use Rattle.rn_inscript.specs.declared.inscriptions.PName.{PName}
 use Rattle.rn_inscript.specs.declared.inscriptions.PInscribed.{PInscribed}
 use Rattle.rn_inscript.specs.declared.inscriptions.PInscribed.TheVariants as I
 use Rattle.rn_inscript.specs.declared.inscriptions.PInscription.{PInscription}
-use Rattle.rn_inscript.specs.Signs.{colon, equals, not_sign, open_paren, close_paren, compare_of, target_of}
+use Rattle.rn_inscript.specs.Signs.{colon, not_sign, close_paren, compare_of, target_of}
 use Rattle.rn_inscript.specs.Expressions.{IsExpr, IsListed, at_spot}
 use Rattle.rn_inscript.specs.Conditions.{IsCond, IsAlternatives, IsMoreAlternatives, IsBoth, IsMoreBoth, IsSimple, any_of}
 use Rattle.rn_inscript.specs.Inscriptions.{IsInscribed, IsInscription, IsCall, name_at, absent}
-use Rattle.rn_inscript.specs.Stages.{Phrases, Then, Done, Takes, Ends, strength}
+use Rattle.rn_inscript.specs.Stages.{Then, Ends, strength}
 use Rattle.rn_inscript.specs.NextNames.{IsEquality}
-use Rattle.rn_inscript.proofs.Chains.{Chain, chain_follow}
+use Rattle.rn_inscript.proofs.Chains.{chain_follow}
 use Rattle.rn_inscript.proofs.ConditionPhrases.{conjunctions, disjunctions, SimpleEnd, cond-part, simple-only, end-follow, compare-strength}
 use Rattle.rn_inscript.proofs.NegationReading.{not-only}
 use Rattle.rn_inscript.proofs.OperandPhrases.{begins_expr, expr-begins}

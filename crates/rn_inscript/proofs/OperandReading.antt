@@ -1,26 +1,24 @@
 -- The stages of reading primary and unary expressions.
-use Rattle.std.proofs.Common.{◌≡◌, ℕ, ◌+◌, ◌<◌, ◌≤◌, ◌⊎◌, inl, inr, true, false, Bool, ◌||◌, List, [], ◌∷◌, ◌++◌, length, drop, refl, sym, ◌∙◌, ap, subst, arith, nat_le}
-use Rattle.std.specs.Prelude.{Result, Ok, Err, codes}
-use Rattle.rn_notation.specs.declared.token.Spot.{Spot}
+use Rattle.std.proofs.Common.{◌≡◌, ℕ, ◌+◌, ◌<◌, ◌≤◌, ◌⊎◌, inl, inr, true, false, Bool, ◌||◌, List, [], ◌∷◌, length, drop, refl, sym, ◌∙◌, ap, subst, arith, nat_le}
+use Rattle.std.specs.Prelude.{Result, Err}
 use Rattle.rn_notation.specs.declared.token.Token.{Token}
 use Rattle.rn_notation.specs.declared.token.TokenKind.{TokenKind}
-use Rattle.rn_notation.specs.declared.token.TokenKind.TheVariants.{Name, Word, Number, Text, Sign}
+use Rattle.rn_notation.specs.declared.token.TokenKind.TheVariants.{Sign}
 use Rattle.rn_inscript.specs.declared.exprs.PExpr.{PExpr}
 use Rattle.rn_inscript.specs.declared.exprs.PForm.TheVariants as F
 use Rattle.rn_inscript.specs.declared.cursor.Seen.{Seen}
 use Rattle.rn_inscript.specs.declared.fault.InscriptFault.{InscriptFault}
 use Rattle.rn_inscript.specs.declared.fault.InscriptFault.TheVariants as Fault
-use Rattle.rn_inscript.specs.Signs.{minus, open_paren, close_paren, open_bracket, close_bracket, open_brace, close_brace, comma, colon, this_word}
-use Rattle.rn_inscript.specs.Expressions.{IsExpr, IsUnary, IsPrimary, IsListed, IsExprs, at_spot}
-use Rattle.rn_inscript.specs.Levels.{Level, bracket, negative, Count, without_minuses, levels_at, goes_too_far, after_token}
-use Rattle.rn_inscript.specs.Stages.{Phrases, Then, Done, Takes, BeginAlike, Ends, Stage, CanEnd, Fails, IsSoFar, Reads, ReadsFrom, IsNext, HasNoNext, IsNextSign, IsNotNextSign, strength, ready, ended, past, past_operator}
+use Rattle.rn_inscript.specs.Signs.{minus, open_paren, close_paren, open_bracket, close_bracket}
+use Rattle.rn_inscript.specs.Expressions.{IsExpr, IsUnary, IsPrimary, IsListed, at_spot}
+use Rattle.rn_inscript.specs.Levels.{Level, bracket, negative, goes_too_far, after_token}
+use Rattle.rn_inscript.specs.Stages.{Then, Done, Takes, BeginAlike, Stage, CanEnd, IsSoFar, Reads, ReadsFrom, IsNext, HasNoNext, ready, ended, past, past_operator}
 use Rattle.rn_inscript.proofs.StageLemmas.{begin, change, inner, inner_fails}
 use Rattle.rn_inscript.proofs.CountSteps.{le-false, le-true}
-use Rattle.rn_inscript.proofs.Passing.{alike-cons, pass, far_next, stuck_next, stuck_sign}
-use Rattle.rn_inscript.proofs.BracketSteps.{any, can_end_then, can_end_takes, can_end_done, can_end_by, takes_follow, done_follow, whole_reads, IsOpening, opening-brace, opening-bracket, opening-paren, opening_passed, opening_far}
-use Rattle.rn_inscript.proofs.BracketSteps.{IsClosing, closing-brace, closing-bracket, closing-paren, neutral-colon, neutral_passed}
-use Rattle.rn_inscript.proofs.ExpressionPhrases.{zero-expr, zero-exprs, zero-unary, zero-primary}
-use Rattle.rn_inscript.proofs.OperandPhrases.{begins_primary, begins_expr, primary-begins, primary-some, number-only, text-only, this-only, name-only, paren-only, bracket-only, brace-only, StepEnd, ListEnd, ListInside, ListedInside, listed-only, exprs-begin, minus-only, no-minus}
+use Rattle.rn_inscript.proofs.Passing.{alike-cons, pass, far_next, stuck_next}
+use Rattle.rn_inscript.proofs.BracketSteps.{any, can_end_then, can_end_takes, can_end_done, can_end_by, done_follow, whole_reads, opening-bracket, opening-paren, opening_passed, opening_far}
+use Rattle.rn_inscript.proofs.ExpressionPhrases.{zero-expr, zero-unary, zero-primary}
+use Rattle.rn_inscript.proofs.OperandPhrases.{begins_primary, primary-begins, primary-some, paren-only, bracket-only, minus-only, no-minus}
 
 -- a primary expression of one token
 pub leaf_read : (tokens : List Token) (seen : Seen) (around : List Level) {t : Token} (kind : TokenKind) (a : PExpr) →

@@ -1,13 +1,12 @@
 -- A token is passed, or can't be.
-use Rattle.std.proofs.Common.{◌≡◌, ℕ, ◌+◌, ◌<◌, ◌≤◌, true, false, List, [], ◌∷◌, ◌++◌, length, drop, refl, sym, ◌∙◌, ap, subst, arith}
+use Rattle.std.proofs.Common.{◌≡◌, ℕ, ◌+◌, ◌≤◌, true, false, List, [], ◌∷◌, length, drop, sym, ◌∙◌, ap, subst, arith}
 use Rattle.std.proofs.Math.ListN.{length-drop}
 use Rattle.rn_notation.specs.declared.token.Token.{Token}
 use Rattle.rn_notation.specs.declared.token.TokenKind.{TokenKind}
 use Rattle.rn_notation.specs.declared.token.TokenKind.TheVariants.{Sign}
-use Rattle.rn_inscript.specs.declared.fault.InscriptFault.{InscriptFault}
 use Rattle.rn_inscript.specs.declared.fault.InscriptFault.TheVariants as Fault
-use Rattle.rn_inscript.specs.Levels.{Level, Count, after_token, goes_too_far}
-use Rattle.rn_inscript.specs.Stages.{Phrases, Then, Done, Takes, BeginAlike, Ends, Stage, CanEnd, IsStuck, IsTooFar, Fails, IsNext, IsNotNextSign}
+use Rattle.rn_inscript.specs.Levels.{Count, after_token, goes_too_far}
+use Rattle.rn_inscript.specs.Stages.{Phrases, Takes, BeginAlike, Ends, Stage, CanEnd, IsTooFar, Fails, IsNext, IsNotNextSign}
 use Rattle.rn_inscript.proofs.StageLemmas.{take, stuck, too_far}
 
 pub index-of : (at : ℕ) (tokens : List Token) → at ≤ length tokens → at + length (drop at tokens) ≡ length tokens

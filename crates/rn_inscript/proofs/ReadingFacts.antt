@@ -1,5 +1,5 @@
 -- From the stages of a reading to the longest reading, and that there is one answer.
-use Rattle.std.proofs.Common.{◌≡◌, ℕ, ◌+◌, ◌<◌, ◌≤◌, true, false, List, [], ◌∷◌, ◌++◌, length, drop, refl, sym, ◌∙◌, ap, subst, append_assoc, arith, ◌⊎◌, inl, inr, zero, suc}
+use Rattle.std.proofs.Common.{◌≡◌, ℕ, ◌+◌, ◌<◌, ◌≤◌, true, List, [], ◌∷◌, ◌++◌, length, drop, refl, sym, ◌∙◌, ap, subst, append_assoc, arith, ◌⊎◌, inl, inr, zero, suc}
 use Rattle.std.proofs.lemmas.List.{append-nil}
 use Rattle.std.specs.Prelude.{Result, Ok, Err, IfOk, IfErr}
 use Rattle.std.specs.Result.{IsErrAnd}
@@ -10,7 +10,7 @@ use Rattle.rn_inscript.specs.declared.cursor.Seen.{Seen}
 use Rattle.rn_inscript.specs.declared.fault.InscriptFault.{InscriptFault}
 use Rattle.rn_inscript.specs.declared.fault.InscriptFault.TheVariants as Fault
 use Rattle.rn_inscript.specs.Levels.{Count, IsWithin, at_first, count_after, goes_too_far, after_token}
-use Rattle.rn_inscript.specs.Stages.{Phrases, Done, BeginAlike, Ends, Stage, IsStuck, IsTooFar, Fails, IsSoFar, ready}
+use Rattle.rn_inscript.specs.Stages.{Phrases, Done, BeginAlike, Fails, IsSoFar, ready}
 use Rattle.rn_inscript.specs.Readings.{Wholes, IsPrefix, IsLongest, IsReading, IsStopped, IsDeep, IsRefusal, IsAnswer, Answers}
 use Rattle.rn_inscript.proofs.Passing.{index-of}
 

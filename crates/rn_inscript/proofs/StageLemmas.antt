@@ -1,16 +1,10 @@
 -- How the stages of a reading follow one another.
-use Rattle.std.proofs.Common.{◌≡◌, ℕ, ◌+◌, ◌<◌, ◌≤◌, true, false, List, [], ◌∷◌, ◌++◌, length, refl, sym, ◌∙◌, ap, subst, append_assoc, arith}
+use Rattle.std.proofs.Common.{◌≡◌, ℕ, ◌+◌, true, false, List, [], ◌∷◌, ◌++◌, refl, sym, ◌∙◌, ap, subst, append_assoc}
 use Rattle.rn_notation.specs.declared.token.Token.{Token}
-use Rattle.rn_notation.specs.declared.token.TokenKind.{TokenKind}
 use Rattle.rn_inscript.specs.declared.fault.InscriptFault.{InscriptFault}
 use Rattle.rn_inscript.specs.declared.fault.InscriptFault.TheVariants as Fault
-use Rattle.rn_inscript.specs.Levels.{Level, Count, IsWithin, count_after, after_token, goes_too_far}
+use Rattle.rn_inscript.specs.Levels.{Count, IsWithin, count_after, after_token, goes_too_far}
 use Rattle.rn_inscript.specs.Stages.{Phrases, Then, Done, BeginAlike, Ends, Stage, CanEnd, IsStuck, IsTooFar, Fails}
-
--- the same tokens begin alike
-pub alike-same : (ts : List Token) → BeginAlike ts ts
-alike-same [] = tt
-alike-same (t ∷ ts) = refl
 
 pub alike-append : (ts us vs : List Token) → BeginAlike us vs → BeginAlike (ts ++ us) (ts ++ vs)
 alike-append [] us vs alike = alike

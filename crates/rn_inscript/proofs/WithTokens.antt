@@ -1,17 +1,16 @@
 -- Phrases that begin with a token of a kind or with a name, and the last phrase of an inscription.
-use Rattle.std.proofs.Common.{◌≡◌, ℕ, ◌+◌, ◌<◌, ◌≤◌, ◌⊎◌, inl, inr, true, false, List, [], ◌∷◌, ◌++◌, length, drop, refl, sym, ◌∙◌, ap, subst, arith}
-use Rattle.std.specs.Prelude.{Result, Ok, Err}
+use Rattle.std.proofs.Common.{◌≡◌, ℕ, ◌+◌, ◌≤◌, false, List, [], ◌∷◌, ◌++◌, length, drop, refl, sym, subst, arith}
 use Rattle.rn_notation.specs.declared.token.Token.{Token}
 use Rattle.rn_notation.specs.declared.token.TokenKind.{TokenKind}
-use Rattle.rn_notation.specs.declared.token.TokenKind.TheVariants.{Name, Word, Number, Text, Sign}
+use Rattle.rn_notation.specs.declared.token.TokenKind.TheVariants.{Name}
 use Rattle.rn_inscript.specs.declared.cursor.Seen.{Seen}
 use Rattle.rn_inscript.specs.declared.fault.InscriptFault.{InscriptFault}
 use Rattle.rn_inscript.specs.declared.fault.InscriptFault.TheVariants as Fault
 use Rattle.rn_inscript.specs.declared.inscriptions.PName.{PName}
 use Rattle.rn_inscript.specs.Inscriptions.{name_at}
 use Rattle.rn_inscript.specs.Levels.{Level, Count, goes_too_far, after_token}
-use Rattle.rn_inscript.specs.Stages.{Phrases, Then, Done, BeginAlike, Ends, Stage, CanEnd, Fails, IsSoFar, IsNextKind, strength, ready, ended}
-use Rattle.rn_inscript.specs.NextNames.{IsNotNextKind, IsNextName, IsNotName, IsNoName}
+use Rattle.rn_inscript.specs.Stages.{Phrases, Then, Done, BeginAlike, Ends, Stage, CanEnd, Fails, IsSoFar, IsNextKind, ready, ended}
+use Rattle.rn_inscript.specs.NextNames.{IsNotNextKind, IsNextName, IsNoName}
 use Rattle.rn_inscript.proofs.StageLemmas.{change, inner, inner_fails}
 use Rattle.rn_inscript.proofs.Passing.{alike-cons, pass, stuck_next}
 use Rattle.rn_inscript.proofs.BracketSteps.{any, can_end_done}

@@ -1,5 +1,5 @@
 -- Levels and operators, counted along the tokens of one expression or inscription.
-use Rattle.std.specs.Prelude.{◌≡◌, ℕ, ◌+◌, ◌<◌, Bool, true, false, not, ◌&&◌, ◌||◌, List, [], ◌∷◌}
+use Rattle.std.specs.Prelude.{◌≡◌, ℕ, ◌+◌, Bool, true, false, not, ◌&&◌, ◌||◌, List, [], ◌∷◌}
 use Rattle.std.specs.Prelude.{length, nat_eq, nat_le, if◌then◌else◌, drop}
 use Rattle.std.specs.List.{list_any}
 use Rattle.rn_notation.specs.declared.sign.TheConstants as sign
@@ -7,6 +7,8 @@ use Rattle.rn_notation.specs.declared.word.TheConstants as word
 use Rattle.rn_notation.specs.declared.token.Token.{Token}
 use Rattle.rn_notation.specs.declared.token.TokenKind.{TokenKind}
 use Rattle.rn_notation.specs.declared.token.TokenKind.TheVariants.{Name, Word, Number, Text, Sign}
+use Rattle.rn_model.specs.Limits.{most_nested}
+use Rattle.rn_inscript.specs.declared.cursor.TheConstants.{MOST_OPERATORS}
 
 -- What opens a level: a bracket until it closes, and a unary minus until its operand ends.
 pub data Level : Type 0 where
@@ -89,8 +91,8 @@ after_token c kind = record {
 -- whether a token opens level 65 or is the 257th operator
 abbrev pub goes_too_far : Count → TokenKind → Bool
 goes_too_far c kind =
-    (opens_level c kind && nat_le 64 (length (levels_at c kind)))
-    || (is_operator kind && nat_le 256 c.operators)
+    (opens_level c kind && nat_le most_nested (length (levels_at c kind)))
+    || (is_operator kind && nat_le MOST_OPERATORS c.operators)
 
 -- at the first token
 abbrev pub at_first : Count

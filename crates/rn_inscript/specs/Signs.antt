@@ -1,5 +1,5 @@
 -- Signs and reserved words by their meaning in expressions, conditions and inscriptions.
-use Rattle.std.specs.Prelude.{ℕ, nat_eq, if◌then◌else◌, Option, Some, None}
+use Rattle.std.specs.Prelude.{nat_eq, if◌then◌else◌, Option, Some, None}
 use Rattle.rn_notation.specs.declared.sign.TheConstants as sign
 use Rattle.rn_notation.specs.declared.word.TheConstants as word
 use Rattle.rn_notation.specs.declared.token.TokenKind.{TokenKind}

@@ -1,10 +1,10 @@
 -- How far a reader has come in a phrase, and how its reading ends.
-use Rattle.std.specs.Prelude.{◌≡◌, ℕ, ◌+◌, ◌<◌, ◌≤◌, Bool, true, false, List, [], ◌∷◌, ◌++◌, length, ◌⊎◌}
+use Rattle.std.specs.Prelude.{◌≡◌, ℕ, ◌+◌, ◌<◌, ◌≤◌, true, false, List, [], ◌∷◌, ◌++◌, length, ◌⊎◌}
 use Rattle.std.specs.Prelude.{drop, Result, Ok, Err, Option, Some, None, nat_eq, nat_le, ◌&&◌, if◌then◌else◌}
 use Rattle.rn_notation.specs.declared.sign.TheConstants as sign
 use Rattle.rn_notation.specs.declared.token.Token.{Token}
 use Rattle.rn_notation.specs.declared.token.TokenKind.{TokenKind}
-use Rattle.rn_notation.specs.declared.token.TokenKind.TheVariants.{Name, Word, Number, Text, Sign}
+use Rattle.rn_notation.specs.declared.token.TokenKind.TheVariants.{Sign}
 use Rattle.rn_inscript.specs.Levels.{Level, Count, IsWithin, count_after, goes_too_far}
 use Rattle.rn_inscript.specs.Levels.{without_minuses}
 use Rattle.rn_inscript.specs.declared.fault.InscriptFault.{InscriptFault}
@@ -34,16 +34,35 @@ BeginAlike ts [] = Unit {0}
 BeginAlike [] (u ∷ us) = ⊥
 BeginAlike (t ∷ ts) (u ∷ us) = t ≡ u
 
+-- how much signs bind that follow a whole phrase, from `||` and `&&` to an opening parenthesis
+abbrev pub or_strength : ℕ
+or_strength = 1
+
+abbrev pub and_strength : ℕ
+and_strength = 2
+
+abbrev pub comparing_strength : ℕ
+comparing_strength = 3
+
+abbrev pub sum_strength : ℕ
+sum_strength = 4
+
+abbrev pub product_strength : ℕ
+product_strength = 5
+
+abbrev pub call_strength : ℕ
+call_strength = 6
+
 -- how much a sign binds that follows a whole phrase: what is no such sign binds nothing
 abbrev pub sign_strength : ℕ → ℕ
 sign_strength k =
-    if nat_eq k sign.LEFT_PAREN then 6
-    else if nat_le sign.STAR k && nat_le k sign.PERCENT then 5
-    else if nat_le sign.PLUS k && nat_le k sign.MINUS then 4
-    else if nat_le sign.SAME k && nat_le k sign.AT_LEAST then 3
-    else if nat_eq k sign.COMMA then 3
-    else if nat_eq k sign.AND then 2
-    else if nat_eq k sign.OR then 1
+    if nat_eq k sign.LEFT_PAREN then call_strength
+    else if nat_le sign.STAR k && nat_le k sign.PERCENT then product_strength
+    else if nat_le sign.PLUS k && nat_le k sign.MINUS then sum_strength
+    else if nat_le sign.SAME k && nat_le k sign.AT_LEAST then comparing_strength
+    else if nat_eq k sign.COMMA then comparing_strength
+    else if nat_eq k sign.AND then and_strength
+    else if nat_eq k sign.OR then or_strength
     else 0
 
 abbrev pub strength : TokenKind → ℕ
@@ -179,10 +198,10 @@ Reads n X tokens before around result =
 
 -- `]` or `)`
 abbrev pub IsClose : ℕ → Type 0
-IsClose k = (k ≡ 3) ⊎ (k ≡ 5)
+IsClose k = (k ≡ sign.RIGHT_BRACKET) ⊎ (k ≡ sign.RIGHT_PAREN)
 
 -- no opening parenthesis is next, or it opens a level too many
 abbrev pub IsBadOpening : List Token → Seen → ℕ → InscriptFault → Type 0
 IsBadOpening tokens seen levels fault =
-    (IsNotNextSign tokens seen.at 4 × (fault ≡ Fault.P2 seen.at))
-    ⊎ (IsNextSign tokens seen.at 4 × (levels ≡ 0) × (fault ≡ Fault.P5 seen.at))
+    (IsNotNextSign tokens seen.at sign.LEFT_PAREN × (fault ≡ Fault.P2 seen.at))
+    ⊎ (IsNextSign tokens seen.at sign.LEFT_PAREN × (levels ≡ 0) × (fault ≡ Fault.P5 seen.at))

@@ -1,10 +1,11 @@
 //! Reading conditions. A call goes deeper only where `!(` opens a level.
 ghost use Rattle.std.specs.Prelude.{◌≡◌, ◌+◌, ◌≤◌, List, length, MatchOption};
+ghost use Rattle.rn_notation.specs.declared.sign.TheConstants as sign;
 ghost use Rattle.rn_inscript.specs.Conditions.{IsCond, IsAlternatives, IsBoth, IsSimple};
 ghost use Rattle.rn_inscript.specs.Levels.{Level, without_minuses};
 ghost use Rattle.rn_inscript.specs.Signs.{compare_of};
 ghost use Rattle.rn_inscript.specs.Stages.{Reads, Moves, IsNextOf, IsNoneOf, IsNextSign};
-ghost use Rattle.rn_inscript.specs.Stages.{IsNotNextSign};
+ghost use Rattle.rn_inscript.specs.Stages.{IsNotNextSign, or_strength, and_strength, comparing_strength};
 
 use crate::conds::{PAlts, PCond, PSimple, PSimples};
 use crate::cursor::{Seen, expect_opening, expect_sign, next, past_sign};
@@ -12,6 +13,7 @@ use crate::expressions::expr;
 use crate::fault::InscriptFault;
 use rn_items::Items;
 use rn_model::CompareKind;
+use rn_model::limits::MOST_NESTED;
 use rn_notation::{TokenKind, Tokens, sign};
 use std::alloc::Global;
 
@@ -49,7 +51,7 @@ pub(crate) fn cond(
     requires { seen.at ≤ length tokens.now }
     ensures moved { Moves tokens.now seen result }
     ensures reads { (around : List Level) → without_minuses around ≡ around →
-        levels + length around ≡ 64 → Reads 1 IsCond tokens.now seen around result }
+        levels + length around ≡ MOST_NESTED → Reads or_strength IsCond tokens.now seen around result }
 {
     let (any, after) = alternatives(alloc, tokens, seen, levels)?;
     Ok((PCond { any }, after))
@@ -65,7 +67,7 @@ fn alternatives(
     requires { seen.at ≤ length tokens.now }
     ensures moved { Moves tokens.now seen result }
     ensures reads { (around : List Level) → without_minuses around ≡ around →
-        levels + length around ≡ 64 → Reads 1 IsAlternatives tokens.now seen around result }
+        levels + length around ≡ MOST_NESTED → Reads or_strength IsAlternatives tokens.now seen around result }
 {
     let (first, after_first) = both(alloc, tokens, seen, levels)?;
     let mut all = Vec::new(alloc);
@@ -91,7 +93,7 @@ fn both(
     requires { seen.at ≤ length tokens.now }
     ensures moved { Moves tokens.now seen result }
     ensures reads { (around : List Level) → without_minuses around ≡ around →
-        levels + length around ≡ 64 → Reads 2 IsBoth tokens.now seen around result }
+        levels + length around ≡ MOST_NESTED → Reads and_strength IsBoth tokens.now seen around result }
 {
     let (first, after_first) = simple(alloc, tokens, seen, levels)?;
     let mut all = Vec::new(alloc);
@@ -117,7 +119,7 @@ fn simple(
     requires { seen.at ≤ length tokens.now }
     ensures moved { Moves tokens.now seen result }
     ensures reads { (around : List Level) → without_minuses around ≡ around →
-        levels + length around ≡ 64 → Reads 3 IsSimple tokens.now seen around result }
+        levels + length around ≡ MOST_NESTED → Reads comparing_strength IsSimple tokens.now seen around result }
 {
     match past_sign(tokens, seen, sign::NOT) {
         Some(_) => negation(alloc, tokens, seen, levels),
@@ -132,10 +134,10 @@ fn negation(
     seen: Seen,
     levels: u32,
 ) -> Result<(PSimple, Seen), InscriptFault>
-    requires { IsNextSign tokens.now seen.at 23 }
+    requires { IsNextSign tokens.now seen.at sign.NOT }
     ensures moved { Moves tokens.now seen result }
     ensures reads { (around : List Level) → without_minuses around ≡ around →
-        levels + length around ≡ 64 → Reads 3 IsSimple tokens.now seen around result }
+        levels + length around ≡ MOST_NESTED → Reads comparing_strength IsSimple tokens.now seen around result }
 {
     let after_not = seen.past_operator(tokens)?;
     let inside = expect_opening(tokens, after_not, levels)?;
@@ -152,10 +154,10 @@ fn comparison(
     levels: u32,
 ) -> Result<(PSimple, Seen), InscriptFault>
     requires inside { seen.at ≤ length tokens.now }
-    requires other { IsNotNextSign tokens.now seen.at 23 }
+    requires other { IsNotNextSign tokens.now seen.at sign.NOT }
     ensures moved { Moves tokens.now seen result }
     ensures reads { (around : List Level) → without_minuses around ≡ around →
-        levels + length around ≡ 64 → Reads 3 IsSimple tokens.now seen around result }
+        levels + length around ≡ MOST_NESTED → Reads comparing_strength IsSimple tokens.now seen around result }
 {
     let (left, after) = expr(alloc, tokens, seen, levels)?;
     match next_comparison(tokens, after.at) {

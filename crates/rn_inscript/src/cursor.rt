@@ -1,5 +1,6 @@
 //! Steps from token to token, with levels and operators counted.
 ghost use Rattle.std.specs.Prelude.{◌≡◌, ◌+◌, ◌<◌, ◌≤◌, ◌⊎◌, length, MatchOption, MatchResult};
+ghost use Rattle.rn_notation.specs.declared.sign.TheConstants as sign;
 ghost use Rattle.rn_notation.specs.StoredTokens.{lent};
 ghost use Rattle.rn_inscript.specs.Stages.{IsNext, HasNoNext, IsNextSign, IsNotNextSign, past, past_operator};
 ghost use Rattle.rn_inscript.specs.Stages.{IsBadOpening};
@@ -7,9 +8,7 @@ ghost use Rattle.rn_inscript.specs.Stages.{IsBadOpening};
 use crate::fault::InscriptFault;
 use rn_notation::{TokenKind, TokenRef, Tokens, sign};
 
-/// How many levels may be open.
-pub(crate) const MOST_LEVELS: u32 = 64;
-
+/// How many operators a phrase may have.
 const MOST_OPERATORS: u32 = 256;
 
 /// How far a reader has come: the index of the next token, and how many operators were taken.
@@ -25,6 +24,7 @@ impl Seen {
         requires { self.at < length tokens.now }
         ensures { result ≡ past self }
     {
+        // For its clause: there are fewer than 2^64 tokens, so `at + 1` doesn't overflow.
         let _count = tokens.len();
         Seen {
             at: self.at + 1,
@@ -36,9 +36,10 @@ impl Seen {
     pub(crate) fn past_operator(self, tokens: &Tokens) -> Result<Seen, InscriptFault>
         requires { self.at < length tokens.now }
         ensures { MatchResult result
-            (λ seen. (self.operators < 256) × (seen ≡ past_operator self))
-            (λ fault. (256 ≤ self.operators) × (fault ≡ InscriptFault.P5 self.at)) }
+            (λ seen. (self.operators < MOST_OPERATORS) × (seen ≡ past_operator self))
+            (λ fault. (MOST_OPERATORS ≤ self.operators) × (fault ≡ InscriptFault.P5 self.at)) }
     {
+        // For its clause: there are fewer than 2^64 tokens, so `at + 1` doesn't overflow.
         let _count = tokens.len();
         if self.operators >= MOST_OPERATORS {
             return Err(InscriptFault::P5(self.at));
@@ -66,8 +67,8 @@ impl Seen {
     pub(crate) fn past_minus(self, tokens: &Tokens, levels: u32) -> Result<Seen, InscriptFault>
         requires { self.at < length tokens.now }
         ensures { MatchResult result
-            (λ seen. (0 < levels) × (self.operators < 256) × (seen ≡ past_operator self))
-            (λ fault. ((levels ≡ 0) ⊎ (256 ≤ self.operators)) × (fault ≡ InscriptFault.P5 self.at)) }
+            (λ seen. (0 < levels) × (self.operators < MOST_OPERATORS) × (seen ≡ past_operator self))
+            (λ fault. ((levels ≡ 0) ⊎ (MOST_OPERATORS ≤ self.operators)) × (fault ≡ InscriptFault.P5 self.at)) }
     {
         if levels == 0 {
             return Err(InscriptFault::P5(self.at));
@@ -123,7 +124,7 @@ pub(crate) fn expect_opening(
     levels: u32,
 ) -> Result<Seen, InscriptFault>
     ensures { MatchResult result
-        (λ after. IsNextSign tokens.now seen.at 4 × (0 < levels) × (after ≡ past seen))
+        (λ after. IsNextSign tokens.now seen.at sign.LEFT_PAREN × (0 < levels) × (after ≡ past seen))
         (λ fault. IsBadOpening tokens.now seen levels fault) }
 {
     let after = expect_sign(tokens, seen, sign::LEFT_PAREN)?;

@@ -2,6 +2,7 @@
 //! loops.
 ghost use Rattle.std.specs.Prelude.{◌≡◌, ◌↔◌, ◌+◌, ◌≤◌, List, length, IfOk, IsTrue, MatchOption};
 ghost use Rattle.std.specs.Prelude.{codes, ◌∷◌};
+ghost use Rattle.rn_notation.specs.declared.sign.TheConstants as sign;
 ghost use Rattle.rn_notation.specs.declared.token.TokenKind.TheVariants as Kind;
 ghost use Rattle.rn_notation.specs.StoredTokens.{lent};
 ghost use Rattle.rn_inscript.specs.Expressions.{IsExpr, IsProduct, IsUnary, IsPrimary, IsListed};
@@ -10,13 +11,15 @@ ghost use Rattle.rn_inscript.specs.Signs.{open_brace, open_bracket, open_paren, 
 ghost use Rattle.rn_inscript.specs.Signs.{times_of};
 ghost use Rattle.rn_inscript.specs.Levels.{Level, bracket, without_minuses};
 ghost use Rattle.rn_inscript.specs.Stages.{Reads, ReadsFrom, Moves, IsNext, IsNextOf, IsNoneOf};
-ghost use Rattle.rn_inscript.specs.Stages.{IsClose, IsNotNextSign, ready};
+ghost use Rattle.rn_inscript.specs.Stages.{IsClose, IsNotNextSign, ready, comparing_strength};
+ghost use Rattle.rn_inscript.specs.Stages.{sum_strength, product_strength, call_strength};
 
 use crate::cursor::{Seen, expect_sign, next, past_sign};
 use crate::exprs::{PExpr, PExprs, PForm};
 use crate::fault::InscriptFault;
 use rn_items::{Boxed, Items};
 use rn_model::OpKind;
+use rn_model::limits::MOST_NESTED;
 use rn_notation::{Spot, TokenKind, TokenRef, Tokens, sign, word};
 use rn_value::{NoMemory, Str, copy_text};
 use std::alloc::Global;
@@ -87,7 +90,7 @@ fn negate(alloc: Global, spot: Spot, e: PExpr) -> Result<PExpr, NoMemory>
 
 /// A minus, where it is next.
 fn next_minus(tokens: &Tokens, at: usize) -> Option<TokenRef<'_>>
-    ensures { MatchOption result (IsNotNextSign tokens.now at 17)
+    ensures { MatchOption result (IsNotNextSign tokens.now at sign.MINUS)
         (λ t. IsNext tokens.now at (lent t) × (t.kind.now ≡ minus)) }
 {
     match next(tokens, at) {
@@ -136,8 +139,8 @@ fn named(
     requires next { IsNext tokens.now seen.at (lent token) }
     requires name { token.kind.now ≡ Kind.Name name.now }
     ensures moved { Moves tokens.now seen result }
-    ensures reads { (around : List Level) → levels + length around ≡ 64 →
-        Reads 6 IsPrimary tokens.now seen around result }
+    ensures reads { (around : List Level) → levels + length around ≡ MOST_NESTED →
+        Reads call_strength IsPrimary tokens.now seen around result }
 {
     let after = seen.past(tokens);
     if is_step(name) {
@@ -173,7 +176,7 @@ fn this(
     requires next { IsNext tokens.now seen.at (lent token) }
     requires kind { token.kind.now ≡ Kind.Word number }
     ensures moved { Moves tokens.now seen result }
-    ensures reads { (around : List Level) → Reads 6 IsPrimary tokens.now seen around result }
+    ensures reads { (around : List Level) → Reads call_strength IsPrimary tokens.now seen around result }
 {
     if number != word::THIS {
         return Err(InscriptFault::P2(seen.at));
@@ -196,8 +199,8 @@ fn primary(
 ) -> Result<(PExpr, Seen), InscriptFault>
     requires { seen.at ≤ length tokens.now }
     ensures moved { Moves tokens.now seen result }
-    ensures reads { (around : List Level) → levels + length around ≡ 64 →
-        Reads 6 IsPrimary tokens.now seen around result }
+    ensures reads { (around : List Level) → levels + length around ≡ MOST_NESTED →
+        Reads call_strength IsPrimary tokens.now seen around result }
 {
     match next(tokens, seen.at) {
         Some(token) => match token.kind {
@@ -236,8 +239,8 @@ fn bracketed(
     requires next { IsNext tokens.now seen.at (lent token) }
     requires kind { token.kind.now ≡ Kind.Sign opening }
     ensures moved { Moves tokens.now seen result }
-    ensures reads { (around : List Level) → levels + length around ≡ 64 →
-        Reads 6 IsPrimary tokens.now seen around result }
+    ensures reads { (around : List Level) → levels + length around ≡ MOST_NESTED →
+        Reads call_strength IsPrimary tokens.now seen around result }
 {
     if opening == sign::LEFT_PAREN {
         parenthesised(alloc, tokens, seen, levels, token)
@@ -261,8 +264,8 @@ fn parenthesised(
     requires next { IsNext tokens.now seen.at (lent token) }
     requires kind { token.kind.now ≡ open_paren }
     ensures moved { Moves tokens.now seen result }
-    ensures reads { (around : List Level) → levels + length around ≡ 64 →
-        Reads 6 IsPrimary tokens.now seen around result }
+    ensures reads { (around : List Level) → levels + length around ≡ MOST_NESTED →
+        Reads call_strength IsPrimary tokens.now seen around result }
 {
     let inside = seen.past_opening(tokens, levels)?;
     let (inner, after) = expr(alloc, tokens, inside, levels - 1)?;
@@ -281,8 +284,8 @@ fn tuple(
     requires next { IsNext tokens.now seen.at (lent token) }
     requires kind { token.kind.now ≡ open_bracket }
     ensures moved { Moves tokens.now seen result }
-    ensures reads { (around : List Level) → levels + length around ≡ 64 →
-        Reads 6 IsPrimary tokens.now seen around result }
+    ensures reads { (around : List Level) → levels + length around ≡ MOST_NESTED →
+        Reads call_strength IsPrimary tokens.now seen around result }
 {
     let inside = seen.past_opening(tokens, levels)?;
     let (parts, end) = listed(alloc, tokens, inside, levels - 1, sign::RIGHT_BRACKET)?;
@@ -306,8 +309,8 @@ fn list(
     requires next { IsNext tokens.now seen.at (lent token) }
     requires kind { token.kind.now ≡ open_brace }
     ensures moved { Moves tokens.now seen result }
-    ensures reads { (around : List Level) → levels + length around ≡ 64 →
-        Reads 6 IsPrimary tokens.now seen around result }
+    ensures reads { (around : List Level) → levels + length around ≡ MOST_NESTED →
+        Reads call_strength IsPrimary tokens.now seen around result }
 {
     let inside = seen.past_opening(tokens, levels)?;
     if let Some(end) = past_sign(tokens, inside, sign::RIGHT_BRACE) {
@@ -335,8 +338,8 @@ pub(crate) fn listed(
     requires inside { seen.at ≤ length tokens.now }
     requires close { IsClose close }
     ensures moved { Moves tokens.now seen result }
-    ensures reads { (around : List Level) → levels + length (bracket ∷ around) ≡ 64 →
-        ReadsFrom 6 (IsListed (Kind.Sign close)) tokens.now seen
+    ensures reads { (around : List Level) → levels + length (bracket ∷ around) ≡ MOST_NESTED →
+        ReadsFrom call_strength (IsListed (Kind.Sign close)) tokens.now seen
         (ready (bracket ∷ around) seen.operators) around result }
 {
     if let Some(end) = past_sign(tokens, seen, close) {
@@ -356,8 +359,8 @@ fn exprs(
 ) -> Result<(PExprs, Seen), InscriptFault>
     requires { seen.at ≤ length tokens.now }
     ensures moved { Moves tokens.now seen result }
-    ensures reads { (around : List Level) → without_minuses around ≡ around → levels + length around ≡ 64 →
-        Reads 3 IsExprs tokens.now seen around result }
+    ensures reads { (around : List Level) → without_minuses around ≡ around → levels + length around ≡ MOST_NESTED →
+        Reads comparing_strength IsExprs tokens.now seen around result }
 {
     let (first, after_first) = expr(alloc, tokens, seen, levels)?;
     let mut all = Vec::new(alloc);
@@ -383,8 +386,8 @@ fn negative(
     requires next { IsNext tokens.now seen.at (lent token) }
     requires kind { token.kind.now ≡ minus }
     ensures moved { Moves tokens.now seen result }
-    ensures reads { (around : List Level) → levels + length around ≡ 64 →
-        Reads 6 IsUnary tokens.now seen around result }
+    ensures reads { (around : List Level) → levels + length around ≡ MOST_NESTED →
+        Reads call_strength IsUnary tokens.now seen around result }
 {
     let operand = seen.past_minus(tokens, levels)?;
     let (e, after) = unary(alloc, tokens, operand, levels - 1)?;
@@ -400,8 +403,8 @@ fn unary(
 ) -> Result<(PExpr, Seen), InscriptFault>
     requires { seen.at ≤ length tokens.now }
     ensures moved { Moves tokens.now seen result }
-    ensures reads { (around : List Level) → levels + length around ≡ 64 →
-        Reads 6 IsUnary tokens.now seen around result }
+    ensures reads { (around : List Level) → levels + length around ≡ MOST_NESTED →
+        Reads call_strength IsUnary tokens.now seen around result }
 {
     match next_minus(tokens, seen.at) {
         Some(token) => negative(alloc, tokens, seen, levels, token),
@@ -418,8 +421,8 @@ fn product(
 ) -> Result<(PExpr, Seen), InscriptFault>
     requires { seen.at ≤ length tokens.now }
     ensures moved { Moves tokens.now seen result }
-    ensures reads { (around : List Level) → without_minuses around ≡ around → levels + length around ≡ 64 →
-        Reads 5 IsProduct tokens.now seen around result }
+    ensures reads { (around : List Level) → without_minuses around ≡ around → levels + length around ≡ MOST_NESTED →
+        Reads product_strength IsProduct tokens.now seen around result }
 {
     let (first, after_first) = unary(alloc, tokens, seen, levels)?;
     let mut left = first;
@@ -442,8 +445,8 @@ pub(crate) fn expr(
 ) -> Result<(PExpr, Seen), InscriptFault>
     requires { seen.at ≤ length tokens.now }
     ensures moved { Moves tokens.now seen result }
-    ensures reads { (around : List Level) → without_minuses around ≡ around → levels + length around ≡ 64 →
-        Reads 4 IsExpr tokens.now seen around result }
+    ensures reads { (around : List Level) → without_minuses around ≡ around → levels + length around ≡ MOST_NESTED →
+        Reads sum_strength IsExpr tokens.now seen around result }
 {
     let (first, after_first) = product(alloc, tokens, seen, levels)?;
     let mut left = first;

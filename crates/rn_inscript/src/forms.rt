@@ -1,5 +1,5 @@
 //! Reading the forms of inscriptions.
-ghost use Rattle.std.specs.Prelude.{◌≡◌, ◌↔◌, ◌+◌, ◌≤◌, ◌⊎◌, [], Some, length, IfOk, MatchOption, MatchResult};
+ghost use Rattle.std.specs.Prelude.{◌≡◌, ◌+◌, ◌≤◌, [], Some, length, MatchOption, MatchResult};
 ghost use Rattle.rn_notation.specs.declared.token.TokenKind.TheVariants as Kind;
 ghost use Rattle.rn_notation.specs.StoredTokens.{lent};
 ghost use Rattle.rn_inscript.specs.Inscriptions.{IsInscribed, IsCall, absent};
@@ -7,16 +7,17 @@ ghost use Rattle.rn_inscript.specs.Signs.{arc_of, target_of, guard_word, action_
 ghost use Rattle.rn_inscript.specs.Signs.{this_word};
 ghost use Rattle.rn_inscript.specs.NextNames.{IsNotNextKind, IsNextName, IsNoName, IsEquality};
 ghost use Rattle.rn_inscript.specs.NextNames.{IsNoCreation};
-ghost use Rattle.rn_inscript.specs.Stages.{Reads, Moves, IsNext, IsNextKind, past};
+ghost use Rattle.rn_inscript.specs.Stages.{Reads, Moves, or_strength, IsNext, IsNextKind, past};
 
 use crate::conditions::cond;
-use crate::cursor::{MOST_LEVELS, Seen, expect_sign, next, past_sign};
+use crate::cursor::{Seen, expect_sign, next, past_sign};
 use crate::expressions::{expr, listed};
 use crate::exprs::{PExpr, PExprs, PForm};
 use crate::fault::InscriptFault;
 use crate::inscriptions::{PInscribed, PName};
 use rn_items::Items;
 use rn_model::ArcKind;
+use rn_model::limits::MOST_NESTED;
 use rn_notation::{Spot, TokenKind, TokenRef, Tokens, sign, word};
 use rn_value::{Str, copy_text};
 use std::alloc::Global;
@@ -111,7 +112,7 @@ fn arc(
     let (place, after) = expect_name(alloc, tokens, seen.past(tokens))?;
     match past_sign(tokens, after, sign::COLON) {
         Some(start) => {
-            let (e, end) = expr(alloc, tokens, start, MOST_LEVELS)?;
+            let (e, end) = expr(alloc, tokens, start, MOST_NESTED)?;
             Ok((
                 PInscribed::Arc {
                     kind,
@@ -147,7 +148,7 @@ fn guard(
     ensures moved { Moves tokens.now seen result }
     ensures reads { Reads 0 IsInscribed tokens.now seen [] result }
 {
-    let (condition, end) = cond(alloc, tokens, seen.past(tokens), MOST_LEVELS)?;
+    let (condition, end) = cond(alloc, tokens, seen.past(tokens), MOST_NESTED)?;
     Ok((PInscribed::Guard(condition), end))
 }
 
@@ -165,12 +166,12 @@ fn action(
 {
     let after = seen.past(tokens);
     if let Some(start) = past_word(tokens, after, word::PRINT) {
-        let (e, end) = expr(alloc, tokens, start, MOST_LEVELS)?;
+        let (e, end) = expr(alloc, tokens, start, MOST_NESTED)?;
         return Ok((PInscribed::Print(e), end));
     }
     let (var, after_var) = expect_name(alloc, tokens, after)?;
     let start = expect_sign(tokens, after_var, sign::EQUALS)?;
-    let (value, end) = expr(alloc, tokens, start, MOST_LEVELS)?;
+    let (value, end) = expr(alloc, tokens, start, MOST_NESTED)?;
     Ok((PInscribed::Set { var, value }, end))
 }
 
@@ -182,11 +183,11 @@ fn call(
 ) -> Result<((PName, PExprs), Seen), InscriptFault>
     requires { seen.at ≤ length tokens.now }
     ensures moved { Moves tokens.now seen result }
-    ensures reads { Reads 1 IsCall tokens.now seen [] result }
+    ensures reads { Reads or_strength IsCall tokens.now seen [] result }
 {
     let (channel, after) = expect_name(alloc, tokens, seen)?;
     let inside = expect_sign(tokens, after, sign::LEFT_PAREN)?;
-    let (args, end) = listed(alloc, tokens, inside, MOST_LEVELS - 1, sign::RIGHT_PAREN)?;
+    let (args, end) = listed(alloc, tokens, inside, MOST_NESTED - 1, sign::RIGHT_PAREN)?;
     Ok(((channel, args), end))
 }
 
@@ -266,9 +267,9 @@ fn equality(alloc: Global, tokens: &Tokens, seen: Seen) -> Result<(PInscribed, S
     ensures moved { Moves tokens.now seen result }
     ensures reads { Reads 0 IsEquality tokens.now seen [] result }
 {
-    let (left, after) = expr(alloc, tokens, seen, MOST_LEVELS)?;
+    let (left, after) = expr(alloc, tokens, seen, MOST_NESTED)?;
     let start = expect_sign(tokens, after, sign::EQUALS)?;
-    let (right, end) = expr(alloc, tokens, start, MOST_LEVELS)?;
+    let (right, end) = expr(alloc, tokens, start, MOST_NESTED)?;
     Ok((PInscribed::Equality(left, right), end))
 }
 

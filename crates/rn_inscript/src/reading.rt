@@ -6,12 +6,13 @@ ghost use Rattle.rn_inscript.specs.Readings.{IsAnswer, IsWholeForm, Answers};
 ghost use Rattle.rn_inscript.specs.declared.exprs.PExpr.{PExpr as Expression};
 ghost use Rattle.rn_inscript.specs.declared.inscriptions.PInscription.{PInscription as Inscription};
 
-use crate::cursor::{MOST_LEVELS, Seen, next};
+use crate::cursor::{Seen, next};
 use crate::expressions::expr;
 use crate::exprs::PExpr;
 use crate::fault::InscriptFault;
 use crate::forms::inscribed;
 use crate::inscriptions::{PInscribed, PInscription};
+use rn_model::limits::MOST_NESTED;
 use rn_notation::Tokens;
 use std::alloc::Global;
 
@@ -20,7 +21,7 @@ fn expr_at(alloc: Global, tokens: &Tokens, at: usize) -> Result<(PExpr, usize), 
     ensures { IsAnswer IsWholeExpr tokens.now at result }
 {
     let seen = Seen { at, operators: 0 };
-    let (e, end) = expr(alloc, tokens, seen, MOST_LEVELS)?;
+    let (e, end) = expr(alloc, tokens, seen, MOST_NESTED)?;
     Ok((e, end.at))
 }
 

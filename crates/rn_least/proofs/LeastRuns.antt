@@ -69,6 +69,7 @@ prefixes_are_least_runs system depth fs gs least = record {
   least = least_prefix system depth 1 (initial_marking system) fs gs least.least;
 }
 
+-- one firing more goes on with a least run just where it fires by the least binding at its end
 pub least_runs_grow : LeastRunsGrow
 least_runs_grow system depth fs f =
     let m = initial_marking system in (

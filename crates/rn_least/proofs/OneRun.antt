@@ -278,6 +278,7 @@ alike_by system options others fs gs reason end same log other memory memory' (i
     absurd (ends_first system others options gs fs end reason (flipped options others same) other log on
     memory')
 
+-- two least logs with the same limits, which don't end for want of memory, are alike
 pub least_logs_are_alike : LeastLogsAreAlike
 least_logs_are_alike system options others fs gs reason end same log other memory memory' =
     alike_by system options others fs gs reason end same log other memory memory'

@@ -59,14 +59,6 @@ least_ended system options fs ended reason old log faults = record {
 
 -- The same of states.
 module _ (old new : State) (least : HasLeastLog old) (is : IsState new) where
-  -- a state whose log is that of another one
-  pub same_log : new.setup ≡ old.setup → new.fired ≡ old.fired → new.ended ≡ old.ended →
-      HasLeastLog new
-  same_log setup fired ended =
-      subst (λ x. LeastLog x.system x.options new.fired new.ended) (sym setup)
-      (subst (λ fs. LeastLog old.setup.system old.setup.options fs new.ended) (sym fired)
-      (subst (λ e. LeastLog old.setup.system old.setup.options old.fired e) (sym ended) least))
-
   pub fired_least : (worker step : ℕ) (b : Binding) → old.ended ≡ None →
       IsLeast old.setup.system (end_marking old) old.setup.options.depth b →
       FiresOrFaults old worker b (Ok (Some step)) new → HasLeastLog new

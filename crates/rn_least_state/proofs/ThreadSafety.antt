@@ -1,5 +1,5 @@
 -- A state of a least run may cross threads, as its state does.
-use denote.Param.Send.{IsSend, sendable}
+use denote.Param.Send.{sendable}
 use Rattle.std.proofs.Crossing.{crosses}
 use Rattle.rn_fire.proofs.ThreadSafety.{state_sends}
 

@@ -3,7 +3,6 @@ ghost use Rattle.std.specs.Prelude.{◌≡◌, ◌≤◌};
 ghost use Rattle.rn_model.specs.Limits.{most_workers};
 ghost use Rattle.rn_binding.specs.Soundness.{IsSound};
 ghost use Rattle.rn_fire.specs.Ends.{MayGoOn};
-ghost use Rattle.rn_fire.specs.States.{State};
 ghost use Rattle.rn_least_state.specs.CommitsAt.{CommitsAt, WasLeast, answer_at};
 
 use crate::state::LeastState;

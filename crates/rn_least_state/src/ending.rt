@@ -6,7 +6,7 @@ ghost use Rattle.rn_model.specs.declared.log.Reason.TheVariants as End;
 ghost use Rattle.rn_model.specs.Liveness.{IsLive};
 ghost use Rattle.rn_model.specs.LivenessLaws.{without_instances};
 ghost use Rattle.rn_fire.specs.Ends.{EndsAtLimit, EndsDead, MayGoOn, WasDead, with_end};
-ghost use Rattle.rn_fire.specs.States.{State, end_marking};
+ghost use Rattle.rn_fire.specs.States.{end_marking};
 
 use crate::state::LeastState;
 use rn_fire::NoneCommit;

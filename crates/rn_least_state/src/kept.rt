@@ -1,5 +1,5 @@
 //! A state of a least run in a desk.
-ghost use Rattle.std.specs.Prelude.{◌≡◌, length};
+ghost use Rattle.std.specs.Prelude.{length};
 ghost use Rattle.rn_fire.specs.States.{author_of, logged};
 
 use crate::state::LeastState;

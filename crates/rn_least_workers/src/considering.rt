@@ -1,8 +1,6 @@
 //! What a worker does between its turns: it searches its snapshot for the first binding that is
 //! enabled.
-ghost use Rattle.std.specs.Prelude.{◌≡◌, IfOk, IfSome, IsNone, ◌↔◌, false};
-ghost use Rattle.rn_model.specs.Enabling.{DeadAt};
-ghost use Rattle.rn_least.specs.LeastRuns.{IsLeast};
+ghost use Rattle.std.specs.Prelude.{◌≡◌, IfOk, false};
 ghost use Rattle.rn_worker.specs.Plans.{IsToSearch};
 ghost use Rattle.rn_firsts.specs.Known.{IsKnown};
 ghost use Rattle.rn_least_workers.specs.Following.{FollowsIn};

@@ -28,6 +28,7 @@ pub record Counts (n : ℕ) : Type 0 where
   pub stands : IsCount times (cond (nat_eq n 1) [] (42 ∷ numeral n))
   pub number : count_of times ≡ n
 
+-- a count from 2 on is a star and its numeral
 pub count_written : (n : ℕ) → 2 ≤ n → Counts n
 count_written n low =
     let apart : nat_eq n 1 ≡ false = ne_eqb n 1 (λ e. omega (arith, low, e)) in
@@ -38,6 +39,7 @@ count_written n low =
       number = counted p;
     }
 
+-- and a count of 1 is nothing
 pub once_written : (n : ℕ) → n ≡ 1 → Counts n
 once_written n is = record {
   times = [];

@@ -1,5 +1,5 @@
 -- Numerals, and the numbers that digits spell.
-use Rattle.std.proofs.Common.{◌≡◌, ◌<◌, ◌≤◌, ◌+◌, ◌-◌, ◌*◌, ◌/◌, ℕ, List, [], ◌∷◌, true, nat_le, arith}
+use Rattle.std.proofs.Common.{◌≡◌, ◌<◌, ◌≤◌, ◌+◌, ◌-◌, ◌*◌, ◌/◌, ℕ, List, [], ◌∷◌, nat_le, arith}
 use Rattle.std.specs.Prelude.{Some, None, if◌then◌else◌}
 use Rattle.std.proofs.lemmas.Bool.Decides.{nat_tests}
 use Rattle.rn_lines.specs.Reading.{number_after}
@@ -22,5 +22,6 @@ too_many_units limit n d ds digits over whole =
 pub none_above : (most n : ℕ) → most < n → (if nat_le n most then Some n else None) ≡ None
 none_above most n h = grind (arith, nat_tests)
 
+-- a number within a limit is kept
 pub some_within : (most n : ℕ) → n ≤ most → (if nat_le n most then Some n else None) ≡ Some n
 some_within most n h = grind (arith, nat_tests)

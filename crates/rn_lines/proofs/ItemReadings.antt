@@ -1,8 +1,7 @@
 -- Reading of the items of a mark, in both directions.
-use Rattle.std.proofs.Common.{◌≡◌, ◌<◌, ◌≤◌, ◌+◌, ◌-◌, ◌*◌, ℕ, zero, suc, List, [], ◌∷◌, ◌++◌, length, Bool, true, false, cond, nat_eq, refl, sym, ap, ◌∙◌, subst, arith, append_assoc, length-append}
+use Rattle.std.proofs.Common.{◌≡◌, ◌<◌, ◌≤◌, ◌+◌, ◌-◌, ℕ, zero, suc, List, [], ◌∷◌, ◌++◌, length, Bool, true, false, cond, nat_eq, refl, sym, ap, ◌∙◌, subst, arith, append_assoc, length-append}
 use Rattle.std.specs.Prelude.{Option, Some, None}
 use Rattle.std.proofs.lemmas.Bool.Decides.{nat_tests}
-use Rattle.std.proofs.lemmas.List.{append-nil}
 use Rattle.std.proofs.lemmas.Option.{same_Some, cond_some}
 use borrow.Author.Tests.{eqb-true}
 use Rattle.rn_value.specs.Characters.{is_digit, is_name_byte}
@@ -10,8 +9,8 @@ use Rattle.rn_value.specs.Grammar.{IsNumeral}
 use Rattle.rn_value.proofs.Numerals.{IsNumeral-first}
 use Rattle.rn_value.proofs.Spans.{Stops}
 use Rattle.rn_lines.specs.ValueText.{Seen, IsValue, most_brackets}
-use Rattle.rn_lines.specs.LineText.{Token, Held, IsCount, AreItems}
-use Rattle.rn_lines.specs.Reading.{◌>>=◌, Misses, number_after, byte_at, front_at}
+use Rattle.rn_lines.specs.LineText.{Held, IsCount, AreItems}
+use Rattle.rn_lines.specs.Reading.{◌>>=◌, Misses, byte_at, front_at}
 use Rattle.rn_lines.specs.LineReading.{is_several, step_at, several_at, count_at, item_at, items_at}
 use Rattle.rn_lines.specs.declared.unread.Unread.{Unread}
 use Rattle.rn_lines.specs.declared.unread.Unread.TheVariants as unread

@@ -206,6 +206,7 @@ end_read bytes x e = by (ending_at bytes) refl e
     by (Some end) found e =
         subst (λ x. IsLine x bytes) (same_Some (LineSaid.ends end) x e) (subst (IsLine (LineSaid.ends end)) (sym (ending_read bytes end found)) IsLine.ends)
 
+-- bytes that are read are a line that says what was read
 pub line_read : (bytes : List ℕ) (x : LineSaid) → line_at bytes ≡ Some x → IsLine x bytes
 line_read [] x e = cc
 line_read (c ∷ bytes) x e = by (nat_eq c 33) (is_digit c) refl e

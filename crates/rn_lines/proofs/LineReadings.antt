@@ -1,25 +1,17 @@
 -- Reading of lines, in both directions.
-use Rattle.std.proofs.Common.{◌≡◌, ◌<◌, ◌≤◌, ◌+◌, ◌-◌, ℕ, zero, suc, List, [], ◌∷◌, ◌++◌, length, take, drop, Bool, true, false, cond, nat_eq, refl, sym, ap, ◌∙◌, subst, arith, append_assoc, length-append}
+use Rattle.std.proofs.Common.{◌≡◌, ◌≤◌, ◌+◌, ◌-◌, ℕ, List, [], ◌∷◌, ◌++◌, length, Bool, true, false, cond, nat_eq, refl, sym, ap, ◌∙◌, subst, arith, append_assoc}
 use Rattle.std.specs.Prelude.{Option, Some, None}
-use Rattle.std.specs.List.{prefix_len}
-use Rattle.std.proofs.lemmas.List.{append-nil, take-append-drop}
+use Rattle.std.proofs.lemmas.List.{append-nil}
 use Rattle.std.proofs.lemmas.Option.{same_Some, cond_some}
 use borrow.Author.Tests.{ne_eqb, eqb-true, eqb-false}
-use Rattle.rn_value.specs.Characters.{is_digit, is_name_byte}
 use Rattle.rn_value.specs.Grammar.{IsNumeral}
-use Rattle.rn_value.specs.TextLaws.{IsDelimited}
 use Rattle.rn_value.specs.Words.{IsName}
-use Rattle.rn_value.proofs.Numerals.{IsNumeral-digits}
-use Rattle.rn_value.proofs.Spans.{Stops}
 use Rattle.rn_lines.specs.ValueText.{Said, Seen, IsValue, most_brackets}
 use Rattle.rn_lines.specs.NodeText.{IsInstance}
 use Rattle.rn_lines.specs.LineText.{LeadSaid, Token, Held, LineSaid, IsLead, AreItems, IsLine}
-use Rattle.rn_lines.specs.Reading.{◌>>=◌, Misses, are_plain, number_after, numeral_at, byte_at, name_at, inst_at, seen_at}
+use Rattle.rn_lines.specs.Reading.{◌>>=◌, numeral_at, byte_at, name_at, inst_at, seen_at}
 use Rattle.rn_lines.specs.LineReading.{step_at, worker_at, lead_at, last_at, items_at, mark_at}
-use Rattle.rn_lines.specs.declared.unread.Unread.{Unread}
-use Rattle.rn_lines.specs.declared.unread.Unread.TheVariants as unread
-use Rattle.rn_lines.proofs.Prefixes.{longest_prefix, prefix_is}
-use Rattle.rn_lines.proofs.NumeralReading.{bind_some, plain_numeral, numeral_of, numeral_reads, NumeralAt, numeral_read, step_reads, step_read}
+use Rattle.rn_lines.proofs.NumeralReading.{bind_some, numeral_reads, NumeralAt, numeral_read, step_reads, step_read}
 use Rattle.rn_lines.proofs.InstanceReading.{byte_reads, byte_read, name_reads, name_read, inst_reads, inst_read}
 use Rattle.rn_lines.proofs.Beginnings.{seen_reads, seen_read}
 use Rattle.rn_lines.proofs.Rows.{no_bytes}

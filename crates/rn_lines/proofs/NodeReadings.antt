@@ -1,7 +1,6 @@
 -- Reading of nodes, in both directions.
 use Rattle.std.proofs.Common.{◌≡◌, ◌<◌, ◌≤◌, ◌+◌, ◌-◌, ℕ, zero, suc, List, [], ◌∷◌, ◌++◌, length, refl, sym, ap, ◌∙◌, subst, arith, append_assoc, length-append}
 use Rattle.std.specs.Prelude.{Option, Some, None}
-use Rattle.std.proofs.lemmas.List.{append-nil}
 use Rattle.std.proofs.lemmas.Option.{same_Some}
 use Rattle.rn_value.specs.TextLaws.{IsDelimited}
 use Rattle.rn_value.specs.Characters.{is_name_byte}
@@ -160,17 +159,3 @@ given_ends unread.NotThere most i rest front whole low some none so_far =
     sym so_far
     ∙ ap (with_given front) (step most i rest low some)
     ∙ ap (λ o. with_given front (o >>= λ g. all_given_at (most - (i + 1)) g.1 >>= one_more g.0)) none
-
-nothing_after : (front : List Given) (k : ℕ) → with_given front (all_given_at k []) ≡ Some front
-nothing_after front zero = ap (λ (gs : List Given). Some gs) (append-nil front)
-nothing_after front (suc k) = ap (λ (gs : List Given). Some gs) (append-nil front)
-
-pub given_done : (k : ℕ) (rest : List ℕ) (front : List Given) (whole : Option (List Given)) → length rest ≡ 0 → with_given front (all_given_at k rest) ≡ whole → whole ≡ Some front
-given_done k [] front whole none so_far = sym so_far ∙ nothing_after front k
-given_done k (c ∷ rest) front whole none so_far = absurd (omega arith)
-
-pub given_stuck : (most i : ℕ) (rest : List ℕ) (front : List Given) (whole : Option (List Given)) → most ≤ i → 0 < length rest → with_given front (all_given_at (most - i) rest) ≡ whole → whole ≡ None
-given_stuck most i [] front whole high some so_far = absurd (omega arith)
-given_stuck most i (c ∷ rest) front whole high some so_far =
-    let k : most - i ≡ 0 = omega arith in
-    sym so_far ∙ ap (λ k. with_given front (all_given_at k (c ∷ rest))) k

@@ -87,5 +87,6 @@ one_line (IsLine.would_call others) = ((λ e. omega arith), ((λ e. omega arith)
 one_line (IsLine.holds {place = place} {b = b} (IsInstance.instance {name = name} {digits = digits} is low high p) named all) =
     joined (name ++ (91 ∷ digits ++ 93 ∷ [])) (46 ∷ (place ++ b)) (instance_line name digits is p) ((λ e. omega arith), joined place b (name_line place named) (items_line all))
 
+-- no line holds a line feed
 pub no_line_feed : LinesHoldNoLineFeed
 no_line_feed x a is = All-from_recursion (λ c. c ≢ 10) a (one_line is)

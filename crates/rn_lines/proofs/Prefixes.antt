@@ -14,9 +14,6 @@ longest_prefix test (x ∷ xs) = by (test x) refl (longest_prefix test xs)
     by true e h = let long : prefix_len test (x ∷ xs) ≡ suc (prefix_len test xs) = rw e (omega arith) in rw long (rw (e, h.0), h.1)
     by false e h = let none : prefix_len test (x ∷ xs) ≡ 0 = rw e in rw none (refl, e)
 
-pub prefix_passes : (test : ℕ → Bool) (text : List ℕ) → list_all test (take (prefix_len test text) text) ≡ true
-prefix_passes test text = (longest_prefix test text).0
-
 -- it is all of the bytes that pass, where none passes after them
 pub prefix_is : (test : ℕ → Bool) (a rest : List ℕ) → list_all test a ≡ true → Stops test rest →
     (take (prefix_len test (a ++ rest)) (a ++ rest) ≡ a) × (drop (prefix_len test (a ++ rest)) (a ++ rest) ≡ rest)

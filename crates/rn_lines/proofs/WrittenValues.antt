@@ -129,9 +129,11 @@ module _ (names : List (List ℕ)) (are : AllByRecursion IsName names) where
         let rest = tail_at others depth (and_right (fits_within v depth) (all_fit vs depth) fits) in
         record { said = first.said ++ rest.said; called = called_both names first.said rest.said first.called rest.called; stands = IsTail.comma first.stands rest.stands }
 
+-- a text whose instances are called by the names of their nets is the one that is written
 pub read_are_written : ReadTextsAreWritten
 read_are_written names depth v named text stands called = (grammar_written names v text).0 (text_of names stands called)
 
+-- and what is written of a value that fits is read
 pub written_are_read : WrittenTextsAreRead
 written_are_read names depth v are named fits =
     let readable = value_of names are ((grammar_written names v (value_text v names)).1 (named, refl)) depth fits in

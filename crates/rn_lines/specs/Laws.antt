@@ -1,5 +1,5 @@
 -- What the texts of values in records have to do with those that are written, and how lines stand.
-use Rattle.std.specs.Prelude.{◌≡◌, ◌≢◌, ◌↔◌, ℕ, zero, suc, ℤ, pos, negsuc, List, Bool, false, nat_lt, Some, All, IsTrue}
+use Rattle.std.specs.Prelude.{◌≡◌, ◌≢◌, ◌↔◌, ◌^◌, ℕ, zero, suc, ℤ, pos, negsuc, List, Bool, false, nat_lt, Some, All, IsTrue}
 use Rattle.std.specs.List.{list_all, AllByRecursion}
 use Rattle.std.specs.Str.{is_utf8}
 use Rattle.rn_value.specs.Names.{name_of, AreNamed}
@@ -22,8 +22,8 @@ AreCalled names = AllByRecursion (IsCalled names)
 
 -- whether a whole number has 64 bits, one of them for its sign
 abbrev pub has_sixty_four_bits : ℤ → Bool
-has_sixty_four_bits (pos n) = nat_lt n 9223372036854775808
-has_sixty_four_bits (negsuc n) = nat_lt n 9223372036854775808
+has_sixty_four_bits (pos n) = nat_lt n (2 ^ 63)
+has_sixty_four_bits (negsuc n) = nat_lt n (2 ^ 63)
 
 -- Whole numbers have 64 bits, texts are UTF-8, instances exist and have numbers of 32 bits, and at
 -- most this many brackets are open at once. (This is one layer.)
@@ -34,7 +34,7 @@ fits_step (V.Tuple items) zero = false
 fits_step (V.Tuple items) (suc depth) = list_all (λ fits. fits depth) items
 fits_step (V.List items) zero = false
 fits_step (V.List items) (suc depth) = list_all (λ fits. fits depth) items
-fits_step (V.Inst (Old number)) depth = nat_lt number 4294967296
+fits_step (V.Inst (Old number)) depth = nat_lt number (2 ^ 32)
 fits_step (V.Inst (New path index)) depth = false
 
 -- whether a value can stand in a record, with at most this many brackets open at once

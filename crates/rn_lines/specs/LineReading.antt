@@ -6,6 +6,7 @@ use Rattle.rn_value.specs.Characters.{is_digit}
 use Rattle.rn_lines.specs.LineText.{LeadSaid, Token, Held, LineSaid, ending_text}
 use Rattle.rn_lines.specs.NodeReading.{node_at}
 use Rattle.rn_lines.specs.Reading.{◌>>=◌, are_plain, numeral_at, byte_at, name_at, inst_at, front_at, seen_at}
+use Rattle.rn_lines.specs.declared.lines.TheConstants.{MOST_WORKERS}
 use Rattle.rn_lines.specs.declared.lines.Ending.{Ending}
 use Rattle.rn_lines.specs.declared.lines.Ending.TheVariants.{Dead, Steps, Memory, ActionFault, InstancesFault}
 
@@ -19,7 +20,7 @@ step_at bytes =
 -- a worker's number, before a space
 abbrev pub worker_at : List ℕ → Option (ℕ × List ℕ)
 worker_at bytes =
-    numeral_at 64 bytes >>= λ n.
+    numeral_at MOST_WORKERS bytes >>= λ n.
     if nat_eq n.0 0 then None else (byte_at 32 n.1 >>= λ rest. Some (n.0, rest))
 
 -- how a line of a firing begins

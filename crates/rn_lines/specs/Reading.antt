@@ -1,7 +1,7 @@
 -- What the readers give, as functions on lists of bytes. Each gives what stands at the start, with
 -- the bytes after it, or nothing. (They connect the code to the grammar of `ValueText`; the promise
 -- of `read_value` is stated by the grammar alone.)
-use Rattle.std.specs.Prelude.{◌≡◌, ℕ, zero, suc, ◌+◌, ◌-◌, ◌*◌, ℤ, pos, negsuc, List, [], ◌∷◌, ◌++◌, length, take, drop, Bool, true, false, not, ◌&&◌, nat_eq, nat_le, Option, Some, None, Result, Ok, Err, if◌then◌else◌}
+use Rattle.std.specs.Prelude.{◌≡◌, ℕ, zero, suc, ◌+◌, ◌-◌, ◌*◌, ◌^◌, ℤ, pos, negsuc, List, [], ◌∷◌, ◌++◌, length, take, drop, Bool, true, false, not, ◌&&◌, nat_eq, nat_le, Option, Some, None, Result, Ok, Err, if◌then◌else◌}
 use Rattle.std.specs.List.{prefix_len}
 use Rattle.std.specs.Str.{is_utf8}
 use Rattle.rn_value.specs.Characters.{is_letter, is_digit, is_name_byte}
@@ -60,8 +60,8 @@ negative (n, rest) = if nat_eq n 0 then None else Some (negsuc (n - 1), rest)
 abbrev pub whole_at : List ℕ → Option (ℤ × List ℕ)
 whole_at [] = None
 whole_at (c ∷ bytes) =
-    if nat_eq c 45 then numeral_at 9223372036854775808 bytes >>= negative
-    else numeral_at 9223372036854775807 (c ∷ bytes) >>= λ n. Some (pos n.0, n.1)
+    if nat_eq c 45 then numeral_at (2 ^ 63) bytes >>= negative
+    else numeral_at (2 ^ 63 - 1) (c ∷ bytes) >>= λ n. Some (pos n.0, n.1)
 
 -- the byte that a byte stands for behind a backslash
 abbrev pub meaning : ℕ → Option ℕ
@@ -103,7 +103,7 @@ byte_at byte (c ∷ bytes) = if nat_eq c byte then Some bytes else None
 abbrev pub bracketed_at : List ℕ → Option (ℕ × List ℕ)
 bracketed_at bytes =
     byte_at 91 bytes >>= λ digits.
-    numeral_at 4294967295 digits >>= λ n.
+    numeral_at (2 ^ 32 - 1) digits >>= λ n.
     if nat_eq n.0 0 then None else byte_at 93 n.1 >>= λ rest. Some (n.0, rest)
 
 -- a name: the longest run of letters, digits and `_`, where it is one

@@ -1,5 +1,5 @@
 //! Instances, by the names of their nets and their numbers.
-ghost use Rattle.std.specs.Prelude.{◌≡◌, ◌≤◌, ◌<◌, ◌^◌, option_map};
+ghost use Rattle.std.specs.Prelude.{◌≡◌, ◌<◌, option_map};
 ghost use Rattle.std.specs.List.{prefix_len};
 ghost use Rattle.rn_value.specs.Characters.{is_name_byte};
 ghost use Rattle.rn_value.specs.Words.{is_identifier, is_name};

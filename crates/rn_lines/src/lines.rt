@@ -1,5 +1,5 @@
 //! Lines of records, each by itself.
-ghost use Rattle.std.specs.Prelude.{◌≡◌, length, map, IfOk, Some};
+ghost use Rattle.std.specs.Prelude.{◌≡◌, IfOk, Some};
 ghost use Rattle.rn_lines.specs.LineReading.{worker_at, lead_at, last_at, mark_at};
 ghost use Rattle.rn_lines.specs.LineReading.{firing_at, fault_at, ending_at, line_at};
 ghost use Rattle.rn_lines.specs.LineText.{LineSaid, IsLine};

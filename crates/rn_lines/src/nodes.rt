@@ -1,5 +1,5 @@
 //! Nodes, as records have them.
-ghost use Rattle.std.specs.Prelude.{◌≡◌, length, map, IfOk, Some};
+ghost use Rattle.std.specs.Prelude.{length, map, IfOk, Some};
 ghost use Rattle.rn_lines.specs.Reading.{Gives};
 ghost use Rattle.rn_lines.specs.NodeReading.{given_at, all_given_at, node_at};
 ghost use Rattle.rn_lines.specs.NodeText.{NodeSaid, IsNode};

@@ -1,5 +1,5 @@
 //! Numbers, in digits.
-ghost use Rattle.std.specs.Prelude.{◌≡◌, ◌↔◌, ◌≤◌, ◌-◌, negsuc, nat_le, if◌then◌else◌};
+ghost use Rattle.std.specs.Prelude.{◌≡◌, ◌↔◌, ◌≤◌, ◌-◌, ◌^◌, negsuc, nat_le, if◌then◌else◌};
 ghost use Rattle.std.specs.Prelude.{IsTrue, IfOk, IfSome, Some, None};
 ghost use Rattle.std.specs.List.{prefix_len};
 ghost use Rattle.rn_value.specs.Characters.{is_digit};
@@ -122,7 +122,7 @@ pub(crate) fn several_at(bytes: &[u8]) -> Result<(&[u8], &[u8]), Unread>
 /// The whole number below 0 that is this far from it.
 fn below_zero(distance: u64) -> i64
     requires low { 1 ≤ distance }
-    requires high { distance ≤ 9223372036854775808 }
+    requires high { distance ≤ 2 ^ 63 }
     ensures { result ≡ negsuc (distance - 1) }
 {
     -((distance - 1) as i64) - 1

@@ -1,5 +1,5 @@
 //! Texts in quotes.
-ghost use Rattle.std.specs.Prelude.{◌≡◌, ◌↔◌, IsTrue};
+ghost use Rattle.std.specs.Prelude.{◌≡◌};
 ghost use Rattle.rn_lines.specs.Reading.{Gives, is_plain, meaning, inside_at, text_at};
 
 use crate::unread::Unread;

@@ -14,6 +14,7 @@ few_of_each P few [] k all = omega arith
 few_of_each P few (net ∷ nets) zero all = few net (All-head P net nets all)
 few_of_each P few (net ∷ nets) (suc k) all = few_of_each P few nets k (All-tail P net nets all)
 
+-- at a marking of a good system each instance has fewer than 2^32 places
 pub good_places : PlacesAreFew
 good_places system m good form n i there =
     let P : Instance → Type 0 = λ i. (i.net < length system.nets) × (length i.places ≡ length (net_at system i.net).places) in

@@ -20,7 +20,7 @@ place_got (Some i) k = refl
 pub place_at : (m : Marking) (n k : ℕ) → slice_get (places_of m n) k ≡ option_and_then (λ i. slice_get i.places k) (instance_at m n)
 place_at m n k = place_got (instance_at m n) k
 
-tokens_are : (m : Marking) (n k : ℕ) → tokens_at m n k ≡ unwrap_or (slice_get (places_of m n) k) []
+pub tokens_are : (m : Marking) (n k : ℕ) → tokens_at m n k ≡ unwrap_or (slice_get (places_of m n) k) []
 tokens_are m n k = ap (λ s. unwrap_or s []) (sym (place_at m n k))
 
 abbrev pub any_mentions : ℕ → List Value → Bool
@@ -67,14 +67,6 @@ found_in (j ∷ is) n i e = elim (nat_eq j.number n) as (λ same. cond same (Som
   | true ↦ λ first. (0, omega arith, let same : j ≡ i = cc in same)
   | false ↦ λ later. let there = found_in is n i later in (suc there.0, omega (arith, there.1), there.2)
 ] e
-
--- the number of an instance that is there
-pub find_number : (is : List Instance) (n : ℕ) (i : Instance) → find (λ i. nat_eq i.number n) is ≡ Some i → i.number ≡ n
-find_number [] n i e = absurd (let no : ⊥ = cc in no)
-find_number (j ∷ is) n i e = elim (nat_eq j.number n) as (λ same. nat_eq j.number n ≡ same → cond same (Some j) (find (λ i. nat_eq i.number n) is) ≡ Some i → i.number ≡ n) [
-  | true ↦ λ same first. let is : j ≡ i = cc in ap (λ k. k.number) (sym is) ∙ eqb-true j.number n same
-  | false ↦ λ other later. find_number is n i later
-] refl e
 
 -- what holds of each instance holds of one that is there
 pub of_each : (P : Instance → Type 0) (m : Marking) (n : ℕ) (i : Instance) → All P m.instances → instance_at m n ≡ Some i → P i

@@ -10,8 +10,9 @@ use Rattle.rn_model.specs.Systems.{may_start}
 use Rattle.rn_model.specs.Liveness.{IsLive, starts, held}
 use Rattle.rn_model.specs.Markings.{Marking, Instance, IsThere, instance_at, net_of}
 use Rattle.rn_model.proofs.EnablingLemmas.{not_in_nil}
+use Rattle.rn_model.proofs.AfterFiring.{found_number}
 use Rattle.rn_live.specs.Marks.{Marked, Finds, holds, is_start}
-use Rattle.rn_live.proofs.HolderLemmas.{held_by, holds_mentioned, numbered, of_each, find_number}
+use Rattle.rn_live.proofs.HolderLemmas.{held_by, holds_mentioned, numbered, of_each}
 use Rattle.rn_live.proofs.StartLemmas.{starting, numbers, is_starting, starting_live, live_starting}
 
 none_marked : (end n : ℕ) → Marked (replicate end false) n → ⊥
@@ -40,7 +41,7 @@ module _ (system : System) (m : Marking) where
   all_below : (end : ℕ) → All (λ i. (0 < i.number) × (i.number < end)) m.instances → (n : ℕ) → IsThere m n → n < end
   all_below end all n there =
       let P : Instance → Type 0 = λ i. (0 < i.number) × (i.number < end) in
-      let number : there.0.number ≡ n = find_number m.instances n there.0 there.1 in
+      let number : there.0.number ≡ n = found_number m.instances n there.0 there.1 in
       subst (λ k. k < end) number (of_each P m n there.0 all there.1).1
 
   pub first_found : (end : ℕ) (marks : List Bool) (waiting : List ℕ) → All (λ i. (0 < i.number) × (i.number < end)) m.instances → Finds m (is_starting system m) (replicate end false) marks [] waiting → IsUnderWay marks waiting

@@ -2,7 +2,7 @@
 use Rattle.std.proofs.Common.{◌≡◌, ℕ, zero, suc, ◌+◌, ◌-◌, ◌<◌, ◌≤◌, Bool, true, false, ◌||◌, List, [], ◌∷◌, length, map, take, get_or, refl, sym, ap, ◌∙◌, arith}
 use Rattle.std.proofs.lemmas.List.Folds.{list_any_more}
 use Rattle.std.specs.List.{list_any}
-use Rattle.std.specs.Prelude.{Some, None, slice_get}
+use Rattle.std.specs.Prelude.{Some, slice_get}
 
 -- the tests of mapped elements
 pub any_mapped : {X : Type 0} (f : X → ℕ → Bool) (xs : List X) (n : ℕ) → list_any (λ test. test n) (map f xs) ≡ list_any (λ x. f x n) xs
@@ -13,6 +13,7 @@ any_mapped f (x ∷ xs) n = ap (λ b. f x n || b) (any_mapped f xs n)
 pub one_more : {X : Type 0} (f : X → ℕ → Bool) (xs : List X) (i : ℕ) (x : X) → i < length xs → x ≡ get_or xs i x → (n : ℕ) → list_any (λ y. f y n) (take (i + 1) xs) ≡ (list_any (λ y. f y n) (take i xs) || f x n)
 one_more f xs i x h is n = list_any_more (λ y. f y n) xs i x h ∙ ap (λ y. list_any (λ z. f z n) (take i xs) || f y n) (sym is)
 
+-- and so where each element is mapped to its test
 pub one_more_mapped : {X : Type 0} (f : X → ℕ → Bool) (xs : List X) (i : ℕ) (x : X) → i < length xs → x ≡ get_or xs i x → (n : ℕ) → list_any (λ test. test n) (map f (take (i + 1) xs)) ≡ (list_any (λ test. test n) (map f (take i xs)) || f x n)
 one_more_mapped f xs i x h is n =
     any_mapped f (take (i + 1) xs) n ∙ one_more f xs i x h is n ∙ ap (λ b. b || f x n) (sym (any_mapped f (take i xs) n))
@@ -23,18 +24,13 @@ got [] k x e = absurd (let no : ⊥ = cc in no)
 got (y ∷ ys) zero x e = (omega arith, let same : y ≡ x = cc in same)
 got (y ∷ ys) (suc k) x e = let rest = got ys k x e in (omega (arith, rest.0), rest.1)
 
--- where nothing is got the list has ended
-pub past : {X : Type 0} (xs : List X) (k : ℕ) → slice_get xs k ≡ None → length xs ≤ k
-past [] k e = omega arith
-past (y ∷ ys) zero e = absurd (let no : ⊥ = cc in no)
-past (y ∷ ys) (suc k) e = let rest = past ys k e in omega (arith, rest)
-
 again : (a b : Bool) → ((a || b) || b) ≡ (a || b)
 again true b = refl
 again false true = refl
 again false false = refl
 
 module _ {X : Type 0} (p : X → Bool) (xs : List X) (x : X) where
+  -- one more element, where it is got
   pub one_got : (k : ℕ) → slice_get xs k ≡ Some x → list_any p (take (k + 1) xs) ≡ (list_any p (take k xs) || p x)
   one_got k e =
       let is = got xs k x e in list_any_more p xs k x is.0 ∙ ap (λ y. list_any p (take k xs) || p y) is.1

@@ -1,5 +1,5 @@
 //! The instances that occur in the tokens of an instance.
-ghost use Rattle.std.specs.Prelude.{◌≡◌, ◌<◌, ◌^◌, length, OnOk};
+ghost use Rattle.std.specs.Prelude.{◌<◌, ◌^◌, length, OnOk};
 ghost use Rattle.std.specs.List.{list_any};
 ghost use Rattle.rn_model.specs.Liveness.{mentions};
 ghost use Rattle.rn_live.specs.Marks.{Finds, places_of, holds};

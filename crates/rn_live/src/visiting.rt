@@ -1,5 +1,5 @@
 //! The instances that occur in values.
-ghost use Rattle.std.specs.Prelude.{◌≡◌, map, OnOk};
+ghost use Rattle.std.specs.Prelude.{map, OnOk};
 ghost use Rattle.std.specs.List.{list_any};
 ghost use Rattle.rn_model.specs.Liveness.{mentions};
 ghost use Rattle.rn_live.specs.Marks.{Finds};

@@ -18,11 +18,13 @@ use Rattle.rn_looking.proofs.ListsBeside.{zip_at, zip_lengths}
 module _ (system : System) (ds : List Decision) (applications : List (List Application)) (k : ℕ)
     (head : Head) (caller : Option Caller) (applied : AreAppliedIn system ds applications)
     (at : slice_get ds k ≡ Some (Entered head caller)) where
+  -- there are applications at that index
   pub applied_within : k < length applications
   applied_within =
       let low = slice_get_within ds k (Entered head caller) at in
       omega (arith, low, zip_lengths (AreApplied system) ds applications applied)
 
+  -- and they are those of the node's transition
   pub applied_at : (found : List Application) → found ≡ get_or applications k found →
       map application_of found ≡ holes_of (transition_in system head)
   applied_at found is =

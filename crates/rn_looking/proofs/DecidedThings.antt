@@ -13,17 +13,18 @@ use Rattle.rn_growing.specs.Decided.{enters, finds, computes}
 use Rattle.rn_growing.specs.Grown.{IsNew}
 use Rattle.rn_growing.specs.Turns.{SameThing}
 use Rattle.rn_growing.proofs.NewThings.{some_passes}
-use Rattle.rn_growing.proofs.SameUnknowns.{path_itself, site_itself}
+use Rattle.rn_growing.proofs.SameUnknowns.{site_itself}
 use Rattle.rn_search.specs.Ending.{IsDecided}
 use Rattle.rn_search.specs.Room.{on_one_thing}
 use Rattle.rn_search.proofs.Falling.{one_thing}
+use Rattle.rn_items.proofs.Numbers.{numbers_themselves}
 
 -- a decision is on its own thing
 itself : (d : Decision) → on_one_thing d d ≡ true
-itself (Entered head caller) = path_itself head.path
-itself (Found head k v) = rw (path_itself head.path, eq-eqb k k refl) refl
+itself (Entered head caller) = numbers_themselves head.path
+itself (Found head k v) = rw (numbers_themselves head.path, eq-eqb k k refl) refl
 itself (Computed head site way v) =
-    rw (path_itself head.path, site_itself site, path_itself way) refl
+    rw (numbers_themselves head.path, site_itself site, numbers_themselves way) refl
 
 by_test : (d : Decision) (test : Decision → Bool) →
     ((e : Decision) → test e ≡ true → on_one_thing e d ≡ true) → (ds : List Decision) →

@@ -1,9 +1,8 @@
 -- The guards of a node that is looked at: their variables, and where none of them may fail.
-use Rattle.std.proofs.Common.{◌≡◌, ℕ, true, List, [], ◌∷◌, ◌++◌, refl, sym, ap, ◌∙◌, subst}
+use Rattle.std.proofs.Common.{◌≡◌, ℕ, true, List, [], ◌∷◌, sym, ap, ◌∙◌, subst}
 use Rattle.std.proofs.Common.{inl, inr}
 use Rattle.std.proofs.Math.Path.{fun_ext}
 use Rattle.std.specs.Prelude.{Some, None, Contains, flat_map}
-use Rattle.std.proofs.lemmas.List.Concat.{flat_map-append}
 use Rattle.std.proofs.lemmas.List.Elements.{Contains-append_cases, Contains-append_left}
 use Rattle.std.proofs.lemmas.List.Elements.{Contains-append_right}
 use Rattle.rn_choices.specs.declared.next.Next.TheVariants.{Stuck}
@@ -39,12 +38,7 @@ use Rattle.rn_looking.proofs.EquatedTokens.{negated_side, part_sides}
 use Rattle.rn_looking.proofs.KnownValues.{has_its_value}
 use Rattle.rn_looking.proofs.LookedAt.{some, node_is, entered, known_by, vars_searched}
 use Rattle.rn_looking.proofs.VarsOfForms.{guard_searched}
-
-flat_nested : {A B C : Type 0} (g : B → List C) (f : A → List B) (xs : List A) →
-    flat_map g (flat_map f xs) ≡ flat_map (λ x. flat_map g (f x)) xs
-flat_nested g f [] = refl
-flat_nested g f (x ∷ xs) =
-    flat_map-append g (f x) (flat_map f xs) ∙ ap (λ ys. flat_map g (f x) ++ ys) (flat_nested g f xs)
+use Rattle.rn_items.proofs.Lists.{flat_nested}
 
 -- the variables of a guard are those of its lists
 pub guard_vars : (guard : Cond) → vars_of_guard guard ≡ flat_map (flat_map vars_of_simple) guard.any
@@ -66,6 +60,7 @@ side_vars c e x side occurs =
           (subst (λ f. Contains (vars_in f) x) (sym (only_one c.right e right)) occurs)
     ]
 
+-- a variable on a side of a guard's comparison is one of the guard
 pub among_vars : (guard : Cond) (e : Expr) (x : ℕ) → Contains (guard_exprs guard) e →
     Contains (vars_in e) x → Contains (vars_of_guard guard) x
 among_vars guard e x there occurs =
@@ -103,6 +98,7 @@ module _ (sought : Sought) (g : Grown) (node : ℕ) (head : Head) (t : Transitio
       (vars_searched sought g node head t at e (guard_searched t guard e there side))
       (knows e side))
 
+  -- then the decisions lead to no binding
   pub untrue_is_stuck : IsKnownUntrue g head guard → GoesOn sought g.decisions Stuck
   untrue_is_stuck (env, knows, untrue) b leads =
       untrue

@@ -11,6 +11,7 @@ use Rattle.rn_model.proofs.EnablingLemmas.{not_in_nil}
 use Rattle.rn_growing.proofs.Growth.{some_equal}
 
 module _ {A B : Type 0} (R : A → B → Type 0) where
+  -- related lists stay so with one more element each, where these are related
   pub zip_last : (xs : List A) (ys : List B) (x : A) (y : B) → AllZip R xs ys → R x y →
       AllZip R (xs ++ x ∷ []) (ys ++ y ∷ [])
   zip_last [] [] x y all is = (is, tt)
@@ -18,6 +19,7 @@ module _ {A B : Type 0} (R : A → B → Type 0) where
   zip_last (w ∷ xs) [] x y all is = absurd all
   zip_last (w ∷ xs) (z ∷ ys) x y all is = (all.0, zip_last xs ys x y all.1 is)
 
+  -- and so they do as the first one is gone through
   pub zip_more : (xs : List A) (ys : List B) (i : ℕ) (x : A) (y : B) → i < length xs →
       x ≡ get_or xs i x → AllZip R (take i xs) ys → R x y →
       AllZip R (take (i + 1) xs) (ys ++ y ∷ [])
@@ -26,6 +28,7 @@ module _ {A B : Type 0} (R : A → B → Type 0) where
       (ap (λ z. take i xs ++ z ∷ []) at ∙ sym (take_more xs i x within))
       (zip_last (take i xs) ys x y all is)
 
+  -- related lists are equally long
   pub zip_lengths : (xs : List A) (ys : List B) → AllZip R xs ys → length ys ≡ length xs
   zip_lengths [] [] all = refl
   zip_lengths [] (y ∷ ys) all = absurd all
@@ -41,6 +44,7 @@ module _ {A B : Type 0} (R : A → B → Type 0) where
       subst (λ v. R v y) (some_equal w x at) (subst (R w) (some_equal z y other) all.0)
   zip_at (w ∷ xs) (z ∷ ys) (suc k) x y all at other = zip_at xs ys k x y all.1 at other
 
+  -- the first so many of each are related
   pub zip_take : (n : ℕ) (xs : List A) (ys : List B) → AllZip R xs ys →
       AllZip R (take n xs) (take n ys)
   zip_take zero xs ys all = tt
@@ -49,6 +53,7 @@ module _ {A B : Type 0} (R : A → B → Type 0) where
   zip_take (suc n) (x ∷ xs) [] all = absurd all
   zip_take (suc n) (x ∷ xs) (y ∷ ys) all = (all.0, zip_take n xs ys all.1)
 
+  -- each element of the first list is related to one of the second
   pub zip_right : (xs : List A) (ys : List B) (x : A) → AllZip R xs ys → Contains xs x →
       (y : B) × Contains ys y × R x y
   zip_right [] ys x all there = absurd (not_in_nil x there)
@@ -59,6 +64,7 @@ module _ {A B : Type 0} (R : A → B → Type 0) where
       let rest = zip_right xs ys x all.1 (k, omega (arith, h), e) in
       (rest.0, later y rest.0 ys rest.1, rest.2)
 
+  -- and each of the second to one of the first
   pub zip_left : (xs : List A) (ys : List B) (y : B) → AllZip R xs ys → Contains ys y →
       (x : A) × Contains xs x × R x y
   zip_left xs [] y all there = absurd (not_in_nil y there)
@@ -80,6 +86,7 @@ module _ {B : Type 0} (R : ℕ → B → Type 0) where
   abbrev HasBeside : List ℕ → List B → ℕ → Type 0
   HasBeside xs ys x = (y : B) × (value_beside (zip xs ys) x ≡ Some y) × R x y
 
+  -- beside each number of the first stands one that is related to it
   pub zip_beside : (xs : List ℕ) (ys : List B) (x : ℕ) → AllZip R xs ys → Contains xs x →
       (y : B) × (value_beside (zip xs ys) x ≡ Some y) × R x y
   zip_beside [] ys x all there = absurd (not_in_nil x there)

@@ -1,10 +1,9 @@
 -- What a look at an operator application of a node says.
-use Rattle.std.proofs.Common.{◌≡◌, ℕ, ℤ, ◌<◌, Bool, true, false, List, [], ◌∷◌, ◌++◌, length, refl, sym, ap, ◌∙◌}
-use Rattle.std.proofs.Common.{◌+◌, ◌⊎◌, inl, inr, get_or, map, subst, arith}
-use Rattle.std.specs.Prelude.{Option, Some, None, All, Contains, slice_get, option_map, nat_lt}
+use Rattle.std.proofs.Common.{◌≡◌, ℕ, ℤ, ◌<◌, Bool, true, false, List, [], ◌∷◌, ◌++◌, refl, sym, ap, ◌∙◌}
+use Rattle.std.proofs.Common.{◌+◌, ◌⊎◌, inl, inr, subst, arith}
+use Rattle.std.specs.Prelude.{Option, Some, None, All, Contains, slice_get, nat_lt}
 use Rattle.std.specs.List.{list_any}
 use Rattle.std.proofs.lemmas.Bool.Decides.{nat_tests}
-use Rattle.std.proofs.lemmas.Option.{slice_get-get_or, slice_get-map}
 use Rattle.std.proofs.lemmas.List.Elements.{All-contains, All-contains_itself}
 use Rattle.rn_choices.specs.declared.next.Next.TheVariants.{Stuck, Forced}
 use Rattle.rn_value.specs.declared.value.Value.{Value, out-Value}
@@ -38,8 +37,6 @@ use Rattle.rn_search.specs.Points.{holes_of, node_of, offers}
 use Rattle.rn_search.specs.Sought.{Sought, Leads}
 use Rattle.rn_search.proofs.Allowed.{results_are_allowed}
 use Rattle.rn_search.proofs.Offered.{at_site, results_are_offered}
-use Rattle.rn_binding.specs.declared.applications.Application.{Application}
-use Rattle.rn_binding.specs.Applications.{application_of}
 use Rattle.rn_looking.specs.Branches.{IsLookedAt}
 use Rattle.rn_looking.specs.Forced.{IsVarForcedIn, Knows}
 use Rattle.rn_looking.specs.Looks.{AreAllDecided, AreAllClosed, IsOneLeft, GoesOn}
@@ -181,10 +178,6 @@ module _ (sought : Sought) (g : Grown) (node : ℕ) (head : Head) (t : Transitio
       pub stuck : ((n : ℤ) → worth form env ≡ Some (V.Int n) → ⊥) → GoesOn sought ds Stuck
       stuck never b leads = let m = it_leads b leads in never m.0 m.1
 
--- the first operator applications, one after another
-pub none_of_holes : (t : Transition) (head : Head) (d : Decision) → IsOnHoles t head 0 d → ⊥
-none_of_holes t head d (k, low, on) = let no : ⊥ = omega (arith, low) in no
-
 pub one_more_hole : (t : Transition) (head : Head) (n : ℕ) (d : Decision) →
     IsOnHoles t head (n + 1) d → IsOnHoles t head n d ⊎ IsOnHole t head n d
 one_more_hole t head n d (k, low, on) =
@@ -195,11 +188,3 @@ one_more_hole t head n d (k, low, on) =
           let last : k ≡ n = grind (arith, nat_tests) in
           inr (subst (λ j. IsOnHole t head j d) last on)
     ] refl
-
--- the operator application at an index
-pub found_hole : (t : Transition) (found : List Application) (k : ℕ) (a : Application) →
-    map application_of found ≡ holes_of t → k < length found → a ≡ get_or found k a →
-    slice_get (holes_of t) k ≡ Some (application_of a)
-found_hole t found k a are low is =
-    ap (λ hs. slice_get hs k) (sym are) ∙ slice_get-map application_of found k
-    ∙ ap (option_map application_of) (slice_get-get_or found k a low ∙ ap Some (sym is))

@@ -10,16 +10,17 @@ use Rattle.rn_growing.specs.declared.decision.Decision.{Decision}
 use Rattle.rn_growing.specs.declared.decision.Decision.TheVariants.{Entered, Found, Computed}
 use Rattle.rn_growing.specs.Decisions.{transition_in}
 use Rattle.rn_growing.proofs.Growth.{at_in}
-use Rattle.rn_growing.proofs.SameUnknowns.{both_true, same_path}
 use Rattle.rn_search.specs.declared.point.Called.TheVariants.{Kept, Made}
 use Rattle.rn_search.specs.Making.{makes, is_made}
 use Rattle.rn_search.specs.Points.{node_on}
 use Rattle.rn_looking.specs.Calling.{IsCalledOn, IsMaker}
+use Rattle.rn_items.proofs.Numbers.{same_numbers}
+use Rattle.rn_items.proofs.Bools.{both_true}
 
 makes_on : (system : System) (path : List ℕ) (j : ℕ) (d : Decision) →
     makes system path j d ≡ true → (node_on d).path ≡ path
 makes_on system path j (Entered head caller) is =
-    same_path head.path path
+    same_numbers head.path path
     (both_true (pointwise nat_eq head.path path)
     (nat_lt j (length (transition_in system head).creations)) is).0
 makes_on system path j (Found head k v) is = absurd (let no : ⊥ = cc in no)

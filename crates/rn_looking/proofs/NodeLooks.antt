@@ -112,9 +112,6 @@ no_calls head (Entered child None) on = on
 no_calls head (Found other j v) on = on
 no_calls head (Computed other site way v) on = on
 
-pub no_entries : (ds : List Decision) (d : Decision) → IsOfEntries ds 0 d → ⊥
-no_entries ds d (k, low, of) = let no : ⊥ = omega (arith, low) in no
-
 -- nor of a decision that enters none.
 pub enters_none : (ds : List Decision) (k : ℕ) (e : Decision) → slice_get ds k ≡ Some e →
     ((head : Head) (caller : Option Caller) → e ≡ Entered head caller → ⊥) → (d : Decision) →

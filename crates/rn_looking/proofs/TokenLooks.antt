@@ -27,6 +27,7 @@ use Rattle.rn_model.proofs.AskedValues.{same_itself}
 use Rattle.rn_model.proofs.DerivationLemmas.{vars_in-Tuple}
 use Rattle.rn_model.proofs.EnablingLemmas.{not_in_nil}
 use Rattle.rn_model.proofs.Rounds.{all_more}
+use Rattle.rn_model.proofs.OwnValues.{token_is_value}
 use Rattle.rn_choices.specs.declared.next.Next.TheVariants.{Stuck, Forced, Choose}
 use Rattle.rn_growing.specs.declared.decision.Head.{Head}
 use Rattle.rn_growing.specs.declared.decision.Decision.{Decision}
@@ -49,7 +50,7 @@ use Rattle.rn_search.proofs.Allowed.{tokens_are_allowed, lists_are_allowed}
 use Rattle.rn_search.proofs.Alternatives.{first_is, first_once, from_map}
 use Rattle.rn_search.proofs.Following.{is_decision, last_on}
 use Rattle.rn_search.proofs.Narrowed.{equated_token_is_it, known_first_part, known_token_is_it}
-use Rattle.rn_search.proofs.Offered.{tokens_are_offered, lists_are_offered, finds_a_token}
+use Rattle.rn_search.proofs.Offered.{tokens_are_offered, lists_are_offered}
 use Rattle.rn_looking.specs.Branches.{IsLookedAt}
 use Rattle.rn_looking.specs.Equating.{IsKnownToken}
 use Rattle.rn_looking.specs.Knowing.{IsKnownTokenFirst}
@@ -171,7 +172,7 @@ module _ (sought : Sought) (g : Grown) (node : ℕ) (head : Head) (t : Transitio
         (first_token held_there i)) (nowhere sought.system)
 
     may_find : IsOpen sought g.decisions node k
-    may_find = is_open x open_arc.there (finds_a_token x.kind open_arc.token) open_arc.none
+    may_find = is_open x open_arc.there (token_is_value x.kind open_arc.token) open_arc.none
 
     -- each token of the place may be tried
     pub chooses_token : (of first : ℕ) → of ≡ alternatives sought g.decisions (P.Token node k 0) →

@@ -4,10 +4,9 @@
 use crate::arcs::known_value;
 use crate::guard_vars::put_guard;
 use crate::known::Known;
-use crate::parts::finds_token;
 use rn_calc::{Values, is_true};
 use rn_growing::{Growing, Head};
-use rn_model::{ArcKind, Downlink, Expr, NetArc, Transition, Uplink};
+use rn_model::{ArcKind, Downlink, Expr, NetArc, Transition, Uplink, finds_token, transition_at};
 use rn_search::{Called, Problem};
 use rn_value::{InstRef, NoMemory, Value, copy, same};
 use std::alloc::Global;
@@ -238,18 +237,6 @@ fn is_idle(transition: &Transition) -> bool {
         && only_put(transition.arcs.as_slice())
 }
 
-// The transition of a net.
-fn transition_at<'a>(
-    problem: &'a Problem<'_>,
-    net: u32,
-    transition: u32,
-) -> Option<&'a Transition> {
-    let Some(net) = problem.system().nets.get(net as usize) else {
-        return None;
-    };
-    net.transitions.get(transition as usize)
-}
-
 // All of so many answers.
 fn all_of(count: usize) -> Left {
     Left {
@@ -276,7 +263,7 @@ fn left_among(
         idle: are_all_known(values),
     };
     for a in 0..answers.len() {
-        let Some(transition) = transition_at(problem, net, answers[a]) else {
+        let Some(transition) = transition_at(problem.system(), net, answers[a]) else {
             continue;
         };
         if !is_excluded(alloc, problem, inst, transition, values)? {

@@ -2,7 +2,7 @@
 //! or ends the branch, comes before each choice, and narrow choices before wide ones. Where one
 //! alternative at most is left, nothing better can come, and the look ends (`docs/SEARCH.md`, 'What
 //! it does next').
-ghost use Rattle.std.specs.Prelude.{◌≡◌, ◌↔◌, IsTrue};
+ghost use Rattle.std.specs.Prelude.{IsTrue};
 ghost use Rattle.rn_looking.specs.Looks.{IsBetter, Urges};
 
 use crate::look::Look;

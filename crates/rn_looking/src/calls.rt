@@ -21,9 +21,9 @@ use crate::best::{better, goes_on, is_best, is_enough};
 use crate::look::Look;
 use crate::tested::{Kept, TextChoice};
 use rn_choices::Next;
-use rn_growing::{Decision, Growing, Head};
+use rn_growing::{Decision, Growing, Head, transition_in};
 use rn_model::{Downlink, Expr, System, Transition};
-use rn_search::{Called, Point, Problem, transition_in, what_may_be_cut};
+use rn_search::{Called, Point, Problem, what_may_be_cut};
 use rn_value::{InstRef, NoMemory, Path, Value, copy_inst};
 use std::alloc::Global;
 

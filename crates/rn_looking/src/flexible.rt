@@ -2,8 +2,7 @@
 //! follows has the list that is forced, so where the place doesn't hold its elements as often, the
 //! branch ends. What other arcs take of the place isn't counted (`docs/SEARCH.md`, "What isn't
 //! said").
-ghost use Rattle.std.specs.Prelude.{◌≡◌, ◌<◌, ◌↔◌, [], IfOk, IsTrue, length, unwrap_or};
-ghost use Rattle.std.specs.Option.{option_copied};
+ghost use Rattle.std.specs.Prelude.{◌≡◌, ◌<◌, ◌↔◌, IfOk, IsTrue, length};
 ghost use Rattle.rn_model.specs.Lists.{IsWithin};
 ghost use Rattle.rn_model.specs.Markings.{tokens};
 ghost use Rattle.rn_choices.specs.declared.next.Next.TheVariants.{Stuck};
@@ -14,8 +13,7 @@ ghost use Rattle.rn_looking.specs.Looks.{GoesOn};
 use crate::arcs::{arc_at, known_value};
 use crate::parts::is_flexible;
 use crate::told::{Told, unless_waits};
-use rn_arcs::elements_of;
-use rn_bag::Bag;
+use rn_arcs::{bag_at, elements_of};
 use rn_growing::{Growing, Head};
 use rn_items::Items;
 use rn_model::Transition;
@@ -23,16 +21,6 @@ use rn_search::Problem;
 use rn_table::Table;
 use rn_value::{InstRef, NoMemory, Vals, sort};
 use std::alloc::Global;
-
-// The tokens of a place of an instance, where there are some.
-fn bag_at<'a>(table: &'a Table, inst: &InstRef, place: u32) -> Option<&'a Bag>
-    ensures { unwrap_or (option_copied result) [] ≡ tokens table.now.marking inst.now place }
-{
-    match inst {
-        InstRef::Old(number) => table.bag(*number, place),
-        InstRef::New(_, _) => None,
-    }
-}
 
 // Whether a place holds each of these values as often as they have it. Each of them is looked up
 // once they are sorted.

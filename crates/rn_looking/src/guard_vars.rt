@@ -4,8 +4,7 @@
 ghost use Rattle.std.specs.Prelude.{◌≡◌, ◌++◌, OnOk, flat_map};
 ghost use Rattle.rn_looking.specs.Guards.{vars_of_simple, vars_of_guard};
 
-use rn_binding::put_vars;
-use rn_model::{Cond, Simple};
+use rn_model::{Cond, Simple, put_vars};
 use rn_value::NoMemory;
 
 // Puts the variables of a comparison or a negation.

@@ -8,10 +8,9 @@ ghost use Rattle.rn_looking.specs.Knowing.{ArePairsOf, KnowsVars, KnowsGuardVars
 ghost use Rattle.rn_looking.specs.Knowing.{AreOthersOf};
 
 use crate::guard_vars::put_guard;
-use rn_binding::put_vars;
 use rn_calc::Values;
 use rn_growing::{Growing, Head};
-use rn_model::{Cond, Expr};
+use rn_model::{Cond, Expr, put_vars};
 use rn_value::{InstRef, NoMemory, Value};
 use std::alloc::Global;
 

@@ -2,7 +2,7 @@
 //! operator applications, arcs and calls, and a look ends where one alternative at most is left.
 //! What is settled stays so with further decisions, so a look begins after it (`docs/SEARCH.md`,
 //! 'What it does next').
-ghost use Rattle.std.specs.Prelude.{◌≡◌, ◌<◌, IfOk, IfSome, IsTrue, length, map};
+ghost use Rattle.std.specs.Prelude.{◌≡◌, ◌<◌, IfOk, IsTrue, length, map};
 ghost use Rattle.rn_binding.specs.Applications.{application_of};
 ghost use Rattle.rn_search.specs.Points.{holes_of};
 ghost use Rattle.rn_looking.specs.declared.look.Look.TheVariants as L;

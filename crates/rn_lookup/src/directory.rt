@@ -1,5 +1,5 @@
 //! The names of a system, to be looked up.
-ghost use Rattle.std.specs.Prelude.{◌≡◌, ◌<◌, ◌^◌, All, IfOk, IfSome, length};
+ghost use Rattle.std.specs.Prelude.{◌≡◌, ◌<◌, ◌^◌, All, IfOk, length};
 ghost use Rattle.rn_model.specs.declared.system.System.{System as Whole};
 ghost use Rattle.rn_model.specs.Systems.{net_at};
 ghost use Rattle.rn_lookup.specs.Found.{net_named, transition_named, place_named};

@@ -8,7 +8,7 @@ ghost use Rattle.rn_lookup.specs.Found.{is_called, are_called, node_is_called};
 ghost use Rattle.rn_lookup.specs.Found.{tokens_are_called, tokens_of};
 
 use rn_lines::{Mention, ReadGiven, ReadItem, ReadNode};
-use rn_model::System;
+use rn_model::{System, find_net};
 
 /// Whether an instance is among those made, and is called by the name of its net. `made` has the
 /// nets of the instances that were made, from number 1 on.
@@ -21,7 +21,7 @@ pub fn is_called(system: &System, made: &[u32], mention: &Mention<'_>) -> bool
     let Some(net) = made.get(mention.number as usize - 1) else {
         return false;
     };
-    match system.nets.get(*net as usize) {
+    match find_net(system, *net) {
         Some(net) => net.name.as_str().as_bytes() == mention.name,
         None => mention.name.is_empty(),
     }

@@ -10,10 +10,10 @@ ghost use Rattle.rn_lookup.specs.Faults.{Tells, token_fault, tokens_fault, mark_
 ghost use Rattle.rn_lookup.specs.Tables.{IsDirectoryOf};
 
 use crate::directory::Directory;
-use crate::nodes::{name_nets, net_of};
+use crate::nodes::name_nets;
 use crate::refusal::Refusal;
 use rn_lines::{ReadItem, ReadMark, ReadToken};
-use rn_model::System;
+use rn_model::{System, net_at};
 use rn_value::{Kind, NoMemory, has_kind};
 use std::alloc::Global;
 
@@ -96,7 +96,7 @@ fn kind_of_place(system: &System, found: FoundMark) -> &Kind
     requires place { found.place < length (net_at system.now found.net).places }
     ensures { result.now ≡ place_kind_in (net_at system.now found.net) found.place }
 {
-    &net_of(system, found.net).places.as_slice()[found.place as usize].kind
+    &net_at(system, found.net).places.as_slice()[found.place as usize].kind
 }
 
 /// The net and the place of a mark, where they are there and each token has the place's kind.

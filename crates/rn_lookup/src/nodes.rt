@@ -1,5 +1,5 @@
 //! The nodes of lines, looked up in a system.
-ghost use Rattle.std.specs.Prelude.{◌≡◌, ◌<◌, IfOk, IfSome, length, map};
+ghost use Rattle.std.specs.Prelude.{◌≡◌, ◌<◌, IfOk, length, map};
 ghost use Rattle.std.specs.List.{list_all};
 ghost use Rattle.rn_model.specs.Systems.{net_at, transition_at};
 ghost use Rattle.rn_lines.specs.Said.{said};
@@ -12,7 +12,7 @@ ghost use Rattle.rn_lookup.specs.Tables.{IsDirectoryOf};
 use crate::directory::Directory;
 use crate::refusal::Refusal;
 use rn_lines::{Mention, ReadGiven, ReadNode};
-use rn_model::{Net, System};
+use rn_model::{Net, System, net_at, transition_at};
 use rn_value::{NoMemory, Value, has_kind};
 use std::alloc::Global;
 
@@ -63,12 +63,10 @@ fn all_given_name_nets(
 fn vars_of(system: &System, net: u32, transition: u32) -> &[u32]
     ensures { result.now ≡ (transition_at system.now net transition).vars }
 {
-    if let Some(net) = system.nets.get(net as usize) {
-        if let Some(transition) = net.transitions.get(transition as usize) {
-            return transition.vars.as_slice();
-        }
+    match transition_at(system, net, transition) {
+        Some(transition) => transition.vars.as_slice(),
+        None => &[],
     }
-    &[]
 }
 
 fn fits_var(net: &Net, var: u32, value: &Value) -> bool
@@ -115,14 +113,6 @@ fn variables_fit(net: &Net, all: &[ReadGiven<'_>], vars: &[u32]) -> bool
     true
 }
 
-/// The net with this number.
-pub(crate) fn net_of(system: &System, net: u32) -> &Net
-    requires { net < length system.now.nets }
-    ensures { result.now ≡ net_at system.now net }
-{
-    &system.nets.as_slice()[net as usize]
-}
-
 /// Looks at what is given in a node of this transition: the values first, then the variables and
 /// the nets that the values name.
 fn check_given(
@@ -137,7 +127,7 @@ fn check_given(
     ensures { Tells result (given_fault system.now (net_at system.now found.net) (map given all.now)
         (transition_at system.now found.net found.transition).vars) }
 {
-    let net = net_of(system, found.net);
+    let net = net_at(system, found.net);
     let vars = vars_of(system, found.net, found.transition);
     if !values_fit(net, all, vars) {
         return Err(Refusal::Form);

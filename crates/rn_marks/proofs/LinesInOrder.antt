@@ -1,8 +1,8 @@
 -- The lines of the live instances, in order, are the live part.
-use Rattle.std.proofs.Common.{◌≡◌, ℕ, zero, suc, ◌+◌, ◌<◌, ◌≤◌, ◌^◌, List, [], ◌∷◌, ◌++◌, length, get_or}
+use Rattle.std.proofs.Common.{◌≡◌, ℕ, zero, suc, ◌+◌, ◌<◌, ◌≤◌, ◌^◌, List, [], ◌∷◌, ◌++◌, length}
 use Rattle.std.proofs.Common.{refl, sym, ap, ◌∙◌, subst, inl, inr, arith}
-use Rattle.std.specs.Prelude.{◌↔◌, Option, Some, None, ⊤, ◌≢◌, Contains, flat_map, slice_get, take, unwrap_or}
-use Rattle.std.specs.List.{AllAdjacentBelow, AllByRecursion}
+use Rattle.std.specs.Prelude.{◌↔◌, Option, Some, None, ◌≢◌, Contains, flat_map, slice_get, take, unwrap_or}
+use Rattle.std.specs.List.{AllByRecursion}
 use Rattle.std.specs.Option.{option_map_or}
 use Rattle.std.specs.List.Sorted.{IsStrictlyIncreasing}
 use Rattle.std.proofs.lemmas.List.{append-nil, append_assoc}
@@ -17,29 +17,10 @@ use Rattle.rn_model.proofs.EachElement.{each_append, each_weaker}
 use Rattle.rn_model.proofs.EnablingLemmas.{not_in_nil}
 use Rattle.rn_model.proofs.LiveBindings.{live_is_there}
 use Rattle.rn_model.proofs.MarkingsStay.{Increases, from_strict}
+use Rattle.rn_model.proofs.LivePartIsThere.{Ascend, ascend_joined, to_adjacent, below_later}
 use Rattle.rn_live.specs.Marks.{places_of}
-use Rattle.rn_live.proofs.HolderLemmas.{place_at}
+use Rattle.rn_live.proofs.HolderLemmas.{tokens_are}
 use Rattle.rn_marks.specs.Lines.{line_of, lines_from, lines_at}
-
--- Lines of which each comes before all later ones.
-abbrev Ascend : List MarkLine → Type 0
-Ascend [] = ⊤
-Ascend (x ∷ xs) = AllByRecursion (ComesBefore x) xs × Ascend xs
-
-ascend_joined : (xs ys : List MarkLine) → Ascend xs → Ascend ys →
-    AllByRecursion (λ x. AllByRecursion (ComesBefore x) ys) xs → Ascend (xs ++ ys)
-ascend_joined [] ys a c before = c
-ascend_joined (x ∷ xs) ys a c before =
-    (each_append (ComesBefore x) xs ys a.0 before.0, ascend_joined xs ys a.1 c before.1)
-
-to_adjacent : (xs : List MarkLine) → Ascend xs → AllAdjacentBelow ComesBefore xs (length xs)
-to_adjacent [] a k d h = absurd (let no : ⊥ = omega (arith, h) in no)
-to_adjacent (x ∷ []) a k d h = absurd (let no : ⊥ = omega (arith, h) in no)
-to_adjacent (x ∷ y ∷ xs) a zero d h = a.0.0
-to_adjacent (x ∷ y ∷ xs) a (suc k) d h =
-    let next : suc k + 1 ≡ suc (k + 1) = omega arith in
-    subst (λ j. ComesBefore (get_or (y ∷ xs) k d) (get_or (x ∷ y ∷ xs) j d)) (sym next)
-    (to_adjacent (y ∷ xs) a.1 k d (omega (arith, h)))
 
 -- Of one instance.
 module _ (n net : ℕ) where
@@ -124,15 +105,6 @@ module _ (n net : ℕ) where
       (line_of n net ((k + 1) + place) vs))
       ∙ ap (λ j. lines_from n net k (ws ∷ take place places) ++ line_of n net j vs) there
 
--- each later number is above the first
-below_later : (n : ℕ) (ns : List ℕ) → Increases (n ∷ ns) → AllByRecursion (λ k. n < k) ns
-below_later n [] a = tt
-below_later n (k ∷ ns) a = (
-  a.0,
-  each_weaker (λ j. k < j) (λ j. n < j) (λ j above. let low = a.0 in omega (arith, above, low))
-      ns (below_later k ns a.1),
-)
-
 -- Of a marking.
 module _ (m : Marking) where
   abbrev IsOf : ℕ → MarkLine → Type 0
@@ -177,10 +149,6 @@ module _ (m : Marking) where
       (λ x of.
       each_weaker (IsAbove n) (ComesBefore x) (λ y above. inl (omega (arith, above, of))) later
       (all_above n ns (below_later n ns a))) (lines_at m n) (are_of n))
-
--- The tokens of a place, by the list of places.
-tokens_are : (m : Marking) (n k : ℕ) → tokens_at m n k ≡ unwrap_or (slice_get (places_of m n) k) []
-tokens_are m n k = ap (λ s. unwrap_or s []) (sym (place_at m n k))
 
 among : (m : Marking) (ns : List ℕ) (n : ℕ) (line : MarkLine) → Contains ns n →
     Contains (lines_at m n) line → Contains (flat_map (lines_at m) ns) line

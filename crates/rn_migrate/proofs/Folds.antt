@@ -22,6 +22,7 @@ use Rattle.rn_net.specs.declared.constants.PConstForm.TheOpen as C
 use Rattle.rn_net.specs.Kinds.{kind_at}
 use Rattle.rn_net.specs.Constants.{constant_at}
 use Rattle.rn_print.specs.SameButSpots.{first_spot, kind_moved, kind_unplaced, constant_moved, constant_unplaced, expr_moved, expr_unplaced, simple_moved, cond_unplaced, simple_unplaced}
+use Rattle.rn_print.proofs.SameTexts.{each_part}
 
 -- where a function after another one is a third after it in each element, so it is in their list
 commute : {A B : Type 0} (f : A → B) (u : A → A) (b : B → B) (xs : List A) →
@@ -29,11 +30,6 @@ commute : {A B : Type 0} (f : A → B) (u : A → A) (b : B → B) (xs : List A)
 commute f u b [] all = refl
 commute f u b (x ∷ xs) (is, all) =
     ap (λ y. y ∷ map f (map u xs)) is ∙ ap (λ ys. b (f x) ∷ ys) (commute f u b xs all)
-
-each_part : {X : Type 0} (P : X → Type 0) (parts : List ((x : X) × P x)) →
-    AllByRecursion P (map (λ e. e.0) parts)
-each_part P [] = tt
-each_part P (part ∷ parts) = (part.1, each_part P parts)
 
 -- kinds
 abbrev kind_form : PKindForm → PKindForm

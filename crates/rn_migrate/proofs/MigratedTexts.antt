@@ -1,18 +1,14 @@
 -- The migrated text of an accepted text is accepted with the same system.
-use Rattle.std.proofs.Common.{◌≡◌, ℕ, ◌≤◌, List, [], length, map, refl, sym, ap, ◌∙◌, subst}
-use Rattle.rn_notation.specs.Limits.{longest_net_text}
-use Rattle.rn_model.specs.declared.system.System.{System}
+use Rattle.std.proofs.Common.{◌≡◌, ℕ, List, refl, sym, ap, ◌∙◌}
 use Rattle.rn_net.specs.declared.plain.Plain.{Plain}
 use Rattle.rn_net.specs.Texts.{Spells}
 use Rattle.rn_net.specs.Laws.{OneSpelled}
 use Rattle.rn_rules.specs.Systems.{system_faults}
 use Rattle.rn_numbering.specs.Numbering.{system_of}
-use Rattle.rn_check.specs.Checked.{Checked}
 use Rattle.rn_print.specs.Nets.{in_notation}
 use Rattle.rn_print.specs.Laws.{MigratedTextsAreRead}
 use Rattle.rn_print.specs.ReadingBack.{IsSpelled}
-use Rattle.rn_print.specs.SameButSpots.{unplaced}
-use Rattle.rn_migrate.specs.Migrated.{migrated_text, SameParts}
+use Rattle.rn_migrate.specs.Migrated.{migrated_text}
 use Rattle.rn_migrate.specs.Laws.{SamePartsAreChecked, MigratedTextsAreAccepted, OneSystemIsRead}
 use Rattle.rn_migrate.proofs.MovedFaults.{all_moved, none_moved}
 use Rattle.rn_migrate.proofs.SameFaults.{system_moved}

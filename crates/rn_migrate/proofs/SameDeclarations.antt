@@ -1,9 +1,8 @@
 -- What is broken in declarations doesn't depend on spots, but for the spots that are told.
 use Rattle.std.proofs.Common.{◌≡◌, ℕ, ◌+◌, ◌&&◌, Bool, not, List, [], ◌∷◌, ◌++◌, length, map, refl, sym, ap, ◌∙◌, nat_eq}
-use Rattle.std.specs.Prelude.{flat_map, nat_le, Option, Some, None, option_map, if◌then◌else◌, nat_abs, is_some, unwrap_or, slice_get}
-use Rattle.std.specs.Option.{option_and_then}
-use Rattle.std.specs.List.{list_any, list_all}
-use Rattle.std.proofs.lemmas.List.{length-map, map-append}
+use Rattle.std.specs.Prelude.{flat_map, nat_le, Option, Some, None, option_map, if◌then◌else◌, nat_abs}
+use Rattle.std.specs.List.{list_any}
+use Rattle.std.proofs.lemmas.List.{length-map, map-append, map-id}
 use Rattle.rn_notation.specs.declared.token.Spot.{Spot}
 use Rattle.rn_inscript.specs.declared.inscriptions.PName.{PName}
 use Rattle.rn_net.specs.declared.kinds.PKind.{PKind}
@@ -21,12 +20,12 @@ use Rattle.rn_declared.specs.declared.fault.Fault.{Fault}
 use Rattle.rn_declared.specs.declared.pattern.Pattern.{Pattern, out-Pattern}
 use Rattle.rn_declared.specs.Faults.{broken_if, past, past_limit}
 use Rattle.rn_declared.specs.Patterns.{pattern_of, pattern_step}
-use Rattle.rn_declared.specs.Names.{same_name, name_faults, names_faults, declared_faults, number_among}
-use Rattle.rn_declared.specs.Declarations.{Part, parts_faults, kind_form_faults, kind_part, kind_faults, const_form_faults, const_part, fits_form, fits, token_faults, capacity_faults, place_faults, has_capacity}
+use Rattle.rn_declared.specs.Names.{same_name, name_faults, names_faults, declared_faults}
+use Rattle.rn_declared.specs.Declarations.{Part, parts_faults, kind_form_faults, kind_part, kind_faults, const_form_faults, const_part, fits_form, fits, token_faults, capacity_faults, place_faults}
 use Rattle.rn_declared.specs.Channels.{same_channel, channel_from, channel_faults, channels_faults}
 use Rattle.rn_print.specs.SameButSpots.{first_spot, name_unplaced, kind_unplaced, constant_unplaced, max_unplaced, channel_unplaced, place_unplaced}
 use Rattle.rn_migrate.proofs.Folds.{kind_fold, constant_fold}
-use Rattle.rn_migrate.proofs.MovedFaults.{moved, all_moved, each, kept, any_kept, both, flat, if_so, if_same, past_of, limit_of}
+use Rattle.rn_migrate.proofs.MovedFaults.{all_moved, each, any_kept, both, flat, if_so, if_same, past_of, limit_of}
 
 -- names
 name_moved : (before : List (List ℕ)) (name : PName) →
@@ -110,25 +109,21 @@ const_part_moved =
     (λ x z. z ≡ all_moved x) part_moved const_form_moved
     (λ s x z is. ap part_made is)
 
-same_parts : {A : Type 0} (xs : List A) → map (λ x. x) xs ≡ xs
-same_parts [] = refl
-same_parts (x ∷ xs) = ap (λ ys. x ∷ ys) (same_parts xs)
-
 -- a kind and a constant without their spots, by a fold that doesn't see those
 pub kind_ids : (A B : Type 0) (y : K.PKindForm-F A B) →
     map-PKindForm A B A B (λ x. x) (λ x. x) y ≡ y
 kind_ids A B K.Int = refl
 kind_ids A B K.Text = refl
 kind_ids A B K.Net = refl
-kind_ids A B (K.Tuple parts) = ap (λ ks. K.Tuple ks) (same_parts parts)
+kind_ids A B (K.Tuple parts) = ap (λ ks. K.Tuple ks) (map-id parts)
 kind_ids A B (K.List part) = refl
 
 pub constant_ids : (A B : Type 0) (y : C.PConstForm-F A B) →
     map-PConstForm A B A B (λ x. x) (λ x. x) y ≡ y
 constant_ids A B (C.Int n) = refl
 constant_ids A B (C.Text s) = refl
-constant_ids A B (C.Tuple parts) = ap (λ cs. C.Tuple cs) (same_parts parts)
-constant_ids A B (C.List parts) = ap (λ cs. C.List cs) (same_parts parts)
+constant_ids A B (C.Tuple parts) = ap (λ cs. C.Tuple cs) (map-id parts)
+constant_ids A B (C.List parts) = ap (λ cs. C.List cs) (map-id parts)
 
 pub pattern_kept : (k : PKind) → pattern_of (kind_unplaced k) ≡ pattern_of k
 pattern_kept =

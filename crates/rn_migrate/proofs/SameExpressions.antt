@@ -1,18 +1,17 @@
 -- What is broken in expressions and conditions doesn't depend on spots, but for the spots that are
 -- told.
-use Rattle.std.proofs.Common.{◌≡◌, ℕ, ◌&&◌, ◌||◌, Bool, true, false, not, List, [], ◌∷◌, ◌++◌, map, refl, sym, ap, ◌∙◌}
+use Rattle.std.proofs.Common.{◌≡◌, ℕ, ◌&&◌, Bool, not, List, [], ◌∷◌, ◌++◌, map, refl, ap, ◌∙◌}
 use Rattle.std.proofs.Math.Path.{fun_ext}
-use Rattle.std.specs.Prelude.{flat_map, Option, is_none, unwrap_or}
-use Rattle.std.specs.List.{list_any}
+use Rattle.std.specs.Prelude.{flat_map, is_none, unwrap_or}
+use Rattle.std.proofs.lemmas.List.{map-id}
 use Rattle.rn_notation.specs.declared.token.Spot.{Spot}
 use Rattle.rn_model.specs.Limits.{most_parts}
 use Rattle.rn_model.specs.declared.expr.CompareKind.{CompareKind}
 use Rattle.rn_model.specs.declared.expr.CompareKind.TheVariants.{Same, Differs, Less, AtMost, Greater, AtLeast}
-use Rattle.rn_inscript.specs.declared.exprs.PExpr.{PExpr, PExpr-F, fold_out-PExpr, out-PExpr, out-roll-PExpr}
+use Rattle.rn_inscript.specs.declared.exprs.PExpr.{PExpr, fold_out-PExpr, out-PExpr, out-roll-PExpr}
 use Rattle.rn_inscript.specs.declared.exprs.PForm.{PForm, fold-PForm, fold_out-PForm, map-PForm, out-PForm, out-roll-PForm, roll-PForm}
 use Rattle.rn_inscript.specs.declared.exprs.PForm.TheOpen as O
-use Rattle.rn_inscript.specs.declared.conds.PCond.{PCond, PCond-F}
-use Rattle.rn_inscript.specs.declared.conds.PSimple.TheOpen as T
+use Rattle.rn_inscript.specs.declared.conds.PCond.{PCond}
 use Rattle.rn_declared.specs.declared.fault.Rule.TheVariants as Rule
 use Rattle.rn_declared.specs.declared.fault.Fault.{Fault}
 use Rattle.rn_declared.specs.declared.pattern.Pattern.{Pattern}
@@ -25,7 +24,7 @@ use Rattle.rn_rules.specs.Counted.{holds_form, holds_name}
 use Rattle.rn_rules.specs.Arcs.{is_name, is_variable}
 use Rattle.rn_print.specs.SameButSpots.{first_spot, expr_unplaced, expr_moved, cond_unplaced}
 use Rattle.rn_migrate.proofs.Folds.{Steps, expr_fold, cond_fold}
-use Rattle.rn_migrate.proofs.MovedFaults.{moved, all_moved, each, kept, any_kept, both, flat, if_so, if_same, limit_of}
+use Rattle.rn_migrate.proofs.MovedFaults.{all_moved, each, kept, both, flat, if_so, if_same, limit_of}
 
 -- an expression as the rules see it, with its spots at the first byte
 abbrev pub seen_moved : Seen → Seen
@@ -171,19 +170,15 @@ pub seen_moved_to : (e : PExpr) (place : Where) →
 seen_moved_to e place = ap (λ f. f place) (expr_moved_to e)
 
 -- which names an expression holds, and whether it is a variable
-same_parts : {A : Type 0} (xs : List A) → map (λ x. x) xs ≡ xs
-same_parts [] = refl
-same_parts (x ∷ xs) = ap (λ ys. x ∷ ys) (same_parts xs)
-
 pub expr_ids : (A B : Type 0) (y : O.PForm-F A B) → map-PForm A B A B (λ x. x) (λ x. x) y ≡ y
 expr_ids A B (O.Int n) = refl
 expr_ids A B (O.Text s) = refl
 expr_ids A B (O.Name s) = refl
 expr_ids A B O.This = refl
 expr_ids A B O.Step = refl
-expr_ids A B (O.Tuple parts) = ap (λ es. O.Tuple es) (same_parts parts)
-expr_ids A B (O.List parts) = ap (λ es. O.List es) (same_parts parts)
-expr_ids A B (O.Cons parts tail) = ap (λ es. O.Cons es tail) (same_parts parts)
+expr_ids A B (O.Tuple parts) = ap (λ es. O.Tuple es) (map-id parts)
+expr_ids A B (O.List parts) = ap (λ es. O.List es) (map-id parts)
+expr_ids A B (O.Cons parts tail) = ap (λ es. O.Cons es tail) (map-id parts)
 expr_ids A B (O.Neg a) = refl
 expr_ids A B (O.Op op a b) = refl
 

@@ -1,10 +1,9 @@
 -- What is broken in nets and systems doesn't depend on spots, but for the spots that are told.
-use Rattle.std.proofs.Common.{◌≡◌, ℕ, Bool, false, not, List, [], ◌∷◌, ◌++◌, map, ap, ◌∙◌, refl}
+use Rattle.std.proofs.Common.{◌≡◌, ℕ, Bool, false, not, List, [], ◌++◌, map, ap, ◌∙◌, refl}
 use Rattle.std.proofs.Math.Path.{fun_ext}
 use Rattle.std.specs.Prelude.{flat_map, codes, Option, Some, None, option_map, is_some, unwrap_or, slice_get}
 use Rattle.std.specs.Option.{option_and_then}
 use Rattle.std.specs.List.{list_any}
-use Rattle.rn_inscript.specs.declared.inscriptions.PName.{PName}
 use Rattle.rn_net.specs.declared.plain.Plain.{Plain}
 use Rattle.rn_net.specs.declared.plain.PChannel.{PChannel}
 use Rattle.rn_net.specs.declared.plain.PNet.{PNet}
@@ -14,7 +13,6 @@ use Rattle.rn_net.specs.declared.plain.PMax.{PMax}
 use Rattle.rn_net.specs.declared.plain.PTransition.{PTransition}
 use Rattle.rn_model.specs.Limits.{most_nets, most_channels, most_vars, most_places, most_transitions}
 use Rattle.rn_declared.specs.declared.fault.Rule.TheVariants as Rule
-use Rattle.rn_declared.specs.declared.fault.Fault.{Fault}
 use Rattle.rn_declared.specs.declared.pattern.Pattern.{Pattern}
 use Rattle.rn_declared.specs.Faults.{broken_if, past_limit}
 use Rattle.rn_declared.specs.Patterns.{pattern_of}
@@ -23,8 +21,8 @@ use Rattle.rn_declared.specs.Declarations.{kind_faults, place_faults, has_capaci
 use Rattle.rn_declared.specs.Channels.{channel_from, channels_faults}
 use Rattle.rn_rules.specs.Transitions.{Scope, transition_faults}
 use Rattle.rn_rules.specs.Systems.{scope_of, net_faults, text_start, system_faults}
-use Rattle.rn_print.specs.SameButSpots.{first_spot, name_unplaced, kind_unplaced, channel_unplaced, var_unplaced, max_unplaced, place_unplaced, transition_unplaced, net_unplaced, unplaced}
-use Rattle.rn_migrate.proofs.MovedFaults.{moved, all_moved, kept, any_kept, both, flat, if_so, if_same, limit_of}
+use Rattle.rn_print.specs.SameButSpots.{first_spot, kind_unplaced, channel_unplaced, var_unplaced, max_unplaced, place_unplaced, transition_unplaced, net_unplaced, unplaced}
+use Rattle.rn_migrate.proofs.MovedFaults.{all_moved, kept, any_kept, both, flat, if_same, limit_of}
 use Rattle.rn_migrate.proofs.SameDeclarations.{declared_moved, kind_moved, pattern_kept, place_moved, channels_moved, channel_from_kept}
 use Rattle.rn_migrate.proofs.SameInscriptions.{transition_moved}
 

@@ -1,6 +1,6 @@
 -- What is broken in the inscriptions of a transition doesn't depend on spots, but for the spots that
 -- are told.
-use Rattle.std.proofs.Common.{◌≡◌, ℕ, ◌&&◌, Bool, true, false, not, List, [], ◌∷◌, ◌++◌, length, map, refl, sym, ap, ◌∙◌}
+use Rattle.std.proofs.Common.{◌≡◌, ℕ, ◌&&◌, Bool, false, not, List, [], ◌∷◌, ◌++◌, length, map, refl, ap, ◌∙◌}
 use Rattle.std.specs.Prelude.{flat_map, nat_lt, Option, Some, None, option_map, is_none, is_some, if◌then◌else◌}
 use Rattle.std.specs.Option.{option_map_or}
 use Rattle.std.proofs.lemmas.List.{length-map}
@@ -16,7 +16,6 @@ use Rattle.rn_inscript.specs.declared.inscriptions.PInscribed.TheVariants as I
 use Rattle.rn_inscript.specs.declared.inscriptions.PInscription.{PInscription}
 use Rattle.rn_net.specs.declared.plain.PTransition.{PTransition}
 use Rattle.rn_declared.specs.declared.fault.Rule.TheVariants as Rule
-use Rattle.rn_declared.specs.declared.fault.Fault.{Fault}
 use Rattle.rn_declared.specs.declared.pattern.Pattern.{Pattern}
 use Rattle.rn_declared.specs.declared.pattern.Pattern.TheVariants as Pattern
 use Rattle.rn_declared.specs.Faults.{broken, broken_if, past_limit}
@@ -25,11 +24,10 @@ use Rattle.rn_rules.specs.Expressions.{Where, Seen, misfit, variable_faults, see
 use Rattle.rn_rules.specs.Arcs.{asked_of, is_clear, is_variable, inscribed_faults, arc_faults}
 use Rattle.rn_rules.specs.Counted.{is_flex_output, holds_name, counted_faults}
 use Rattle.rn_rules.specs.Calls.{misfits, channel_call_faults, call_faults, target_faults, is_no_net, creation_faults}
-use Rattle.rn_rules.specs.Actions.{set_name, set_names, set_faults, value_faults}
-use Rattle.rn_rules.specs.Conditions.{condition_faults}
-use Rattle.rn_rules.specs.Transitions.{Scope, Progress, in_action, in_output, elsewhere, set_action_faults, channel_faults, uplink_faults, downlink_faults, inscription_faults, is_uplink, after, inscriptions_faults, at_first, transition_faults}
+use Rattle.rn_rules.specs.Actions.{set_name, set_faults, value_faults}
+use Rattle.rn_rules.specs.Transitions.{Scope, Progress, in_action, in_output, elsewhere, set_action_faults, channel_faults, uplink_faults, downlink_faults, inscription_faults, after, inscriptions_faults, at_first, transition_faults}
 use Rattle.rn_print.specs.SameButSpots.{first_spot, name_unplaced, expr_unplaced, expr_moved, inscribed_unplaced, inscription_unplaced, transition_unplaced}
-use Rattle.rn_migrate.proofs.MovedFaults.{moved, all_moved, each, joined_kept, both, flat, if_so, if_same, limit_of}
+use Rattle.rn_migrate.proofs.MovedFaults.{all_moved, joined_kept, both, flat, if_so, if_same, limit_of}
 use Rattle.rn_migrate.proofs.SameExpressions.{seen_moved, misfit_moved, variable_moved, seen_moved_to, holds_kept, variable_kept, sides_moved_to, condition_moved}
 
 -- arcs

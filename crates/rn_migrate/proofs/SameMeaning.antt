@@ -1,5 +1,5 @@
 -- The system that a plain form means doesn't depend on spots.
-use Rattle.std.proofs.Common.{◌≡◌, ℕ, List, [], ◌∷◌, ◌++◌, length, map, refl, sym, ap, ◌∙◌}
+use Rattle.std.proofs.Common.{◌≡◌, ℕ, List, [], ◌∷◌, length, map, refl, ap, ◌∙◌}
 use Rattle.std.proofs.Math.Path.{fun_ext}
 use Rattle.std.specs.Prelude.{flat_map, Option, Some, None, option_map, unwrap_or, slice_get}
 use Rattle.std.proofs.lemmas.List.{length-map}
@@ -41,7 +41,7 @@ use Rattle.rn_declared.specs.Channels.{channel_from}
 use Rattle.rn_numbered.specs.Numbered.{Numbers, kind_of_form, kind_of, value_of_form, value_of, capacity_of, number_in, expr_of_form, expr_of, simple_of_form, cond_of, inscription_of, equality_of, guard_of, action_of, creation_of, uplink_of, downlink_of, arc_of, inscribed}
 use Rattle.rn_numbering.specs.Numbering.{numbers_of, transition_of, net_of, system_of}
 use Rattle.rn_occurring.specs.TransitionVars.{with_vars}
-use Rattle.rn_print.specs.SameButSpots.{name_unplaced, kind_unplaced, constant_unplaced, expr_unplaced, cond_unplaced, inscribed_unplaced, inscription_unplaced, channel_unplaced, var_unplaced, max_unplaced, place_unplaced, transition_unplaced, net_unplaced, unplaced}
+use Rattle.rn_print.specs.SameButSpots.{kind_unplaced, constant_unplaced, expr_unplaced, cond_unplaced, inscribed_unplaced, inscription_unplaced, channel_unplaced, var_unplaced, max_unplaced, place_unplaced, transition_unplaced, net_unplaced, unplaced}
 use Rattle.rn_migrate.proofs.Folds.{Steps, kind_fold, constant_fold, expr_fold, cond_fold}
 use Rattle.rn_migrate.proofs.MovedFaults.{kept, joined_kept, each}
 use Rattle.rn_migrate.proofs.SameDeclarations.{kind_ids, constant_ids, channel_from_kept}

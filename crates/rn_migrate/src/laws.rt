@@ -13,6 +13,9 @@ pub fn migration_laws()
     ensures accepted { MigratedTextsAreAccepted }
     ensures one_system { OneSystemIsRead }
 {
+    // For its clause: a text spells one system at most.
     net_laws();
+    // For its clause: a canonical text in notation 2, where it isn't too long, spells what it was
+    // written of, but for spots.
     printing_laws();
 }

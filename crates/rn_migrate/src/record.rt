@@ -57,6 +57,8 @@ pub fn migrate_record(alloc: Global, system: &System, bytes: &[u8]) -> Result<Ve
     ensures told { IfOk result (λ text. MigratesRecord system.now bytes.now text.items) }
     ensures refused { IfErr result (FaultTells (TellsRecord system.now 1 bytes.now)) }
 {
+    // For its clauses: bytes that tell a run are its text, the marks of which name instances of the
+    // run, and what format 1 tells is told in format 2 too.
     record_laws();
     let told = read_record(alloc, system, 1, bytes)?;
     Ok(rewritten(alloc, system, bytes, &told)?)

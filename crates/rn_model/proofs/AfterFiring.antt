@@ -109,9 +109,6 @@ module _ (system : System) (m : Marking) (made : List Made) (b : Binding) (acts 
   abbrev new : ℕ × Made → Instance
   new = new_instance system b acts
 
-  abbrev m_after : Marking
-  m_after = marking_after system m made b acts
-
   abbrev put : ℕ → ℕ → List Value
   put n place = asked_at puts system acts.read (Old n) place
 
@@ -121,6 +118,7 @@ module _ (system : System) (m : Marking) (made : List Made) (b : Binding) (acts 
       ((i : Instance) × (instance_at m n ≡ Some i) × (j ≡ instance_after system b acts i))
       ⊎ ((c : Made) × Contains (enumerate_from m.next made) (n, c) × (instance_at m n ≡ None) × (j ≡ new_instance system b acts (n, c)))
 
+  -- each instance after the firing was there or is new
   pub was_or_is_new : (n : ℕ) (j : Instance) → instance_at (marking_after system m made b acts) n ≡ Some j → WasOrIsNew n j
   was_or_is_new n j e = elim (instance_at m n) as (λ o. instance_at m n ≡ o → WasOrIsNew n j) [
     | Some i ↦ λ is. let same : j ≡ after i = same_Some j (after i) (sym e ∙ found_before after (λ i. refl) m.instances (map new (enumerate_from m.next made)) n i is) in inl (i, is, same)
@@ -129,6 +127,7 @@ module _ (system : System) (m : Marking) (made : List Made) (b : Binding) (acts 
         inr (found.0, found.1, is, found.2)
   ] refl
 
+  -- one that was there is found as the firing leaves it
   pub was_there : (n : ℕ) (i : Instance) → instance_at m n ≡ Some i → instance_at (marking_after system m made b acts) n ≡ Some (instance_after system b acts i)
   was_there n i is = found_before after (λ i. refl) m.instances (map new (enumerate_from m.next made)) n i is
 
@@ -191,6 +190,7 @@ module _ (system : System) (m : Marking) (made : List Made) (b : Binding) (acts 
         | inr puts ↦ inr (inr puts)
       ]
 
+  -- each token after the firing was there, is initial, or is put
   pub token_from : (n place : ℕ) (v : Value) (j : Instance) → instance_at (marking_after system m made b acts) n ≡ Some j → Contains (tokens_at (marking_after system m made b acts) n place) v → TokenFrom n place v
   token_from n place v j e there =
       let held : Contains (held_by (Some j) place) v = subst (λ o. Contains (held_by o place) v) e there in

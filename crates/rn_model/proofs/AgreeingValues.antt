@@ -49,7 +49,7 @@ use Rattle.rn_model.proofs.ReadConditions.{each_in, sides_of}
 use Rattle.rn_model.proofs.DefinedConditions.{HasValue, defined_sides}
 
 -- values beside their variables have their kinds
-beside_kind : (kinds : ℕ → Kind) (xs : List ℕ) (vs : List Value) →
+pub beside_kind : (kinds : ℕ → Kind) (xs : List ℕ) (vs : List Value) →
     AllZip (λ x v. HasKind v (kinds x)) xs vs → (x : ℕ) (v : Value) →
     value_beside (zip xs vs) x ≡ Some v → HasKind v (kinds x)
 beside_kind kinds [] [] all x v e = absurd (let no : ⊥ = cc in no)

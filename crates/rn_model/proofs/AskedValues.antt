@@ -32,21 +32,25 @@ use Rattle.rn_model.proofs.ValueLists.{one_if, count_of-cons, same_is, ordered_v
 pub later : {X : Type 0} (y x : X) (xs : List X) → Contains xs x → Contains (y ∷ xs) x
 later y x xs (k, h, e) = (suc k, omega (arith, h), e)
 
+-- a mapped list holds what each element is mapped to
 pub contained_mapped : {X Y : Type 0} (f : X → Y) (xs : List X) (x : X) → Contains xs x → Contains (map f xs) (f x)
 contained_mapped f [] x there = absurd (not_in_nil x there)
 contained_mapped f (y ∷ xs) x (zero, h, e) = (0, omega arith, ap f e)
 contained_mapped f (y ∷ xs) x (suc k, h, e) = later (f y) (f x) (map f xs) (contained_mapped f xs x (k, omega (arith, h), e))
 
+-- and nothing else
 pub map_source : {X Y : Type 0} (f : X → Y) (xs : List X) (y : Y) → Contains (map f xs) y → (x : X) × Contains xs x × (f x ≡ y)
 map_source f [] y there = absurd (not_in_nil y there)
 map_source f (x ∷ xs) y (zero, h, e) = (x, (0, omega arith, refl), e)
 map_source f (x ∷ xs) y (suc k, h, e) = let there = map_source f xs y (k, omega (arith, h), e) in (there.0, later x there.0 xs there.1, there.2)
 
+-- joined, the lists of all elements hold what the list of one holds
 pub contained_flat : {X Y : Type 0} (f : X → List Y) (xs : List X) (x : X) (y : Y) → Contains xs x → Contains (f x) y → Contains (flat_map f xs) y
 contained_flat f [] x y there has = absurd (not_in_nil x there)
 contained_flat f (z ∷ xs) x y (zero, h, e) has = Contains-append_left (f z) (flat_map f xs) y (subst (λ w. Contains (f w) y) (sym e) has)
 contained_flat f (z ∷ xs) x y (suc k, h, e) has = Contains-append_right (f z) (flat_map f xs) y (contained_flat f xs x y (k, omega (arith, h), e) has)
 
+-- and nothing else
 pub flat_source : {X Y : Type 0} (f : X → List Y) (xs : List X) (y : Y) → Contains (flat_map f xs) y → (x : X) × Contains xs x × Contains (f x) y
 flat_source f [] y there = absurd (not_in_nil y there)
 flat_source {X} f (x ∷ xs) y there = elim (Contains-append_cases (f x) (flat_map f xs) y there) as (λ _. (z : X) × Contains (x ∷ xs) z × Contains (f z) y) [
@@ -54,6 +58,7 @@ flat_source {X} f (x ∷ xs) y there = elim (Contains-append_cases (f x) (flat_m
   | inr others ↦ let found = flat_source f xs y others in (found.0, later x found.0 xs found.1, found.2)
 ]
 
+-- what stands at an index is in the list
 pub got_contained : {X : Type 0} (xs : List X) (k : ℕ) (x : X) → slice_get xs k ≡ Some x → Contains xs x
 got_contained [] k x e = absurd (let no : ⊥ = cc in no)
 got_contained (y ∷ xs) zero x e = let same : y ≡ x = cc in (0, omega arith, same)
@@ -70,10 +75,12 @@ once_or_more v w ws false e h others =
     let whole = count_of-cons v w ws in
     later w v ws (others (omega (arith, none, whole, h)))
 
+-- a value that counts at least once is there
 pub counted : (v : Value) (ws : List Value) → 0 < count_of v ws → Contains ws v
 counted v [] h = absurd (let no : ⊥ = omega (arith, h) in no)
 counted v (w ∷ ws) h = once_or_more v w ws (same_value v w) refl h (counted v ws)
 
+-- and one that is there counts at least once
 pub is_counted : (v : Value) (ws : List Value) → Contains ws v → 0 < count_of v ws
 is_counted v [] there = absurd (not_in_nil v there)
 is_counted v (w ∷ ws) (zero, h, e) =
@@ -85,12 +92,14 @@ is_counted v (w ∷ ws) (suc k, h, e) =
     let whole = count_of-cons v w ws in
     omega (arith, rest, whole)
 
+-- a value is still there when the values are ordered
 pub in_ordered : (v : Value) (vs : List Value) → Contains vs v → Contains (ordered_values vs) v
 in_ordered v vs there =
     let some = is_counted v vs there in
     let same = ordered_values_stay vs v in
     counted v (ordered_values vs) (omega (arith, some, same))
 
+-- and one that is there then was there before
 pub from_ordered : (v : Value) (vs : List Value) → Contains (ordered_values vs) v → Contains vs v
 from_ordered v vs there =
     let some = is_counted v (ordered_values vs) there in
@@ -103,6 +112,7 @@ from_rest v ws vs there =
     let less = others_are_taken ws vs v in
     counted v ws (omega (arith, some, less))
 
+-- in the order of instances each is equal to itself
 pub inst_itself : (i : InstRef) → is_eq (inst_cmp i i) ≡ true
 inst_itself (Old n) = (Equal-is (nat_cmp n n)).1 (tied_itself nat_cmp_total n)
 inst_itself (New path j) = rw (tied_itself nat_list_cmp_total path, tied_itself nat_cmp_total j) refl

@@ -44,11 +44,13 @@ nodes_apart x y e =
     let same : node_of x.path x.inst x.net x.transition x.values ≡ node_of y.path y.inst y.net y.transition y.values = cc in
     same
 
+-- bindings that compare as equal are equal
 pub binding_cmp-apart : IsAntisymmetric binding_cmp
 binding_cmp-apart a b e = ap (λ nodes. record { nodes = nodes }) (lists_apart node_cmp nodes_apart a.nodes b.nodes e)
 
 pub ruleset order_laws = (binding_cmp-total, binding_cmp-apart)
 
+-- bindings compare as equal exactly where they are
 pub equal_iff_same : (a b : Binding) → IsTrue (is_eq (binding_cmp a b)) ↔ (a ≡ b)
 equal_iff_same a b =
     (λ h. binding_cmp-apart a b ((Equal-is (binding_cmp a b)).0 h), λ e. (Equal-is (binding_cmp a b)).1 (subst (λ c. binding_cmp a c ≡ Equal) e (tied_itself binding_cmp-total a)))

@@ -4,14 +4,13 @@ use Rattle.std.proofs.Common.{length, refl, sym, ap, ◌∙◌, subst, inl, inr,
 use Rattle.std.specs.Prelude.{Option, Some, None, slice_get, unwrap_or, option_map, Ok}
 use Rattle.std.specs.Prelude.{option_and_then, nat_eq}
 use Rattle.std.proofs.lemmas.List.Elements.{All-contains}
-use Rattle.std.proofs.lemmas.List.Sums.{sum_by-append}
 use Rattle.std.proofs.lemmas.Option.{same_Some, slice_get-get_or}
 use Rattle.rn_value.specs.declared.value.InstRef.TheVariants.{Old}
 use Rattle.rn_value.specs.declared.value.Value.{Value}
 use Rattle.rn_model.specs.declared.system.System.{System}
 use Rattle.rn_model.specs.declared.system.Place.{Place}
 use Rattle.rn_model.specs.declared.binding.Binding.{Binding}
-use Rattle.rn_model.specs.Lists.{same_value, count_of, ordered_values, without_each}
+use Rattle.rn_model.specs.Lists.{count_of, ordered_values, without_each}
 use Rattle.rn_model.specs.Systems.{net_at}
 use Rattle.rn_model.specs.Demands.{rest_at}
 use Rattle.rn_model.specs.Markings.{Instance, Marking, IsMarking, instance_at, net_of}
@@ -26,17 +25,14 @@ use Rattle.rn_model.proofs.AfterFiring.{changed_place}
 use Rattle.rn_model.proofs.DeadInstances.{FiredAs, fired_as, below_next, there_of_net}
 use Rattle.rn_model.proofs.MarkingsOfRuns.{found_is_there}
 use Rattle.rn_model.proofs.IndicesInLists.{in_enumerated, from_enumerated}
-use Rattle.rn_model.proofs.ValueLists.{one_if, ordered_values_stay, others_are_taken}
+use Rattle.rn_model.proofs.ValueLists.{ordered_values_stay, others_are_taken}
+use Rattle.rn_model.proofs.LengthsByCounts.{joined_counts}
 
+-- a firing gives as many numbers as its binding has creations
 pub next_after_firing : NextAfterFiring
 next_after_firing system m b step f fires =
     let as_fired = fired_as system m b step f fires in
     sym (ap (λ x. x.next) as_fired.marking)
-
--- joined values, by counts
-count_of-append : (v : Value) (vs ws : List Value) →
-    count_of v (vs ++ ws) ≡ count_of v vs + count_of v ws
-count_of-append v vs ws = sum_by-append (λ y. one_if (same_value v y)) vs ws
 
 -- an instance that isn't there yet
 pub not_yet : (system : System) (m : Marking) (n : ℕ) → IsMarking system m → m.next ≤ n →
@@ -114,7 +110,7 @@ module _ (system : System) (m : Marking) (b : Binding) (step : ℕ) (f : Fired)
 
     after_counted : (vs : List Value) →
         count_of v (tokens_after system numbered acts n place vs) ≡ count_of v vs + count_of v put
-    after_counted vs = ordered_values_stay (vs ++ put) v ∙ count_of-append v vs put
+    after_counted vs = ordered_values_stay (vs ++ put) v ∙ joined_counts v vs put
 
     -- the tokens of an instance at its place
     held : (x : Marking) (i : Instance) (vs : List Value) → instance_at x n ≡ Some i →
@@ -186,6 +182,7 @@ module _ (system : System) (m : Marking) (b : Binding) (step : ℕ) (f : Fired)
       marking_after system m (creations_of system b) (named system b m.next) acts ≡ f.marking
   marking_is acts are = ap after (sym (same_acts acts are)) ∙ fired.marking
 
+-- after it just those instances are there that were and those that it makes
 pub instances_after_firing : InstancesAfterFiring
 instances_after_firing system m b step f is fires n net =
     let as_fired = fired_as system m b step f fires in
@@ -211,6 +208,7 @@ old_tokens_after_firing system m b step f acts is fires are n net place v has wi
     (marking_is system m b step f is fires acts are))
     ∙ count
 
+-- a place of a new instance holds its initial tokens and what is put there
 pub new_tokens_after_firing : NewTokensAfterFiring
 new_tokens_after_firing system m b step f acts is fires are k c place p v at here =
     sym (ap (λ x. count_of v (tokens_at x (m.next + k) place))

@@ -41,6 +41,7 @@ pub record FiredAs (system : System) (m : Marking) (b : Binding) (step : ℕ) (f
   pub marking : marking_after system m (creations_of system b) (named system b m.next) acts ≡ f.marking
   pub outs : acts.outs ≡ f.outs
 
+-- each firing that is defined gives that
 pub fired_as : (system : System) (m : Marking) (b : Binding) (step : ℕ) (f : Fired) → fire system m b step ≡ Ok f → FiredAs system m b step f
 fired_as system m b step f fires = by_effects (effects system b m.next step) (too_many m.next (length (creations_of system b))) refl refl fires
   where
@@ -52,6 +53,7 @@ fired_as system m b step f fires = by_effects (effects system b m.next step) (to
         let given : record { marking = marking_after system m (creations_of system b) (named system b m.next) acts; outs = acts.outs } ≡ f = cc in
         record { acts = acts; are = e; marking = ap (λ g. g.marking) given; outs = ap (λ g. g.outs) given }
 
+-- where a number has a net, an instance of that net is there
 pub there_of_net : (m : Marking) (n net : ℕ) → net_of m n ≡ Some net → (i : Instance) × (instance_at m n ≡ Some i) × (i.net ≡ net)
 there_of_net m n net e = by_instance (instance_at m n) refl e
   where
@@ -59,6 +61,7 @@ there_of_net m n net e = by_instance (instance_at m n) refl e
     by_instance None is e = absurd (let no : ⊥ = cc in no)
     by_instance (Some i) is e = let same : i.net ≡ net = cc in (i, is, same)
 
+-- a live instance is there
 pub live_there : (system : System) (m : Marking) (n : ℕ) → IsLive system m n → IsThere m n
 live_there system m n (starts {net = net} there may) = let found = there_of_net m n net there in (found.0, found.1)
 live_there system m n (held place live contained said there) = there

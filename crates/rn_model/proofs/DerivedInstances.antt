@@ -63,6 +63,7 @@ all_pass : (good : InstRef → Bool) (vs : List Value) → ((v : Value) → Cont
 all_pass good [] f = refl
 all_pass good (v ∷ vs) f = true_both (only good v) (list_all (λ p. p) (map (only good) vs)) (f v (0, omega arith, refl)) (all_pass good vs (λ w there. f w (suc there.0, omega (arith, there.1), there.2)))
 
+-- the start's instance and all that are made pass, and tokens of one that passes hold such alone
 pub record PassesOn (system : System) (m : Marking) (b : Binding) (good : InstRef → Bool) : Type 0 where
   pub start : (node : Node) → Contains b.nodes node → node.path ≡ [] → good node.inst ≡ true
   pub made : (node : Node) (j : ℕ) (c : Creation) → Contains b.nodes node → slice_get (transition_of system node).creations j ≡ Some c → good (New node.path j) ≡ true
@@ -190,9 +191,11 @@ module _ (system : System) (m : Marking) (b : Binding) (good : InstRef → Bool)
         let same : Some (rep (own.var node.path x)) ≡ Some (own.var node.path x) = forced.1 other (reached_after rounds).satisfies ∙ sym (forced.1 own (is_own.rounds rounds)) in
         kept_is_only good v (subst (λ w. rep w ≡ w) value (same_Some (rep (own.var node.path x)) (own.var node.path x) same))
 
+  -- each node of the binding stands on an instance that passes
   pub inst_passes : (node : Node) → Contains b.nodes node → good node.inst ≡ true
   inst_passes node there = let own = own_values_satisfy system b depth enabled.shape enabled.agrees in inst_passes_of own.0 own.1 node there
 
+  -- in a good system the values of its variables hold passing instances alone
   pub value_passes : Good system → (node : Node) (v : Value) → Contains b.nodes node → Contains node.values v → only good v ≡ true
   value_passes is_good node v there has =
       let own = own_values_satisfy system b depth enabled.shape enabled.agrees in

@@ -3,18 +3,22 @@ use Rattle.std.proofs.Common.{◌≡◌, ℕ, zero, suc, ◌+◌, Bool, true, fa
 use Rattle.std.specs.Prelude.{Some, filter, flat_map, slice_get, if◌then◌else◌}
 use Rattle.std.specs.List.{All, AllZip, AllByRecursion, enumerate_from}
 
+-- what holds of each element of two lists holds of each of the joined list
 pub each_append : {X : Type 0} (P : X → Type 0) (xs ys : List X) → AllByRecursion P xs → AllByRecursion P ys → AllByRecursion P (xs ++ ys)
 each_append P [] ys p q = q
 each_append P (x ∷ xs) ys p q = (p.0, each_append P xs ys p.1 q)
 
+-- what holds of all that elements are mapped to holds of each element of the mapped list
 pub each_map : {X Y : Type 0} (P : Y → Type 0) (f : X → Y) (xs : List X) → AllByRecursion (λ x. P (f x)) xs → AllByRecursion P (map f xs)
 each_map P f [] p = tt
 each_map P f (x ∷ xs) p = (p.0, each_map P f xs p.1)
 
+-- and what holds of each element of all their lists holds of each of these joined
 pub each_flat_map : {X Y : Type 0} (P : Y → Type 0) (f : X → List Y) (xs : List X) → AllByRecursion (λ x. AllByRecursion P (f x)) xs → AllByRecursion P (flat_map f xs)
 each_flat_map P f [] p = tt
 each_flat_map P f (x ∷ xs) p = each_append P (f x) (flat_map f xs) p.0 (each_flat_map P f xs p.1)
 
+-- what follows from it holds of each element too
 pub each_weaker : {X : Type 0} (P Q : X → Type 0) → ((x : X) → P x → Q x) → (xs : List X) → AllByRecursion P xs → AllByRecursion Q xs
 each_weaker P Q f [] p = tt
 each_weaker P Q f (x ∷ xs) p = (f x p.0, each_weaker P Q f xs p.1)

@@ -6,6 +6,7 @@ use Rattle.std.specs.List.{list_any, AllByRecursion}
 use Rattle.std.specs.Ordering.{is_eq}
 use Rattle.std.specs.Cmp.{Equal-is}
 use Rattle.std.proofs.lemmas.Option.{same_Some, option_and_then_some}
+use Rattle.std.proofs.lemmas.Bool.{or_parts}
 use Rattle.rn_items.proofs.Options.{option_map_some}
 use Rattle.rn_value.specs.Order.{inst_cmp}
 use Rattle.rn_value.specs.OrderLaws.{insts_apart}
@@ -26,7 +27,6 @@ use Rattle.rn_model.specs.FiringLaws.{put_by}
 use Rattle.rn_model.specs.Good.{IsGoodTransition}
 use Rattle.rn_model.proofs.AskedValues.{inst_itself}
 use Rattle.rn_model.proofs.LengthsByCounts.{ordered_length}
-use Rattle.rn_model.proofs.NonePasses.{neither}
 use Rattle.rn_model.proofs.PutsOfArcs.{arcs_bound}
 
 abbrev reading : System → Node → Reading
@@ -138,7 +138,7 @@ module _ (system : System) (inst : InstRef) (place : ℕ) where
       asked_at puts system (map (reading system) nodes) inst place ≡ []
   none_known [] e = refl
   none_known (node ∷ nodes) e =
-      let both = neither (stands node) (list_any stands nodes) e in
+      let both = or_parts (stands node) (list_any stands nodes) e in
       let own = flat_map (asked_by_arc puts (env_of system node) place)
       (transition_of system node).arcs in
       let others = asked_at puts system (map (reading system) nodes) inst place in
@@ -148,7 +148,7 @@ module _ (system : System) (inst : InstRef) (place : ℕ) where
       flat_map (awaited_by_node system inst place) nodes ≡ []
   none_awaited [] e = refl
   none_awaited (node ∷ nodes) e =
-      let both = neither (stands node) (list_any stands nodes) e in
+      let both = or_parts (stands node) (list_any stands nodes) e in
       let t = transition_of system node in
       let own = filter (λ arc. nat_eq arc.place place && puts_awaited t arc) t.arcs in
       let others = flat_map (awaited_by_node system inst place) nodes in

@@ -29,6 +29,7 @@ pub forced_terms_are_own : ForcedTermsAreOwn
 forced_terms_are_own system b own set term is all forced =
     forced.1 own (satisfied system b set own is all)
 
+-- the target of a downlink is forced to no other value than the child's instance
 pub targets_are_children : TargetsAreChildren
 targets_are_children system b depth set shape agrees all caller i downlink node calls forced =
     let own = own_values_satisfy system b depth shape agrees in

@@ -54,6 +54,7 @@ module _ (P : Expr → Type 0) (f : ByForm P) where
   layer (O.Neg part) = subst P (sym (E.rolls-Neg part.0)) (f.neg part.0 part.1)
   layer (O.Op kind a b) = subst P (sym (E.rolls-Op kind a.0 b.0)) (f.op kind a.0 b.0 a.1 b.1)
 
+  -- what holds of each form where it holds of the parts holds of each expression
   pub by_form : (e : Expr) → P e
   by_form = ind-Expr P (λ x y is. subst (λ w. P (roll-Expr w)) is (layer y))
 

@@ -161,6 +161,7 @@ listed_layer (V.Tuple vs) kind e = absurd (let no : ⊥ = cc in no)
 listed_layer (V.List vs) kind e = sym (Value.rolls-List vs)
 listed_layer (V.Inst i) kind e = absurd (let no : ⊥ = cc in no)
 
+-- a value of a kind of lists is the list of its elements
 pub list_of_kind : (v : Value) (kind : Kind) → HasKind v (Kind.List kind) → Value.List (elements v) ≡ v
 list_of_kind = ind-Value (λ v. (kind : Kind) → HasKind v (Kind.List kind) → Value.List (elements v) ≡ v) (λ x y is kind e.
     let rolled : value_has_kind (roll-Value x) (Kind.List kind) ≡ kind_step (map-Value Value (Kind → Bool) value_has_kind x) (out-Kind (Kind.List kind)) =

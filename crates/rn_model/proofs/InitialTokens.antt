@@ -1,11 +1,12 @@
 -- The initial tokens of a good system are sound.
-use Rattle.std.proofs.Common.{◌≡◌, ℕ, zero, suc, ◌<◌, Bool, true, false, ◌||◌, List, [], ◌∷◌, map, length, refl, sym, ap, ◌∙◌, subst}
+use Rattle.std.proofs.Common.{◌≡◌, ℕ, zero, suc, ◌<◌, Bool, true, false, List, [], ◌∷◌, map, length, refl, sym, ap, ◌∙◌, subst}
 use Rattle.std.specs.Prelude.{Option, Some, None, IsTrue, Contains, unwrap_or, option_map, slice_get, nat_eq, codes}
 use Rattle.std.specs.List.{list_any}
 use Rattle.std.proofs.lemmas.List.Elements.{All-contains}
 use Rattle.std.specs.Cmp.Lexicographic.{pointwise}
 use Rattle.std.proofs.Math.Dec.{T, eqb→eq}
 use Rattle.std.proofs.lemmas.Option.{same_Some}
+use Rattle.std.proofs.lemmas.Bool.{or_parts}
 use Rattle.rn_model.proofs.AskedValues.{from_ordered}
 use Rattle.rn_value.specs.Kinds.{HasKind}
 use Rattle.rn_value.specs.declared.value.Value.{Value, map-Value, ind-Value, fold-roll-Value}
@@ -24,10 +25,6 @@ use Rattle.rn_model.proofs.EachElement.{at_place}
 use Rattle.rn_model.proofs.EnablingLemmas.{not_in_nil}
 use Rattle.rn_model.proofs.MarkingsOfRuns.{good_net, place_within}
 
-either_false : (a b : Bool) → a || b ≡ false → (a ≡ false) × (b ≡ false)
-either_false true b e = absurd (let no : ⊥ = cc in no)
-either_false false b e = (refl, e)
-
 -- A value that holds no instance holds no new one, and mentions none.
 abbrev IsApart : Value → Type 0
 IsApart v = holds_instance v ≡ false → (holds_new v ≡ false) × ((n : ℕ) → mentions v n ≡ false)
@@ -38,13 +35,13 @@ Part = (v : Value) × IsApart v
 new_in_parts : (parts : List Part) → list_any (λ h. h) (map holds_instance (map (λ e. e.0) parts)) ≡ false → list_any (λ h. h) (map holds_new (map (λ e. e.0) parts)) ≡ false
 new_in_parts [] e = refl
 new_in_parts (part ∷ parts) e =
-    let both = either_false (holds_instance part.0) (list_any (λ h. h) (map holds_instance (map (λ e. e.0) parts))) e in
+    let both = or_parts (holds_instance part.0) (list_any (λ h. h) (map holds_instance (map (λ e. e.0) parts))) e in
     rw ((part.1 both.0).0, new_in_parts parts both.1) refl
 
 mentioned_in_parts : (parts : List Part) (n : ℕ) → list_any (λ h. h) (map holds_instance (map (λ e. e.0) parts)) ≡ false → list_any (λ test. test n) (map mentions (map (λ e. e.0) parts)) ≡ false
 mentioned_in_parts [] n e = refl
 mentioned_in_parts (part ∷ parts) n e =
-    let both = either_false (holds_instance part.0) (list_any (λ h. h) (map holds_instance (map (λ e. e.0) parts))) e in
+    let both = or_parts (holds_instance part.0) (list_any (λ h. h) (map holds_instance (map (λ e. e.0) parts))) e in
     rw ((part.1 both.0).1 n, mentioned_in_parts parts n both.1) refl
 
 abbrev plain : V.Value-F Part → V.Value-F Value
@@ -110,5 +107,6 @@ module _ (system : System) (good : Good system) where
       subst (λ k. IsSoundToken system (initial_marking system) k place v) same (sound_at place v (slice_get places place) refl mapped)
   sound n net place v false is there holds = let none : None ≡ Some net = rw is at there in absurd (let no : ⊥ = cc in no)
 
+-- the initial marking of a good system has sound tokens
 pub initial_tokens_are_sound : InitialTokensAreSound
 initial_tokens_are_sound system good n net place v there holds = sound system good n net place v (nat_eq 1 n) refl there holds

@@ -41,6 +41,7 @@ module _ (system : System) (b : Binding) where
             (each_weaker GivesInt (λ hole. IsOfNode (computed node s.0 hole)) (λ hole gives. (there, gives)) (holes_in s.1) (holes_give_ints s.1))) (sites_of t))),
       )
 
+  -- each item of a binding is of a node of it
   pub item_is_of_node : (item : Item) → Contains (items_of system b) item → IsOfNode item
   item_is_of_node item there =
       All-contains IsOfNode (items_of system b) item
@@ -49,6 +50,7 @@ module _ (system : System) (b : Binding) where
       (each_weaker (Contains b.nodes) (λ node. AllByRecursion IsOfNode (node_items system node)) of_node b.nodes (recursion_from_All (Contains b.nodes) b.nodes (All-contains_itself b.nodes)))))
       there
 
+  -- each node's entry is an item of the binding
   pub entry_is_item : (node : Node) → Contains b.nodes node → Contains (items_of system b) (entry node)
   entry_is_item node there = contained_flat (node_items system) b.nodes node (entry node) there (0, omega arith, refl)
 

@@ -52,6 +52,7 @@ kind_layer (K.List part) (K.List l) e = ap (λ k. K.List k) (part.1 l e)
 kind_layer K.Net K.Net e = refl
 kind_layer _ _ e = absurd (let no : ⊥ = cc in no)
 
+-- kinds that the test takes as the same are equal
 pub same_is_equal : (k l : Kind) → same_kind k l ≡ true → k ≡ l
 same_is_equal = ind-Kind SameIsEqual (λ x y is l e.
     let at_layer : same_kind_step (map-Kind Kind (Kind → Bool) same_kind x) (out-Kind l) ≡ true = sym (ap (λ f. f l) (fold-roll-Kind (Kind → Bool) (λ k l. same_kind_step k (out-Kind l)) x)) ∙ e in
@@ -270,6 +271,7 @@ module _ (name : InstRef → InstRef) where
       ∙ kinded_is (replaced_step (λ i. Value.Inst (name i)) (map-Value Value Value rename x)) kind
       ∙ subst LayerKeeps is (keeps_layer y) (out-Kind kind) at_layer)
 
+  -- a value keeps its kinds where its instances are renamed
   pub renamed_has_kind : (v : Value) (kind : Kind) → HasKind v kind → HasKind (renamed_value v name) kind
   renamed_has_kind v kind e = ap (λ u. value_has_kind u kind) (renamed_is_replaced name v) ∙ replaced_keeps v kind e
 

@@ -57,7 +57,7 @@ counts_length vs ws same =
 pub ordered_length : (vs : List Value) → length (ordered_values vs) ≡ length vs
 ordered_length vs = counts_length (ordered_values vs) vs (ordered_values_stay vs)
 
-joined_counts : (v : Value) (vs ws : List Value) →
+pub joined_counts : (v : Value) (vs ws : List Value) →
     count_of v (vs ++ ws) ≡ count_of v vs + count_of v ws
 joined_counts v vs ws = sum_by-append (λ y. one_if (same_value v y)) vs ws
 

@@ -22,6 +22,7 @@ pub mod FormsOfExpressions
 pub mod HoleValues
 pub mod IndicesInLists
 pub mod InitialTokens
+pub mod InstancesWithin
 pub mod ItemsOfNodes
 pub mod KindRules
 pub mod KindsOfValues
@@ -35,7 +36,6 @@ pub mod MarkingsStay
 pub mod NamingRules
 pub mod NextNumber
 pub mod NodesByPath
-pub mod NonePasses
 pub mod NumberedDemands
 pub mod NumberedInstances
 pub mod NumbersOfRuns

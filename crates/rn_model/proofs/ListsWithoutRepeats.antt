@@ -3,9 +3,8 @@ use Rattle.std.proofs.Common.{◌≡◌, ℕ, zero, suc, ◌<◌, ◌≤◌, Boo
 use Rattle.std.proofs.Common.{length, get_or, refl, sym, ◌∙◌, subst, arith, eqb}
 use Rattle.std.specs.Prelude.{Some, slice_get, Contains}
 use Rattle.std.specs.List.{list_any, IsDistinct, AllByRecursion}
-use Rattle.std.proofs.lemmas.Bool.{eqb-true}
+use Rattle.std.proofs.lemmas.Bool.{eqb-true, or_parts}
 use Rattle.std.proofs.lemmas.Map.Steps.{length-le_from_distinct_below}
-use Rattle.rn_model.proofs.NonePasses.{neither}
 
 -- within a list it doesn't matter what stands past its end
 get_same : {A : Type 0} (xs : List A) (k : ℕ) (d e : A) → k < length xs →
@@ -72,7 +71,7 @@ module _ {A : Type 0} (ys : List A) where
       AllByRecursion (λ p. eqb q p ≡ false) ps
   none_same q [] e = tt
   none_same q (p ∷ ps) e =
-      let both = neither (eqb q p) (list_any (eqb q) ps) e in (both.0, none_same q ps both.1)
+      let both = or_parts (eqb q p) (list_any (eqb q) ps) e in (both.0, none_same q ps both.1)
 
   distinct : (xs : List A) (all : AreIn xs ys) → Once xs → IsDistinct eqb (indexes xs all)
   unfolding indexes IsDistinct

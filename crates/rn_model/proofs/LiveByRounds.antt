@@ -21,6 +21,7 @@ any_at {X} p (x ∷ xs) e = elim (or_true (p x) (list_any p xs) e) as (λ _. (k 
   | inr later ↦ let there = any_at p xs later in (suc there.0, there.1, there.2, there.3)
 ]
 
+-- then an element of the list passes it
 pub any_contained : {X : Type 0} (p : X → Bool) (xs : List X) → list_any p xs ≡ true → (x : X) × Contains xs x × (p x ≡ true)
 any_contained p [] e = absurd (let no : ⊥ = cc in no)
 any_contained {X} p (x ∷ xs) e = elim (or_true (p x) (list_any p xs) e) as (λ _. (y : X) × Contains (x ∷ xs) y × (p y ≡ true)) [
@@ -28,11 +29,13 @@ any_contained {X} p (x ∷ xs) e = elim (or_true (p x) (list_any p xs) e) as (λ
   | inr later ↦ let there = any_contained p xs later in (there.0, (suc there.1.0, omega (arith, there.1.1), there.1.2), there.2)
 ]
 
+-- and where one of the list passes it, some element does
 pub contained_any : {X : Type 0} (p : X → Bool) (xs : List X) (x : X) → Contains xs x → p x ≡ true → list_any p xs ≡ true
 contained_any p [] x there e = absurd (not_in_nil x there)
 contained_any p (y ∷ xs) x (zero, h, is) e = or_left (p y) (list_any p xs) (ap p is ∙ e)
 contained_any p (y ∷ xs) x (suc k, h, is) e = or_right (p y) (list_any p xs) (contained_any p xs x (k, omega (arith, h), is) e)
 
+-- so it does where the one at an index passes it
 pub got_any : {X : Type 0} (p : X → Bool) (xs : List X) (k : ℕ) (x : X) → slice_get xs k ≡ Some x → p x ≡ true → list_any p xs ≡ true
 got_any p [] k x is e = absurd (let no : ⊥ = cc in no)
 got_any p (y ∷ xs) zero x is e = let same : y ≡ x = cc in or_left (p y) (list_any p xs) (ap p same ∙ e)

@@ -23,17 +23,17 @@ use Rattle.rn_model.proofs.MarkingsStay.{Increases, from_strict, numbers}
 use Rattle.rn_model.proofs.StandingTables.{markings_stand_for_themselves}
 
 -- Lines of which each comes before all later ones.
-abbrev Ascend : List MarkLine → Type 0
+abbrev pub Ascend : List MarkLine → Type 0
 Ascend [] = ⊤
 Ascend (x ∷ xs) = AllByRecursion (ComesBefore x) xs × Ascend xs
 
-ascend_joined : (xs ys : List MarkLine) → Ascend xs → Ascend ys →
+pub ascend_joined : (xs ys : List MarkLine) → Ascend xs → Ascend ys →
     AllByRecursion (λ x. AllByRecursion (ComesBefore x) ys) xs → Ascend (xs ++ ys)
 ascend_joined [] ys a c before = c
 ascend_joined (x ∷ xs) ys a c before =
     (each_append (ComesBefore x) xs ys a.0 before.0, ascend_joined xs ys a.1 c before.1)
 
-to_adjacent : (xs : List MarkLine) → Ascend xs → AllAdjacentBelow ComesBefore xs (length xs)
+pub to_adjacent : (xs : List MarkLine) → Ascend xs → AllAdjacentBelow ComesBefore xs (length xs)
 to_adjacent [] a k d h = absurd (let no : ⊥ = omega (arith, h) in no)
 to_adjacent (x ∷ []) a k d h = absurd (let no : ⊥ = omega (arith, h) in no)
 to_adjacent (x ∷ y ∷ xs) a zero d h = a.0.0
@@ -121,7 +121,7 @@ module _ (i : Instance) where
       )
 
 -- each later number is above the first
-below_later : (n : ℕ) (ns : List ℕ) → Increases (n ∷ ns) → AllByRecursion (λ k. n < k) ns
+pub below_later : (n : ℕ) (ns : List ℕ) → Increases (n ∷ ns) → AllByRecursion (λ k. n < k) ns
 below_later n [] a = tt
 below_later n (k ∷ ns) a = (
   a.0,

@@ -24,6 +24,7 @@ use Rattle.rn_model.proofs.MarkingsStay.{of_forms, after_is_marking, fresh_form}
 pub good_net : (system : System) (n : ℕ) → Good system → n < length system.nets → IsGoodNet system (net_at system n)
 good_net system n good h = subst (IsGoodNet system) (sym (unwrap_or-slice_get system.nets n empty_net)) (good.nets n empty_net h)
 
+-- each transition of a net of a good system is good
 pub good_transition : (system : System) (n t : ℕ) → Good system → n < length system.nets → t < length (net_at system n).transitions → IsGoodTransition system (net_at system n) (transition_at system n t)
 good_transition system n t good h k =
     subst (IsGoodTransition system (net_at system n)) (sym (unwrap_or-slice_get (net_at system n).transitions t empty_transition)) ((good_net system n good h).transitions t empty_transition k)
@@ -32,6 +33,7 @@ good_transition system n t good h k =
 abbrev pub IsOfNet : System → Made → Type 0
 IsOfNet system m = m.net < length system.nets
 
+-- each instance that a binding makes is of a net of the system
 pub made_of_nets : (system : System) (b : Binding) → Good system → All (IsNodeOf system) b.nodes → AllByRecursion (IsOfNet system) (creations_of system b)
 made_of_nets system b good nodes =
     each_flat_map (IsOfNet system) (made_by system) b.nodes
@@ -71,6 +73,7 @@ found_is_there {X} test (x ∷ xs) y e = elim (test x) as (λ passes. cond passe
   | false ↦ λ later. let there = found_is_there test xs y later in (suc there.0, omega (arith, there.1), there.2)
 ] e
 
+-- the firing of an enabled binding leads from a marking to a marking
 pub firings_keep_markings : FiringsKeepMarkings
 firings_keep_markings system m b depth step f good is enabled fires =
     let start = enabled.shape.start in
@@ -93,9 +96,11 @@ pub place_within : {X : Type 0} (test : X → Bool) (xs : List X) → count_by t
 place_within test [] e = absurd (let no : ⊥ = omega (arith, e) in no)
 place_within test (x ∷ xs) e = place_of test x xs (position test (x ∷ xs)) refl
 
+-- the initial marking of a good system is a marking
 pub initial_is_marking : InitialIsMarking
 initial_is_marking system good =
     of_forms system (initial_marking system) (tt, tt) (fresh_form system 2 1 (main_net system) (omega arith) (omega arith) (place_within (λ net. pointwise nat_eq net.name (codes "main")) system.nets good.main), tt)
 
+-- each run of a good system ends in a marking
 pub runs_end_in_markings : RunsEndInMarkings
 runs_end_in_markings system depth fs good run = keep_from system depth 1 (initial_marking system) fs good (initial_is_marking system good) run

@@ -40,6 +40,7 @@ first_below : (n : ℕ) (ns : List ℕ) → IsStrictlyIncreasing (n ∷ ns) → 
 first_below n [] a = tt
 first_below n (k ∷ ns) a = a 0 (omega arith)
 
+-- where numbers strictly increase, each is below the next
 pub from_strict : (ns : List ℕ) → IsStrictlyIncreasing ns → Increases ns
 from_strict [] a = tt
 from_strict (n ∷ ns) a = (
@@ -88,6 +89,7 @@ forms_of system m is =
     both_each Numbered (λ i. Placed i × Sorted i) m.instances (recursion_from_All Numbered m.instances is.numbered)
     (both_each Placed Sorted m.instances (recursion_from_All Placed m.instances is.placed) (recursion_from_All Sorted m.instances is.sorted))
 
+-- what holds of everything holds of each element
 pub each_of : {X : Type 0} (P : X → Type 0) → ((x : X) → P x) → (xs : List X) → AllByRecursion P xs
 each_of P f [] = tt
 each_of P f (x ∷ xs) = (f x, each_of P f xs)

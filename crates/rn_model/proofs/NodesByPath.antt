@@ -13,19 +13,19 @@ use Rattle.rn_model.specs.declared.binding.Node.{Node}
 use Rattle.rn_model.specs.declared.binding.Binding.{Binding}
 use Rattle.rn_model.specs.Bindings.{Shape, node_at}
 
-abbrev IsBelow : Node → Node → Type 0
+abbrev pub IsBelow : Node → Node → Type 0
 IsBelow x y = slice_cmp nat_cmp x.path y.path ≡ Less
 
-abbrev Ascending : List Node → Type 0
+abbrev pub Ascending : List Node → Type 0
 Ascending nodes = AllAdjacentBelow IsBelow nodes (length nodes)
 
-tail_ascends : (x : Node) (xs : List Node) → Ascending (x ∷ xs) → Ascending xs
+pub tail_ascends : (x : Node) (xs : List Node) → Ascending (x ∷ xs) → Ascending xs
 tail_ascends x xs a k d h =
     let place : suc k + 1 ≡ suc (k + 1) = omega arith in
     subst (λ j. IsBelow (get_or xs k d) (get_or (x ∷ xs) j d)) place (a (suc k) d (omega (arith, h)))
 
 -- the first is below each other
-below_others : (x : Node) (xs : List Node) (y : Node) → Ascending (x ∷ xs) → Contains xs y → IsBelow x y
+pub below_others : (x : Node) (xs : List Node) (y : Node) → Ascending (x ∷ xs) → Contains xs y → IsBelow x y
 below_others x [] y a (k, h, e) = let no : ⊥ = omega (arith, h) in absurd no
 below_others x (z ∷ zs) y a (zero, h, e) = subst (IsBelow x) e (a 0 x (omega arith))
 below_others x (z ∷ zs) y a (suc k, h, e) =

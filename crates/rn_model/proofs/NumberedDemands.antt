@@ -9,6 +9,7 @@ use Rattle.std.specs.Option.{option_map_or}
 use Rattle.std.specs.Cmp.{Equal-is}
 use Rattle.std.specs.Cmp.Lexicographic.{pointwise}
 use Rattle.std.proofs.lemmas.List.{map-append, append-nil}
+use Rattle.std.proofs.lemmas.Bool.{or_parts}
 use Rattle.rn_value.specs.Order.{inst_cmp}
 use Rattle.rn_value.specs.declared.value.InstRef.{InstRef}
 use Rattle.rn_value.specs.declared.value.InstRef.TheVariants.{Old, New}
@@ -40,7 +41,6 @@ use Rattle.rn_value.specs.OrderLaws.{insts_apart}
 use Rattle.rn_model.proofs.AskedValues.{counted, is_counted, in_ordered}
 use Rattle.rn_model.proofs.CountsAfterFiring.{old_tokens_after_firing}
 use Rattle.rn_model.proofs.DeadInstances.{below_next, there_of_net}
-use Rattle.rn_model.proofs.NonePasses.{neither}
 use Rattle.rn_model.proofs.ReplacedReadings.{IsReplaced, worth-replaced}
 use Rattle.rn_model.proofs.ReplacedValues.{replaced, replaced_step, IsPlain, list_of-replaced}
 use Rattle.rn_model.proofs.ReplacedValues.{renamed_is_replaced}
@@ -78,7 +78,7 @@ module _ (made : List Made) (next : ℕ) where
       map rep (values parts) ≡ values parts
   parts_still [] e = refl
   parts_still (part ∷ parts) e =
-      let both = neither (holds_new part.0) (list_any (λ h. h) (map holds_new (values parts))) e in
+      let both = or_parts (holds_new part.0) (list_any (λ h. h) (map holds_new (values parts))) e in
       ap (λ v. v ∷ map rep (values parts)) (part.1 both.0)
       ∙ ap (λ vs. part.0 ∷ vs) (parts_still parts both.1)
 
@@ -283,9 +283,6 @@ module _ (system : System) (m : Marking) (b : Binding) (depth n place : ℕ)
       b.nodes
       ∙ all_still made m.next taken taken_old)
 
-  abbrev Cleared : Type 0
-  Cleared = cleared_at system b (Old n) place ≡ tokens_at m n place ∷ []
-
   pub clears_stay :
       cleared_at system (named system b m.next) (Old n) place ≡ cleared_at system b (Old n) place
   clears_stay =
@@ -300,6 +297,7 @@ module _ (system : System) (m : Marking) (b : Binding) (depth n place : ℕ)
             ∙ sym one.0
       ])
 
+-- with its new instances numbered, a binding takes and clears the same of those that are there
 pub numbering_keeps_demands : NumberingKeepsDemands
 numbering_keeps_demands system m b depth n place is sound enabled there = (
   takes_stay system m b depth n place is sound enabled there,
@@ -311,6 +309,7 @@ balanced : (before after taken cleared put : ℕ) → after ≡ ((before - taken
     taken ≤ before → cleared ≤ before - taken → after + taken + cleared ≡ before + put
 balanced before after taken cleared put e t c = omega (arith, e, t, c)
 
+-- what a place holds after and what left it is what it held before and what is put there
 pub firings_move_tokens : FiringsMoveTokens
 firings_move_tokens system m b depth step f acts is sound enabled fires are n net place v has
     within =

@@ -21,6 +21,7 @@ parts : (vs : List Value) (name : InstRef → InstRef) → map (λ part. part na
 parts [] name = refl
 parts (v ∷ vs) name = ap (λ ws. renamed_value v name ∷ ws) (parts vs name)
 
+-- a text, a tuple and a list with their instances renamed
 pub renamed-Text : (s : List ℕ) (name : InstRef → InstRef) → renamed_value (Value.Text s) name ≡ Value.Text s
 renamed-Text s name = ap (λ f. f name) (fold_out-Value ((InstRef → InstRef) → Value) renamed_step (Value.Text s)) ∙ rw (Value.outs-Text s)
 

@@ -1,16 +1,17 @@
 -- At the end of a run each number that was given is there.
-use Rattle.std.proofs.Common.{◌≡◌, ℕ, suc, ◌+◌, ◌-◌, ◌<◌, ◌≤◌, ◌⊎◌, List, [], ◌∷◌, length, get_or}
+use Rattle.std.proofs.Common.{◌≡◌, ℕ, suc, ◌+◌, ◌-◌, ◌<◌, ◌≤◌, ◌⊎◌, List, [], ◌∷◌, length, get_or, Bool, true, false}
 use Rattle.std.proofs.Common.{refl}
 use Rattle.std.proofs.Common.{ap, subst, inl, inr, arith}
-use Rattle.std.specs.Prelude.{Some, Ok, option_map, slice_get}
+use Rattle.std.specs.Prelude.{Some, Ok, option_map, slice_get, ◌&&◌, Contains, None, Option, nat_lt, option_and_then, unwrap_or}
 use Rattle.std.proofs.lemmas.List.Elements.{All-contains}
 use Rattle.std.proofs.lemmas.Option.{slice_get-get_or}
+use Rattle.std.proofs.lemmas.Bool.Decides.{nat_tests}
 use Rattle.rn_model.specs.declared.system.System.{System}
 use Rattle.rn_model.specs.declared.binding.Binding.{Binding}
 use Rattle.rn_model.specs.Good.{Good}
-use Rattle.rn_model.specs.Markings.{Marking, IsMarking, IsThere, net_of}
+use Rattle.rn_model.specs.Markings.{Marking, IsMarking, IsThere, net_of, Instance, instance_at, tokens_at}
 use Rattle.rn_model.specs.Markings.{initial_marking}
-use Rattle.rn_model.specs.Firing.{Fired, fire, creations_of}
+use Rattle.rn_model.specs.Firing.{Fired, fire, creations_of, too_many}
 use Rattle.rn_model.specs.Runs.{Firing, RunFrom, after_firing, end_from, end_of}
 use Rattle.rn_model.specs.FiringLaws.{EachNumberIsThere}
 use Rattle.rn_model.proofs.AfterFiring.{found_number}
@@ -19,6 +20,8 @@ use Rattle.rn_model.proofs.DeadInstances.{there_of_net}
 use Rattle.rn_model.proofs.MarkingsOfRuns.{firings_keep_markings, initial_is_marking}
 use Rattle.rn_model.proofs.MarkingsOfRuns.{found_is_there}
 use Rattle.rn_model.proofs.MarkingsOfRuns.{runs_end_in_markings}
+use Rattle.rn_model.proofs.EnablingLemmas.{not_in_nil}
+use Rattle.rn_value.specs.declared.value.Value.{Value}
 
 -- each number that was given is there
 abbrev AllThere : Marking → Type 0
@@ -70,13 +73,33 @@ all_at_first system n low high =
     subst (IsThere (initial_marking system)) one (_, refl)
 
 -- what is there has a number that was given
-is_given : (system : System) (m : Marking) (n : ℕ) → IsMarking system m → IsThere m n →
+pub is_given : (system : System) (m : Marking) (n : ℕ) → IsMarking system m → IsThere m n →
     (0 < n) × (n < m.next)
 is_given system m n is (i, e) =
     let numbered = All-contains (λ i. (0 < i.number) × (i.number < m.next)) m.instances i
     is.numbered (found_is_there _ m.instances i e) in
     let number = found_number m.instances n i e in
     (omega (arith, numbered.0, number), omega (arith, numbered.1, number))
+
+-- an instance that holds tokens is there
+pub holder_there : (m : Marking) (n place : ℕ) (v : Value) → Contains (tokens_at m n place) v →
+    IsThere m n
+holder_there m n place v = by (instance_at m n) refl
+  where
+    by : (o : Option Instance) → instance_at m n ≡ o →
+        Contains (unwrap_or (option_and_then (λ i. slice_get i.places place) o) []) v → IsThere m n
+    by None e h = absurd (not_in_nil v h)
+    by (Some i) e h = (i, e)
+
+-- a firing that doesn't make too many stays within the numbers
+pub stays_within : (next made : ℕ) → next ≤ 1000001 → too_many next made ≡ false → next + made ≤ 1000001
+stays_within next made low few = by_some (nat_lt 0 made) (nat_lt 1000001 (next + made)) refl refl few
+  where
+    by_some : (some over : Bool) → nat_lt 0 made ≡ some → nat_lt 1000001 (next + made) ≡ over →
+        some && over ≡ false → next + made ≤ 1000001
+    by_some true true s o e = absurd (let no : ⊥ = cc in no)
+    by_some true false s o e = grind (arith, nat_tests)
+    by_some false over s o e = let none : made ≤ 0 = grind (arith, nat_tests) in omega (arith, low, none)
 
 pub each_number_is_there : EachNumberIsThere
 each_number_is_there system depth fs n good run = (

@@ -112,6 +112,7 @@ module _ (system : System) (m : Marking) where
       let also = All-contains (IsMarkOf system m) others found.0 other.each found.1 in
       subst (Contains others) (same_line found.0 line also mark found.2 found.3) found.1
 
+-- a marking has one live part at most
 pub live_part_is_unique : LivePartIsUnique
 live_part_is_unique system m lines others part other =
     same_lists ComesBefore before_trans never_before lines others part.ascending other.ascending
@@ -176,6 +177,7 @@ module _ (system : System) (table m : Marking) (stands : Stands system table m) 
         part.all n place at_marking (λ none. some (tokens_same n place at_marking ∙ none));
   }
 
+-- a table that stands for a marking has the same live part
 pub tables_have_the_same_part : TablesHaveTheSamePart
 tables_have_the_same_part system table m lines stands =
     (part_to_marking system table m stands lines, part_to_table system table m stands lines)

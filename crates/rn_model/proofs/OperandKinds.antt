@@ -38,6 +38,7 @@ use Rattle.rn_model.proofs.HoleValues.{list_of_kind}
 use Rattle.rn_model.proofs.KindsOfValues.{worth_has_kind}
 use Rattle.rn_model.proofs.FormsOfExpressions.{by_form}
 
+-- where the variables' values have their kinds, an expression's value has each kind of it
 pub values_have_kinds : ValuesHaveKinds
 values_have_kinds kinds env e kind v have has is = worth_has_kind kinds env have e kind has v is
 

@@ -100,6 +100,7 @@ all_room system m table b same room =
     (node_room system m table b same room) b.nodes
     (recursion_from_All (Contains b.nodes) b.nodes (All-contains_itself b.nodes)))
 
+-- a binding stays enabled where the instances on which its nodes stand stay the same
 pub looks_at_its_own : LooksAtItsOwn
 looks_at_its_own system m table b depth same e = record {
   shape = e.shape;

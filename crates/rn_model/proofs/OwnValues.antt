@@ -52,7 +52,7 @@ not_awaiting t x FlexInput is finds = absurd (let no : ⊥ = cc in no)
 not_awaiting t x FlexOutput is finds = absurd (let no : ⊥ = cc in no)
 not_awaiting t x Inhibit is finds = absurd (let no : ⊥ = cc in no)
 
-token_is_value : (kind : ArcKind) → finds_token kind ≡ true → finds_values kind ≡ true
+pub token_is_value : (kind : ArcKind) → finds_token kind ≡ true → finds_values kind ≡ true
 token_is_value Input finds = refl
 token_is_value Test finds = refl
 token_is_value Reserve finds = refl
@@ -228,6 +228,7 @@ module _ (system : System) (b : Binding) (depth : ℕ) (shape : Shape system b d
   pub are_own_values : AreOwnValues system b (own_values system b)
   are_own_values = record { values = λ node x v there value. var_is system b node (on_path node there) x v value; items = items_hold; rounds = in_rounds; targets = λ caller i d node calls. read system b caller (target i) d.target (Value.Inst node.inst) (on_path caller calls.caller_there) (rw calls.downlink_there refl) (agrees.calls caller i d node calls).target }
 
+-- where a binding of the shape agrees, its own values satisfy the equations of its items
 pub own_values_satisfy : OwnValuesSatisfy
 own_values_satisfy system b depth shape agrees = (own_values system b, are_own_values system b depth shape agrees)
 

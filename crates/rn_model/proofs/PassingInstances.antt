@@ -50,6 +50,7 @@ module _ (good : InstRef → Bool) where
   pub only-List : (vs : List Value) → only (Value.List vs) ≡ list_all (λ p. p) (map only vs)
   only-List vs = out (Value.List vs) ∙ rw (Value.outs-List vs)
 
+  -- a reference passes where its instance does
   pub only-Inst : (i : InstRef) → only (Value.Inst i) ≡ good i
   only-Inst i = out (Value.Inst i) ∙ rw (Value.outs-Inst i)
 
@@ -61,9 +62,11 @@ module _ (good : InstRef → Bool) where
   plain_lists i true = rw (Value.outs-Inst i)
   plain_lists i false = rw (Value.outs-Tuple [])
 
+  -- what stands for an instance is no number and no list
   pub kept_plain : IsPlain kept
   kept_plain = record { ints = λ i. plain_ints i (good i); lists = λ i. plain_lists i (good i) }
 
+  -- an instance that passes stands for itself
   pub kept_passing : (i : InstRef) → good i ≡ true → kept i ≡ Value.Inst i
   kept_passing i e = rw e refl
 
@@ -90,6 +93,7 @@ module _ (good : InstRef → Bool) where
   kept_layer (V.List parts) e = ap (λ vs. Value.List vs) (parts_kept parts e) ∙ sym (Value.rolls-List (map (λ e. e.0) parts))
   kept_layer (V.Inst i) e = kept_passing i e ∙ sym (Value.rolls-Inst i)
 
+  -- a value in which each instance passes stays as it is
   pub only_is_kept : (v : Value) → only v ≡ true → replaced kept v ≡ v
   only_is_kept = ind-Value IsKept (λ x y is e.
       let at_layer : only_step (map-Value Value Bool only x) ≡ true = sym (fold-roll-Value Bool only_step x) ∙ e in
@@ -123,6 +127,7 @@ module _ (good : InstRef → Bool) where
   kept_passes : (v : Value) → Passes v
   kept_passes = ind-Value Passes (λ x y is. ap only (fold-roll-Value Value (replaced_step kept) x) ∙ subst LayerPasses is (passing_layer y))
 
+  -- in a value that stays as it is each instance passes
   pub kept_is_only : (v : Value) → replaced kept v ≡ v → only v ≡ true
   kept_is_only v e = sym (ap only e) ∙ kept_passes v
 
@@ -205,6 +210,7 @@ module _ (good : InstRef → Bool) where
   only_layer (V.Inst (Old k)) p q = p k (itself k)
   only_layer (V.Inst (New path j)) p q = q path j refl
 
+  -- a value passes where all instances in it do
   pub names_passing : (v : Value) → NamesPassing v → only v ≡ true
   names_passing = ind-Value IsOnly (λ x y is p.
       fold-roll-Value Bool only_step x ∙ subst LayerIsOnly is (only_layer y)

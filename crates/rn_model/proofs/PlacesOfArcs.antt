@@ -6,7 +6,7 @@ use Rattle.std.specs.List.{list_any}
 use Rattle.std.specs.Option.{option_map_or}
 use Rattle.std.specs.Ordering.{is_eq}
 use Rattle.std.specs.Cmp.{Equal-is}
-use Rattle.std.proofs.lemmas.Bool.{eqb-true}
+use Rattle.std.proofs.lemmas.Bool.{eqb-true, or_parts}
 use Rattle.rn_value.specs.Order.{inst_cmp}
 use Rattle.rn_value.specs.declared.value.InstRef.{InstRef}
 use Rattle.rn_value.specs.declared.value.Value.{Value}
@@ -27,7 +27,6 @@ use Rattle.rn_model.specs.FittingLaws.{PlacesFitByArcs}
 use Rattle.rn_value.specs.OrderLaws.{insts_apart}
 use Rattle.rn_model.proofs.EnablingLemmas.{idle}
 use Rattle.rn_model.proofs.LiveByRounds.{any_contained}
-use Rattle.rn_model.proofs.NonePasses.{neither}
 use Rattle.rn_items.proofs.Bools.{both_true}
 
 module _ (system : System) (inst : InstRef) (place : ℕ) where
@@ -43,7 +42,7 @@ module _ (system : System) (inst : InstRef) (place : ℕ) where
         flat_map (asked_by_arc pick env place) arcs ≡ []
     no_arc env [] e = refl
     no_arc env (arc ∷ arcs) e =
-        let both = neither (at_place arc) (list_any at_place arcs) e in
+        let both = or_parts (at_place arc) (list_any at_place arcs) e in
         let own = option_map_or (pick arc.kind) (worth arc.inscription env) [] in
         let later = flat_map (asked_by_arc pick env place) arcs in
         ap (λ here. (if here then own else []) ++ later) both.0
@@ -69,7 +68,7 @@ module _ (system : System) (inst : InstRef) (place : ℕ) where
         flat_map (asked_by_node pick system inst place) (map reading nodes) ≡ []
     nothing_asked [] e = refl
     nothing_asked (node ∷ nodes) e =
-        let both = neither (names node) (list_any names nodes) e in
+        let both = or_parts (names node) (list_any names nodes) e in
         let asked = asked_by_node pick system inst place in
         ap (λ xs. xs ++ flat_map asked (map reading nodes)) (no_node node both.0)
         ∙ nothing_asked nodes both.1

@@ -92,6 +92,7 @@ module _ (before good : InstRef → Bool) (name : InstRef → InstRef) (renames 
   replaced_passes = ind-Value RenamedPasses (λ x y is e.
       ap (only good) (fold-roll-Value Value (replaced_step (λ i. Value.Inst (name i))) x) ∙ subst LayerPasses is (layer y) (sym (fold-roll-Value Bool (only_step before) x) ∙ e))
 
+  -- a value that passed passes once its instances are renamed
   pub renamed_passes : (v : Value) → only before v ≡ true → only good (renamed_value v name) ≡ true
   renamed_passes v e = ap (only good) (renamed_is_replaced name v) ∙ replaced_passes v e
 
@@ -204,6 +205,7 @@ node_source : (system : System) (inst : InstRef) (place : ℕ) (r : Reading) (v 
 node_source system inst place r v false e there = absurd (not_in_nil v there)
 node_source system inst place r v true e there = (insts_apart r.node.inst inst ((Equal-is (inst_cmp r.node.inst inst)).0 e), there)
 
+-- each value that is put comes from there
 pub put_from : (system : System) (read : List Reading) (inst : InstRef) (place : ℕ) (v : Value) → Contains (asked_at puts system read inst place) v → PutFrom system read inst place v
 put_from system read inst place v there =
     let r = flat_source (asked_by_node puts system inst place) read v there in

@@ -1,5 +1,5 @@
 -- How many tokens the arcs of a node put after its actions: at most what was counted before them.
-use Rattle.std.proofs.Common.{◌≡◌, ℕ, zero, suc, ◌+◌, ◌≤◌, Bool, true, false, ◌&&◌, not, List}
+use Rattle.std.proofs.Common.{◌≡◌, ℕ, ◌+◌, ◌≤◌, Bool, true, false, ◌&&◌, not, List}
 use Rattle.std.proofs.Common.{[], ◌∷◌, map, length, length-append, refl, sym, ap, ◌∙◌}
 use Rattle.std.proofs.Common.{arith}
 use Rattle.std.specs.Prelude.{Option, Some, None, Contains, filter, flat_map, nat_eq, unwrap_or}
@@ -31,28 +31,14 @@ use Rattle.rn_model.specs.Firing.{Acts, node_acts, renamed_value, renamed_node}
 use Rattle.rn_model.specs.ExpressionLaws.{renamed_env}
 use Rattle.rn_model.specs.Good.{IsGoodTransition, UsesActions, IsCounted, searched_exprs}
 use Rattle.rn_model.specs.Good.{output_exprs}
-use Rattle.rn_model.proofs.AskedValues.{later, contained_mapped}
-use Rattle.rn_model.proofs.EnablingLemmas.{not_in_nil}
+use Rattle.rn_model.proofs.AskedValues.{contained_mapped}
 use Rattle.rn_model.proofs.ReadAfterActions.{worth_after}
 use Rattle.rn_model.proofs.ReadConditions.{each_in}
 use Rattle.rn_model.proofs.RenamedReadings.{worth-renamed}
 use Rattle.rn_model.proofs.ReplacedValues.{replaced, IsPlain, list_of-replaced}
 use Rattle.rn_model.proofs.ReplacedValues.{renamed_is_replaced}
 use Rattle.rn_model.proofs.ValueLists.{one_if}
-
--- what passes a filter is there
-kept : {X : Type 0} (test : X → Bool) (xs : List X) (x : X) → Contains xs x → test x ≡ true →
-    Contains (filter test xs) x
-kept test [] x there e = absurd (not_in_nil x there)
-kept {X} test (y ∷ xs) x (zero, h, is) e =
-    let passes : test y ≡ true = ap test is ∙ e in
-    rw passes (0, omega arith, is)
-kept {X} test (y ∷ xs) x (suc k, h, is) e = by (test y) (kept test xs x (k, omega (arith, h), is) e)
-  where
-    by : (keeps : Bool) → Contains (filter test xs) x →
-        Contains (if keeps then y ∷ filter test xs else filter test xs) x
-    by true rest = later y x (filter test xs) rest
-    by false rest = rest
+use Rattle.rn_items.proofs.Lists.{in_filter}
 
 abbrev inscription : NetArc → Expr
 inscription arc = arc.inscription
@@ -68,7 +54,7 @@ unheld t arc uses there e =
     (Contains-append_right _ (map inscription (filter (λ arc. not (is_output arc.kind)) t.arcs))
     arc.inscription
     (contained_mapped inscription (filter (λ arc. not (is_output arc.kind)) t.arcs) arc
-    (kept (λ arc. not (is_output arc.kind)) t.arcs arc there other)))
+    (in_filter (λ arc. not (is_output arc.kind)) t.arcs arc there other)))
 
 unstepped : (t : Transition) (arc : NetArc) → UsesActions t → Contains t.arcs arc →
     (puts_value : Bool) → is_output arc.kind ≡ puts_value → holds_step arc.inscription ≡ false
@@ -76,7 +62,7 @@ unstepped t arc uses there false e = (unheld t arc uses there e).1
 unstepped t arc uses there true e =
     All-contains (λ e. holds_step e ≡ false) (output_exprs t) arc.inscription uses.outputs
     (contained_mapped inscription (filter (λ arc. is_output arc.kind) t.arcs) arc
-    (kept (λ arc. is_output arc.kind) t.arcs arc there e))
+    (in_filter (λ arc. is_output arc.kind) t.arcs arc there e))
 
 module _ (name : InstRef → InstRef) where
   abbrev rename : Value → Value

@@ -29,6 +29,7 @@ sides_of c = c.left ∷ c.right ∷ []
 abbrev pub answer_of : CompareKind → Option Value → Option Value → Option Bool
 answer_of kind a b = option_and_then (λ v. option_and_then (comparison_of kind v) b) a
 
+-- a condition has one truth under readings that are the same for all sides of its comparisons
 pub truths_look_up : TruthsLookUp
 truths_look_up cond env other same =
     truth_by_comparisons env other cond

@@ -62,6 +62,7 @@ module _ (name : InstRef → InstRef) where
   pub int_of-renamed : (v : Value) → int_of (renamed_value v name) ≡ int_of v
   int_of-renamed v = ap int_of (renamed_is_replaced name v) ∙ int_of-replaced put plain v
 
+-- where instances are renamed, an expression's value is its value with these renamed
 pub values_are_renamed : ValuesAreRenamed
 values_are_renamed name e env = worth-renamed name e env
 

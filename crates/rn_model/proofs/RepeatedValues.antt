@@ -1,7 +1,6 @@
 -- Values in a row, of which equal neighbours stand once.
-use Rattle.std.proofs.Common.{◌≡◌, ℕ, zero, suc, ◌+◌, ◌-◌, ◌<◌, ◌≤◌, Bool, true, false, cond, List, [], ◌∷◌, ◌++◌, length, replicate, refl, sym, ap, ◌∙◌, subst, arith}
-use Rattle.std.proofs.lemmas.Grind.{flat_map-append}
-use Rattle.std.proofs.lemmas.List.{length-append, length-replicate, append-nil, append_assoc}
+use Rattle.std.proofs.Common.{◌≡◌, ℕ, zero, suc, ◌+◌, ◌-◌, ◌<◌, Bool, true, false, cond, List, [], ◌∷◌, ◌++◌, length, replicate, refl, sym, ap, ◌∙◌, subst, arith}
+use Rattle.std.proofs.lemmas.List.{append-nil, append_assoc}
 use Rattle.std.specs.Prelude.{Some, slice_get, slice_set}
 use Rattle.rn_value.specs.declared.value.Value.{Value}
 use Rattle.rn_model.specs.declared.repeats.Repeat.{Repeat}
@@ -32,20 +31,6 @@ last_is_set (x ∷ y ∷ rs) r n e =
     let s : Repeat = record { value = r.value; count = r.count + n } in
     ap (λ i. slice_set (x ∷ y ∷ rs) i s) at
     ∙ ap (λ l. x ∷ l) (last_is_set (y ∷ rs) r n (ap (slice_get (x ∷ y ∷ rs)) (sym at) ∙ e))
-
--- and stands there as often as values are
-pub last_is_within : (rs : List Repeat) (r : Repeat) → slice_get rs (length rs - 1) ≡ Some r → r.count ≤ length (values_of rs)
-last_is_within [] r e = absurd (let no : ⊥ = cc in no)
-last_is_within (x ∷ []) r e =
-    let same : r ≡ x = cc in
-    let joined = length-append (times x) [] in
-    let all = length-replicate x.count x.value in
-    subst (λ y. y.count ≤ length (values_of (x ∷ []))) (sym same) (omega (arith, joined, all))
-last_is_within (x ∷ y ∷ rs) r e =
-    let at : length (x ∷ y ∷ rs) - 1 ≡ suc (length (y ∷ rs) - 1) = omega arith in
-    let rest = last_is_within (y ∷ rs) r (ap (slice_get (x ∷ y ∷ rs)) (sym at) ∙ e) in
-    let joined = length-append (times x) (values_of (y ∷ rs)) in
-    omega (arith, rest, joined)
 
 replicate_joined : (m n : ℕ) (v : Value) → replicate (m + n) v ≡ replicate m v ++ replicate n v
 replicate_joined zero n v = ap (λ k. replicate k v) (let z : zero + n ≡ n = omega arith in z)
@@ -82,12 +67,6 @@ another_at_end (r ∷ []) v n p other some = (p.0, other, (some, tt, tt))
 another_at_end (r ∷ s ∷ rs) v n p other some =
     (p.0, p.1, another_at_end (s ∷ rs) v n p.2 other some)
 
-pub values_at_end : (rs : List Repeat) (v : Value) (n : ℕ) →
-    values_of (rs ++ record { value = v; count = n } ∷ []) ≡ values_of rs ++ replicate n v
-values_at_end rs v n =
-    flat_map-append times rs (record { value = v; count = n } ∷ [])
-    ∙ ap (λ l. values_of rs ++ l) (append-nil (replicate n v))
-
 -- one more value before others
 one_before_others : (v : Value) (rs : List Repeat) → BeginsOtherwise v rs → with_first v rs ≡ record { value = v; count = 1 } ∷ rs
 one_before_others v [] b = refl
@@ -115,6 +94,7 @@ first_parted r rs vs (suc n) e some b rest =
     ∙ some_before_others n r.value vs rs rest b
     ∙ ap (λ k. record { value = r.value; count = k } ∷ rs) (sym e)
 
+-- parted repeats are the repeats of their values
 pub parted_again : (rs : List Repeat) → AreParted rs → repeats_of (values_of rs) ≡ rs
 parted_again [] p = refl
 parted_again (r ∷ rs) p =
@@ -131,6 +111,7 @@ with_first_values v (r ∷ rs) = by (same_value v r.value) refl
     by true e = ap (λ w. v ∷ (replicate r.count w ++ values_of rs)) (same_is v r.value e)
     by false e = refl
 
+-- values in a row are those of their repeats
 pub repeats_hold_values : RepeatsHoldValues
 repeats_hold_values [] = refl
 repeats_hold_values (v ∷ vs) =
@@ -144,6 +125,7 @@ with_first_parted v (r ∷ rs) p = by (same_value v r.value) refl
     by true e = (omega arith, subst (λ w. BeginsOtherwise w rs) (sym (same_is v r.value e)) p.1, p.2)
     by false e = (omega arith, (λ is. let same = ap (λ w. same_value v w) (sym is) ∙ same_itself v in let no : ⊥ = cc in no), p)
 
+-- and these repeats are parted
 pub repeats_are_parted : RepeatsAreParted
 repeats_are_parted [] = tt
 repeats_are_parted (v ∷ vs) = with_first_parted v (repeats_of vs) (repeats_are_parted vs)

@@ -26,6 +26,7 @@ module _ (put : InstRef → Value) where
   out : (v : Value) → replaced v ≡ replaced_step (map-Value Value Value replaced (out-Value v))
   out v = fold_out-Value Value replaced_step v
 
+  -- a value of each form, with its instances replaced
   pub replaced-Int : (n : ℤ) → replaced (Value.Int n) ≡ Value.Int n
   replaced-Int n = out (Value.Int n) ∙ rw (Value.outs-Int n)
 
@@ -101,6 +102,7 @@ renamed_layer name (V.Tuple parts) = ap (λ vs. Value.Tuple vs) (parts_renamed n
 renamed_layer name (V.List parts) = ap (λ vs. Value.List vs) (parts_renamed name parts)
 renamed_layer name (V.Inst i) = refl
 
+-- a renamed value is the value with each instance replaced by its new name
 pub renamed_is_replaced : (name : InstRef → InstRef) (v : Value) → renamed_value v name ≡ replaced (λ i. Value.Inst (name i)) v
 renamed_is_replaced name = ind-Value (IsRenamed name) (λ x y is.
     ap (λ f. f name) (fold-roll-Value ((InstRef → InstRef) → Value) renamed_step x)

@@ -207,6 +207,7 @@ module _ (system : System) (b : Binding) (node : Node) (n place : ℕ) (is : nod
       ap (flat_map (awaited_by_node system (Old n) place)) alone
       ∙ ap (λ here. (if here then own else []) ++ []) on_it ∙ append-nil own
 
+-- the place of plain arcs of such a start has room for what they put, after what they take
 pub starts_find_room : StartsFindRoom
 starts_find_room system m b depth n place most node enabled at is none plain has =
     let alone = start_alone system b depth node enabled.shape at none in

@@ -30,6 +30,7 @@ pub forced_more : (system : System) (b : Binding) (In Others : Item → Type 0)
 forced_more system b In Others term within forced =
     (forced.0, λ a all. forced.1 a (λ item there. all item (within item there)))
 
+-- what follows from what holds of all elements holds of all
 pub all_more : {A : Type 0} (P Q : A → Type 0) (xs : List A) → ((x : A) → P x → Q x) →
     All P xs → All Q xs
 all_more P Q xs more all = λ k d h. more (get_or xs k d) (all k d h)
@@ -119,9 +120,6 @@ module _ (system : System) (b : Binding) (items : List Item) (come : ComeIn syst
   as_index : (k : ℕ) (item : Item) → slice_get items k ≡ Some item → Contains items item
   as_index k item at = (k, within k item at, get_or_from_slice_get items k item item at)
 
-  pub are_items : Within (Contains items) (Contains (items_of system b))
-  are_items item there = let at = index_of item there in come.each at.0 item at.2
-
   few : length items ≤ length (items_of system b)
   few = no_longer (items_of system b) items come.each come.once
 
@@ -198,6 +196,7 @@ closed_are_rounds system b depth items shape come closed item = (
   λ (n, now). closed_hold system b items come depth shape closed n item now,
 )
 
+-- a binding is derived just where closed items are all of its items and force its variables
 pub closed_decide : ClosedDecide
 closed_decide system b depth items shape come closed = (
   derived_gives system b items come depth shape closed,

@@ -9,9 +9,11 @@ prefix_from : (system : System) (depth step : ℕ) (m : Marking) (fs gs : List F
 prefix_from system depth step m [] gs run = tt
 prefix_from system depth step m (f ∷ fs) gs (fires, rest) = (fires, prefix_from system depth (suc step) (after_firing system step m f) fs gs rest)
 
+-- a prefix of a run is a run
 pub prefixes_are_runs : PrefixesAreRuns
 prefixes_are_runs system depth fs gs run = prefix_from system depth 1 (initial_marking system) fs gs run
 
+-- and a prefix of a log is a log that hasn't ended
 pub prefixes_are_logs : PrefixesAreLogs
 prefixes_are_logs system options fs gs ended log =
     let both : length (fs ++ gs) ≡ length fs + length gs = length-append fs gs in
@@ -36,6 +38,7 @@ joined_from system depth step m (f ∷ fs) gs (fires, run) rest =
     let same : step + length (f ∷ fs) ≡ suc step + length fs = omega arith in
     (fires, joined_from system depth (suc step) (after_firing system step m f) fs gs run (subst (λ k. RunFrom system depth k (end_from system step m (f ∷ fs)) gs) same rest))
 
+-- firings with one more are a run just where they are one and the last one fires at their end
 pub runs_grow : RunsGrow
 runs_grow system depth fs f =
     let m = initial_marking system in
@@ -52,11 +55,13 @@ end_after system step m (g ∷ fs) f =
     let same : suc step + length fs ≡ step + length (g ∷ fs) = omega arith in
     subst (λ k. end_from system step m (g ∷ fs ++ f ∷ []) ≡ after_firing system k (end_from system step m (g ∷ fs)) f) same (end_after system (suc step) (after_firing system step m g) fs f)
 
+-- their end is the end of the others after the last one
 pub ends_follow : EndsFollow
 ends_follow system fs f =
     let place : 1 + length fs ≡ suc (length fs) = omega arith in
     end_after system 1 (initial_marking system) fs f ∙ ap (λ k. after_firing system k (end_of system fs) f) place
 
+-- where no binding is enabled at the end of firings, no run goes on from there
 pub dead_runs_stop : DeadRunsStop
 dead_runs_stop system depth fs gs f dead run = dead f.binding (rest_from system depth 1 (initial_marking system) fs (f ∷ gs) run).0.enabled
 

@@ -1,5 +1,5 @@
 -- Firings keep tokens sound.
-use Rattle.std.proofs.Common.{◌≡◌, ℕ, ◌+◌, ◌≤◌, Bool, true, false, List, get_or, refl, sym, ap, ◌∙◌, subst, inl, inr, arith}
+use Rattle.std.proofs.Common.{◌≡◌, ℕ, ◌+◌, Bool, true, false, List, get_or, refl, sym, ap, ◌∙◌, subst, inl, inr, arith}
 use Rattle.std.specs.Prelude.{◌&&◌, Option, Some, None, Ok, Contains, is_some, nat_eq, position, slice_get, option_map, if◌then◌else◌}
 use Rattle.std.specs.Option.{option_map_or}
 use Rattle.std.specs.List.{enumerate_from}
@@ -41,12 +41,13 @@ use Rattle.rn_model.proofs.LiveByRounds.{DecidesLive, live_decided}
 use Rattle.rn_model.proofs.PassingInstances.{only, only_mentions, only_no_new, names_passing}
 use Rattle.rn_model.proofs.DerivedInstances.{PassesOn, inst_passes, value_passes}
 use Rattle.rn_model.proofs.LiveBindings.{start_is_live, live_is_there}
-use Rattle.rn_model.proofs.DeadInstances.{FiredAs, fired_as, there_of_net, live_there, below_next, first_token}
+use Rattle.rn_model.proofs.DeadInstances.{FiredAs, fired_as, there_of_net, live_there, first_token}
 use Rattle.rn_model.proofs.AskedValues.{contained_mapped, contained_flat, map_source, flat_source}
 use Rattle.rn_model.proofs.AfterFiring.{was_there, is_new, at_least, token_from}
 use Rattle.rn_model.proofs.PutValues.{StaysSo, reading_stays, put_from, put_passes, outs_pass, renamed_passes}
 use Rattle.rn_model.proofs.KindsOfValues.{worth_has_kind, put_has_kind, beside_has_kind}
 use Rattle.rn_model.proofs.IndicesInLists.{in_enumerated, from_enumerated, has_position}
+use Rattle.rn_model.proofs.CountsAfterFiring.{not_yet}
 
 abbrev is_made_at : List ℕ → ℕ → Made → Bool
 is_made_at path j c = pointwise nat_eq c.path path && nat_eq c.index j
@@ -64,13 +65,6 @@ there_in m (New path j) = false
 is_there_in : (m : Marking) (n : ℕ) (o : Option Instance) → instance_at m n ≡ o → is_some o ≡ true → IsThere m n
 is_there_in m n None e h = absurd (let no : ⊥ = cc in no)
 is_there_in m n (Some i) e h = (i, e)
-
-none_yet : (system : System) (m : Marking) (n : ℕ) → IsMarking system m → m.next ≤ n → instance_at m n ≡ None
-none_yet system m n is high = by_instance (instance_at m n) refl
-  where
-    by_instance : (o : Option Instance) → instance_at m n ≡ o → instance_at m n ≡ None
-    by_instance None e = e
-    by_instance (Some i) e = let low = below_next system m n is (i, e) in absurd (let no : ⊥ = omega (arith, low, high) in no)
 
 module _ (system : System) (m : Marking) (b : Binding) (depth step : ℕ) (f : Fired) (good : Good system) (is : IsMarking system m) (sound : HasSoundTokens system m) (enabled : Enabled system m b depth) (fires : fire system m b step ≡ Ok f) where
   abbrev fired : FiredAs system m b step f
@@ -102,7 +96,7 @@ module _ (system : System) (m : Marking) (b : Binding) (depth step : ℕ) (f : F
         Contains-get_or made k d at.0,
         same_numbers c.path path both.0,
         eqb-true c.index j both.1,
-        is_new system m made named_b fired.acts (m.next + k, c) (none_yet system m (m.next + k) is (omega arith)) (in_enumerated m.next made k c (slice_get-get_or made k d at.0)),
+        is_new system m made named_b fired.acts (m.next + k, c) (not_yet system m (m.next + k) is (omega arith)) (in_enumerated m.next made k c (slice_get-get_or made k d at.0)),
       )
 
   -- new instances have numbers of instances that are there after
@@ -287,7 +281,7 @@ module _ (system : System) (m : Marking) (b : Binding) (depth step : ℕ) (f : F
             }
         | inr other ↦ elim other as (λ _. IsSoundToken system after net place v) [
           | inl (c, p, new, index_is, first) ↦
-              let at_new = is_new system m made named_b fired.acts (n, c) (none_yet system m n is (at_least m.next made (n, c) new)) new in
+              let at_new = is_new system m made named_b fired.acts (n, c) (not_yet system m n is (at_least m.next made (n, c) new)) new in
               let net_is : c.net ≡ net = same_Some c.net net (sym (ap (option_map (λ i. i.net)) at_new) ∙ has) in
               let token = first_token system b depth m.next m n c place p v good enabled new index_is first in
               let none = apart v token.apart in
@@ -312,8 +306,10 @@ module _ (system : System) (m : Marking) (b : Binding) (depth step : ℕ) (f : F
       let same : given ≡ f = ap (λ x. record { marking = x; outs = fired.acts.outs }) fired.marking ∙ ap (λ o. record { marking = f.marking; outs = o }) fired.outs in
       subst (ReportsWhatIsThere system m b) same reports_after
 
+-- the firing of an enabled binding reports only instances that are there after it
 pub firings_report_what_is_there : FiringsReportWhatIsThere
 firings_report_what_is_there system m b depth step f good is sound enabled fires = reports_fired system m b depth step f good is sound enabled fires
 
+-- and its marking has sound tokens
 pub firings_keep_tokens_sound : FiringsKeepTokensSound
 firings_keep_tokens_sound system m b depth step f good is sound enabled fires = sound_fired system m b depth step f good is sound enabled fires

@@ -26,6 +26,7 @@ keep_from system depth step m (f ∷ fs) good is sound (fires, run) =
     keep_from system depth (suc step) next fs good (firings_keep_markings system m f.binding depth step given good is fires.enabled fires.fired)
     (firings_keep_tokens_sound system m f.binding depth step given good is sound fires.enabled fires.fired) run
 
+-- the tokens at the end of each run of a good system are sound
 pub runs_end_sound : RunsEndSound
 runs_end_sound system depth fs good run = keep_from system depth 1 (initial_marking system) fs good (initial_is_marking system good) (initial_tokens_are_sound system good) run
 
@@ -45,12 +46,13 @@ dead_from system depth step m (f ∷ fs) good is sound (fires, run) n there dead
         subst (λ x. IsThere x n) as_fired.marking (instance_after system (named system b m.next) as_fired.acts i, was_there system m (creations_of system b) (named system b m.next) as_fired.acts n i e)
 
 -- the end of joined firings is the end of the others from that of the first
-end_joined : (system : System) (step : ℕ) (m : Marking) (fs gs : List Firing) → end_from system step m (fs ++ gs) ≡ end_from system (step + length fs) (end_from system step m fs) gs
+pub end_joined : (system : System) (step : ℕ) (m : Marking) (fs gs : List Firing) → end_from system step m (fs ++ gs) ≡ end_from system (step + length fs) (end_from system step m fs) gs
 end_joined system step m [] gs = let here : step ≡ step + length {A = Firing} [] = omega arith in ap (λ k. end_from system k m gs) here
 end_joined system step m (f ∷ fs) gs =
     let same : suc step + length fs ≡ step + length (f ∷ fs) = omega arith in
     end_joined system (suc step) (after_firing system step m f) fs gs ∙ ap (λ k. end_from system k (end_from system step m (f ∷ fs)) gs) same
 
+-- an instance that is there and isn't live at an end of a run isn't live at any later one
 pub dead_stay_dead_in_runs : DeadStayDeadInRuns
 dead_stay_dead_in_runs system depth fs gs good run n there dead live =
     let prefix = prefixes_are_runs system depth fs gs run in

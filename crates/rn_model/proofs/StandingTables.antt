@@ -58,9 +58,11 @@ module _ (system : System) (table m : Marking) (stands : Stands system table m) 
       let tokens : tokens_at table h place ≡ tokens_at m h place = ap (λ o. held_by o place) (same_live h live) in
       held place (live_in_table h live) (subst (λ vs. Contains vs token) (sym tokens) has) said (stands.live n (held place live has said there))
 
+-- the same instances are live in a table and in the marking that it stands for
 pub tables_have_the_same_live : TablesHaveTheSameLive
 tables_have_the_same_live system table m stands n = (live_in_marking system table m stands n, live_in_table system table m stands n)
 
+-- and, where its tokens are sound, the same bindings are enabled at both
 pub tables_enable_the_same : TablesEnableTheSame
 tables_enable_the_same system table m b depth sound stands = (
   λ e. looks_at_its_own system table m b depth (λ node n there is.
@@ -80,6 +82,7 @@ alike system table m b (Some acts) many next few =
     by_number true few few_too = rw (few, few_too) refl
     by_number false few few_too = rw (few, few_too) refl
 
+-- a firing at the table prints as at the marking, or is undefined by the same cause
 pub tables_fire_alike : TablesFireAlike
 tables_fire_alike system table m b step stands =
     subst (λ k. FireAlike (fire system table b step) (firing_result system m b (effects system b k step))) stands.next
@@ -151,6 +154,7 @@ of_same_next system is m b depth step f g good form sound stands enabled at_tabl
     same : {x y : Effects} → Some x ≡ Some y → x ≡ y
     same e = cc
 
+-- after an enabled binding has fired in both, the table stands for the marking again
 pub tables_stand_after : TablesStandAfter
 tables_stand_after system table m b depth step f g good form sound stands enabled at_table at_marking =
     let same : table ≡ record { next = m.next; instances = table.instances } = ap (λ k. record { next = k; instances = table.instances }) stands.next in
@@ -171,6 +175,7 @@ found_itself (j ∷ is) i up (suc k, h, e) =
     passed_over j i is true same low = let number = eqb-true j.number i.number same in absurd (let no : ⊥ = omega (arith, number, low) in no)
     passed_over j i is false other low = refl
 
+-- a marking stands for itself
 pub markings_stand_for_themselves : MarkingsStandForThemselves
 markings_stand_for_themselves system m form =
     let up = from_strict (map (λ i. i.number) m.instances) form.ascending in
@@ -221,6 +226,7 @@ contained_kept keeps [] i there e = absurd (not_in_nil i there)
 contained_kept keeps (j ∷ is) i (zero, h, same) e = let passes : keeps j ≡ true = ap keeps same ∙ e in rw passes (0, omega arith, same)
 contained_kept keeps (j ∷ is) i (suc k, h, same) e = contained_or_not j i (filter keeps is) (keeps j) (contained_kept keeps is i (k, omega (arith, h), same) e)
 
+-- a table still stands for its marking without instances that aren't live in it
 pub dropping_keeps : DroppingKeeps
 dropping_keeps system table m drops stands dead =
     let keeps = λ (i : Instance). not (drops i.number) in

@@ -62,6 +62,7 @@ ordered_ascends : (vs : List Value) → Ascends (ordered_values vs)
 ordered_ascends [] = tt
 ordered_ascends (v ∷ vs) = with_ascends v (ordered_values vs) (ordered_ascends vs)
 
+-- ordered values ascend
 pub ordered_values_ascend : OrderedValuesAscend
 ordered_values_ascend vs = sorted_of (ordered_values vs) (ordered_ascends vs)
 
@@ -69,6 +70,7 @@ ordered_values_ascend vs = sorted_of (ordered_values vs) (ordered_ascends vs)
 abbrev pub one_if : Bool → ℕ
 one_if t = cond t 1 0
 
+-- with one value more a value counts once more where the two are the same
 pub count_of-cons : (z w : Value) (ws : List Value) → count_of z (w ∷ ws) ≡ one_if (same_value z w) + count_of z ws
 count_of-cons z w ws = sum_by-cons (λ y. one_if (same_value z y)) w ws
 
@@ -83,6 +85,7 @@ count_with : (z v : Value) (ws : List Value) → count_of z (with_value v ws) �
 count_with z v [] = count_of-cons z v []
 count_with z v (w ∷ ws) = count_placed z v w ws (is_lt (value_cmp w v)) (count_with z v ws)
 
+-- ordered values hold each value as often as before
 pub ordered_values_stay : OrderedValuesStay
 ordered_values_stay [] z = refl
 ordered_values_stay (v ∷ vs) z =
@@ -91,6 +94,7 @@ ordered_values_stay (v ∷ vs) z =
     let before = count_of-cons z v vs in
     omega (arith, here, rest, before)
 
+-- values that the test takes as the same are equal
 pub same_is : (v w : Value) → same_value v w ≡ true → v ≡ w
 same_is v w e = value_cmp-apart v w ((Equal-is (value_cmp v w)).0 e)
 
@@ -119,6 +123,7 @@ count_without_one : (z v : Value) (ws : List Value) → count_of z (without_one 
 count_without_one z v [] = omega arith
 count_without_one z v (w ∷ ws) = count_left z v w ws (same_value v w) (same_value z v) refl refl (count_without_one z v ws)
 
+-- without others a value counts less by as often as it is among them, or not at all
 pub others_are_taken : OthersAreTaken
 others_are_taken ws [] z = omega arith
 others_are_taken ws (v ∷ vs) z =

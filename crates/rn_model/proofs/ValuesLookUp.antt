@@ -176,5 +176,6 @@ module _ (env other : Env) (this : env.this ≡ other.this) where
     op = op_same;
   })
 
+-- an expression has one value under two readings that are the same for it
 pub values_look_up : ValuesLookUp
 values_look_up e env other same = reads_same env other same.this e same.vars same.step

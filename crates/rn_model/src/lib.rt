@@ -13,10 +13,12 @@ mod log;
 mod node_text;
 mod numbers;
 mod ordering;
+mod parts;
 mod repeats;
 mod round_laws;
 mod sharing;
 mod system;
+mod variables;
 
 pub use binding::{Binding, Node, Nodes};
 pub use copying::{copy_binding, copy_entry};
@@ -39,9 +41,14 @@ pub use log::{Entries, Entry, FaultKind, MarkLine, MarkLines, Options, Reason, T
 pub use node_text::{write_instance, write_nodes};
 pub use numbers::named;
 pub use ordering::{binding_order_is_total, compare_bindings, same_binding};
+pub use parts::{
+    find_net, find_transition, finds_token, finds_values, is_output, net_at, places_of,
+    transition_at, transition_of, transitions_of,
+};
 pub use repeats::{Repeat, Repeats, repeats_hold_values, same_repeats};
 pub use round_laws::{forced_terms_are_own, items_come_in, more_items_force_more};
 pub use system::{
     Action, Actions, ArcKind, Channel, Channels, Creation, Creations, Downlink, Downlinks, Net,
     NetArc, NetArcs, Nets, Nums, Place, Places, System, Transition, Transitions, Uplink, Var, Vars,
 };
+pub use variables::{put_vars, put_vars_of};

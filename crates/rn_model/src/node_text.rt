@@ -7,6 +7,7 @@ ghost use Rattle.rn_model.specs.NodeText.{instance_text, number_text, var_name};
 ghost use Rattle.rn_model.specs.NodeText.{given_text, all_given_text, node_text, node_line, node_lines, IsWritable};
 
 use crate::binding::{Binding, Node};
+use crate::parts::{find_net, find_transition};
 use crate::system::{Net, System};
 use rn_value::{InstRef, Names, NoMemory, Value, write_numeral, write_value};
 use std::alloc::Global;
@@ -156,7 +157,7 @@ fn put_instance(
 fn put_net_name(system: &System, net: u32, out: &mut Vec<u8>) -> Result<(), NoMemory>
     ensures { OnOk result (out.new.items ≡ out.old.items ++ (net_at system.now net).name) }
 {
-    if let Some(net) = system.nets.get(net as usize) {
+    if let Some(net) = find_net(system, net) {
         out.extend_from_slice(net.name.as_str().as_bytes())?;
     }
     Ok(())
@@ -175,10 +176,8 @@ fn put_transition_name(system: &System, node: &Node, out: &mut Vec<u8>) -> Resul
     ensures { OnOk result (out.new.items
         ≡ out.old.items ++ (transition_of system.now node.now).name) }
 {
-    if let Some(net) = system.nets.get(node.net as usize) {
-        if let Some(transition) = net.transitions.get(node.transition as usize) {
-            out.extend_from_slice(transition.name.as_str().as_bytes())?;
-        }
+    if let Some(transition) = find_transition(system, node) {
+        out.extend_from_slice(transition.name.as_str().as_bytes())?;
     }
     Ok(())
 }

@@ -7,6 +7,7 @@ ghost use Rattle.rn_model.specs.Firing.{renamed_value, renamed_node};
 ghost use Rattle.rn_model.specs.Numbers.{AreNumbersOf, key_of, makes, number_in, numbered_by};
 
 use crate::binding::{Binding, Node};
+use crate::parts::find_transition;
 use crate::system::{Creation, System};
 use rn_items::Items;
 use rn_value::{InstRef, NoMemory, Path, Vals, Value, copy_inst, copy_text};
@@ -102,11 +103,9 @@ fn put_made_by(
     ensures { OnOk result (made.new.items
         ≡ made.old.items ++ map key_of (made_by system.now node.now)) }
 {
-    if let Some(net) = system.nets.get(node.net as usize) {
-        if let Some(transition) = net.transitions.get(node.transition as usize) {
-            let creations = transition.creations.as_slice();
-            put_made(alloc, node.path.as_slice(), creations, made)?;
-        }
+    if let Some(transition) = find_transition(system, node) {
+        let creations = transition.creations.as_slice();
+        put_made(alloc, node.path.as_slice(), creations, made)?;
     }
     Ok(())
 }

@@ -8,7 +8,7 @@ use Rattle.rn_model.specs.declared.log.Entry.TheVariants.{Fire, End}
 use Rattle.rn_model.specs.Firing.{creations_of}
 use Rattle.rn_moves.specs.declared.token.Moves.{Moves}
 use Rattle.rn_moves.specs.Connecting.{HasEntryNodes, WritesAll, WritesEntry}
-use Rattle.rn_moves.specs.Movable.{HasEntryMoves, HaveMoves}
+use Rattle.rn_moves.specs.Movable.{HaveMoves}
 use Rattle.rn_moves.specs.Moves.{AreFirst, AreMovesFrom}
 use Rattle.rn_moves.specs.MovesText.{MovesText, all_lines, moves_lines, names_of, nets_of}
 
@@ -94,18 +94,6 @@ module _ (system : System) (nets : List ℕ) (names : List (List ℕ)) (entries 
       subst (λ j. HaveMoves system last next' step' (drop j entries)) same (rest_may last next step next' step' entry (drop (suc i) entries) out out'
       (subst (HaveMoves system last next step)
       (drop-cons entries i entry low ∙ ap (λ e. e ∷ drop (suc i) entries) (sym is)) may) wrote)
-
-  pub entry_told : (last next step i : ℕ) (entry : Entry) → i < length entries →
-      entry ≡ get_or entries i entry → HaveMoves system last next step (drop i entries) →
-      HasEntryMoves system last next step entry
-  entry_told last next step i entry low is may =
-      first_told entry (subst (HaveMoves system last next step)
-      (drop-cons entries i entry low ∙ ap (λ e. e ∷ drop (suc i) entries) (sym is)) may)
-    where
-      first_told : (entry : Entry) → HaveMoves system last next step (entry ∷ drop (suc i) entries) →
-          HasEntryMoves system last next step entry
-      first_told (Fire worker b outs) may = may.0
-      first_told (End reason) may = tt
 
   -- at the end all are written
   pub all_written : (next step i : ℕ) (out : List ℕ) → length entries ≤ i →

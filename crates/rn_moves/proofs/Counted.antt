@@ -18,7 +18,7 @@ use Rattle.rn_model.proofs.EnablingLemmas.{not_in_nil}
 use Rattle.rn_model.proofs.ValueLists.{one_if, count_of-cons}
 use Rattle.rn_table.specs.Changes.{values_at}
 use Rattle.rn_table.specs.declared.change.Row.{Row}
-use Rattle.rn_table.proofs.ChangeLemmas.{count_append}
+use Rattle.rn_table.proofs.ChangeLemmas.{count_append, add_hit}
 use Rattle.rn_table.proofs.InstanceLemmas.{same_number, other_number}
 use Rattle.rn_moves.specs.declared.token.Token.{Token}
 use Rattle.rn_moves.specs.Connecting.{tokens_of, row_tokens, initial_tokens, made_tokens}
@@ -61,10 +61,6 @@ only_first : (c : Bool) (k : ℕ) → cond (c && true) k 0 ≡ cond c k 0
 only_first true k = refl
 only_first false k = refl
 
-both_hit : (c : Bool) (a b : ℕ) → cond c a 0 + cond c b 0 ≡ cond c (a + b) 0
-both_hit true a b = refl
-both_hit false a b = refl
-
 module _ (n place : ℕ) (v : Value) where
   abbrev here : ℕ → ℕ → Bool
   here i p = nat_eq n i && nat_eq place p
@@ -95,7 +91,7 @@ module _ (n place : ℕ) (v : Value) where
   values_times i p (w ∷ vs) =
       times-cons i p w (tokens_of i p vs)
       ∙ ap (λ k. cond (here i p) (one_if (same_value v w)) 0 + k) (values_times i p vs)
-      ∙ both_hit (here i p) (one_if (same_value v w)) (count_of v vs)
+      ∙ add_hit (here i p) (one_if (same_value v w)) (count_of v vs)
       ∙ ap (λ k. cond (here i p) k 0) (sym (count_of-cons v w vs))
 
   row_count : (c : Bool) (vs : List Value) → cond c (count_of v vs) 0 ≡ count_of v (cond c vs [])

@@ -1,5 +1,5 @@
 -- What a firing makes of the tokens of each place, by what leaves and what comes.
-use Rattle.std.proofs.Common.{◌≡◌, ℕ, zero, suc, ◌+◌, ◌-◌, ◌<◌, ◌≤◌, ◌⊎◌, List, [], ◌∷◌, ◌++◌, length}
+use Rattle.std.proofs.Common.{◌≡◌, ℕ, ◌+◌, ◌-◌, ◌<◌, ◌≤◌, ◌⊎◌, List, [], ◌++◌, length}
 use Rattle.std.proofs.Common.{refl, sym, ap, ◌∙◌, subst, inl, inr, arith, append-nil}
 use Rattle.std.specs.Prelude.{Option, Some, None, Ok, Contains, slice_get, unwrap_or, option_map}
 use Rattle.std.specs.Prelude.{option_and_then, flat_map, nat_eq}
@@ -35,6 +35,7 @@ use Rattle.rn_acts.proofs.NewAskNothing.{nothing_taken, nothing_cleared}
 use Rattle.rn_moves.specs.Moves.{brought_at, come_at, gone_at, nets_by}
 use Rattle.rn_moves.proofs.Brought.{brought_below, brought_here, brought_past}
 use Rattle.rn_moves.proofs.PlacesMoved.{HasPlace, full, put_placed, found_new, found_later}
+use Rattle.rn_items.proofs.Lists.{is_past}
 
 -- what a place that fits is asked for is there (`rn_acts` has the same, and lends it to no other crate)
 asked_is_there : (system : System) (m : Marking) (b : Binding) (n place : ℕ) →
@@ -85,12 +86,6 @@ no_net m n e = by (instance_at m n) e
     by : (o : Option Instance) → option_map (λ (i : Instance). i.net) o ≡ None → o ≡ None
     by None e = refl
     by (Some i) e = absurd (let no : ⊥ = cc in no)
-
--- an index at which a list has nothing is past its end
-is_past : {X : Type 0} (xs : List X) (k : ℕ) → slice_get xs k ≡ None → length xs ≤ k
-is_past [] k e = omega arith
-is_past (x ∷ xs) zero e = absurd (let no : ⊥ = cc in no)
-is_past (x ∷ xs) (suc k) e = let rest = is_past xs k e in omega (arith, rest)
 
 -- what holds no value is empty, by counts
 pub none_counted : (v : Value) (vs : List Value) → ¬ Contains vs v → count_of v vs ≡ 0

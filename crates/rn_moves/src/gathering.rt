@@ -1,7 +1,6 @@
 //! The tokens of a change.
-ghost use Rattle.std.specs.Prelude.{◌≡◌, ◌+◌, ◌<◌, ◌≤◌, ◌^◌, ◌++◌, length, flat_map, IfOk, OnOk};
+ghost use Rattle.std.specs.Prelude.{◌≡◌, ◌+◌, ◌<◌, ◌^◌, ◌++◌, length, flat_map, IfOk, OnOk};
 ghost use Rattle.rn_model.specs.Good.{Good};
-ghost use Rattle.rn_model.specs.Systems.{net_at};
 ghost use Rattle.rn_table.specs.Changes.{values_at};
 ghost use Rattle.rn_moves.specs.Connecting.{tokens_of, row_tokens, initial_tokens, made_tokens};
 ghost use Rattle.rn_moves.specs.Moves.{AreTokens, brought_at};
@@ -9,7 +8,7 @@ ghost use Rattle.rn_moves.specs.Moves.{AreTokens, brought_at};
 use crate::order::ascending;
 use crate::token::{Moves, Token};
 use rn_items::NoMemory;
-use rn_model::{Place, System};
+use rn_model::{Place, System, places_of};
 use rn_table::{Change, Row, Rows};
 use rn_value::{Value, copy};
 use std::alloc::Global;
@@ -73,16 +72,6 @@ fn add_initial(
         add_values(alloc, tokens, inst, i as u32, places[i].initial.as_slice())?;
     }
     Ok(())
-}
-
-/// The places of a net, and none where there is no such net.
-fn places_of(system: &System, net: u32) -> &[Place]
-    ensures { result.now ≡ (net_at system.now net).places }
-{
-    match system.nets.get(net as usize) {
-        Some(net) => net.places.as_slice(),
-        None => &[],
-    }
 }
 
 /// Adds the initial tokens of new instances of these nets, of which the first has this number.

@@ -1,7 +1,5 @@
 //! How the lines of a place begin.
 ghost use Rattle.std.specs.Prelude.{◌≡◌, ◌++◌, IfOk, IfSome, OnOk};
-ghost use Rattle.rn_model.specs.Systems.{net_at};
-ghost use Rattle.rn_record.specs.RecordText.{place_name};
 ghost use Rattle.rn_moves.specs.Connecting.{IsLead};
 ghost use Rattle.rn_moves.specs.MovesText.{place_text};
 
@@ -9,6 +7,7 @@ use crate::naming::net_numbered;
 use crate::token::Token;
 use rn_items::NoMemory;
 use rn_model::{System, write_instance};
+use rn_record::put_place_name;
 use rn_value::write_numeral;
 use std::alloc::Global;
 
@@ -18,17 +17,6 @@ pub(crate) struct Lead {
     pub(crate) inst: u32,
     pub(crate) place: u32,
     pub(crate) text: Vec<u8>,
-}
-
-fn put_place_name(system: &System, net: u32, place: u32, out: &mut Vec<u8>) -> Result<(), NoMemory>
-    ensures { OnOk result (out.new.items ≡ out.old.items ++ place_name (net_at system.now net) place) }
-{
-    if let Some(net) = system.nets.get(net as usize) {
-        if let Some(place) = net.places.get(place as usize) {
-            out.extend_from_slice(place.name.as_str().as_bytes())?;
-        }
-    }
-    Ok(())
 }
 
 fn put_place(

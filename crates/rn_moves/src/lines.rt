@@ -1,5 +1,5 @@
 //! The lines of moves.
-ghost use Rattle.std.specs.Prelude.{◌≡◌, ◌++◌, All, OnOk, flat_map, codes, length};
+ghost use Rattle.std.specs.Prelude.{◌≡◌, ◌++◌, OnOk, flat_map, codes, length};
 ghost use Rattle.rn_value.specs.Names.{AreNamed};
 ghost use Rattle.rn_value.specs.Text.{value_text};
 ghost use Rattle.rn_moves.specs.Movable.{AreWithin};

@@ -1,5 +1,5 @@
 //! The moves of the start and of one firing.
-ghost use Rattle.std.specs.Prelude.{◌≡◌, ◌≤◌, length, IfOk};
+ghost use Rattle.std.specs.Prelude.{◌≡◌, IfOk};
 ghost use Rattle.rn_model.specs.Good.{Good};
 ghost use Rattle.rn_model.specs.Systems.{main_net};
 ghost use Rattle.rn_moves.specs.Movable.{IsDefined};
@@ -11,21 +11,8 @@ use crate::token::Moves;
 use rn_acts::{act, change_of};
 use rn_items::{Items, NoMemory};
 use rn_model::{Binding, System, named};
-use rn_table::nets_are_few;
+use rn_table::{main_net_of, nets_are_few};
 use std::alloc::Global;
-
-/// The number of the net `main`, and 0 where there is none.
-fn main_net(system: &System) -> usize
-    ensures net { result ≡ main_net system.now }
-    ensures bound { result ≤ length system.now.nets }
-{
-    for (i, net) in system.nets.as_slice().iter().enumerate() {
-        if net.name.as_str() == "main" {
-            return i;
-        }
-    }
-    0
-}
 
 /// The number of the net of the first instance.
 pub(crate) fn first_net(system: &System) -> u32
@@ -33,7 +20,7 @@ pub(crate) fn first_net(system: &System) -> u32
     ensures { result ≡ main_net system.now }
 {
     nets_are_few();
-    main_net(system) as u32
+    main_net_of(system) as u32
 }
 
 /// The moves of the start: the initial tokens of instance 1, of the net `main`.

@@ -1,13 +1,14 @@
 //! The nets of the instances of a log, and their names.
-ghost use Rattle.std.specs.Prelude.{◌≡◌, ◌∷◌, [], ◌++◌, All, IfOk, OnOk};
-ghost use Rattle.rn_model.specs.Systems.{main_net, net_at};
+ghost use Rattle.std.specs.Prelude.{◌≡◌, ◌++◌, All, IfOk, OnOk};
+ghost use Rattle.rn_model.specs.Systems.{main_net};
 ghost use Rattle.rn_moves.specs.Connecting.{HasEntryNodes};
 ghost use Rattle.rn_moves.specs.MovesText.{names_of, nets_in, nets_of, net_numbered};
 
 use rn_acts::nets_made;
 use rn_items::NoMemory;
 use rn_model::{Entry, System};
-use rn_value::{Names, Str};
+use rn_record::push_name;
+use rn_value::Names;
 use std::alloc::Global;
 
 /// Adds the nets of the instances that an entry makes.
@@ -52,15 +53,6 @@ pub(crate) fn nets_of(
         add_nets(alloc, system, entry, &mut nets)?;
     }
     Ok(nets)
-}
-
-fn push_name(alloc: Global, system: &System, net: u32, names: &mut Names) -> Result<(), NoMemory>
-    ensures { OnOk result (names.new ≡ names.old ++ (net_at system.now net).name ∷ []) }
-{
-    match system.nets.get(net as usize) {
-        Some(net) => names.push(alloc, &net.name),
-        None => names.push(alloc, &Str::from_string(String::new(alloc))),
-    }
 }
 
 /// The names of these nets.

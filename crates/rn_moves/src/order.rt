@@ -1,5 +1,4 @@
 //! The order of tokens.
-ghost use Rattle.std.specs.Prelude.{OnOk, OnErr, ◌≡◌};
 ghost use Rattle.std.specs.Prelude.{IfOk};
 ghost use Rattle.std.specs.List.Sorted.{IsSorted, IsPermutation};
 ghost use Rattle.rn_moves.specs.Order.{token_cmp};

@@ -1,5 +1,5 @@
 //! The text of the moves of a log.
-ghost use Rattle.std.specs.Prelude.{◌≡◌, ◌++◌, ℕ, List, length, IfOk, OnOk};
+ghost use Rattle.std.specs.Prelude.{length, IfOk, OnOk};
 ghost use Rattle.rn_model.specs.Good.{Good};
 ghost use Rattle.rn_moves.specs.Connecting.{WritesAll, WritesEntry};
 ghost use Rattle.rn_moves.specs.Laws.{LogsHaveMoves};

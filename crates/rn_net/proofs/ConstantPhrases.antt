@@ -1,13 +1,12 @@
 -- What the productions of constants say of their first token.
-use Rattle.std.proofs.Common.{◌≡◌, ℕ, ℤ, ◌+◌, ◌<◌, ◌≤◌, ◌⊎◌, inl, inr, true, false, List, [], ◌∷◌, ◌++◌, length, drop, refl, sym, ◌∙◌, ap, subst, append_assoc, arith, pos}
+use Rattle.std.proofs.Common.{◌≡◌, ℕ, ℤ, ◌+◌, ◌≤◌, ◌⊎◌, inl, inr, false, List, [], ◌∷◌, ◌++◌, length, drop, refl, sym, ◌∙◌, subst, arith, pos}
 use Rattle.rn_notation.specs.declared.token.Spot.{Spot}
 use Rattle.rn_notation.specs.declared.token.Token.{Token}
 use Rattle.rn_notation.specs.declared.token.TokenKind.{TokenKind}
-use Rattle.rn_notation.specs.declared.token.TokenKind.TheVariants.{Name, Word, Number, Text, Sign}
+use Rattle.rn_notation.specs.declared.token.TokenKind.TheVariants.{Number, Text, Sign}
 use Rattle.rn_inscript.specs.Signs.{open_brace, close_brace, open_bracket, close_bracket, comma, minus}
-use Rattle.rn_inscript.specs.Stages.{Phrases, Then, Done, Takes, BeginAlike, CanEnd, IsClose}
+use Rattle.rn_inscript.specs.Stages.{Phrases, Then, Done, BeginAlike}
 use Rattle.rn_inscript.specs.NextNames.{IsNotNextKind}
-use Rattle.rn_inscript.specs.declared.fault.InscriptFault.{InscriptFault}
 use Rattle.rn_inscript.specs.declared.fault.InscriptFault.TheVariants as Fault
 use Rattle.rn_net.specs.declared.constants.PConst.{PConst}
 use Rattle.rn_net.specs.declared.constants.PConstForm.{PConstForm}
@@ -15,12 +14,11 @@ use Rattle.rn_net.specs.declared.constants.PConstForm.TheVariants as C
 use Rattle.rn_net.specs.Constants.{IsConstant, AreItems, AreConstants, AreMoreConstants, constant_at}
 use Rattle.rn_net.specs.Levels.{Region, is_too_deep, after}
 use Rattle.rn_net.specs.Levels.Region.{declaring}
-use Rattle.rn_net.specs.Progress.{Sort, Stage, Fails, Reads, done, HasNext, IsNoNumber, IsNoText, IsEnd}
-use Rattle.rn_net.specs.Lists.{AreConstantsUpTo}
-use Rattle.rn_net.proofs.Steps.{alike-cons, begin, change, stuck}
-use Rattle.rn_net.proofs.Sorts.{any, WithKind, kind_then, number_then, number_read, number_stuck, WithNumber, then, kind_read, kind_stuck, kind_far, then_read, then_fails, from_done, next_is, tell, tell_apart}
+use Rattle.rn_net.specs.Progress.{Sort, Stage, Fails, done, HasNext, IsNoNumber, IsNoText, IsEnd}
+use Rattle.rn_net.proofs.Steps.{alike-cons, begin, stuck}
+use Rattle.rn_net.proofs.Sorts.{any, WithKind, kind_then, number_then, then, kind_read, kind_far, from_done, next_is, tell_apart}
 use Rattle.std.specs.Prelude.{neg_ℤ}
-use Rattle.rn_net.proofs.Rows.{Row, row_up_to, opening_small, opening_deep, close_small, close_after}
+use Rattle.rn_net.proofs.Rows.{Row, row_up_to, opening_small, opening_deep}
 
 -- constants, one of which is `0`
 abbrev pub constants : Sort PConst

@@ -1,16 +1,15 @@
 -- The productions of declarations, one token after another.
-use Rattle.std.proofs.Common.{◌≡◌, ℕ, ◌+◌, ◌<◌, ◌≤◌, ◌⊎◌, inl, inr, true, false, List, [], ◌∷◌, ◌++◌, length, drop, refl, sym, ◌∙◌, ap, subst, append_assoc, arith}
+use Rattle.std.proofs.Common.{◌≡◌, ℕ, ◌+◌, ◌≤◌, ◌⊎◌, inl, inr, List, [], ◌∷◌, ◌++◌, length, drop, refl, sym, ◌∙◌, ap, subst, arith}
 use Rattle.std.specs.Prelude.{map, ℤ, Option, Some, None, Result, Ok, Err, MatchResult}
 use Rattle.rn_notation.specs.declared.token.Spot.{Spot}
 use Rattle.rn_notation.specs.declared.token.Token.{Token}
 use Rattle.rn_notation.specs.declared.token.TokenKind.{TokenKind}
-use Rattle.rn_notation.specs.declared.token.TokenKind.TheVariants.{Name, Word, Number, Text, Sign}
+use Rattle.rn_notation.specs.declared.token.TokenKind.TheVariants.{Name, Number}
 use Rattle.rn_inscript.specs.Inscriptions.{name_at}
-use Rattle.rn_inscript.specs.Signs.{open_brace, close_brace, open_paren, close_paren, comma, colon, equals}
-use Rattle.rn_inscript.specs.Stages.{Phrases, Then, Done, Takes, BeginAlike, CanEnd, IsNextKind}
+use Rattle.rn_inscript.specs.Signs.{open_paren, close_paren, comma, colon, equals}
+use Rattle.rn_inscript.specs.Stages.{Phrases, Then, Done, Takes, BeginAlike, IsNextKind}
 use Rattle.rn_inscript.specs.NextNames.{IsNotNextKind, IsNextName, IsNoName}
 use Rattle.rn_inscript.specs.declared.inscriptions.PName.{PName}
-use Rattle.rn_inscript.specs.declared.inscriptions.PInscription.{PInscription}
 use Rattle.rn_inscript.specs.declared.fault.InscriptFault.{InscriptFault}
 use Rattle.rn_inscript.specs.declared.fault.InscriptFault.TheVariants as Fault
 use Rattle.rn_net.specs.declared.kinds.PKind.{PKind}
@@ -23,15 +22,13 @@ use Rattle.rn_net.specs.declared.plain.PMax.{PMax}
 use Rattle.rn_net.specs.declared.part.PlaceEnd.{PlaceEnd}
 use Rattle.rn_net.specs.Words.{semicolon, channel_word, var_word, place_word, max_name}
 use Rattle.rn_net.specs.Kinds.{IsKind, AreListed, kind_at}
-use Rattle.rn_net.specs.Constants.{AreConstants}
-use Rattle.rn_net.specs.Lists.{AreConstantsUpTo}
 use Rattle.rn_net.specs.Nets.{IsChannel, AreVars, AreMoreNames, IsKindOfPlace, IsCapacity, AreInitial, IsPlace, channel_of, var_of, max_of, place_of}
-use Rattle.rn_net.specs.Parts.{IsPName, AreNames, AreNamesUpTo, IsInitialUpTo, IsPlaceEnd, end_of}
-use Rattle.rn_net.specs.Levels.{Region, is_too_deep, after}
+use Rattle.rn_net.specs.Parts.{IsPName, AreNames, IsInitialUpTo, IsPlaceEnd, end_of}
+use Rattle.rn_net.specs.Levels.{Region}
 use Rattle.rn_net.specs.Levels.Region.{between, declaring}
 use Rattle.rn_net.specs.Progress.{Sort, Stage, Fails, Reads, Moves, done, HasNext, IsNoNumber}
-use Rattle.rn_net.proofs.Steps.{alike-cons, begin, change, stuck}
-use Rattle.rn_net.proofs.Sorts.{any, WithKind, kind_then, name_then, number_then, then, kind_read, kind_stuck, name_read, name_fails, number_read, number_stuck, then_read, then_fails, from_done, next_is, tell_apart}
+use Rattle.rn_net.proofs.Steps.{alike-cons, begin, change}
+use Rattle.rn_net.proofs.Sorts.{any, WithKind, kind_then, name_then, number_then, then, kind_read, kind_stuck, name_read, name_fails, number_read, number_stuck, from_done, next_is, tell_apart}
 use Rattle.rn_net.proofs.Rows.{Row, row_up_to}
 use Rattle.rn_net.proofs.KindPhrases as KP
 use Rattle.rn_net.proofs.ConstantPhrases.{constant_row}

@@ -1,13 +1,13 @@
 -- Tokens begin with one phrase of a sort at most: what phrases are put together from, kinds and
 -- constants.
-use Rattle.std.proofs.Common.{◌≡◌, ℕ, ℤ, true, false, Bool, ◌||◌, List, [], ◌∷◌, ◌++◌, refl, sym, ◌∙◌, ap, subst, nat_eq, arith}
+use Rattle.std.proofs.Common.{◌≡◌, ℤ, true, false, Bool, ◌||◌, List, [], ◌∷◌, ◌++◌, refl, sym, ◌∙◌, ap, subst, nat_eq, arith}
 use Rattle.std.specs.Prelude.{neg_ℤ}
 use Rattle.rn_notation.specs.declared.sign.TheConstants as sign
 use Rattle.rn_notation.specs.declared.word.TheConstants as word
 use Rattle.rn_notation.specs.declared.token.Spot.{Spot}
 use Rattle.rn_notation.specs.declared.token.Token.{Token}
 use Rattle.rn_notation.specs.declared.token.TokenKind.{TokenKind}
-use Rattle.rn_notation.specs.declared.token.TokenKind.TheVariants.{Name, Word, Number, Text, Sign}
+use Rattle.rn_notation.specs.declared.token.TokenKind.TheVariants.{Word, Number, Text, Sign}
 use Rattle.rn_inscript.specs.Signs.{comma}
 use Rattle.rn_inscript.specs.Inscriptions.{name_at}
 use Rattle.rn_inscript.specs.Stages.{Phrases, Then, Done, Takes}

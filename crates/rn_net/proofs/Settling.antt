@@ -24,7 +24,7 @@ use Rattle.rn_net.specs.Nets.{IsSystem}
 use Rattle.rn_net.specs.Progress.{HaveNaturals}
 use Rattle.rn_net.specs.Texts.{Spells}
 use Rattle.rn_net.specs.Refusals.{IsBeginning, IsStopped, IsDeep, AreFine, IsRefused, IsReason, Answers, refusal_of}
-use Rattle.rn_net.specs.Answers.{Top, Halts, Sinks, Reason, Settles, unfinished_of}
+use Rattle.rn_net.specs.Answers.{Top, Halts, Reason, Settles, unfinished_of}
 use Rattle.rn_net.proofs.Openings.{append-nil}
 use Rattle.rn_net.proofs.Systems.{items-split, no-item}
 
@@ -70,24 +70,6 @@ halts_end tokens k h none = (
 
     same : h.before ≡ tokens
     same = sym (h.parts ∙ ap (λ us. h.before ++ us) here ∙ append-nil h.before)
-
-sunk : (tokens : List Token) (k : ℕ) (s : Sinks tokens k) → drop k tokens ≡ s.token ∷ s.left
-sunk tokens k s = left-of tokens s.before (s.token ∷ s.left) k s.parts s.stands
-
-pub sinks_at : (tokens : List Token) (k : ℕ) (t : Token) → Sinks tokens k → IsNext tokens k t → IsDeep tokens t.spot
-sinks_at tokens k t s next = record {
-  before = s.before;
-  token = s.token;
-  left = s.left;
-  parts = s.parts;
-  begins = s.begins;
-  within = s.within;
-  deep = s.deep;
-  stands = ap (λ u. u.spot) (let h : t ≡ s.token = let a = sunk tokens k s in let b = next.0 in cc in h);
-}
-
-pub sinks_somewhere : (tokens : List Token) (k : ℕ) → Sinks tokens k → HasNoNext tokens k → ⊥
-sinks_somewhere tokens k s none = let a = sunk tokens k s in let b = none in cc
 
 -- the numbers of a text aren't negative
 all-drop : (P : Token → Type 0) (at : ℕ) (ts : List Token) → AllByRecursion P ts → AllByRecursion P (drop at ts)

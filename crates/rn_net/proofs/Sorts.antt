@@ -1,6 +1,5 @@
 -- Sorts of phrases made of others, and the steps along them.
-use Rattle.std.proofs.Common.{◌≡◌, ℕ, ℤ, ◌+◌, ◌<◌, ◌≤◌, ◌⊎◌, inl, inr, true, false, List, [], ◌∷◌, ◌++◌, length, drop, refl, sym, ◌∙◌, ap, subst, append_assoc, arith, pos}
-use Rattle.std.specs.Prelude.{Result, Ok, Err}
+use Rattle.std.proofs.Common.{◌≡◌, ℕ, ℤ, ◌+◌, ◌≤◌, true, false, List, [], ◌∷◌, ◌++◌, length, drop, refl, sym, ◌∙◌, ap, subst, append_assoc, pos}
 use Rattle.rn_notation.specs.declared.token.Spot.{Spot}
 use Rattle.rn_notation.specs.declared.token.Token.{Token}
 use Rattle.rn_notation.specs.declared.token.TokenKind.{TokenKind}
@@ -9,10 +8,10 @@ use Rattle.rn_inscript.specs.declared.fault.InscriptFault.{InscriptFault}
 use Rattle.rn_inscript.specs.declared.fault.InscriptFault.TheVariants as Fault
 use Rattle.rn_inscript.specs.declared.inscriptions.PName.{PName}
 use Rattle.rn_inscript.specs.Inscriptions.{name_at}
-use Rattle.rn_inscript.specs.Stages.{Phrases, Then, Done, BeginAlike, CanEnd, IsNext, IsNextKind}
-use Rattle.rn_inscript.specs.NextNames.{IsNotNextKind, IsNextName, IsNotName, IsNoName}
+use Rattle.rn_inscript.specs.Stages.{Phrases, Then, Done, BeginAlike}
+use Rattle.rn_inscript.specs.NextNames.{IsNotNextKind, IsNextName, IsNoName}
 use Rattle.rn_net.specs.Levels.{Region, is_too_deep, after}
-use Rattle.rn_net.specs.Progress.{Sort, Stage, IsStuck, IsTooFar, Fails, Reads, done, HasNext, IsNoNumber}
+use Rattle.rn_net.specs.Progress.{Sort, Stage, Fails, done, HasNext, IsNoNumber}
 use Rattle.rn_net.proofs.Steps.{alike-cons, change, take, stuck, too_far, inner, inner_fails}
 
 -- a token of a kind, wherever it stands

@@ -51,10 +51,6 @@ nothing : (a b : List Token) → a ++ b ≡ [] → b ≡ []
 nothing [] b e = e
 nothing (x ∷ a) b e = absurd cc
 
-not-nothing : (a b : List Token) → (a ≡ [] → ⊥) → a ++ b ≡ [] → ⊥
-not-nothing [] b some e = some refl
-not-nothing (x ∷ a) b some e = let f = e in cc
-
 -- an item is read
 pub top_read : {tokens mid left : List Token} {p : Plain} {i : Item} → Top tokens mid p → Stage (IsItem p.notation) mid between (done i) left between → Top tokens left (with_item p i)
 top_read {tokens = tokens} {mid = mid} {left = left} {p = p} {i = i} s x = record {

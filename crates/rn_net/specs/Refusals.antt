@@ -1,5 +1,5 @@
 -- Why a text is refused.
-use Rattle.std.specs.Prelude.{◌≡◌, ℕ, ◌<◌, ◌≤◌, ◌⊎◌, true, List, [], ◌∷◌, ◌++◌, length, Result, Ok, Err}
+use Rattle.std.specs.Prelude.{◌≡◌, ℕ, ◌<◌, ◌≤◌, ◌⊎◌, true, List, [], ◌∷◌, ◌++◌, length, Result, Err}
 use Rattle.rn_notation.specs.Limits.{longest_net_text}
 use Rattle.rn_notation.specs.Reading.{Tokens, FirstFault}
 use Rattle.rn_notation.specs.Spots.{spot_after}

@@ -1,5 +1,5 @@
 //! Steps from token to token.
-ghost use Rattle.std.specs.Prelude.{◌≡◌, ◌+◌, ◌<◌, ◌≤◌, ◌^◌, ◌↔◌, IsTrue};
+ghost use Rattle.std.specs.Prelude.{◌≡◌, ◌+◌, ◌<◌, ◌^◌, ◌↔◌, IsTrue};
 ghost use Rattle.std.specs.Prelude.{MatchOption, MatchResult, OnSome};
 ghost use Rattle.rn_notation.specs.declared.token.TokenKind.TheVariants as Kind;
 ghost use Rattle.rn_notation.specs.StoredTokens.{lent};
@@ -20,6 +20,7 @@ pub(crate) fn next(tokens: &Tokens, at: usize) -> Option<TokenRef<'_>>
     ensures next { MatchOption result (HasNoNext tokens.now at) (λ t. IsNext tokens.now at (lent t)) }
     ensures fits { OnSome result (at + 1 < 2 ^ 64) }
 {
+    // For its clause: there are fewer than 2^64 tokens, so `at + 1` fits.
     let _count = tokens.len();
     tokens.get(at)
 }

@@ -1,5 +1,5 @@
 //! Reading declarations: channels, variables and places.
-ghost use Rattle.std.specs.Prelude.{◌≡◌, ℕ, ◌+◌, ◌≤◌, List, length, map, IfOk, take};
+ghost use Rattle.std.specs.Prelude.{◌≡◌, ◌+◌, ◌≤◌, length, map, IfOk};
 ghost use Rattle.rn_inscript.specs.Stages.{IsNextKind};
 ghost use Rattle.rn_net.specs.Levels.Region.{between, declaring};
 ghost use Rattle.rn_net.specs.Nets.{IsChannel, AreVars, IsPlace, var_of};

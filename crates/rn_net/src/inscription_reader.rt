@@ -114,6 +114,7 @@ fn further_up_to(
     ensures reads { (c : Count) →
         Reads AreFurtherUpTo tokens.now at (inscribing 0 c) between result }
 {
+    // For its clause: tokens stand for one expression at most.
     reading_laws();
     let mut all = Vec::new(alloc);
     let mut now = at;
@@ -162,6 +163,7 @@ fn inscribed(
     ensures moved { Moves tokens.now (at + 1) result }
     ensures reads { Reads (AreInscribedUpTo notation) tokens.now at between between result }
 {
+    // For its clause: tokens stand for one inscription at most.
     reading_laws();
     let (first, after) = read_transition_inscription(alloc, tokens, at)?;
     let (others, end) = others_up_to(alloc, tokens, &first, at, after, notation)?;

@@ -12,6 +12,8 @@ pub fn net_laws()
     ensures not_refused { SpelledIsNotRefused }
     ensures notations { SpelledInNotation }
 {
+    // For its clauses: no text has two lists of tokens or two first faults, or one of each.
     token_laws();
+    // For its clauses: tokens stand for one expression and for one inscription at most.
     reading_laws();
 }

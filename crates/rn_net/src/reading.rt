@@ -1,5 +1,5 @@
 //! Reading a net text.
-ghost use Rattle.std.specs.Prelude.{◌≡◌, ◌≤◌, IfErr, IfOk};
+ghost use Rattle.std.specs.Prelude.{◌≡◌, IfErr, IfOk};
 ghost use Rattle.rn_net.specs.Answers.{SystemAnswer, Settles, unfinished_of};
 ghost use Rattle.rn_net.specs.Refusals.{Answers, IsReason, IsRefused, refusal_of};
 ghost use Rattle.rn_net.specs.declared.plain.Plain.{Plain as System};
@@ -80,6 +80,7 @@ pub fn read_system(alloc: Global, bytes: &[u8]) -> Result<Plain, Refusal>
     // Where there is a reason to refuse the text, that is returned. So no text has two.
     ensures refuses { (why : Why) → IsRefused bytes.now why → Answers result (Err why) }
 {
+    // For its clauses: no text has two lists of tokens or two first faults, or one of each.
     token_laws();
     if bytes.len() > LONGEST_NET_TEXT {
         return Err(Refusal::P6(Spot { line: 1, column: 1 }));

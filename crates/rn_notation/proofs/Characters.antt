@@ -48,17 +48,17 @@ none_at_empty text prefix n e l some none c rest scalar whole =
     let positive = some (omega arith) in
     omega arith
 
-within : (l n k : ℕ) → (l < 4 → n ≡ l) → (4 ≤ l → n ≡ 4) → k ≤ l → k ≤ 4 → k ≤ n
-within l n k short long a b = grind arith
+within : (l n k most : ℕ) → 4 ≤ most → (l < most → n ≡ l) → (most ≤ l → n ≡ most) → k ≤ l → k ≤ 4 → k ≤ n
+within l n k most four short long a b = grind arith
 
-pub none_at_fault : (text prefix : List ℕ) (n m : ℕ) → prefix ≡ take n text → (length text < 4 → n ≡ length text) → (4 ≤ length text → n ≡ 4) →
+pub none_at_fault : (text prefix : List ℕ) (most n m : ℕ) → 4 ≤ most → prefix ≡ take n text → (length text < most → n ≡ length text) → (most ≤ length text → n ≡ most) →
     IsValidUpTo prefix m → m ≡ 0 → StartsWithNoChar text
-none_at_fault text prefix n m e short long valid zero c rest scalar whole =
+none_at_fault text prefix most n m four e short long valid zero c rest scalar whole =
     let few = some_bytes c in
     let size = length-encode c in
-    let most = len_utf8_bounds c in
+    let bounds = len_utf8_bounds c in
     let longer : length text ≡ length (encode_utf8 c) + length rest = ap length whole ∙ length-append (encode_utf8 c) rest in
-    let within : length (encode_utf8 c) ≤ n = within (length text) n (length (encode_utf8 c)) short long (omega arith) (omega arith) in
+    let within : length (encode_utf8 c) ≤ n = within (length text) n (length (encode_utf8 c)) most four short long (omega arith) (omega arith) in
     let same : take (length (encode_utf8 c)) prefix ≡ encode_utf8 c = ap (take (length (encode_utf8 c))) e ∙ take-take (length (encode_utf8 c)) n text within ∙ ap (take (length (encode_utf8 c))) whole ∙ take_at (encode_utf8 c) rest (length (encode_utf8 c)) refl in
     valid.longest (length (encode_utf8 c)) (omega arith) (subst IsUtf8 (sym same) (IsUtf8-encode c scalar))
 

@@ -23,7 +23,7 @@ use Rattle.std.proofs.lemmas.List.{length-append}
 use Rattle.rn_notation.specs.declared.token.TokenKind.{TokenKind}
 use Rattle.rn_notation.specs.declared.token.Cause.{Cause}
 use Rattle.rn_notation.proofs.Parts.{Stuck, one_text, stuck_at_quote, stuck_at_escape, stuck_at_broken, EndsComment, one_comment, comment_at_line_end, comment_at_broken, closed_parts}
-use Rattle.std.proofs.lemmas.Bool.{eqb-true, eqb-false}
+use Rattle.std.proofs.lemmas.Bool.{eqb-true, eqb-false, not-false}
 use lib.Dec.{lt→ltb, ltb→lt, le→leb}
 use mathlib.Core.Logic.{inl, inr}
 
@@ -251,10 +251,6 @@ class_broken (c ∷ text) broken = by (nat_lt c 128) refl
     by true e = absurd (not_broken c text (ltb→lt c 128 (subst T (sym e) tt)) broken)
     by false e = rw e refl
 
-not_false : (b : Bool) → not b ≡ false → b ≡ true
-not_false true h = refl
-not_false false h = absurd (true≢false h)
-
 nothing_goes_on : EndsComment []
 nothing_goes_on c rest is e = let some = some_bytes c in let long = ap length e ∙ length-append (encode_utf8 c) rest in omega (arith, some, long)
 
@@ -302,11 +298,11 @@ gap_class prefix rest (IsGap.comment cs all stops) = at_class comments (47 ∷ 4
   where
     ends : (rest : List ℕ) → begins_with (λ c. not (nat_eq c 10)) rest ≡ false → EndsComment rest
     ends [] h = nothing_goes_on
-    ends (c ∷ rest) h = let ten : c ≡ 10 = eqb-true c 10 (not_false (nat_eq c 10) h) in subst (λ c. EndsComment (c ∷ rest)) (sym ten) (comment_at_line_end rest)
+    ends (c ∷ rest) h = let ten : c ≡ 10 = eqb-true c 10 (not-false (nat_eq c 10) h) in subst (λ c. EndsComment (c ∷ rest)) (sym ten) (comment_at_line_end rest)
 
     made : (rest : List ℕ) → begins_with (λ c. not (nat_eq c 10)) rest ≡ false → (gap, 47 ∷ 47 ∷ encode_utf8_all cs, rest) ≡ comment_found cs rest
     made [] h = refl
-    made (c ∷ rest) h = rw (not_false (nat_eq c 10) h) refl
+    made (c ∷ rest) h = rw (not-false (nat_eq c 10) h) refl
 
 word_class : (word rest : List ℕ) (o : Outcome) → is_identifier word ≡ true → begins_with is_name_byte rest ≡ false → o ≡ word_found word rest → Read (class_of (word ++ rest)) (word ++ rest) o
 word_class word rest o is stops made = at_class letters (word ++ rest) o (class_letter (word ++ rest) (first_letter word rest is))

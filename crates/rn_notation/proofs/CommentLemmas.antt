@@ -9,12 +9,13 @@ use Rattle.std.proofs.lemmas.Str.{encodes-append}
 use Rattle.std.proofs.lemmas.Bool.{eqb-true}
 use Rattle.rn_value.specs.Words.{begins_with}
 use Rattle.rn_notation.specs.Words.{opens_comment}
-use Rattle.rn_notation.specs.Texts.{IsInComment, IsBroken}
+use Rattle.rn_notation.specs.Texts.{IsInComment, IsBroken, IsPart, itself}
 use Rattle.rn_notation.specs.Tokens.{IsGap}
 use Rattle.rn_notation.specs.Faults.{IsFault}
-use Rattle.rn_notation.specs.Scanning.{Cuts, gap, fault}
+use Rattle.rn_notation.specs.Scanning.{Cuts, gap, fault, IsRun}
 use Rattle.rn_notation.specs.declared.token.Cause.TheVariants.{P4}
 use Rattle.rn_notation.proofs.Characters.{heads, ascii_prefix}
+use Rattle.rn_notation.proofs.Parts.{not_special}
 
 -- the source is a comment so far, and then this rest
 pub record Commented (source rest : List ℕ) : Type 0 where
@@ -52,17 +53,29 @@ no_line_feed first c others rest e h = by (nat_eq c 10) refl
         ap (λ c. nat_eq c 10) (sym same) ∙ h
     by false t = t
 
-all_more : (cs : List ℕ) (c : ℕ) → AllByRecursion IsInComment cs → IsInComment c → AllByRecursion IsInComment (cs ++ c ∷ [])
-all_more [] c all is = (is, tt)
-all_more (d ∷ cs) c all is = (all.0, all_more cs c all.1 is)
+pub all_more : {X : Type 0} (P : X → Type 0) (xs ys : List X) → AllByRecursion P xs → AllByRecursion P ys → AllByRecursion P (xs ++ ys)
+all_more P [] ys all more = more
+all_more P (x ∷ xs) ys all more = (all.0, all_more P xs ys all.1 more)
 
 pub comment_goes_on : (source rest more others : List ℕ) (first c : ℕ) → Commented source rest → rest ≡ first ∷ others → nat_eq first 10 ≡ false →
     IsScalar c → rest ≡ encode_utf8 c ++ more → Commented source more
 comment_goes_on source rest more others first c so e h scalar whole = record {
   cs = so.cs ++ c ∷ [];
-  are = all_more so.cs c so.are (scalar, no_line_feed first c others more (sym e ∙ whole) h);
+  are = all_more IsInComment so.cs (c ∷ []) so.are ((scalar, no_line_feed first c others more (sym e ∙ whole) h), tt);
   whole = so.whole ∙ ap (λ rest. 47 ∷ 47 ∷ encode_utf8_all so.cs ++ rest) whole ∙ ap (λ t. 47 ∷ 47 ∷ t) (sym (append_assoc (encode_utf8_all so.cs) (encode_utf8 c) more))
       ∙ ap (λ t. 47 ∷ 47 ∷ t ++ more) (sym (encodes-append so.cs (c ∷ []) ∙ ap (λ t. encode_utf8_all so.cs ++ t) (append-nil (encode_utf8 c))));
+}
+
+in_comment : (cs : List ℕ) → AllByRecursion (λ c. IsPart (itself c)) cs → AllByRecursion IsInComment cs
+in_comment [] are = tt
+in_comment (c ∷ cs) are = ((are.0.0, (not_special c are.0.1).1), in_comment cs are.1)
+
+pub comment_runs_on : (source rest run more : List ℕ) → Commented source rest → IsRun rest run more → Commented source more
+comment_runs_on source rest run more so is = record {
+  cs = so.cs ++ is.cs;
+  are = all_more IsInComment so.cs is.cs so.are (in_comment is.cs is.are);
+  whole = so.whole ∙ ap (λ rest. 47 ∷ 47 ∷ encode_utf8_all so.cs ++ rest) (is.whole ∙ ap (λ run. run ++ more) is.spells)
+      ∙ ap (λ t. 47 ∷ 47 ∷ t) (sym (append_assoc (encode_utf8_all so.cs) (encode_utf8_all is.cs) more)) ∙ ap (λ t. 47 ∷ 47 ∷ t ++ more) (sym (encodes-append so.cs is.cs));
 }
 
 pub comment_ends : (source rest : List ℕ) (n : ℕ) → Commented source rest → begins_with (λ c. not (nat_eq c 10)) rest ≡ false → n ≡ length source - length rest → Cuts source n gap

@@ -6,6 +6,7 @@ pub mod OneReading
 pub mod BlankLemmas
 pub mod Parts
 pub mod ReadingLemmas
+pub mod Runs
 pub mod TextLemmas
 pub mod WordLemmas
 pub mod StoredTokens

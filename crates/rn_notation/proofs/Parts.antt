@@ -70,7 +70,7 @@ one_comment (c ∷ cs) (d ∷ ds) s t a b ns nt e =
     let others = one_comment cs ds s t a.1 b.1 ns nt first.1 in
     (ap (λ c. c ∷ cs) first.0 ∙ ap (λ cs. d ∷ cs) others.0, others.1)
 
-not_special : (b : ℕ) → is_special b ≡ false → (nat_eq b 34 ≡ false) × (nat_eq b 10 ≡ false) × (nat_eq b 92 ≡ false)
+pub not_special : (b : ℕ) → is_special b ≡ false → (nat_eq b 34 ≡ false) × (nat_eq b 10 ≡ false) × (nat_eq b 92 ≡ false)
 not_special b h = by (nat_eq b 34) (nat_eq b 92) (nat_eq b 10) h
   where
     by : (x y z : Bool) → (x || (y || (z || false))) ≡ false → (x ≡ false) × (z ≡ false) × (y ≡ false)

@@ -15,6 +15,8 @@ use Rattle.rn_notation.specs.declared.token.Token.{Token}
 use Rattle.rn_notation.specs.declared.token.TokenKind.{TokenKind}
 use Rattle.rn_notation.specs.declared.token.Cause.{Cause}
 use Rattle.rn_notation.proofs.WordLemmas.{sign_not_empty}
+use Rattle.rn_notation.specs.Words.{is_blank}
+use Rattle.rn_notation.proofs.BlankLemmas.{blank_stands}
 
 count_more : (c : ℕ) (xs : List ℕ) → count_by is_line_end (xs ++ c ∷ []) ≡ count_by is_line_end xs + cond (is_line_end c) 1 0
 count_more c xs = sum_by-append (λ x. cond (is_line_end x) 1 0) xs (c ∷ []) ∙ ap (λ n. count_by is_line_end xs + n) (zero_plus (cond (is_line_end c) 1 0))
@@ -164,6 +166,15 @@ room text rest prefix tokens spot n few so f within =
     small a b f r t few long short bound = omega arith
 
 -- the spot after the prefix, and the bytes after it
+pub one_fits : (text rest others : List ℕ) (c : ℕ) (tokens : List Token) (spot : Spot) → length text ≤ 67108864 → SoFar text tokens spot rest → rest ≡ c ∷ others → spot.column + 1 < 2 ^ 32
+one_fits text rest others c tokens spot few so e =
+    let long = ap length e in
+    (room text rest (c ∷ []) tokens spot 1 few so (sym (ap (take 1) e)) (omega (arith, long))).1
+
+pub blank_read : (text rest others : List ℕ) (c : ℕ) (tokens : List Token) (spot next : Spot) → SoFar text tokens spot rest → rest ≡ c ∷ others → is_blank c ≡ true → next ≡ next_spot spot c → SoFar text tokens next others
+blank_read text rest others c tokens spot next so e is at =
+    gap_read text rest (c ∷ []) others tokens spot next 1 so (blank_stands c rest others e is) (sym (ap (take 1) e)) (sym (ap (drop 1) e)) at
+
 pub room_after : (text rest prefix after : List ℕ) (tokens : List Token) (spot next : Spot) (n : ℕ) → length text ≤ 67108864 → SoFar text tokens spot rest → prefix ≡ take n rest → after ≡ drop n rest →
     next ≡ spot_on spot prefix → (next.line + length after < 2 ^ 32) × (next.column + length after < 2 ^ 32)
 room_after text rest prefix after tokens spot next n few so f a at =

@@ -1,20 +1,21 @@
 -- Texts, as they are read.
-use Rattle.std.proofs.Common.{◌≡◌, ◌<◌, ◌≤◌, ◌+◌, ◌-◌, ℕ, List, [], ◌∷◌, ◌++◌, length, drop, Bool, true, false, nat_eq, refl, sym, ap, ◌∙◌, subst, arith, true≢false, append_assoc, if◌then◌else◌}
-use Rattle.std.specs.Prelude.{encode_utf8}
-use Rattle.std.specs.List.{flat_map}
+use Rattle.std.proofs.Common.{◌≡◌, ◌<◌, ◌+◌, ◌-◌, ℕ, List, [], ◌∷◌, ◌++◌, length, drop, Bool, true, false, nat_eq, refl, sym, ap, ◌∙◌, subst, arith, true≢false, append_assoc, if◌then◌else◌}
+use Rattle.std.specs.Prelude.{encode_utf8, encode_utf8_all, map}
+use Rattle.std.specs.List.{flat_map, AllByRecursion}
 use Rattle.std.proofs.lemmas.List.{append-nil, length-append}
+use Rattle.std.proofs.lemmas.List.Concat.{flat_map-append}
 use Rattle.std.proofs.lemmas.Bool.{eqb-true}
 use Rattle.rn_value.specs.Words.{begins_with}
 use Rattle.rn_notation.specs.Texts.{Part, itself, escape, IsPart, AreParts, spelled, meaning, written, meant, is_closed, IsBroken, IsNoEscape}
 use Rattle.rn_notation.specs.Tokens.{IsToken}
 use Rattle.rn_notation.specs.Faults.{IsFault}
-use Rattle.rn_notation.specs.Scanning.{Cuts, IsFirstPiece, HasPart, token, fault}
+use Rattle.rn_notation.specs.Scanning.{Cuts, IsFirstPiece, HasPart, token, fault, IsRun}
 use Rattle.rn_notation.specs.Inside.{fault_in_text}
 use Rattle.rn_notation.specs.declared.token.TokenKind.TheVariants.{Text}
 use Rattle.rn_notation.specs.declared.token.Cause.{Cause}
 use Rattle.rn_notation.specs.declared.token.Cause.TheVariants.{P1, P4, P7}
 use Rattle.rn_notation.specs.declared.piece.Piece.{Piece}
-use Rattle.rn_notation.proofs.CommentLemmas.{size_of_prefix}
+use Rattle.rn_notation.proofs.CommentLemmas.{size_of_prefix, all_more}
 use Rattle.rn_notation.proofs.Parts.{closed_parts}
 use Rattle.rn_notation.proofs.Characters.{some_bytes}
 
@@ -29,21 +30,37 @@ pub text_starts : (source rest bytes : List ℕ) → begins_with (nat_eq 34) sou
 text_starts [] rest bytes h e f = absurd (true≢false (sym h))
 text_starts (c ∷ source) rest bytes h e f = record { parts = []; are = tt; whole = ap (λ c. c ∷ source) (sym (eqb-true 34 c h)) ∙ ap (λ t. 34 ∷ t) (sym e); means = f }
 
-parts_more : (ps : List Part) (p : Part) → AreParts ps → IsPart p → AreParts (ps ++ p ∷ [])
-parts_more [] p are is = (is, tt)
-parts_more (q ∷ ps) p are is = (are.0, parts_more ps p are.1 is)
-
 one_more : (f : Part → List ℕ) (ps : List Part) (p : Part) → flat_map f (ps ++ p ∷ []) ≡ flat_map f ps ++ f p
-one_more f [] p = append-nil (f p)
-one_more f (q ∷ ps) p = ap (λ t. f q ++ t) (one_more f ps p) ∙ sym (append_assoc (f q) (flat_map f ps) (f p))
+one_more f ps p = flat_map-append f ps (p ∷ []) ∙ ap (λ t. flat_map f ps ++ t) (append-nil (f p))
 
 pub text_goes_on : (source rest more bytes longer : List ℕ) (c : ℕ) → ReadText source rest bytes → HasPart rest c more → longer ≡ bytes ++ encode_utf8 c → ReadText source more longer
 text_goes_on source rest more bytes longer c so has e = record {
   parts = so.parts ++ has.part ∷ [];
-  are = parts_more so.parts has.part so.are has.is;
+  are = all_more IsPart so.parts (has.part ∷ []) so.are (has.is, tt);
   whole = so.whole ∙ ap (λ t. 34 ∷ written so.parts ++ t) has.whole ∙ ap (λ t. 34 ∷ t) (sym (append_assoc (written so.parts) (spelled has.part) more))
       ∙ ap (λ t. 34 ∷ t ++ more) (sym (one_more spelled so.parts has.part));
   means = e ∙ ap (λ t. t ++ encode_utf8 c) so.means ∙ ap (λ t. meant so.parts ++ t) (sym has.means) ∙ sym (one_more meaning so.parts has.part);
+}
+
+-- characters that stand for themselves, as parts
+themselves : (f : Part → List ℕ) → ((c : ℕ) → f (itself c) ≡ encode_utf8 c) → (cs : List ℕ) → flat_map f (map itself cs) ≡ encode_utf8_all cs
+themselves f same [] = refl
+themselves f same (c ∷ cs) = ap (λ t. t ++ flat_map f (map itself cs)) (same c) ∙ ap (λ t. encode_utf8 c ++ t) (themselves f same cs)
+
+are_parts : (cs : List ℕ) → AllByRecursion (λ c. IsPart (itself c)) cs → AreParts (map itself cs)
+are_parts [] are = tt
+are_parts (c ∷ cs) are = (are.0, are_parts cs are.1)
+
+more_parts : (f : Part → List ℕ) → ((c : ℕ) → f (itself c) ≡ encode_utf8 c) → (ps : List Part) (cs run : List ℕ) → run ≡ encode_utf8_all cs → flat_map f ps ++ run ≡ flat_map f (ps ++ map itself cs)
+more_parts f same ps cs run e = ap (λ t. flat_map f ps ++ t) (e ∙ sym (themselves f same cs)) ∙ sym (flat_map-append f ps (map itself cs))
+
+pub text_runs_on : (source rest run more bytes longer : List ℕ) → ReadText source rest bytes → IsRun rest run more → longer ≡ bytes ++ run → ReadText source more longer
+text_runs_on source rest run more bytes longer so is e = record {
+  parts = so.parts ++ map itself is.cs;
+  are = all_more IsPart so.parts (map itself is.cs) so.are (are_parts is.cs is.are);
+  whole = so.whole ∙ ap (λ t. 34 ∷ written so.parts ++ t) is.whole ∙ ap (λ t. 34 ∷ t) (sym (append_assoc (written so.parts) run more))
+      ∙ ap (λ t. 34 ∷ t ++ more) (more_parts spelled (λ c. refl) so.parts is.cs run is.spells);
+  means = e ∙ ap (λ t. t ++ run) so.means ∙ more_parts meaning (λ c. refl) so.parts is.cs run is.spells;
 }
 
 pub text_closes : (source rest after bytes : List ℕ) (n : ℕ) → ReadText source rest bytes → rest ≡ 34 ∷ after → n ≡ length source - length rest + 1 → Cuts source n (token (Text bytes))
@@ -83,9 +100,6 @@ text_no_escape source rest bytes so none = text_fails source rest bytes P1 so (�
 
 pub text_broken : (source rest bytes : List ℕ) → ReadText source rest bytes → IsBroken rest → (piece : Piece) → piece ≡ fault_in_text source P4 rest → IsFirstPiece source piece
 text_broken source rest bytes so none = text_fails source rest bytes P4 so (λ closed parts are all. IsFault.broken_text parts are none all)
-
-pub no_more : (source rest : List ℕ) (bytes : List ℕ) → ReadText source rest bytes → length rest ≤ length source
-no_more source rest bytes so = let long = ap length so.whole in let more = length-append (written so.parts) rest in omega (arith, long, more)
 
 some_part : (p : Part) → 0 < length (spelled p)
 some_part (itself c) = some_bytes c

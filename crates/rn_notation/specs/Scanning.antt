@@ -1,9 +1,10 @@
 -- What stands first in a text: a blank or comment, a token, or a fault.
 use Rattle.std.specs.Prelude.{◌≡◌, ℕ, ◌+◌, List, [], ◌∷◌, ◌++◌, length, nat_lt, encode_utf8}
-use Rattle.std.specs.Prelude.{if◌then◌else◌, take, Option, None}
+use Rattle.std.specs.Prelude.{encode_utf8_all, if◌then◌else◌, take, Option, None}
+use Rattle.std.specs.List.{AllByRecursion}
 use Rattle.rn_value.specs.Words.{index_of}
 use Rattle.rn_notation.specs.Words.{signs}
-use Rattle.rn_notation.specs.Texts.{Part, IsPart, spelled, meaning}
+use Rattle.rn_notation.specs.Texts.{Part, itself, IsPart, spelled, meaning}
 use Rattle.rn_notation.specs.Tokens.{IsGap, IsToken}
 use Rattle.rn_notation.specs.Faults.{IsFault}
 use Rattle.rn_notation.specs.Spots.{is_line_end}
@@ -66,6 +67,14 @@ pub record HasPart (text : List ℕ) (c : ℕ) (rest : List ℕ) : Type 0 where
   pub is : IsPart part
   pub whole : text ≡ spelled part ++ rest
   pub means : meaning part ≡ encode_utf8 c
+
+-- characters that stand for themselves in a text, spelled one after another, and the bytes after
+-- them
+pub record IsRun (text run rest : List ℕ) : Type 0 where
+  pub cs : List ℕ
+  pub are : AllByRecursion (λ c. IsPart (itself c)) cs
+  pub spells : run ≡ encode_utf8_all cs
+  pub whole : text ≡ run ++ rest
 
 -- the sign that the first two bytes are
 abbrev pub long_sign : List ℕ → Option ℕ

@@ -3,7 +3,7 @@ ghost use Rattle.std.specs.Prelude.{◌≡◌, true};
 ghost use Rattle.rn_notation.specs.Words.{opens_comment};
 ghost use Rattle.rn_notation.specs.Scanning.{IsFirstPiece};
 
-use crate::chars::first_char;
+use crate::chars::{first_char, plain_run};
 use crate::piece::Piece;
 use crate::token::Cause;
 
@@ -19,7 +19,8 @@ pub(crate) fn comment_piece(text: &[u8]) -> Piece
     ensures { IsFirstPiece text.now result }
 {
     let (_, inside) = text.split_at(2);
-    let mut rest = inside;
+    let (_, start) = plain_run(inside);
+    let mut rest = start;
     while let Some((first, _)) = rest.split_first() {
         if *first == b'\n' {
             return Piece::Gap(text.len() - rest.len());
@@ -27,7 +28,8 @@ pub(crate) fn comment_piece(text: &[u8]) -> Piece
         let Some((_, more)) = first_char(rest) else {
             return Piece::Fault(Cause::P4, text.len() - rest.len());
         };
-        rest = more;
+        let (_, after) = plain_run(more);
+        rest = after;
     }
     Piece::Gap(text.len())
 }

@@ -1,5 +1,5 @@
 //! From bytes to tokens, up to the first fault.
-ghost use Rattle.std.specs.Prelude.{◌≡◌, ◌↔◌, ◌≤◌, List, length, IfOk, IfSome, IfNone, Some, None};
+ghost use Rattle.std.specs.Prelude.{◌≡◌, ◌↔◌, ◌≤◌, length, IfOk, IfSome, IfNone, Some, None};
 ghost use Rattle.std.specs.List.{AllByRecursion};
 ghost use Rattle.rn_notation.specs.Limits.{longest_text};
 ghost use Rattle.rn_notation.specs.Spots.{spot_after};
@@ -9,9 +9,10 @@ ghost use Rattle.rn_notation.specs.Reading.{IsSlice, Ascend};
 
 use crate::piece::Piece;
 use crate::scanning::first_piece;
-use crate::spots::spot_on;
+use crate::spots::{next_spot, spot_on};
 use crate::token::{Cause, LexFault, Lexed, Spot};
 use crate::tokens::Recent;
+use crate::words::is_blank;
 use rn_value::NoMemory;
 use std::alloc::Global;
 
@@ -36,7 +37,12 @@ fn read(alloc: Global, bytes: &[u8]) -> Result<Lexed, NoMemory>
     let mut recent = Recent::new(alloc)?;
     let mut spot = Spot { line: 1, column: 1 };
     let mut rest = bytes;
-    while !rest.is_empty() {
+    while let Some((first, others)) = rest.split_first() {
+        if is_blank(*first) {
+            spot = next_spot(spot, *first);
+            rest = others;
+            continue;
+        }
         let piece = first_piece(alloc, rest)?;
         let start = bytes.len() - rest.len();
         let (prefix, after) = rest.split_at(piece.size());

@@ -1,11 +1,11 @@
 //! Spots in a text.
 ghost use Rattle.std.specs.Prelude.{◌≡◌, ◌+◌, ◌<◌, ◌^◌, length};
 ghost use Rattle.rn_notation.specs.Scanning.{spot_on, next_spot};
-ghost use Rattle.rn_notation.specs.Faults.{IsFault};
 
 use crate::token::Spot;
 
-fn next_spot(spot: Spot, byte: u8) -> Spot
+/// The spot after one more byte.
+pub(crate) fn next_spot(spot: Spot, byte: u8) -> Spot
     requires lines { spot.line + 1 < 2 ^ 32 }
     requires columns { spot.column + 1 < 2 ^ 32 }
     ensures { result ≡ next_spot spot byte }

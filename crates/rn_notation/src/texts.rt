@@ -1,13 +1,13 @@
 //! Texts in quotes.
-ghost use Rattle.std.specs.Prelude.{◌≡◌, ◌++◌, ◌∷◌, ◌⊎◌, List, ℕ, true, false, IsTrue, IfOk};
+ghost use Rattle.std.specs.Prelude.{◌≡◌, ◌∷◌, true, false, IsTrue, IfOk};
 ghost use Rattle.std.specs.Prelude.{length, nat_eq, ◌≤◌};
 ghost use Rattle.rn_notation.specs.Bytes.{quote, backslash};
 ghost use Rattle.rn_value.specs.Words.{begins_with};
-ghost use Rattle.rn_notation.specs.Texts.{escaped_byte, is_closed, IsNoEscape, IsBroken};
-ghost use Rattle.rn_notation.specs.Scanning.{HasPart, IsFirstPiece};
+ghost use Rattle.rn_notation.specs.Texts.{escaped_byte, is_closed};
+ghost use Rattle.rn_notation.specs.Scanning.{IsFirstPiece};
 ghost use Rattle.rn_notation.specs.Inside.{GoesOnWith, fault_in_text};
 
-use crate::chars::first_char;
+use crate::chars::{first_char, plain_run};
 use crate::piece::Piece;
 use crate::token::{Cause, TokenKind};
 use rn_value::{NoMemory, Str};
@@ -115,18 +115,20 @@ pub(crate) fn text_piece(alloc: Global, source: &[u8]) -> Result<Piece, NoMemory
     let (_, inside) = source.split_at(1);
     let mut rest = inside;
     while !rest.is_empty() {
-        match look_inside(rest) {
+        let (run, after) = plain_run(rest);
+        text.push_str(run)?;
+        match look_inside(after) {
             Inside::Part(c, more) => {
                 text.push(c)?;
                 rest = more;
             }
             Inside::Quote => {
-                let length = source.len() - rest.len() + 1;
+                let length = source.len() - after.len() + 1;
                 return Ok(Piece::Token(TokenKind::Text(Str::from_string(text)), length));
             }
             Inside::Open => return Ok(Piece::Fault(Cause::P7, 0)),
-            Inside::NoEscape => return Ok(faulty_text(source, Cause::P1, rest)),
-            Inside::Broken => return Ok(faulty_text(source, Cause::P4, rest)),
+            Inside::NoEscape => return Ok(faulty_text(source, Cause::P1, after)),
+            Inside::Broken => return Ok(faulty_text(source, Cause::P4, after)),
         }
     }
     Ok(Piece::Fault(Cause::P7, 0))

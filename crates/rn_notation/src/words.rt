@@ -1,9 +1,9 @@
 //! Blanks, words and signs.
-ghost use Rattle.std.specs.Prelude.{◌≡◌, ◌<◌, ◌^◌, length, map, MatchOption};
-ghost use Rattle.std.specs.Prelude.{IsTrue, IfOk, IfSome, IfNone, OnSome, take, false};
+ghost use Rattle.std.specs.Prelude.{◌≡◌, ◌<◌, length};
+ghost use Rattle.std.specs.Prelude.{IsTrue, IfOk, IfSome, IfNone, false};
 ghost use Rattle.std.specs.List.{prefix_len};
 ghost use Rattle.rn_value.specs.Characters.{is_letter, is_name_byte};
-ghost use Rattle.rn_value.specs.Words.{begins_with, index_of, reserved_words};
+ghost use Rattle.rn_value.specs.Words.{begins_with, index_of};
 ghost use Rattle.rn_notation.specs.Words.{is_blank, signs, begins_with_sign, opens_comment};
 ghost use Rattle.rn_notation.specs.Scanning.{IsFirstPiece, Cuts, long_sign};
 ghost use Rattle.rn_notation.specs.Scanning.{token as a_token};

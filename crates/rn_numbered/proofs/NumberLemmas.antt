@@ -25,7 +25,7 @@ use Rattle.rn_numbered.specs.NumbersFound.{key_of, is_key}
 use Rattle.rn_declared.proofs.Faultless.{both_nil, unbroken}
 use Rattle.rn_declared.proofs.DeclaredNames.{short_and_new}
 use Rattle.rn_declared.proofs.NameLemmas.{push}
-use Rattle.rn_declared.proofs.ToldLemmas.{map_more}
+use Rattle.rn_items.proofs.Lists.{map_more}
 
 any_map : {A B : Type 0} (test : B → Bool) (f : A → B) (xs : List A) →
     list_any test (map f xs) ≡ list_any (λ x. test (f x)) xs
@@ -96,6 +96,7 @@ found_with found more names after name number count put old step other =
     ∙ sym (push 0 names name other)
     ∙ ap (λ ns. number_among ns other) (sym put)
 
+-- a channel has the number at which the key of its name and count stands
 pub channel_is : (n : ℕ) (channels : List PChannel) (name : List ℕ) (count : ℕ) →
     position_from (is_key name count) n (map key_of channels) ≡ channel_from n channels name count
 channel_is n [] name count = refl

@@ -16,6 +16,7 @@ use Rattle.rn_numbered.specs.Numbered.{kind_of, kind_of_form, expr_of, expr_of_f
 abbrev pub form_kind : PKindForm → Kind
 form_kind = fold-PKindForm Kind Kind kind_of_form (λ kind. kind.form)
 
+-- a kind means what its form means, wherever it stands
 pub kind-at : (s : Spot) (f : PKindForm) → kind_of (kind_at s f) ≡ form_kind f
 kind-at s f =
     fold-roll-PKind Kind Kind kind_of_form (λ kind. kind.form) (record { form = f; spot = s })
@@ -26,10 +27,12 @@ Numbered = (List ℕ → ℕ) → Expr
 abbrev pub form_expr : PForm → Numbered
 form_expr = fold-PForm Numbered Numbered expr_of_form (λ e. e.form)
 
+-- an expression means what its form means, wherever it stands
 pub expr-at : (s : Spot) (f : PForm) → expr_of (at_spot s f) ≡ form_expr f
 expr-at s f =
     fold-roll-PExpr Numbered Numbered expr_of_form (λ e. e.form) (record { form = f; spot = s })
 
+-- what a form means, by what its parts mean
 pub expr-roll : (x : F.PForm-F PForm PExpr) →
     form_expr (roll-PForm x)
     ≡ expr_of_form (map-PForm PForm PExpr Numbered Numbered form_expr expr_of x)

@@ -1,6 +1,6 @@
 -- The system that a net text means, where nothing in it is broken: names become numbers, in the
 -- order of the text.
-use Rattle.std.specs.Prelude.{ℕ, List, length, map, unwrap_or}
+use Rattle.std.specs.Prelude.{length, map, unwrap_or}
 use Rattle.rn_model.specs.declared.system.System.{System}
 use Rattle.rn_model.specs.declared.system.Net.{Net}
 use Rattle.rn_model.specs.declared.system.Transition.{Transition}

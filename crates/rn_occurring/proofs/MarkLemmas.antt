@@ -1,53 +1,17 @@
 -- Marks of numbers, and the numbers that are marked.
-use Rattle.std.proofs.Common.{◌≡◌, ℕ, zero, suc, ◌+◌, ◌<◌, Bool, true, false, ◌||◌, ◌&&◌, not, cond, List, [], ◌∷◌, ◌++◌}
-use Rattle.std.proofs.Common.{length, take, set, get_or, nat_eq, refl, sym, ap, ◌∙◌, arith, true≢false, zero-add}
+use Rattle.std.proofs.Common.{◌≡◌, ℕ, zero, suc, ◌+◌, ◌<◌, Bool, true, false, ◌&&◌, not, cond, List, [], ◌∷◌, ◌++◌}
+use Rattle.std.proofs.Common.{set, get_or, refl, sym, ap, ◌∙◌, arith, zero-add}
 use Rattle.std.specs.Prelude.{filter, flat_map}
 use Rattle.rn_model.specs.declared.system.Transition.{Transition}
 use Rattle.rn_model.specs.Good.{occurring, set_var}
 use Rattle.std.specs.List.{range_with_len}
-use Rattle.std.proofs.lemmas.Bool.{eqb-true, eq-eqb}
-use Rattle.std.proofs.lemmas.List.{get_or-set_same, get_or-set_other, map-id, append-nil}
+use Rattle.std.proofs.lemmas.List.{map-id, append-nil}
 use Rattle.std.proofs.lemmas.List.Elements.{filter-append}
-use Rattle.std.proofs.lemmas.List.Folds.{list_any_more}
 use Rattle.std.proofs.lemmas.List.FromFn.{map-range_with_len_more}
-use Rattle.std.proofs.Math.Bool.{or-false}
-use Rattle.rn_items.proofs.Bools.{or_right}
 use Rattle.rn_occurring.specs.TransitionVars.{is_among, with_vars}
-
-among_more : (xs : List ℕ) (i number x : ℕ) → i < length xs → number ≡ get_or xs i number →
-    is_among (take (i + 1) xs) x ≡ (is_among (take i xs) x || nat_eq x number)
-among_more xs i number x h is =
-    list_any_more (nat_eq x) xs i number h ∙ ap (λ n. is_among (take i xs) x || nat_eq x n) (sym is)
 
 abbrev pub AreMarked : List Bool → ℕ → List ℕ → Type 0
 AreMarked marks count xs = (x : ℕ) → x < count → get_or marks x false ≡ is_among xs x
-
-module _ (xs : List ℕ) (i number count : ℕ) (marks : List Bool) (h : i < length xs)
-    (is : number ≡ get_or xs i number) (marked : AreMarked marks count (take i xs)) where
-  -- one more number is marked
-  pub marked_more : number < length marks → AreMarked (set marks number true) count (take (i + 1) xs)
-  marked_more room x below = by (nat_eq x number) refl
-    where
-      by : (b : Bool) → nat_eq x number ≡ b →
-          get_or (set marks number true) x false ≡ is_among (take (i + 1) xs) x
-      by true same =
-          ap (λ y. get_or (set marks number true) y false) (eqb-true x number same)
-          ∙ get_or-set_same marks number true false room
-          ∙ sym (among_more xs i number x h is ∙ or_right (is_among (take i xs) x) (nat_eq x number) same)
-      by false differ =
-          get_or-set_other marks number x true false (λ e. true≢false (sym (eq-eqb x number e) ∙ differ))
-          ∙ marked x below
-          ∙ sym (among_more xs i number x h is ∙ ap (λ b. is_among (take i xs) x || b) differ ∙ or-false (is_among (take i xs) x))
-
-  -- or it is none of those that are asked for
-  pub unmarked_more : (number < count → ⊥) → AreMarked marks count (take (i + 1) xs)
-  unmarked_more past x below = by (nat_eq x number) refl
-    where
-      by : (b : Bool) → nat_eq x number ≡ b → get_or marks x false ≡ is_among (take (i + 1) xs) x
-      by true same = absurd (let e = eqb-true x number same in past (omega (arith, e, below)))
-      by false differ =
-          marked x below
-          ∙ sym (among_more xs i number x h is ∙ ap (λ b. is_among (take i xs) x || b) differ ∙ or-false (is_among (take i xs) x))
 
 -- the numbers so far that pass a test, and one more
 pub passing_more : (p : ℕ → Bool) (n : ℕ) →

@@ -15,12 +15,7 @@ use Rattle.rn_model.specs.Systems.{vars_in, is_output}
 use Rattle.rn_model.specs.Good.{Comparison, comparisons_step, comparisons_in, guard_exprs, action_expr}
 use Rattle.rn_occurring.specs.OccurringParts.{comparisons_of, comparison_vars, vars_of_simple, vars_of_cond}
 use Rattle.rn_occurring.specs.OccurringParts.{is_wanted, vars_of_arc}
-
-flat_nested : {A B C : Type 0} (g : B → List C) (f : A → List B) (xs : List A) →
-    flat_map g (flat_map f xs) ≡ flat_map (λ x. flat_map g (f x)) xs
-flat_nested g f [] = refl
-flat_nested g f (x ∷ xs) =
-    flat_map-append g (f x) (flat_map f xs) ∙ ap (λ ys. flat_map g (f x) ++ ys) (flat_nested g f xs)
+use Rattle.rn_items.proofs.Lists.{flat_nested}
 
 -- the variables of a condition are those of its lists
 pub cond_vars : (c : Cond) → vars_of_cond c ≡ flat_map (flat_map vars_of_simple) c.any

@@ -8,44 +8,10 @@ ghost use Rattle.rn_occurring.specs.OccurringParts.{vars_of_simple, vars_of_cond
 ghost use Rattle.rn_occurring.specs.OccurringParts.{vars_of_arc};
 
 use rn_model::{
-    Action, ArcKind, Cond, Creation, Downlink, Expr, NetArc, Simple, Transition, Uplink,
+    Action, ArcKind, Cond, Creation, Downlink, Expr, NetArc, Simple, Transition, Uplink, put_vars,
+    put_vars_of,
 };
 use rn_value::NoMemory;
-
-/// Puts the variables of an expression.
-#[cycle(vars)]
-fn put_vars(expr: &Expr, vars: &mut Vec<u32>) -> Result<(), NoMemory>
-    ensures { OnOk result (vars.new.items ≡ vars.old.items ++ vars_in expr.now) }
-{
-    match expr {
-        Expr::Var(x) => {
-            vars.push(*x)?;
-            Ok(())
-        }
-        Expr::Tuple(parts) => put_vars_of(parts.as_slice(), vars),
-        Expr::List(parts) => put_vars_of(parts.as_slice(), vars),
-        Expr::Cons(parts, tail) => {
-            put_vars_of(parts.as_slice(), vars)?;
-            put_vars(tail.get(), vars)
-        }
-        Expr::Neg(part) => put_vars(part.get(), vars),
-        Expr::Op(_, a, b) => {
-            put_vars(a.get(), vars)?;
-            put_vars(b.get(), vars)
-        }
-        _ => Ok(()),
-    }
-}
-
-#[cycle(vars)]
-fn put_vars_of(exprs: &[Expr], vars: &mut Vec<u32>) -> Result<(), NoMemory>
-    ensures { OnOk result (vars.new.items ≡ vars.old.items ++ concat (map vars_in exprs.now)) }
-{
-    for expr in exprs {
-        put_vars(expr, vars)?;
-    }
-    Ok(())
-}
 
 /// Puts the variables of the sides of equalities.
 fn put_pairs(pairs: &[(Expr, Expr)], vars: &mut Vec<u32>) -> Result<(), NoMemory>

@@ -1,5 +1,5 @@
 -- Pieces that a source gives and a sink takes one after another.
-use Rattle.std.proofs.Common.{◌≡◌, ℕ, ◌+◌, ◌-◌, ◌≤◌, List, [], ◌++◌, length, take, drop, Option, Some, None, sym, refl, ap, ◌∙◌, subst, append_assoc, append-nil, length-append, arith}
+use Rattle.std.proofs.Common.{ℕ, ◌+◌, ◌-◌, ◌≤◌, List, [], ◌++◌, length, take, drop, Option, Some, None, sym, refl, ap, ◌∙◌, subst, append_assoc, append-nil, length-append, arith}
 use Rattle.std.proofs.Math.Seq.{take-add, take-append-add}
 use Rattle.std.proofs.lemmas.List.{length-take-le, take-append-le, take_rest}
 use Rattle.std.specs.Option.{option_map}
@@ -15,11 +15,6 @@ pub Gives-append : (a : Option (List ℕ)) (xs : List ℕ) (b : Option (List ℕ
 Gives-append a xs b ys None first second = first ∙ ap (option_map (λ rest. xs ++ rest)) second
 Gives-append a xs b ys (Some rest) first second =
     first ∙ ap (option_map (λ r. xs ++ r)) second ∙ ap Some (sym (append_assoc xs ys rest))
-
--- where the bytes left were known, what was given is their prefix, and what is left is known too
-pub Gives-known : (all prefix : List ℕ) (after : Option (List ℕ)) → Gives (Some all) prefix after → (rest : List ℕ) × (all ≡ prefix ++ rest) × (after ≡ Some rest)
-Gives-known all prefix None gives = absurd cc
-Gives-known all prefix (Some rest) gives = (rest, cc, refl)
 
 -- a piece, and then some prefix of the rest, are some prefix
 pub GivesPrefix-append : (a : Option (List ℕ)) (xs : List ℕ) (b c : Option (List ℕ)) → Gives a xs b → GivesPrefix b c → GivesPrefix a c

@@ -51,6 +51,7 @@ no_digit (c ∷ rest) h = by (is_letter c) (is_digit c) (nat_eq c 95) h
     by true y z h = absurd (true≢false h)
     by false true z h = absurd (true≢false h)
 
+-- the numeral of a number that isn't too great is its token, where no byte of a name follows
 pub number_stands : (n : ℕ) (rest : List ℕ) → n ≤ greatest_number → Stops rest →
     IsToken (Number (pos n)) (numeral n) rest
 number_stands n rest low h =

@@ -16,6 +16,7 @@ use Rattle.rn_print.specs.SameButSpots.{expr_unplaced, expr_moved, first_spot}
 abbrev pub form_text : PForm → Operand
 form_text = fold-PForm Operand Operand form_step expr_step
 
+-- the text of an expression is that of its form, wherever it stands
 pub text-at : (s : Spot) (form : PForm) (n : ℕ) → operand_text (at_spot s form) n ≡ form_text form n
 text-at s form n = ap (λ f. f n) (fold-roll-PExpr Operand Operand form_step expr_step (record { form = form; spot = s }))
 
@@ -24,6 +25,7 @@ out : (form : PForm) (n : ℕ) →
     ≡ form_step (map-PForm PForm _ Operand Operand form_text operand_text (out-PForm form)) n
 out form n = ap (λ f. f n) (fold_out-PForm Operand Operand form_step expr_step form)
 
+-- the text of each form
 pub text-Int : (z : ℤ) (n : ℕ) → form_text (F.Int z) n ≡ whole_number z
 text-Int z n = out (F.Int z) n ∙ rw (F.outs-Int z)
 

@@ -63,7 +63,7 @@ each : {A : Type 0} (P : A → Type 0) (xs : List A) → ((x : A) → P x) → A
 each P [] is = tt
 each P (x ∷ xs) is = (is x, each P xs is)
 
-each_part : {X : Type 0} (P : X → Type 0) (parts : List ((x : X) × P x)) →
+pub each_part : {X : Type 0} (P : X → Type 0) (parts : List ((x : X) × P x)) →
     AllByRecursion P (map (λ e. e.0) parts)
 each_part P [] = tt
 each_part P (part ∷ parts) = (part.1, each_part P parts)

@@ -30,17 +30,20 @@ use Rattle.rn_print.proofs.SpelledExpressions.{AllLegal, legal, Others, no_other
 pub form_text : PConstForm → List ℕ
 form_text = fold-PConstForm (List ℕ) (List ℕ) constant_form_step constant_step
 
+-- the text of a constant is that of its form, wherever it stands
 pub text-at : (s : Spot) (form : PConstForm) → constant_text (constant_at s form) ≡ form_text form
 unfolding form_text
 text-at s form =
     fold-roll-PConst (List ℕ) (List ℕ) constant_form_step constant_step (record { form = form; spot = s })
 
+-- the text of a form, by the texts of its parts
 pub out : (form : PConstForm) →
     form_text form
     ≡ constant_form_step (map-PConstForm PConstForm PConst (List ℕ) (List ℕ) form_text constant_text (out-PConstForm form))
 unfolding form_text
 out form = fold_out-PConstForm (List ℕ) (List ℕ) constant_form_step constant_step form
 
+-- the text of a tuple, and of a list
 pub text-Tuple : (items : List PConst) →
     form_text (C.Tuple items) ≡ codes "[" ++ listed (map constant_text items) ++ codes "]"
 text-Tuple items = out (C.Tuple items) ∙ rw (C.outs-Tuple items)

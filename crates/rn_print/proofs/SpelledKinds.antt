@@ -31,17 +31,20 @@ use Rattle.rn_print.proofs.SpelledExpressions.{AllLegal, Others, no_others, one_
 pub form_text : PKindForm → List ℕ
 form_text = fold-PKindForm (List ℕ) (List ℕ) kind_form_step kind_step
 
+-- the text of a kind is that of its form, wherever it stands
 pub text-at : (s : Spot) (form : PKindForm) → kind_text (kind_at s form) ≡ form_text form
 unfolding form_text
 text-at s form =
     fold-roll-PKind (List ℕ) (List ℕ) kind_form_step kind_step (record { form = form; spot = s })
 
+-- the text of a form, by the texts of its parts
 pub out : (form : PKindForm) →
     form_text form
     ≡ kind_form_step (map-PKindForm PKindForm PKind (List ℕ) (List ℕ) form_text kind_text (out-PKindForm form))
 unfolding form_text
 out form = fold_out-PKindForm (List ℕ) (List ℕ) kind_form_step kind_step form
 
+-- the text of a kind of tuples, and of a kind of lists
 pub text-Tuple : (ks : List PKind) →
     form_text (K.Tuple ks) ≡ codes "[" ++ listed (map kind_text ks) ++ codes "]"
 text-Tuple ks = out (K.Tuple ks) ∙ rw (K.outs-Tuple ks)

@@ -10,7 +10,7 @@ use Rattle.rn_notation.specs.declared.token.Spot.{Spot}
 use Rattle.rn_notation.specs.declared.token.Token.{Token}
 use Rattle.rn_net.specs.Levels.{IsShallow, after, is_semicolon}
 use Rattle.rn_net.specs.Levels.Region.{between, declaring}
-use Rattle.rn_notation.specs.declared.token.TokenKind.TheVariants.{Name, Word, Number}
+use Rattle.rn_notation.specs.declared.token.TokenKind.TheVariants.{Name, Number}
 use Rattle.rn_inscript.specs.declared.inscriptions.PName.{PName}
 use Rattle.rn_inscript.specs.Signs.{comma, colon, equals, close_paren}
 use Rattle.rn_inscript.specs.Inscriptions.{name_at}

@@ -38,7 +38,8 @@ use Rattle.rn_print.proofs.SpelledKinds.{KindBack, PlaceKind, kind_back, listed_
 use Rattle.rn_print.proofs.SpelledConstants.{constants_back}
 use Rattle.rn_print.proofs.SpelledInscriptions.{word_tree, WordSpaced, word_stands, name_tree, LegalName}
 use Rattle.rn_print.proofs.SpelledNets.{opened, opened_stands, line_end, ended, ended_stands, ChannelBack, channel_back, IsVar, VarBack, var_back, kind_ends, PlaceBack, CapacityBack, no_capacity, capacity_back, InitialBack, no_initial, initial_back, place_back}
-use Rattle.rn_print.proofs.SpelledTransitions.{all_push, all_join, past, TransitionBack, transition_line, lines_parts}
+use Rattle.rn_print.proofs.SpelledTransitions.{all_push, past, TransitionBack, transition_line, lines_parts}
+use Rattle.rn_model.proofs.EachElement.{each_append}
 
 net_stands : WordSpaced 0 (codes "net")
 unfolding reserved_words
@@ -242,7 +243,7 @@ parts_back (AreParts.and_vars {vars = vars} {more = more} x m) back h s =
     let p = vars_back x h s in
     parts_back m (record {
       name = back.name;
-      vars = all_join VarBack vars more back.vars p.0;
+      vars = each_append VarBack vars more back.vars p.0;
       places = back.places;
       transitions = back.transitions;
     }) p.1 p.2

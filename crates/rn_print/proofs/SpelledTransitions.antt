@@ -1,5 +1,5 @@
 -- Where some tokens stand for a transition, its text is read back, in both notations.
-use Rattle.std.proofs.Common.{◌≡◌, ℕ, ◌≤◌, ◌+◌, Bool, true, false, ◌&&◌, List, [], ◌∷◌, ◌++◌, map, nat_eq, if◌then◌else◌, inl, inr, refl, sym, ap, ◌∙◌, subst, append_assoc, arith, true≢false}
+use Rattle.std.proofs.Common.{◌≡◌, ℕ, ◌≤◌, ◌+◌, Bool, true, false, List, [], ◌∷◌, ◌++◌, map, nat_eq, if◌then◌else◌, inl, inr, refl, sym, ap, ◌∙◌, subst, append_assoc, arith, true≢false}
 use Rattle.std.specs.Prelude.{codes, Some, None}
 use Rattle.std.specs.List.{AllByRecursion}
 use Rattle.std.specs.Cmp.Lexicographic.{pointwise}
@@ -8,6 +8,7 @@ use Rattle.std.proofs.lemmas.Bool.Decides.{nat_tests}
 use Rattle.std.proofs.lemmas.Grind.{common_steps}
 use Rattle.std.proofs.lemmas.List.{append-nil}
 use Rattle.rn_items.proofs.Numbers.{same_numbers}
+use Rattle.rn_items.proofs.Bools.{and_left, and_right}
 use Rattle.rn_value.specs.Words.{reserved_words}
 use Rattle.rn_notation.specs.Tokens.{IsGap, IsToken}
 use Rattle.rn_notation.specs.Reading.{gap, token_after}
@@ -19,6 +20,7 @@ use Rattle.rn_model.specs.declared.system.ArcKind.{ArcKind}
 use Rattle.rn_model.specs.declared.system.ArcKind.TheVariants.{Input, Output, Test, Reserve}
 use Rattle.rn_model.specs.declared.system.ArcKind.TheVariants.{FlexInput, FlexOutput, Inhibit}
 use Rattle.rn_model.specs.declared.system.ArcKind.TheVariants.{Clear}
+use Rattle.rn_model.proofs.EachElement.{each_append}
 use Rattle.rn_inscript.specs.declared.exprs.PExpr.{PExpr}
 use Rattle.rn_inscript.specs.declared.exprs.PForm.{PForm}
 use Rattle.rn_inscript.specs.declared.exprs.PForm.TheVariants as F
@@ -64,11 +66,6 @@ pub all_push : {A : Type 0} (P : A → Type 0) (xs : List A) (y : A) → AllByRe
     AllByRecursion P (xs ++ y ∷ [])
 all_push P [] y all is = (is, tt)
 all_push P (x ∷ xs) y (here, all) is = (here, all_push P xs y all is)
-
-pub all_join : {A : Type 0} (P : A → Type 0) (xs ys : List A) → AllByRecursion P xs →
-    AllByRecursion P ys → AllByRecursion P (xs ++ ys)
-all_join P [] ys all more = more
-all_join P (x ∷ xs) ys (here, all) more = (here, all_join P xs ys all more)
 
 -- past a token of a kind
 pub past : (r : Region) (t : Token) (ts : List Token) (kind : TokenKind) → t.kind ≡ kind →
@@ -334,7 +331,7 @@ pub lines_parts : {notation : ℕ} {before items : List PInscription} {ts rest :
 lines_parts AreInscriptions.no_more_inscriptions back h s = (back, h, s)
 lines_parts (AreInscriptions.more_inscriptions {u = u} {mid = mid} {before = before} {more = more} x e m) back h s =
     let p = inscribed_parts x h (u, mid, refl, inl e) s in
-    lines_parts m (all_join InscriptionBack before more back p.0) p.1.1
+    lines_parts m (each_append InscriptionBack before more back p.0) p.1.1
     (past start u mid semicolon e p.2)
 
 -- inscriptions with their semicolons
@@ -616,14 +613,6 @@ kind_back Clear = refl
 same_kind : (kind other : ArcKind) → arc_word kind ≡ arc_word other → kind ≡ other
 same_kind kind other e = sym (kind_back kind) ∙ ap kind_of_word e ∙ kind_back other
 
-first_true : (a b : Bool) → (a && b) ≡ true → a ≡ true
-first_true true b e = refl
-first_true false b e = absurd (true≢false (sym e))
-
-second_true : (a b : Bool) → (a && b) ≡ true → b ≡ true
-second_true true b e = e
-second_true false b e = absurd (true≢false (sym e))
-
 is_two : (n : ℕ) → nat_eq n 2 ≡ true → n ≡ 2
 is_two n h = grind (arith, nat_tests, common_steps)
 
@@ -670,8 +659,8 @@ together_back : (notation : ℕ) (form other : PInscribed) (spot : Spot) (items 
 together_back notation (I.Arc kind place (Some e)) (I.Arc other name (Some f)) spot items later two is back l =
     let words = pointwise nat_eq (arc_word kind) (arc_word other) in
     let names = pointwise nat_eq place.text name.text in
-    let k = same_kind kind other (same_numbers (arc_word kind) (arc_word other) (first_true words names is)) in
-    let n = same_numbers place.text name.text (second_true words names is) in
+    let k = same_kind kind other (same_numbers (arc_word kind) (arc_word other) (and_left words names is)) in
+    let n = same_numbers place.text name.text (and_right words names is) in
     goes_on_back notation kind other place name e f spot items later two k n back.1 l
 together_back notation _ _ spot items later two is back l = absurd (true≢false (sym is))
 
@@ -714,11 +703,11 @@ later_back notation before (item ∷ items) (one, each) =
         LaterBack notation before.form (item ∷ items) (later_text notation before (item ∷ items))
     by true e l =
         let later = later_text notation item items in
-        let two = is_two notation (first_true (nat_eq notation 2) (go_together before.form item.form) e) in
+        let two = is_two notation (and_left (nat_eq notation 2) (go_together before.form item.form) e) in
         subst (LaterBack notation before.form (item ∷ items))
         (ap (λ b. (if b then added_text item.form else codes ";\n    " ++ inscribed_text item.form) ++ later) (sym e))
         (together_back notation before.form item.form item.spot items later two
-        (second_true (nat_eq notation 2) (go_together before.form item.form) e) one l)
+        (and_right (nat_eq notation 2) (go_together before.form item.form) e) one l)
     by false e l =
         let later = later_text notation item items in
         subst (LaterBack notation before.form (item ∷ items))

@@ -44,6 +44,7 @@ pieces_of nothing = []
 pieces_of (piece p) = p ∷ []
 pieces_of (both a b) = pieces_of a ++ pieces_of b
 
+-- pieces of a text up to some rest, and those of this rest, are pieces of it together
 pub pieces_join : (text mid rest : List ℕ) (ps qs : List Piece) → ArePieces text ps mid →
     ArePieces mid qs rest → ArePieces text (ps ++ qs) rest
 pieces_join text mid rest [] qs a b = subst (λ t. ArePieces t qs rest) (sym a) b

@@ -17,5 +17,6 @@ pub fn printing_laws()
     ensures not_refused { TextsAreNotRefused }
     ensures migrated_texts_are_read { MigratedTextsAreRead }
 {
+    // For its clauses: a text spells one system at most, and is then refused for no reason.
     net_laws();
 }

@@ -6,7 +6,6 @@ ghost use Rattle.rn_value.specs.Text.{escaped, quoted};
 
 use rn_items::NoMemory;
 use rn_value::Str;
-use std::alloc::Global;
 
 pub(crate) fn put(bytes: &[u8], out: &mut Vec<u8>) -> Result<(), NoMemory>
     ensures { OnOk result (out.new.items ≡ out.old.items ++ bytes.now) }

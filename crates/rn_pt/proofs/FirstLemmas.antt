@@ -1,7 +1,7 @@
 -- The first of faults: none of them counts before it, and there is one alone.
 use Rattle.std.proofs.Common.{◌≡◌, ℕ, zero, suc, Bool, true, false, ◌&&◌, ◌||◌, List, [], ◌∷◌, get_or}
-use Rattle.std.proofs.Common.{refl, sym, ap, ◌∙◌, subst, Option, Some, None, arith, cond, ◌⊎◌, inl, inr}
-use Rattle.std.specs.Prelude.{nat_lt, nat_eq, Contains, ◌↔◌, MatchOption}
+use Rattle.std.proofs.Common.{refl, sym, ap, ◌∙◌, subst, Some, None, arith, cond, ◌⊎◌, inl, inr}
+use Rattle.std.specs.Prelude.{nat_lt, nat_eq, Contains, ◌↔◌}
 use Rattle.std.proofs.lemmas.Bool.Decides.{nat_tests}
 use Rattle.rn_pt.specs.declared.fault.Rule.{Rule}
 use Rattle.rn_pt.specs.declared.fault.Rule.TheVariants as R
@@ -169,9 +169,3 @@ first_iff faults f = (first_is faults f, back faults)
         let some : (g : Broken) × (first_from (Some x) xs ≡ Some g) = stays x xs in
         let other : IsFirstOf (x ∷ xs) some.0 = first_is (x ∷ xs) some.0 some.1 in
         some.1 ∙ ap Some (same_fault some.0 f (is.first some.0 other.there) (other.first f is.there))
-
--- what was kept of all
-pub found_first : (all : List Broken) (found : Option Broken) → found ≡ first_from None all →
-    MatchOption found (all ≡ []) (λ first. IsFirstOf all first)
-found_first all None is = (none_iff all).0 (sym is)
-found_first all (Some first) is = (first_iff all first).0 (sym is)

@@ -1,7 +1,7 @@
 -- What is noted of the elements of a list, one after another.
 use Rattle.std.proofs.Common.{◌≡◌, ℕ, ◌+◌, ◌<◌, List, [], ◌∷◌, ◌++◌, length, map, take, get_or, sym, ap, ◌∙◌, Option, None}
 use Rattle.std.proofs.Common.{append-nil, refl}
-use Rattle.std.proofs.lemmas.List.{take_more, map-append}
+use Rattle.std.proofs.lemmas.List.{take_more}
 use Rattle.std.proofs.lemmas.Grind.{flat_map-append}
 use Rattle.std.specs.Prelude.{flat_map}
 use Rattle.rn_pt.specs.declared.fault.Broken.{Broken}
@@ -29,13 +29,6 @@ noted_more faults xs i x known h is =
     ∙ ap (first_from known) (flat_map-append faults (take i xs) (x ∷ []))
     ∙ ap (λ more. first_from known (flat_map faults (take i xs) ++ more)) (append-nil (faults x))
     ∙ first_from-append (flat_map faults (take i xs)) (faults x) known)
-
--- one more, seen by a function
-pub map_more : {X Y : Type 0} (f : X → Y) (xs : List X) (i : ℕ) (x : X) → i < length xs →
-    x ≡ get_or xs i x → map f (take (i + 1) xs) ≡ map f (take i xs) ++ f x ∷ []
-map_more f xs i x h is =
-    ap (map f) (take_more xs i x h ∙ ap (λ y. take i xs ++ y ∷ []) (sym is))
-    ∙ map-append f (take i xs) (x ∷ [])
 
 -- the texts of the names of places
 pub texts_of : (places : List PtPlace) → map (λ n. n.text) (map (λ (p : PtPlace). p.name) places) ≡ map (λ (p : PtPlace). p.name.text) places

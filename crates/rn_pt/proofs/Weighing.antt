@@ -3,7 +3,7 @@ use Rattle.std.proofs.Common.{◌≡◌, ◌≢◌, ℕ, zero, suc, ◌<◌, ◌
 use Rattle.std.specs.Prelude.{AllPairs, not, nat_le, is_none, slice_index_or, Result, Ok, Err, IfOk}
 use Rattle.std.specs.List.{list_any, flat_map}
 use Rattle.std.specs.Cmp.Lexicographic.{bytes_decides}
-use Rattle.std.proofs.lemmas.Bool.{leb-true, false≢true}
+use Rattle.std.proofs.lemmas.Bool.{leb-true, false≢true, not-false}
 use Rattle.std.proofs.lemmas.List.{length-map}
 use Rattle.std.proofs.lemmas.List.Elements.{All-map}
 use Rattle.std.proofs.lemmas.List.Kept.{AllPairs-cons}
@@ -27,18 +27,13 @@ use Rattle.rn_pt.specs.Answers.{Comes}
 use Rattle.rn_pt.proofs.UnbrokenLemmas.{none_before, none_after, each_unbroken, not_broken, amount_within, not_past, number_under, unbroken_parts, few_places, few_transitions, weight_within}
 use Rattle.rn_pt.proofs.Said.{each_at, Names, PlaceIs, TransitionIs, ArcIs, NetIs, net_kept}
 
--- a test that says yes where its negation is false
-yes-of : (b : Bool) → not b ≡ false → b ≡ true
-yes-of true e = refl
-yes-of false e = absurd (false≢true (sym e))
-
 -- names of which nothing is broken are short
 short : {X : Type 0} (f : X → Named) (before : List (List ℕ)) (xs : List X) (k : ℕ) (d : X) → names_broken before (map f xs) ≡ [] → k < length xs → length (f (slice_index_or xs k d)).text ≤ longest_name
 short f before [] k d e h = absurd (let no : ⊥ = omega (arith, h) in no)
 short f before (x ∷ xs) zero d e h =
     let own = none_before (name_broken before (f x)) (names_broken (before ++ (f x).text ∷ []) (map f xs)) e in
     let first = none_before (broken_if (not (nat_le (length (f x).text) longest_name)) TheRule.Limit (f x).spot) (broken_if (list_any (λ declared. same_name declared (f x).text) before) TheRule.Once (f x).spot) own in
-    leb-true (length (f x).text) longest_name (yes-of (nat_le (length (f x).text) longest_name) (not_broken (not (nat_le (length (f x).text) longest_name)) TheRule.Limit (f x).spot first))
+    leb-true (length (f x).text) longest_name (not-false (nat_le (length (f x).text) longest_name) (not_broken (not (nat_le (length (f x).text) longest_name)) TheRule.Limit (f x).spot first))
 short f before (x ∷ xs) (suc k) d e h =
     short f (before ++ (f x).text ∷ []) xs k d (none_after (name_broken before (f x)) (names_broken (before ++ (f x).text ∷ []) (map f xs)) e) (omega (arith, h))
 

@@ -90,6 +90,7 @@ pub fn read_pt(alloc: Global, bytes: &[u8]) -> Result<Weighted, PtFault>
     // Where there is a reason to refuse the text, that is returned.
     ensures refuses { (why : Why) → IsRefused bytes.now why → Answers result (Err why) }
 {
+    // For its clauses: no text has two lists of tokens or two first faults, or one of each.
     token_laws();
     if bytes.len() > LONGEST_NET_TEXT {
         return Err(PtFault::P6(Spot { line: 1, column: 1 }));

@@ -1,23 +1,11 @@
 -- Instances that change, and those that reach one of them.
-use Rattle.std.proofs.Common.{◌≡◌, ℕ, Bool, true, false, List, [], refl, sym, ap, subst, inl, inr, eq-eqb}
-use Rattle.std.proofs.lemmas.Bool.{eqb-true}
-use Rattle.std.specs.Prelude.{◌⊎◌, nat_eq, Contains, slice_get, unwrap_or, option_and_then}
-use Rattle.std.specs.List.{list_any}
+use Rattle.std.proofs.Common.{◌≡◌, ℕ, List, [], sym, ap, subst, inl, inr}
+use Rattle.std.specs.Prelude.{◌⊎◌, Contains, slice_get, unwrap_or, option_and_then}
 use Rattle.rn_model.specs.Markings.{Marking, instance_at, tokens_at}
-use Rattle.rn_model.proofs.LiveByRounds.{any_contained, contained_any}
 use Rattle.rn_reach.specs.Reach.{RefersTo, Reach, itself, further, ReachesOne}
 use Rattle.rn_reach.specs.Laws.{ChangesAreReachedInBoth, OthersStay}
 use Rattle.rn_reach.proofs.ReachLemmas.{reach_decides}
-
--- a number is in a list or it isn't
-in_or_not : (xs : List ℕ) (n : ℕ) → Contains xs n ⊎ (¬ Contains xs n)
-in_or_not xs n = by_test (list_any (nat_eq n) xs) refl
-  where
-    by_test : (is : Bool) → list_any (nat_eq n) xs ≡ is → Contains xs n ⊎ (¬ Contains xs n)
-    by_test true e = let same = any_contained (nat_eq n) xs e in inl (subst (Contains xs) (sym (eqb-true n same.0 same.2)) same.1)
-    by_test false e = inr (λ there.
-        let any = contained_any (nat_eq n) xs n there (eq-eqb n n refl) in
-        let no : ⊥ = cc in no)
+use Rattle.rn_items.proofs.Numbers.{in_or_not}
 
 -- what refers to an instance does so in each marking that has it as it is
 refers_alike : (m other : Marking) (holder k : ℕ) → instance_at other holder ≡ instance_at m holder → RefersTo m holder k → RefersTo other holder k
@@ -43,10 +31,12 @@ module _ (m other : Marking) (changed : List ℕ) (n : ℕ) (same : (k : ℕ) �
     | inr way ↦ (reaches.0, reaches.1, way)
   ]
 
+-- what reaches a changed instance before a change reaches one after it, and nothing else does
 pub changes_are_reached_in_both : ChangesAreReachedInBoth
 changes_are_reached_in_both m other changed same n =
     (reached_in_other m other changed n same, reached_in_other other m changed n (λ k not. sym (same k not)))
 
+-- where one reaches none, the same bindings that start in it are enabled before and after
 pub others_stay : OthersStay
 others_stay system m other changed b depth n same none starts =
     reach_decides system m other b depth n (λ k reach. same k (λ there. none (k, there, reach))) starts

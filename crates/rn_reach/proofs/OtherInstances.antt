@@ -35,6 +35,7 @@ use Rattle.rn_model.proofs.MarkingsOfRuns.{firings_keep_markings, found_is_there
 use Rattle.rn_model.proofs.PutValues.{reading_stays}
 use Rattle.rn_model.proofs.RunLemmas.{prefixes_are_runs, rest_from}
 use Rattle.rn_model.proofs.ValueLists.{ordered_values_ascend, ordered_values_stay}
+use Rattle.rn_model.proofs.SoundRuns.{end_joined}
 use Rattle.rn_reach.specs.Changes.{MayChange}
 use Rattle.rn_reach.specs.Laws.{FiringsChangeNoOther}
 
@@ -256,16 +257,7 @@ leave_from system depth step m (f ∷ fs) n good form (fires, run) other =
         let first = next_grows system depth step m (f ∷ []) (fires, tt) in
         inr (omega (arith, first, from), to)
 
-end_joined : (system : System) (step : ℕ) (m : Marking) (fs gs : List Firing) →
-    end_from system step m (fs ++ gs) ≡ end_from system (step + length fs) (end_from system step m fs) gs
-end_joined system step m [] gs =
-    let here : step ≡ step + length {A = Firing} [] = omega arith in
-    ap (λ k. end_from system k m gs) here
-end_joined system step m (f ∷ fs) gs =
-    let same : suc step + length fs ≡ step + length (f ∷ fs) = omega arith in
-    end_joined system (suc step) (after_firing system step m f) fs gs
-    ∙ ap (λ k. end_from system k (end_from system step m (f ∷ fs)) gs) same
-
+-- later firings of a run change only instances on which their nodes stand or that they make
 pub firings_change_no_other : FiringsChangeNoOther
 firings_change_no_other system depth fs gs n good run other =
     let m = initial_marking system in

@@ -69,6 +69,7 @@ module _ (m other : Marking) (n : ℕ) (same : IsSameInReach m other n) where
 pub reach_is_the_same : ReachIsTheSame
 reach_is_the_same m other n same k = (reached_in_other m other n same k, reached_in_first m other n same k)
 
+-- where an instance's reach is the same, the same bindings that start in it are enabled
 pub reach_decides : ReachDecides
 reach_decides system m other b depth n same start = (
   λ e. looks_at_its_own system m other b depth (λ node k there is. same k (bindings_stay_in_reach system m b depth n e start node k there is)) e,

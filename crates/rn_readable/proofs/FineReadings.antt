@@ -15,6 +15,7 @@ use Rattle.rn_items.proofs.Options.{option_map_some}
 use Rattle.rn_items.proofs.Bools.{both_true}
 use Rattle.rn_value.specs.declared.value.Value.{Value}
 use Rattle.rn_value.specs.declared.value.Value.TheVariants as Value
+use Rattle.rn_value.proofs.Variants.{same_parts_of_lists}
 use Rattle.rn_model.specs.declared.expr.Expr.{Expr, map-Expr, fold-Expr, fold-roll-Expr}
 use Rattle.rn_model.specs.declared.expr.Expr.{para-roll-Expr, ind-Expr}
 use Rattle.rn_model.specs.declared.expr.Expr.TheOpen as O
@@ -33,7 +34,7 @@ use Rattle.rn_lines.specs.Laws.{has_sixty_four_bits}
 use Rattle.rn_readable.proofs.MendedValues.{mended, IsFine, int_is_fine, text_is_fine}
 use Rattle.rn_readable.proofs.MendedValues.{mended-Tuple, mended-List, mended-Inst}
 use Rattle.rn_readable.proofs.MendedValues.{list_onto-mended}
-use Rattle.rn_readable.proofs.MendedValues.{listed, same_list}
+use Rattle.rn_readable.proofs.MendedValues.{listed}
 use Rattle.rn_readable.proofs.ShallowValues.{depth-Int, depth-Text, depth-Tuple, depth-List}
 use Rattle.rn_readable.proofs.ShallowValues.{depth-Inst, joined_depth}
 
@@ -361,7 +362,7 @@ module _ (most : ℕ) (env : Env) (fine_env : IsFineEnv most env) where
       let rest = tail.1 both.1 w last in
       let is_list : w ≡ Value.List others = listed w others is in
       let others_fine : map mended others ≡ others =
-      same_list (map mended others) others
+      same_parts_of_lists (map mended others) others
       (sym (mended-List others) ∙ subst IsFine is_list rest.0) in
       let depth : value_depth w ≡ suc (greatest (map value_depth others)) =
       ap value_depth is_list ∙ depth-List others in

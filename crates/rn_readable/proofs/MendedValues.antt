@@ -168,9 +168,6 @@ listed w vs e =
     sym (roll-out-Value w) ∙ ap (λ x. roll-Value x) (list_form (out-Value w) vs e)
     ∙ Value.rolls-List vs
 
-pub same_list : (vs ws : List Value) → Value.List vs ≡ Value.List ws → vs ≡ ws
-same_list vs ws e = same_Some vs ws (sym (list_of-List vs) ∙ ap list_of e ∙ list_of-List ws)
-
 -- Renaming instances leaves a value fine.
 module _ (name : InstRef → InstRef) where
   abbrev rename : Value → Value

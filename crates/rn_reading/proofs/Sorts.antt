@@ -14,7 +14,7 @@ use Rattle.rn_reading.specs.declared.fault.ReadFault.TheVariants as Fault
 use Rattle.rn_reading.specs.Phrases.{Phrases, Then, One, Maybe, Many}
 use Rattle.rn_reading.specs.Counting.{Counting}
 use Rattle.rn_reading.specs.Stages.{Following, Sort, Stage, Fails, Reads, done, BeginAlike, IsNextOne, IsNotNext, Steps}
-use Rattle.rn_reading.proofs.Steps.{append-nil, alike-cons, begin, begin_itself, change, take, stuck, too_far, inner, inner_fails, Follow}
+use Rattle.rn_reading.proofs.Steps.{append-nil, alike-cons, begin, change, take, stuck, too_far, inner, inner_fails, Follow}
 
 -- one token that is read as this
 pub record Single (A : Type 0) : Type 0 where
@@ -169,11 +169,6 @@ many_end C F {D = D} read X Y all tokens at begins s other = change C F (Y all) 
     only ts e rest alike [] mid m y = subst (λ us. (Y all).is us e rest) m (subst (λ more. (Y more).is mid e rest) (append-nil all) y)
     only ts e rest alike (a ∷ more) mid m y = absurd (
         let z = begins ts a m.0 m.1 in none-some (next_isnt read tokens at z.0 z.1 other alike z.2) z.4)
-
--- nothing was read of any number of phrases
-pub many_start : (C : Counting) (F : Following) {A D : Type 0} (X : Sort A) (Y : List A → Sort D) (start : List Token) (now : C.Count) →
-    Stage C F (and_then (many X) Y).is start now (and_then (many X) (λ more. Y ([] ++ more))) start now
-many_start C F X Y start now = begin_itself C F (and_then (many X) Y) start now
 
 -- a token of a kind, wherever it stands
 abbrev pub any : TokenKind → Token

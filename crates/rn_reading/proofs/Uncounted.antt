@@ -18,6 +18,7 @@ At Z from tokens Y at = Stage uncounted Anything Z from tt Y (drop at tokens) tt
 abbrev pub Failed : {D : Type 0} → Phrases D → List Token → List Token → ReadFault → Type 0
 Failed Z from tokens e = Fails uncounted Anything Z from tt (length tokens) e
 
+-- at the start all of the phrase is left
 pub started : {D : Type 0} (Y : Sort D) (tokens : List Token) (start : ℕ) → At Y.is (drop start tokens) tokens Y start
 started Y tokens start = begin_itself uncounted Anything Y (drop start tokens) tt
 
@@ -26,6 +27,7 @@ pub goes : {A D : Type 0} {Z : Phrases D} {from : List Token} {a : A} (r : Singl
     At Z from tokens (and_then (one r) Y) at → Steps r.read tokens at (Ok (a, end)) → At Z from tokens (Y a) end
 goes r Y tokens at end s steps = one_read uncounted Anything r Y tokens at end tt s steps.0 steps.1 (λ t is. (refl, refl))
 
+-- where it isn't, the whole fails with that fault
 pub stops : {A D : Type 0} {Z : Phrases D} {from : List Token} (r : Single A) (Y : A → Sort D) (tokens : List Token) (at : ℕ) (e : ReadFault) →
     At Z from tokens (and_then (one r) Y) at → at ≤ length tokens → Steps r.read tokens at (Err e) → Failed Z from tokens e
 stops {Z = Z} {from = from} r Y tokens at (Fault.Stopped k) s inside steps = subst (λ n. Failed Z from tokens (Fault.Stopped n)) (sym steps.1) (one_stuck uncounted Anything r Y tokens at s inside steps.0)
@@ -37,6 +39,7 @@ pub reads : {A D : Type 0} {Z : Phrases D} {from : List Token} {a : A} (X : Sort
     At Z from tokens (and_then X Y) at → ReadsUncounted X.is tokens at (Ok (a, end)) → At Z from tokens (Y a) end
 reads X Y tokens at end s p = then_read uncounted Anything Anything X Y (λ a ts b rest y f. tt) s p
 
+-- where it fails, the whole fails with its fault
 pub fails : {A D : Type 0} {Z : Phrases D} {from : List Token} (X : Sort A) (Y : A → Sort D) (tokens : List Token) (at : ℕ) (e : ReadFault) →
     At Z from tokens (and_then X Y) at → ReadsUncounted X.is tokens at (Err e) → Failed Z from tokens e
 fails X Y tokens at e s f = then_fails uncounted Anything Anything X Y (length tokens) e (λ a ts b rest y f. tt) s f
@@ -46,6 +49,7 @@ pub opens : {A B D : Type 0} {Z : Phrases D} {from : List Token} {b : B} (r : Si
     Others r.read (Y None).is → At Z from tokens (and_then (maybe r X) Y) at → IsNextOne r.read tokens at b → At Z from tokens (and_then (one r) (λ b. and_then X (λ a. Y (Some a)))) at
 opens r X Y tokens at apart s here = maybe_some uncounted Anything r X Y tokens at apart s here
 
+-- where none is next, the phrase isn't there
 pub skips : {A B D : Type 0} {Z : Phrases D} {from : List Token} (r : Single B) (X : Sort A) (Y : Option A → Sort D) (tokens : List Token) (at : ℕ) →
     At Z from tokens (and_then (maybe r X) Y) at → IsNotNext r.read tokens at → At Z from tokens (Y None) at
 skips r X Y tokens at s other = maybe_none uncounted Anything r X Y tokens at s other
@@ -56,6 +60,7 @@ pub another : {A B D : Type 0} {Z : Phrases D} {from : List Token} {b : B} (read
     At Z from tokens (and_then X (λ a. and_then (many X) (λ more. Y ((all ++ a ∷ []) ++ more)))) at
 another read X Y all tokens at apart s here = many_next uncounted Anything read X Y all tokens at apart s here
 
+-- where none begins, those that were read are all
 pub no_more : {A B D : Type 0} {Z : Phrases D} {from : List Token} (read : Token → Option B) (X : Sort A) (Y : List A → Sort D) (all : List A) (tokens : List Token) (at : ℕ) →
     ((ts : List Token) (a : A) (rest : List Token) → X.is ts a rest → (t : Token) × (us : List Token) × (ts ≡ t ∷ us) × (b : B) × (read t ≡ Some b)) →
     At Z from tokens (and_then (many X) (λ more. Y (all ++ more))) at → IsNotNext read tokens at → At Z from tokens (Y all) at

@@ -257,6 +257,7 @@ same_tokens one only apart bytes s t (inl x) (inr y) = absurd (apart bytes s t y
 same_tokens one only apart bytes s t (inr x) (inl y) = absurd (apart bytes t s x.0 y x.1)
 same_tokens one only apart bytes s t (inr x) (inr y) = (only bytes s t x.0 y.0 x.1 y.1).0
 
+-- tokens without a fault, or up to the first one, are those of the text
 pub lexed_of : {bytes : List ℕ} {tokens : List Token} (fault : Option LexFault) → IfNone fault (Tokens bytes tokens) → IfSome fault (FirstFault bytes tokens) → AreTokensOf bytes tokens
 lexed_of None none some = inl none
 lexed_of (Some f) none some = inr (f, some)

@@ -17,6 +17,7 @@ pub fn next(tokens: &Tokens, at: usize) -> Option<TokenRef<'_>>
         (λ t. IsNext tokens.now at (lent t)) }
     ensures fits { OnSome result (at + 1 < 2 ^ 64) }
 {
+    // For its clause: there are fewer than 2^64 tokens, so `at + 1` fits.
     let _count = tokens.len();
     tokens.get(at)
 }

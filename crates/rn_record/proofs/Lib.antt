@@ -1,3 +1,2 @@
-pub mod EndedRuns
 pub mod NamedRepeats
 pub mod NamesInOrder

@@ -1,5 +1,5 @@
 -- What all values in a row are, each of their repeats is.
-use Rattle.std.proofs.Common.{◌≡◌, Bool, true, false, cond, List, [], ◌∷◌, suc, refl, subst}
+use Rattle.std.proofs.Common.{Bool, true, false, cond, List, [], ◌∷◌, suc}
 use Rattle.std.specs.Prelude.{All}
 use Rattle.std.proofs.lemmas.List.Elements.{All-nil, All-cons, All-head, All-tail}
 use Rattle.rn_value.specs.declared.value.Value.{Value}
@@ -16,6 +16,7 @@ one_more P v (r ∷ rs) p all = by (same_value v r.value)
     by true = All-cons (λ r. P r.value) (record { value = v; count = suc r.count }) rs p (All-tail (λ r. P r.value) r rs all)
     by false = All-cons (λ r. P r.value) (record { value = v; count = 1 }) (r ∷ rs) p all
 
+-- what holds of all values holds of the value of each of their repeats
 pub all_repeats : (P : Value → Type 0) (vs : List Value) → All P vs → All (λ r. P r.value) (repeats_of vs)
 all_repeats P [] all = All-nil _
 all_repeats P (v ∷ vs) all =

@@ -1,12 +1,12 @@
 -- Names are taken one after another.
-use Rattle.std.proofs.Common.{◌≡◌, ◌<◌, ◌+◌, ◌-◌, ℕ, suc, List, [], ◌∷◌, ◌++◌, length, get_or, drop, sym, ap, ◌∙◌, append_assoc, add-one, drop-cons, arith}
+use Rattle.std.proofs.Common.{◌≡◌, ◌<◌, ◌+◌, ◌-◌, ℕ, List, [], ◌∷◌, ◌++◌, length, get_or, drop, sym, ap, ◌∙◌, append_assoc, add-one, drop-cons, arith}
 use Rattle.std.specs.Prelude.{Some, slice_get, unwrap_or}
 use Rattle.std.proofs.lemmas.Option.{slice_get-get_or}
 use Rattle.rn_value.specs.Names.{name_of}
 use Rattle.rn_value.proofs.Written.{name_of_some}
 
 -- the name with the next number
-numbered_name : (names : List (List ℕ)) (k : ℕ) → k < length names → name_of names (k + 1) ≡ Some (get_or names k [])
+pub numbered_name : (names : List (List ℕ)) (k : ℕ) → k < length names → name_of names (k + 1) ≡ Some (get_or names k [])
 numbered_name names k below =
     let apart : ¬ (k + 1 ≡ 0) = λ e. let no : ⊥ = omega (arith, e) in no in
     let index : k + 1 - 1 ≡ k = omega arith in

@@ -4,7 +4,7 @@ use Rattle.rn_value.specs.Names.{AreNamed}
 use Rattle.rn_model.specs.declared.system.System.{System}
 use Rattle.rn_model.specs.declared.binding.Binding.{Binding}
 use Rattle.rn_model.specs.declared.log.Reason.{Reason}
-use Rattle.rn_model.specs.declared.log.Reason.TheVariants.{Dead, Steps, Fault, Memory}
+use Rattle.rn_model.specs.declared.log.Reason.TheVariants.{Fault}
 use Rattle.rn_model.specs.declared.log.Entry.{Entry}
 use Rattle.rn_model.specs.declared.log.Entry.TheVariants.{Fire, End}
 use Rattle.rn_model.specs.declared.log.Told.{Told}

@@ -6,18 +6,22 @@ ghost use Rattle.rn_model.specs.Repeats.{times, values_of};
 ghost use Rattle.rn_record.specs.RecordText.{IsFormat, place_name, place_text, token_text, count_text};
 ghost use Rattle.rn_record.specs.RecordText.{item_text, tokens_text, mark_text};
 
-use rn_model::{MarkLine, Repeat, Repeats, System, repeats_hold_values, write_instance};
+use rn_model::{MarkLine, Repeat, Repeats, System, places_of, repeats_hold_values, write_instance};
 use rn_value::{Names, NoMemory, Value, write_numeral, write_value};
 use std::alloc::Global;
 
-fn put_place_name(system: &System, line: &MarkLine, out: &mut Vec<u8>) -> Result<(), NoMemory>
+/// Appends the name of a place of a net, and nothing where there is no such place.
+pub fn put_place_name(
+    system: &System,
+    net: u32,
+    place: u32,
+    out: &mut Vec<u8>,
+) -> Result<(), NoMemory>
     ensures { OnOk result (out.new.items
-        ≡ out.old.items ++ place_name (net_at system.now line.now.net) line.now.place) }
+        ≡ out.old.items ++ place_name (net_at system.now net) place) }
 {
-    if let Some(net) = system.nets.get(line.net as usize) {
-        if let Some(place) = net.places.get(line.place as usize) {
-            out.extend_from_slice(place.name.as_str().as_bytes())?;
-        }
+    if let Some(place) = places_of(system, net).get(place as usize) {
+        out.extend_from_slice(place.name.as_str().as_bytes())?;
     }
     Ok(())
 }
@@ -133,7 +137,7 @@ fn put_place(
 {
     write_instance(alloc, system, line.net, line.inst, out)?;
     out.extend_from_slice(b".")?;
-    put_place_name(system, line, out)
+    put_place_name(system, line.net, line.place, out)
 }
 
 fn put_mark(

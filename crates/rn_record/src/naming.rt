@@ -1,17 +1,23 @@
 //! The names of the nets of the instances that firings make.
-ghost use Rattle.std.specs.Prelude.{◌≡◌, ◌∷◌, [], ◌++◌, ◌<◌, ◌^◌, length, map, flat_map, codes, unwrap_or, IfOk, OnOk};
+ghost use Rattle.std.specs.Prelude.{◌≡◌, ◌∷◌, [], ◌++◌, ◌<◌, ◌^◌, length, map, codes, unwrap_or, IfOk, OnOk};
 ghost use Rattle.rn_value.specs.Names.{name_of};
 ghost use Rattle.rn_model.specs.Systems.{net_at};
 ghost use Rattle.rn_record.specs.RecordText.{names_by, names_after};
 
-use rn_model::{Binding, Creation, Node, System};
+use rn_model::{Binding, Creation, Node, System, find_net, find_transition};
 use rn_value::{Names, NoMemory, Str};
 use std::alloc::Global;
 
-fn push_name(alloc: Global, system: &System, net: u32, names: &mut Names) -> Result<(), NoMemory>
+/// Adds the name of a net, which is empty where there is no such net.
+pub fn push_name(
+    alloc: Global,
+    system: &System,
+    net: u32,
+    names: &mut Names,
+) -> Result<(), NoMemory>
     ensures { OnOk result (names.new ≡ names.old ++ (net_at system.now net).name ∷ []) }
 {
-    match system.nets.get(net as usize) {
+    match find_net(system, net) {
         Some(net) => names.push(alloc, &net.name),
         None => names.push(alloc, &Str::from_string(String::new(alloc))),
     }
@@ -35,10 +41,8 @@ fn push_created(
 fn push_by(alloc: Global, system: &System, node: &Node, names: &mut Names) -> Result<(), NoMemory>
     ensures { OnOk result (names.new ≡ names.old ++ names_by system.now node.now) }
 {
-    if let Some(net) = system.nets.get(node.net as usize) {
-        if let Some(transition) = net.transitions.get(node.transition as usize) {
-            push_created(alloc, system, transition.creations.as_slice(), names)?;
-        }
+    if let Some(transition) = find_transition(system, node) {
+        push_created(alloc, system, transition.creations.as_slice(), names)?;
     }
     Ok(())
 }

@@ -1,9 +1,7 @@
 -- Which ends are true, by what the calls answer.
-use Rattle.std.proofs.Common.{◌≡◌, ℕ, suc, ◌<◌, [], length, refl, sym, ap, ◌∙◌, subst, arith}
-use Rattle.std.specs.Prelude.{◌↔◌, ◌≢◌, true, false, Some, None, Result, Ok, Err, take}
+use Rattle.std.proofs.Common.{◌≡◌, ℕ, suc, ◌<◌, [], length, sym, ap, ◌∙◌, subst, arith}
+use Rattle.std.specs.Prelude.{◌↔◌, true, false, Some, None, Result, Ok, Err, take}
 use Rattle.std.proofs.Math.Seq.{take-length}
-use Rattle.rn_items.specs.Memory.{no_memory}
-use Rattle.rn_items.specs.declared.memory.NoMemory.{NoMemory as Refusal}
 use Rattle.rn_model.specs.declared.binding.Binding.{Binding}
 use Rattle.rn_model.specs.declared.log.FaultKind.{FaultKind}
 use Rattle.rn_model.specs.declared.log.Reason.{Reason}
@@ -23,15 +21,13 @@ use Rattle.rn_fire.specs.declared.ending.NoneCommit.TheVariants as Nothing
 use Rattle.rn_fire.specs.States.{State, IsState, end_marking, logged}
 use Rattle.rn_fire.specs.declared.setup.Setup.{Setup}
 use Rattle.rn_fire.proofs.EntryLemmas.{ended_more}
-use Rattle.rn_replay.specs.Parts.{Candidates, FiresNow, HasMarks, IsUntrueBy, TriesEnd}
+use Rattle.rn_replay.specs.Parts.{Candidates, FiresNow, HasMarks}
 use Rattle.rn_replay.specs.Parts.{cause_of, last_of}
 use Rattle.rn_replay.specs.Replays.{Reaches, Refused, Replays, ending}
-use Rattle.rn_replay.specs.declared.ending.EndTried.{EndTried}
-use Rattle.rn_replay.specs.declared.ending.EndTried.TheVariants.{Ended, Untrue, Unsearched}
+use Rattle.rn_replay.specs.declared.ending.EndTried.TheVariants.{Ended}
 use Rattle.rn_replay.specs.declared.fault.ReplayFault.{ReplayFault}
 use Rattle.rn_replay.specs.declared.fault.ReplayFault.TheVariants as R
-use Rattle.rn_replay.specs.declared.firing.Unfit.{Unfit}
-use Rattle.rn_replay.specs.declared.firing.Unfit.TheVariants.{Unsound, Unmet, NoMemory}
+use Rattle.rn_replay.specs.declared.firing.Unfit.TheVariants.{NoMemory}
 use Rattle.rn_replay.proofs.LastEntries.{last_cause}
 use Rattle.rn_replay.proofs.Refusals.{log_going}
 
@@ -39,29 +35,6 @@ use Rattle.rn_replay.proofs.Refusals.{log_going}
 module _ (s : State) (cause : FaultKind) (b : Binding) where
   abbrev IsTrue : Type 0
   IsTrue = IsTrueEnd s.setup.system s.setup.options s.fired (Fault cause b)
-
-  not_enabled : (unfit : Unfit) → unfit ≢ NoMemory no_memory → Candidates s b (Err unfit) → ¬ IsTrue
-  not_enabled Unsound known lacks = λ ends. lacks (record {
-    shape = ends.0.shape;
-    agrees = ends.0.agrees;
-    derived = ends.0.derived;
-  })
-  not_enabled Unmet known lacks = λ ends. lacks.1 ends.0.fits
-  not_enabled (NoMemory _) known lacks = absurd (known refl)
-
-  -- a binding that isn't enabled
-  pub tries_unfit : (unfit : Unfit) (r : Result EndTried Refusal) (t : State) →
-      Candidates s b (Err unfit) → IsUntrueBy unfit r → TriesEnd s (Fault cause b) r t
-  tries_unfit unfit (Err refused) t lacks by = tt
-  tries_unfit (NoMemory _) (Ok tried) t lacks by = absurd by
-  tries_unfit Unsound (Ok Untrue) t lacks by =
-      not_enabled Unsound (λ e. let never : ⊥ = cc in never) lacks
-  tries_unfit Unmet (Ok Untrue) t lacks by =
-      not_enabled Unmet (λ e. let never : ⊥ = cc in never) lacks
-  tries_unfit Unsound (Ok Ended) t lacks by = absurd (let never : ⊥ = cc in never)
-  tries_unfit Unmet (Ok Ended) t lacks by = absurd (let never : ⊥ = cc in never)
-  tries_unfit Unsound (Ok Unsearched) t lacks by = absurd (let never : ⊥ = cc in never)
-  tries_unfit Unmet (Ok Unsearched) t lacks by = absurd (let never : ⊥ = cc in never)
 
   module _ (c : Binding) (cert : Candidates s b (Ok c)) (worker : ℕ) (t : State) where
     -- one that fires

@@ -1,6 +1,6 @@
 -- Why a firing is refused, by what the calls answer.
 use Rattle.std.proofs.Common.{◌≡◌, ℕ, suc, ◌<◌, ◌≤◌, [], ◌∷◌, ◌++◌, length, sym, ap, ◌∙◌, subst, arith}
-use Rattle.std.specs.Prelude.{◌↔◌, Bool, true, false, Some, None, Result, Ok, Err, IsTrue, take}
+use Rattle.std.specs.Prelude.{◌↔◌, Bool, true, Some, None, Result, Ok, Err, IsTrue, take}
 use Rattle.std.proofs.Math.Seq.{take-length}
 use Rattle.rn_model.specs.declared.system.System.{System}
 use Rattle.rn_model.specs.declared.binding.Binding.{Binding}
@@ -12,7 +12,6 @@ use Rattle.rn_binding.specs.declared.candidate.NotSound.{NotSound}
 use Rattle.rn_binding.specs.declared.candidate.NotSound.TheVariants as Lacks
 use Rattle.rn_fire.specs.Commits.{IsEnabledNow, WasEnabled}
 use Rattle.rn_fire.specs.States.{State, IsState, logged}
-use Rattle.rn_fire.proofs.EntryLemmas.{count_going}
 use Rattle.rn_fire.proofs.OutcomeLemmas.{fits_decides}
 use Rattle.rn_replay.specs.Parts.{Candidates, Certified, FiresNow, Redoes}
 use Rattle.rn_replay.specs.Parts.{fault_of, last_of, outs_of, unfit_of}
@@ -22,10 +21,6 @@ use Rattle.rn_replay.specs.declared.fault.ReplayFault.TheVariants as R
 use Rattle.rn_replay.specs.declared.firing.Unfit.{Unfit}
 use Rattle.rn_replay.specs.declared.firing.Unfit.TheVariants.{Unsound, Unmet, NoMemory}
 use Rattle.rn_replay.proofs.LastEntries.{last_outs}
-
--- how many entries a log has that hasn't ended
-pub going_count : (s : State) → s.ended ≡ None → length (logged s) ≡ length s.fired
-going_count s going = ap (λ e. length (entries_of s.fired e)) going ∙ count_going s.fired
 
 -- what isn't certified isn't sound
 pub not_certified : (system : System) (depth : ℕ) (b : Binding) (lack : NotSound) →
@@ -47,11 +42,6 @@ module _ (s : State) (b : Binding) where
   certified_here system depth copied r is deep same cert =
       subst (λ x. Certified x s.setup.options.depth b r) is
       (subst (λ d. Certified system d b r) deep (subst (λ c. Certified system depth c r) same cert))
-
-  pub not_sound : (unfit : Unfit) → Here (Err unfit) → Candidates s b (Err unfit)
-  not_sound Unsound lacks = lacks
-  not_sound Unmet lacks = absurd lacks
-  not_sound (NoMemory _) lacks = tt
 
   -- the table decides
   pub table_decides : IsState s → (c : Binding) → Here (Ok c) →
@@ -103,9 +93,6 @@ module _ (s : State) (is : IsState s) (going : s.ended ≡ None) (number : ℕ)
       FiringRefused s.setup.system s.setup.options s.fired f fault
       × Log s.setup.system s.setup.options s.fired None
 
-  pub refused_past : s.setup.options.steps < number → Refuses (R.V4 number)
-  refused_past past = ((counts, omega (arith, counts, past)), log_going s is going)
-
   refused_unfit : length s.fired < s.setup.options.steps → (unfit : Unfit) →
       Candidates s f.binding (Err unfit) → Refuses (fault_of unfit number)
   refused_unfit below Unsound lacks = ((counts, below, lacks), log_going s is going)
@@ -130,19 +117,6 @@ module _ (s : State) (is : IsState s) (going : s.ended ≡ None) (number : ℕ)
         ap (λ x. outs_of (last_of (logged x))) fired.1.state
         ∙ ap (λ e. outs_of (last_of (entries_of (s.fired ++ g ∷ []) e))) going
         ∙ last_outs s.fired g
-
-    pub refused_faulted : FiresNow s f.worker c (Ok false) t → Refuses (R.V3 number)
-    refused_faulted faulted =
-        let fault = subst (λ x. FiresNow s f.worker x (Ok false) t) cert.0 faulted in (
-          (
-            counts,
-            below,
-            cert.1,
-            λ gives.
-                let one = fault.1 in let other = gives.1 in absurd (let never : ⊥ = cc in never),
-          ),
-          log_going s is going,
-        )
 
     pub refused_prints : FiresNow s f.worker c (Ok true) t →
         ¬ (outs_of (last_of (logged t)) ≡ Some f.outs) → Refuses (R.V3 number)

@@ -2,7 +2,6 @@
 use Rattle.std.proofs.Common.{◌≡◌, ℕ, zero, suc, ◌+◌, ◌<◌, ◌≤◌, List, [], ◌∷◌, ◌++◌, length, get_or, take, drop, refl, sym, ap, ◌∙◌, subst, arith}
 use Rattle.std.specs.Prelude.{Some, None, Ok, Err}
 use Rattle.std.specs.List.{AllByRecursion}
-use Rattle.std.proofs.lemmas.List.{take_all}
 use Rattle.std.proofs.lemmas.List.Elements.{recursion_from_All}
 use Rattle.rn_model.specs.declared.log.Entry.{Entry}
 use Rattle.rn_model.specs.declared.log.Entry.TheVariants.{Fire, End}
@@ -174,9 +173,3 @@ module _ (es : List Entry) (whole : IsWhole es) where
       found setup i s (record { worker = w; binding = b; outs = o }) (R.V4 n) within at done did.0 did.1
   refuses setup i s t (Fire w b o) (R.V5 n) within at done did =
       found setup i s (record { worker = w; binding = b; outs = o }) (R.V5 n) within at done did.0 did.1
-
-  -- all entries are done
-  pub all_done : (setup : Setup) (s : State) → HasDone setup (length es) s →
-      RedoesAll setup.system setup.options es (Ok s)
-  all_done setup s done =
-      (done.0, done.1, done.2 ∙ take_all (length es) (firings_in es) (few_firings es))

@@ -40,7 +40,7 @@ impl From<NoMemory> for Unfit {
 }
 
 /// The number of the next entry.
-#[tactic(auto, using(crate::proofs::Refusals::going_count))]
+#[tactic(auto, using(rn_fire::proofs::EntryLemmas::going_count))]
 pub(crate) fn next_number(state: &SimState) -> u32
     requires { state.now.ended ≡ None }
     ensures number { result ≡ suc (length state.now.fired) }

@@ -1,6 +1,6 @@
 -- What is told of arcs, calls, creations and actions.
-use Rattle.std.proofs.Common.{◌≡◌, ℕ, suc, ◌+◌, ◌<◌, min, List, [], ◌∷◌, ◌++◌, length, map, drop, get_or}
-use Rattle.std.proofs.Common.{refl, sym, ap, ◌∙◌, Option, Some, None, ◌&&◌, not, arith, add-one, drop-cons}
+use Rattle.std.proofs.Common.{◌≡◌, ℕ, suc, ◌+◌, min, List, [], ◌∷◌, ◌++◌, length, map, drop}
+use Rattle.std.proofs.Common.{refl, sym, ap, ◌∙◌, Option, Some, None, ◌&&◌, not, arith}
 use Rattle.std.specs.Prelude.{flat_map}
 use Rattle.std.specs.Option.{option_map, option_map_or}
 use Rattle.rn_model.specs.declared.system.ArcKind.{ArcKind}
@@ -76,19 +76,6 @@ unfolding call_faults
 call_told N known patterns name seen =
     ap (first_from (first_from known (flat_map (λ e. e.faults) seen))) (call_is N patterns name seen)
     ∙ sym (first_from-append (flat_map (λ e. e.faults) seen) (channel_call_faults patterns name seen) known)
-
-pub misfits_more : {N : Type 0} → (sights : List (Sight N)) (patterns : List Pattern) (i : ℕ) (s : Sight N) (p : Pattern)
-    (known : Option Fault) → i < length sights → i < length patterns → s ≡ get_or sights i s →
-    p ≡ get_or patterns i p →
-    first_from (first_from known (misfit_of s p)) (misfits_of (drop (i + 1) sights) (drop (i + 1) patterns))
-    ≡ first_from known (misfits_of (drop i sights) (drop i patterns))
-misfits_more {N = N} sights patterns i s p known hs hp es ep =
-    let ds : drop i sights ≡ s ∷ drop (suc i) sights =
-    drop-cons sights i s hs ∙ ap (λ x. x ∷ drop (suc i) sights) (sym es) in
-    let dp : drop i patterns ≡ p ∷ drop (suc i) patterns =
-    drop-cons patterns i p hp ∙ ap (λ x. x ∷ drop (suc i) patterns) (sym ep) in
-    rw (ds, dp, add-one)
-    (sym (first_from-append (misfit_of s p) (misfits_of (drop (suc i) sights) (drop (suc i) patterns)) known))
 
 -- past the end of one of two lists there are no more
 pub misfits_past : {N : Type 0} → (sights : List (Sight N)) (patterns : List Pattern) (n : ℕ) →

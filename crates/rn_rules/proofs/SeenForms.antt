@@ -7,7 +7,7 @@ use Rattle.rn_inscript.specs.declared.exprs.PForm.{PForm, fold-PForm, fold_out-P
 use Rattle.rn_inscript.specs.declared.exprs.PForm.{out-PForm}
 use Rattle.rn_inscript.specs.declared.exprs.PForm.TheVariants as Form
 use Rattle.rn_declared.specs.declared.pattern.Pattern.TheVariants as Pattern
-use Rattle.rn_rules.specs.Expressions.{Where, Seen, seen_of, seen_form, whole, tuple_of, listed}
+use Rattle.rn_rules.specs.Expressions.{Where, Seen, seen_of, seen_form, whole, listed}
 use Rattle.rn_rules.specs.Expressions.{with_element, with_elements, operands_faults}
 
 abbrev Parts : Type 0
@@ -31,13 +31,6 @@ out : (form : PForm) (spot : Spot) (place : Where) →
     ≡ seen_form (map-PForm PForm PExpr Forms Parts form_seen seen_of (out-PForm form)) spot place
 out form spot place =
     ap (λ f. f spot place) (fold_out-PForm Forms Parts seen_form (λ e. e.form e.spot) form)
-
-pub seen_tuple : (e : PExpr) (parts : List PExpr) (place : Where) → e.form ≡ Form.Tuple parts →
-    seen_of e place ≡ tuple_of e.spot (map (λ s. s place) (map seen_of parts))
-seen_tuple e parts place h =
-    seen_at e (Form.Tuple parts) place h
-    ∙ out (Form.Tuple parts) e.spot place
-    ∙ rw (Form.outs-Tuple parts)
 
 pub seen_list : (e : PExpr) (parts : List PExpr) (place : Where) → e.form ≡ Form.List parts →
     seen_of e place

@@ -1,10 +1,9 @@
 //! Arcs: what is broken in them is told.
-ghost use Rattle.std.specs.Prelude.{◌≡◌, OnOk, IfOk, IsTrue, option_copied};
+ghost use Rattle.std.specs.Prelude.{◌≡◌, OnOk, IfOk, option_copied};
 ghost use Rattle.rn_declared.specs.Faults.{first_from};
 ghost use Rattle.rn_rules.specs.Arcs.{arc_faults, inscribed_faults, asked_of, is_clear, is_variable};
 ghost use Rattle.rn_rules.specs.Sights.{where_of, misfit_if};
 ghost use Rattle.std.specs.Option.{option_map};
-ghost use Rattle.rn_declared.specs.declared.pattern.Pattern.TheVariants as Form;
 
 use crate::seeing::{fits, see};
 use crate::sight::{Here, Sight};

@@ -1,8 +1,8 @@
 //! Calls, creations and actions: what is broken in them is told.
-ghost use Rattle.std.specs.Prelude.{◌≡◌, OnOk, IfOk, map, length, not, option_copied};
-ghost use Rattle.rn_declared.specs.Faults.{first_from, broken_if};
+ghost use Rattle.std.specs.Prelude.{◌≡◌, OnOk, map, option_copied};
+ghost use Rattle.rn_declared.specs.Faults.{first_from};
 ghost use Rattle.rn_rules.specs.Expressions.{seen_of};
-ghost use Rattle.rn_rules.specs.Calls.{channel_call_faults, call_faults, target_faults, creation_faults, is_no_net};
+ghost use Rattle.rn_rules.specs.Calls.{call_faults, target_faults, creation_faults, is_no_net};
 ghost use Rattle.rn_rules.specs.Actions.{set_faults, value_faults};
 ghost use Rattle.rn_declared.specs.Tables.{found_in};
 ghost use Rattle.rn_rules.specs.Sights.{where_of, misfit_of, misfits_of, misfit_if, call_of};

@@ -1,5 +1,5 @@
 //! Nets and systems: what is broken in them is told.
-ghost use Rattle.std.specs.Prelude.{◌≡◌, OnOk, flat_map, map, is_some, codes, IsTrue};
+ghost use Rattle.std.specs.Prelude.{◌≡◌, OnOk, flat_map, is_some, codes};
 ghost use Rattle.std.specs.List.{list_any};
 ghost use Rattle.rn_declared.specs.Faults.{first_from};
 ghost use Rattle.rn_declared.specs.Names.{same_name};

@@ -1,5 +1,5 @@
 //! Transitions: what is broken in their inscriptions is told.
-ghost use Rattle.std.specs.Prelude.{◌≡◌, ◌<◌, ◌≤◌, ℕ, List, OnOk, IfOk, length, false, flat_map};
+ghost use Rattle.std.specs.Prelude.{◌≡◌, ◌<◌, ◌≤◌, ℕ, List, OnOk, IfOk, length, false};
 ghost use Rattle.rn_declared.specs.Faults.{first_from};
 ghost use Rattle.rn_declared.specs.Names.{number_among};
 ghost use Rattle.rn_rules.specs.Actions.{set_name, set_names};

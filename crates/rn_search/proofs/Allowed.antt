@@ -40,7 +40,7 @@ net_there (net ∷ nets) zero t low = omega arith
 net_there (net ∷ nets) (suc n) t low =
     let rest = net_there nets n t low in omega (arith, rest)
 
-only_one_is : (a : ℕ) (x d : Decision) → only_at a x ≡ Some d → x ≡ d
+pub only_one_is : (a : ℕ) (x d : Decision) → only_at a x ≡ Some d → x ≡ d
 only_one_is zero x d e = some_equal x d e
 only_one_is (suc a) x d e = absurd (let no : ⊥ = cc in no)
 
@@ -49,6 +49,7 @@ its_head : (sought : Sought) (ds : List Decision) (head : Head) →
     IsHead sought.system sought.depth head
 its_head sought ds head sound (caller, there) = sound.heads (Entered head caller) there
 
+-- the start may be tried where it may start a firing
 pub start_is_allowed : StartIsAllowed
 start_is_allowed sought a may d is =
     let start = sought.start in
@@ -79,6 +80,7 @@ found_is_allowed sought ds node k v open_arc old = record {
   right = tt;
 }
 
+-- a token may be tried at an arc that is open
 pub tokens_are_allowed : TokensAreAllowed
 tokens_are_allowed sought ds node k from a open_arc d is =
     let head = node_of sought ds node in
@@ -102,6 +104,7 @@ list_old : (ts : List Value) → ((v : Value) → Contains ts v → holds_new v 
 list_old ts old =
     fold_out-Value Bool new_in_step (Value.List ts) ∙ rw (Value.outs-List ts) (none_new ts old)
 
+-- and so may the list of tokens
 pub lists_are_allowed : ListsAreAllowed
 lists_are_allowed sought ds node k a open_arc d is =
     let head = node_of sought ds node in
@@ -110,6 +113,7 @@ lists_are_allowed sought ds node k a open_arc d is =
     (found_is_allowed sought ds node k v open_arc (list_old (tokens_of sought head k)
     open_arc.old))
 
+-- the known value of an operator application may be tried, where none is decided
 pub results_are_allowed : ResultsAreAllowed
 results_are_allowed sought ds node k a n hole env sound entered at known value fresh d is =
     let head = node_of sought ds node in
@@ -159,6 +163,7 @@ answer_below channel k (x ∷ ts) i t e =
     (omega arith)
     (λ j at. let rest = answer_below channel (suc k) ts j t at in omega (arith, rest)) e
 
+-- the child at a downlink with a forced target may be tried, where it isn't too deep
 pub calls_are_allowed : CallsAreAllowed
 calls_are_allowed sought ds node i a downlink called sound entered at forced made short fresh d
     is =

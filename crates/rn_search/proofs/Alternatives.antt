@@ -32,11 +32,13 @@ use Rattle.rn_search.specs.Points.{net_called, child, called_at, only_at, offere
 use Rattle.rn_search.specs.Missing.{NoneLeadsNowhere, OneWay}
 use Rattle.rn_search.proofs.Following.{last_on, one_value, one_head, is_decision}
 
+-- an option that leads on to a value has a value that leads to it
 pub from_and_then : {X Y : Type 0} (f : X → Option Y) (o : Option X) (y : Y) →
     option_and_then f o ≡ Some y → (x : X) × (o ≡ Some x) × (f x ≡ Some y)
 from_and_then f None y e = absurd (let no : ⊥ = cc in no)
 from_and_then f (Some x) y e = (x, refl, e)
 
+-- a mapped option with a value was made of an option with one
 pub from_map : {X Y : Type 0} (f : X → Y) (o : Option X) (y : Y) → option_map f o ≡ Some y →
     (x : X) × (o ≡ Some x) × (f x ≡ y)
 from_map f None y e = absurd (let no : ⊥ = cc in no)
@@ -51,6 +53,7 @@ none_before : (n : ℕ) (zeroth : Bool) (v w : Value) → nat_eq n 0 ≡ zeroth 
 none_before n true v w e is = (some_equal v w is, eqb-true n 0 e)
 none_before n false v w e is = absurd (let no : ⊥ = cc in no)
 
+-- a first token stands at its index, and at none before it
 pub first_is : (ts : List Value) (i : ℕ) (v : Value) → first_token ts i ≡ Some v →
     (slice_get ts i ≡ Some v) × (count_of v (take i ts) ≡ 0)
 first_is ts i v e =
@@ -82,6 +85,7 @@ not_earlier ts i j v one other less =
     let none = second.1 in
     let no : ⊥ = omega (arith, some, none) in no
 
+-- a token is first at one index alone
 pub first_once : (ts : List Value) (i j : ℕ) (v : Value) → first_token ts i ≡ Some v →
     first_token ts j ≡ Some v → i ≡ j
 first_once ts i j v one other =
@@ -271,6 +275,7 @@ module _ (sought : Sought) (ds : List Decision) (b : Binding) (depth : ℕ)
       one_answer head i inst right.0 a c
       (subst (λ m. called_at sought.system head i inst a m ≡ Some d) net left.2) right.2
 
+-- different alternatives of a point lead to different bindings
 pub one_way : OneWay
 one_way sought ds point a c b leads also =
     let first = last_on sought.system b ds leads.follows.0 (offers sought ds point a)
@@ -285,6 +290,7 @@ one_way sought ds point a c b leads also =
     one_alternative sought ds b sought.depth shape d.0 e.0 first.0 second.0 d.2 e.2 point a c d.1
     e.1
 
+-- an alternative that isn't a decision leads to nothing
 pub none_leads_nowhere : NoneLeadsNowhere
 none_leads_nowhere sought ds point a b none leads =
     let last = last_on sought.system b ds leads.follows.0 (offers sought ds point a)

@@ -24,7 +24,7 @@ use Rattle.rn_model.specs.Agreement.{Agrees}
 use Rattle.rn_model.specs.Good.{Good, IsGoodArc}
 use Rattle.rn_model.specs.ExpressionLaws.{ReadSame}
 use Rattle.rn_model.specs.Derivation.{Assignment, Unknowns, Hole, holes_in, sites_of, Item, entry}
-use Rattle.rn_model.specs.Derivation.{found, computed, items_of, finds_values, finds_token, arc}
+use Rattle.rn_model.specs.Derivation.{found, computed, finds_values, finds_token, arc}
 use Rattle.rn_model.specs.Derivation as D
 use Rattle.rn_model.proofs.AskedValues.{later}
 use Rattle.rn_model.proofs.DerivationLemmas.{holes_in-Var}

@@ -14,7 +14,7 @@ use Rattle.rn_model.specs.declared.binding.Node.{Node}
 use Rattle.rn_model.specs.declared.binding.Binding.{Binding}
 use Rattle.rn_model.specs.Systems.{transition_of}
 use Rattle.rn_model.specs.Bindings.{Shape, Calls, IsCalled}
-use Rattle.rn_model.specs.Derivation.{Hole, Item, entry, found, computed, items_of, finds_values}
+use Rattle.rn_model.specs.Derivation.{Hole, Item, entry, found, computed, items_of}
 use Rattle.rn_model.specs.Derivation as D
 use Rattle.rn_model.specs.RoundLaws.{AreAll, ForceAll}
 use Rattle.rn_model.proofs.ItemsOfNodes.{entry_is_item}
@@ -136,6 +136,7 @@ module _ (sought : Sought) (ds : List Decision) (b : Binding) (turns : AreInTurn
       (λ a. Some (a.var n.0.path x))).1 f) force in
       subst (λ h. All (IsVarForced system ds h) (transition_in system h).vars) (sym n.2) forced
 
+-- where nothing may come in, and something is asked and not decided, decisions lead to nothing
 pub stuck_leads_nowhere : StuckLeadsNowhere
 stuck_leads_nowhere sought ds d turns some closed asked never b leads =
     never (asked_are_decided sought ds b turns some closed leads d asked)
@@ -154,6 +155,7 @@ may_is_asked system ds some (Computed head site way v) may =
 pub done_are_closed : DoneAreClosed
 done_are_closed system ds some done d may = done d (may_is_asked system ds some d may)
 
+-- where nothing is left, and decisions lead to a binding, they force the variables
 pub leading_forces : LeadingForces
 leading_forces sought ds b turns some done leads =
     all_forced sought ds b turns some (done_are_closed sought.system ds some done) leads

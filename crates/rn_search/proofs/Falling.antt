@@ -30,12 +30,14 @@ use Rattle.rn_growing.specs.Grown.{IsNew}
 use Rattle.rn_growing.specs.Layouts.{same_site}
 use Rattle.rn_growing.specs.Turns.{IsEntered, IsHole, MayCome, AreInTurn, SameThing}
 use Rattle.rn_growing.proofs.Growth.{at_in, contains_last, front_at}
-use Rattle.rn_growing.proofs.SameUnknowns.{path_itself, same_path, both_true, site_itself, site_is}
+use Rattle.rn_growing.proofs.SameUnknowns.{site_itself, site_is}
 use Rattle.rn_growing.proofs.SameUnknowns.{as_site, site_of-is}
 use Rattle.rn_search.specs.Points.{node_on, holes_of}
 use Rattle.rn_search.specs.Room.{anywhere, on_one_thing, numbers_below, all_transitions}
 use Rattle.rn_search.specs.Room.{downlink_indexes, arc_indexes, all_holes, paths_within, things_on}
 use Rattle.rn_search.specs.Room.{all_things, is_undecided, RoomFalls}
+use Rattle.rn_items.proofs.Numbers.{same_numbers, numbers_themselves}
+use Rattle.rn_items.proofs.Bools.{both_true}
 
 -- Fewer pass a test that asks for more.
 module _ {X : Type 0} (p q : X → Bool) (harder : (x : X) → q x ≡ true → p x ≡ true) where
@@ -210,7 +212,7 @@ module _ (system : System) where
 
   thing_of : (ds : List Decision) (d : Decision) → MayCome system ds d → IsThing d
   thing_of ds (Entered head caller) may =
-      (Entered (anywhere head.path) None, (0, omega arith, refl), path_itself head.path)
+      (Entered (anywhere head.path) None, (0, omega arith, refl), numbers_themselves head.path)
   thing_of ds (Found head k v) may =
       let t : Decision = Found (anywhere head.path) k (Value.Tuple []) in
       let listed = contained_mapped (λ k. Found (anywhere head.path) k (Value.Tuple []))
@@ -219,7 +221,7 @@ module _ (system : System) where
         t,
         later (Entered (anywhere head.path) None) t (arcs_on head.path ++ holes_on head.path)
             (Contains-append_left (arcs_on head.path) (holes_on head.path) t listed),
-        rw (path_itself head.path, eq-eqb k k refl) refl,
+        rw (numbers_themselves head.path, eq-eqb k k refl) refl,
       )
   thing_of ds (Computed head site way v) may =
       let hole = may.1.0 in
@@ -231,22 +233,22 @@ module _ (system : System) where
       let sites : same_site (as_site (site_of site)) site ≡ true =
       subst (λ s. same_site s site ≡ true) (sym (site_of-is site)) (site_itself site) in
       let ways : pointwise nat_eq hole.way way ≡ true =
-      subst (λ w. pointwise nat_eq hole.way w ≡ true) may.1.1 (path_itself hole.way) in (
+      subst (λ w. pointwise nat_eq hole.way w ≡ true) may.1.1 (numbers_themselves hole.way) in (
         t,
         later (Entered (anywhere head.path) None) t (arcs_on head.path ++ holes_on head.path)
             (Contains-append_right (arcs_on head.path) (holes_on head.path) t listed),
-        rw (path_itself head.path, sites, ways) refl,
+        rw (numbers_themselves head.path, sites, ways) refl,
       )
 
 -- decisions on the thing of a third are on one thing
 pub one_thing : (t d e : Decision) → on_one_thing t d ≡ true → on_one_thing t e ≡ true →
     SameThing e d
 one_thing (Entered h c) (Entered o f) (Entered p g) a b =
-    sym (same_path h.path p.path b) ∙ same_path h.path o.path a
+    sym (same_numbers h.path p.path b) ∙ same_numbers h.path o.path a
 one_thing (Found h k v) (Found o j w) (Found p i x) a b =
     let left = both_true (pointwise nat_eq h.path o.path) (nat_eq k j) a in
     let right = both_true (pointwise nat_eq h.path p.path) (nat_eq k i) b in (
-      sym (same_path h.path p.path right.0) ∙ same_path h.path o.path left.0,
+      sym (same_numbers h.path p.path right.0) ∙ same_numbers h.path o.path left.0,
       sym (eqb-true k i right.1) ∙ eqb-true k j left.1,
     )
 one_thing (Computed h s w v) (Computed o t u x) (Computed p r y z) a b =
@@ -257,9 +259,9 @@ one_thing (Computed h s w v) (Computed o t u x) (Computed p r y z) a b =
     in
     let left_too = both_true (same_site s t) (pointwise nat_eq w u) left.1 in
     let right_too = both_true (same_site s r) (pointwise nat_eq w y) right.1 in (
-      sym (same_path h.path p.path right.0) ∙ same_path h.path o.path left.0,
+      sym (same_numbers h.path p.path right.0) ∙ same_numbers h.path o.path left.0,
       ap site_of (sym (site_is s r right_too.0) ∙ site_is s t left_too.0),
-      sym (same_path w y right_too.1) ∙ same_path w u left_too.1,
+      sym (same_numbers w y right_too.1) ∙ same_numbers w u left_too.1,
     )
 one_thing (Entered h c) (Found o j w) e a b = absurd (let no : ⊥ = cc in no)
 one_thing (Entered h c) (Computed o t u x) e a b = absurd (let no : ⊥ = cc in no)
@@ -300,6 +302,7 @@ undecided ds d t new is =
           absurd (new one.0 one.1 (one_thing t d one.0 is one.2))
     ] refl
 
+-- the room falls with each decision in turn on a node that isn't too deep
 pub room_falls : RoomFalls
 room_falls system depth ds d turns may new short =
     let thing = thing_of system ds d may in

@@ -10,8 +10,9 @@ use Rattle.rn_value.specs.Order.{value_cmp}
 use Rattle.rn_value.specs.declared.value.Value.{Value}
 use Rattle.rn_model.specs.Lists.{same_value, count_of}
 use Rattle.rn_model.proofs.ValueLists.{one_if, count_of-cons}
+use Rattle.rn_model.proofs.AskedValues.{same_itself}
 use Rattle.rn_bag.specs.Cuts.{AllBelow, NoneBelow, Ascends}
-use Rattle.rn_bag.proofs.AscendingLemmas.{below, below_differs, below_through, same_itself}
+use Rattle.rn_bag.proofs.AscendingLemmas.{below, below_differs, below_through}
 use Rattle.rn_bag.proofs.AscendingLemmas.{not_itself, same_value_is}
 use Rattle.rn_bag.proofs.CursorLemmas.{all_past, ascends_of}
 use Rattle.rn_search.specs.Points.{first_token}

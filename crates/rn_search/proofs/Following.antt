@@ -69,6 +69,7 @@ module _ (system : System) (b : Binding) where
   entered_node ds items on head (caller, there) =
       decided_node ds items on (Entered head caller) there
 
+  -- the last decision is on an item of the binding
   pub last_on : (ds : List Decision) (items : List Item) (d : Decision) →
       AreOn system b (ds ++ d ∷ []) items → (item : Item) × On system b d item
   last_on ds items d on =
@@ -131,6 +132,7 @@ module _ (system : System) (b : Binding) where
     never_nowhere (found node k x) on = absurd on.1
     never_nowhere (computed node site hole) on = absurd on.1
 
+    -- an alternative that is on an item of the binding is a decision
     pub is_decision : (o : Option Decision) (item : Item) →
         On system b (unwrap_or o (nowhere system)) item →
         (d : Decision) × (o ≡ Some d) × On system b d item
@@ -168,6 +170,7 @@ module _ (sought : Sought) (ds : List Decision) (b : Binding)
   own_values =
       own_values_satisfy sought.system b sought.depth leads.enabled.shape leads.enabled.agrees
 
+  -- these solve what the decisions bring
   pub own_solve : AreInTurn sought.system ds → Solves sought.system ds own_values.0
   own_solve turns =
       (equations sought.system b sought.depth leads.enabled.shape ds leads.follows.0
@@ -175,6 +178,7 @@ module _ (sought : Sought) (ds : List Decision) (b : Binding)
       (λ item there. own_values.1.items item
       (decision_in sought.system b ds leads.follows.0 leads.follows.1 item there).2.0)
 
+-- what decisions lead to, fewer of them lead to
 pub fewer_lead : FewerLead
 fewer_lead sought ds more b leads = record {
   enabled = leads.enabled;
@@ -182,6 +186,7 @@ fewer_lead sought ds more b leads = record {
   follows = front_on sought.system b ds more leads.follows.0 leads.follows.1;
 }
 
+-- no binding starts at two nodes
 pub one_start : OneStart
 one_start b start other (node, at, is) (also, there, too) =
     sym is ∙ ap head_of (some_equal node also (sym at ∙ there)) ∙ too

@@ -15,6 +15,7 @@ use Rattle.rn_search.proofs.Following.{entered_node}
 use Rattle.rn_search.proofs.Known.{known_is_so, read_same}
 use Rattle.rn_search.proofs.TrueParts.{each_true, holds_by_list, not_true}
 
+-- some list of a guard of an entered node is true, as far as it is known
 pub known_parts_hold : KnownPartsHold
 known_parts_hold sought ds b head guard leads turns some entered there =
     let system = sought.system in

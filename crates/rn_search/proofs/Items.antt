@@ -30,6 +30,7 @@ kept_later : {X : Type 0} (keeps : Bool) (y x : X) (xs : List X) → Contains xs
 kept_later true y x xs there = later y x xs there
 kept_later false y x xs there = there
 
+-- an element that passes is among those that do
 pub in_filter : {X : Type 0} (p : X → Bool) (xs : List X) (x : X) → Contains xs x →
     p x ≡ true → Contains (filter p xs) x
 in_filter p [] x there passes = absurd (not_in_nil x there)

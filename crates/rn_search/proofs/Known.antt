@@ -42,6 +42,7 @@ has_value (y ∷ xs) (w ∷ vs) x many (suc k, h, e) =
     here_or (nat_eq y x) w (value_beside (zip xs vs) x)
     (has_value xs vs x (omega (arith, many)) (k, omega (arith, h), e))
 
+-- a forced variable has its value in each binding to which the decisions lead
 pub forced_are_its_values : ForcedAreItsValues
 forced_are_its_values sought ds b node x v leads turns some there var forced =
     let of : IsNodeOf sought.system node =

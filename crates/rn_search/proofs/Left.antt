@@ -29,7 +29,7 @@ use Rattle.rn_growing.specs.declared.decision.Decision.TheVariants.{Entered, Fou
 use Rattle.rn_growing.specs.Decisions.{transition_in, site_of}
 use Rattle.rn_growing.specs.Layouts.{same_site}
 use Rattle.rn_growing.specs.Turns.{IsHole, SameThing}
-use Rattle.rn_growing.proofs.SameUnknowns.{path_itself, site_itself, as_site, as_site-is}
+use Rattle.rn_growing.proofs.SameUnknowns.{site_itself, as_site, as_site-is}
 use Rattle.rn_growing.proofs.SameUnknowns.{site_of-is}
 use Rattle.rn_search.specs.Points.{holes_of, child}
 use Rattle.rn_search.specs.Ending.{IsAsked, IsDecided}
@@ -41,6 +41,7 @@ use Rattle.rn_search.proofs.Falling.{one_thing}
 use Rattle.rn_search.proofs.Items.{in_filter}
 use Rattle.rn_search.proofs.Offered.{at_site}
 use Rattle.rn_search.specs.Leaving.{LeftIsNew}
+use Rattle.rn_items.proofs.Numbers.{numbers_themselves}
 
 from_if : {X : Type 0} (keeps : Bool) (y x : X) (xs : List X) →
     Contains (if keeps then y ∷ xs else xs) x → ((y ≡ x) × (keeps ≡ true)) ⊎ Contains xs x
@@ -61,18 +62,18 @@ from_filter p (y ∷ xs) x there =
 -- decisions on one thing are told so by the test
 told : (d e : Decision) → SameThing d e → on_one_thing d e ≡ true
 told (Entered h c) (Entered o f) same =
-    subst (λ p. pointwise nat_eq h.path p ≡ true) same (path_itself h.path)
+    subst (λ p. pointwise nat_eq h.path p ≡ true) same (numbers_themselves h.path)
 told (Found h k v) (Found o j w) same =
     let paths : pointwise nat_eq h.path o.path ≡ true =
-    subst (λ p. pointwise nat_eq h.path p ≡ true) same.0 (path_itself h.path) in
+    subst (λ p. pointwise nat_eq h.path p ≡ true) same.0 (numbers_themselves h.path) in
     rw (paths, eq-eqb k j same.1) refl
 told (Computed h s w v) (Computed o t u x) same =
     let paths : pointwise nat_eq h.path o.path ≡ true =
-    subst (λ p. pointwise nat_eq h.path p ≡ true) same.0 (path_itself h.path) in
+    subst (λ p. pointwise nat_eq h.path p ≡ true) same.0 (numbers_themselves h.path) in
     let sites : s ≡ t = sym (site_of-is s) ∙ ap as_site same.1 ∙ site_of-is t in
     let here : same_site s t ≡ true = subst (λ z. same_site s z ≡ true) sites (site_itself s) in
     let ways : pointwise nat_eq w u ≡ true =
-    subst (λ p. pointwise nat_eq w p ≡ true) same.2 (path_itself w) in
+    subst (λ p. pointwise nat_eq w p ≡ true) same.2 (numbers_themselves w) in
     rw (paths, here, ways) refl
 told (Entered h c) (Found o j w) same = absurd same
 told (Entered h c) (Computed o t u x) same = absurd same
@@ -122,7 +123,7 @@ module _ (system : System) where
             (Contains-append_right (founds from.head ++ results from.head) (children from.head) t
             mapped),
         subst (λ p. pointwise nat_eq (from.head.path ++ i ∷ []) p ≡ true) (sym path)
-            (path_itself (from.head.path ++ i ∷ [])),
+            (numbers_themselves (from.head.path ++ i ∷ [])),
       )
   listed ds (Found head k v) (entered, (x, at, finds)) =
       let arcs = (transition_in system head).arcs in
@@ -139,7 +140,7 @@ module _ (system : System) where
         of_entered ds head entered.0 t entered.1
             (Contains-append_left (founds head ++ results head) (children head) t
             (Contains-append_left (founds head) (results head) t mapped)),
-        rw (path_itself head.path, eq-eqb k k refl) refl,
+        rw (numbers_themselves head.path, eq-eqb k k refl) refl,
       )
   listed ds (Computed head site way v) (entered, (hole, way_is, is)) =
       let tr = transition_in system head in
@@ -154,12 +155,12 @@ module _ (system : System) where
       let sites : same_site (as_site (site_of site)) site ≡ true =
       subst (λ s. same_site s site ≡ true) (sym (site_of-is site)) (site_itself site) in
       let ways : pointwise nat_eq hole.way way ≡ true =
-      subst (λ w. pointwise nat_eq hole.way w ≡ true) way_is (path_itself hole.way) in (
+      subst (λ w. pointwise nat_eq hole.way w ≡ true) way_is (numbers_themselves hole.way) in (
         t,
         of_entered ds head entered.0 t entered.1
             (Contains-append_left (founds head ++ results head) (children head) t
             (Contains-append_right (founds head) (results head) t mapped)),
-        rw (path_itself head.path, sites, ways) refl,
+        rw (numbers_themselves head.path, sites, ways) refl,
       )
 
   hole_there : (head : Head) (hole : D.Site × Hole) →

@@ -8,6 +8,7 @@ use Rattle.std.proofs.lemmas.Bool.Decides.{nat_tests}
 use Rattle.std.proofs.lemmas.List.Elements.{Contains-append_left}
 use Rattle.std.proofs.lemmas.Option.{slice_get-get_or, slice_get_within}
 use Rattle.rn_items.proofs.Bools.{true_both}
+use Rattle.rn_items.proofs.Numbers.{numbers_themselves}
 use Rattle.rn_value.specs.declared.value.InstRef.{InstRef}
 use Rattle.rn_value.specs.declared.value.InstRef.TheVariants.{Old, New}
 use Rattle.rn_value.specs.declared.value.Value.{Value}
@@ -31,7 +32,6 @@ use Rattle.rn_growing.specs.Decisions.{transition_in}
 use Rattle.rn_growing.specs.Equations.{EntryBrings, Brings, Solves, read_at}
 use Rattle.rn_growing.specs.Turns.{IsEntered, AreInTurn}
 use Rattle.rn_growing.proofs.Growth.{some_equal, front_at, at_in}
-use Rattle.rn_growing.proofs.SameUnknowns.{path_itself}
 use Rattle.rn_search.specs.Making.{makes, is_made, NamesMade, NameMade, ForcedAreMade}
 
 -- a node that was entered before was entered
@@ -99,7 +99,7 @@ module _ (system : System) (ds : List Decision) (turns : AreInTurn system ds)
       let low : nat_lt j (length creations) ≡ true = grind (arith, nat_tests) in
       contained_any (makes system head.path j) ds (Entered head caller) there
       (true_both (pointwise nat_eq head.path head.path) (nat_lt j (length creations))
-      (path_itself head.path) low)
+      (numbers_themselves head.path) low)
 
   entry_other : (a : Assignment) (head : Head) (caller : Option Caller) →
       Contains ds (Entered head caller) → EntryBrings system a head caller →
@@ -154,6 +154,7 @@ module _ (system : System) (ds : List Decision) (turns : AreInTurn system ds)
       there.2
       in in_other a there.0 d at (solves d there)
 
+-- each instance to which an expression of an entered node is forced is made
 pub forced_are_made : ForcedAreMade
 forced_are_made system ds head site e i turns (a, solves) made entered forced =
     let good = is_made system ds in

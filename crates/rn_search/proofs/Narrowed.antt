@@ -97,6 +97,7 @@ known_there sought ds node k x a b finds e env known by =
     known_is_so sought ds b by.its e env before finds.turns finds.some by.there
     (subst (λ h. IsKnown sought.system ds h e env) by.head known)
 
+-- where the inscription is known, the token is its value
 pub known_token_is_it : KnownTokenIsIt
 known_token_is_it sought ds node k x a b env finds known =
     let by = found_by sought ds node k x a b finds in
@@ -117,6 +118,7 @@ first_part e es env v w is whole =
       ap (λ u. Value.Tuple (u ∷ rest.0)) (sym same) ∙ ap (λ us. Value.Tuple us) rest.2 ∙ all.2,
     )
 
+-- where the first part of a tuple is known, the token is a tuple that begins with it
 pub known_first_part : KnownFirstPart
 known_first_part sought ds node k x a b env e es v finds tuple known is =
     let by = found_by sought ds node k x a b finds in
@@ -127,6 +129,7 @@ known_first_part sought ds node k x a b env e es v finds tuple known is =
     let part = first_part e es own v by.value (sym same ∙ is) whole in
     (part.0, by.token ∙ ap Some (sym part.1))
 
+-- where a guard asks that the token is the same as what is known, it is that
 pub equated_token_is_it : EquatedTokenIsIt
 equated_token_is_it sought ds node k x a b env guard e finds there equates known =
     let system = sought.system in

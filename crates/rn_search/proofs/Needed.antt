@@ -17,6 +17,7 @@ use Rattle.rn_search.specs.Points.{tokens_of}
 use Rattle.rn_search.specs.Needing.{StartsFindTokens, StartsFindRoom}
 use Rattle.rn_search.proofs.Offered.{tokens_are_offered}
 
+-- where an enabled binding starts, each arc of its start that finds a token has one
 pub starts_find_tokens : StartsFindTokens
 starts_find_tokens system m b depth start x enabled starts (k, within, is) finds =
     let sought : Sought =
@@ -40,6 +41,7 @@ HasRoomAt system m n place most start =
     length (tokens m start.inst place) + putters_at (transition_in system start) place
     ≤ most + takers_at (transition_in system start) place
 
+-- where the start of an enabled binding calls nothing, its plain arcs have room for what they put
 pub starts_find_room : StartsFindRoom
 starts_find_room system m b depth start n place most enabled (node, at, is) =
     subst (HasRoomAt system m n place most) is (λ inst none plain has.

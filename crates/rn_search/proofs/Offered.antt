@@ -18,8 +18,6 @@ use Rattle.rn_value.specs.declared.value.Kind.TheVariants as Kind
 use Rattle.rn_model.specs.declared.expr.Expr.{Expr}
 use Rattle.rn_model.specs.declared.system.Transition.{Transition}
 use Rattle.rn_model.specs.declared.system.ArcKind.{ArcKind}
-use Rattle.rn_model.specs.declared.system.ArcKind.TheVariants.{Input, Output, Test, Reserve}
-use Rattle.rn_model.specs.declared.system.ArcKind.TheVariants.{FlexInput, FlexOutput, Inhibit}
 use Rattle.rn_model.specs.declared.system.ArcKind.TheVariants.{Clear}
 use Rattle.rn_model.specs.declared.system.NetArc.{NetArc}
 use Rattle.rn_model.specs.declared.binding.Node.{Node}
@@ -31,7 +29,7 @@ use Rattle.rn_model.specs.Agreement.{ArcAgrees, NodeAgrees, inscribed_kind}
 use Rattle.rn_model.specs.Markings.{net_of, tokens}
 use Rattle.rn_model.specs.Demands.{Reading, readings, elements, clears, inhibits, asked_by_arc}
 use Rattle.rn_model.specs.Demands.{asked_by_node, asked_at}
-use Rattle.rn_model.specs.Derivation.{Hole, holes_in, sites_of, Item, entry, found, computed}
+use Rattle.rn_model.specs.Derivation.{Hole, holes_in, sites_of, entry, found, computed}
 use Rattle.rn_model.specs.Derivation.{items_of, finds_values, finds_token, target, term_value_at}
 use Rattle.rn_model.specs.Derivation as D
 use Rattle.rn_model.proofs.AskedValues.{IsFound, is_found, flat_source, map_source, got_contained}
@@ -41,7 +39,7 @@ use Rattle.rn_model.proofs.EachElement.{at_place}
 use Rattle.rn_model.proofs.HoleValues.{list_of_kind}
 use Rattle.rn_model.proofs.ItemsOfNodes.{entry_is_item, item_is_of_node}
 use Rattle.rn_model.proofs.MarkingsOfRuns.{found_is_there}
-use Rattle.rn_model.proofs.OwnValues.{not_awaiting}
+use Rattle.rn_model.proofs.OwnValues.{not_awaiting, token_is_value}
 use Rattle.rn_model.proofs.ReadConditions.{truths_look_up}
 use Rattle.rn_growing.specs.declared.decision.Head.{Head}
 use Rattle.rn_growing.specs.declared.decision.Decision.{Decision}
@@ -49,7 +47,7 @@ use Rattle.rn_growing.specs.declared.decision.Decision.TheVariants.{Entered, Fou
 use Rattle.rn_growing.specs.Decisions.{head_of, transition_in}
 use Rattle.rn_growing.specs.Equations.{read_at}
 use Rattle.rn_growing.proofs.Growth.{some_equal, at_in}
-use Rattle.rn_growing.proofs.SameUnknowns.{as_site, as_site-is, same_path}
+use Rattle.rn_growing.proofs.SameUnknowns.{as_site, as_site-is}
 use Rattle.rn_channel.specs.Answering.{is_of, answering}
 use Rattle.rn_channel.specs.Heights.{CallsNeedLevels, suffices}
 use Rattle.rn_search.specs.declared.point.Point.{Point}
@@ -69,6 +67,7 @@ use Rattle.rn_search.proofs.Items.{found_is_item, computed_is_item}
 use Rattle.rn_search.proofs.Alternatives.{has_first, has_answer}
 use Rattle.rn_search.proofs.Known.{known_is_so, read_same}
 use Rattle.rn_model.specs.declared.system.System.{System}
+use Rattle.rn_items.proofs.Numbers.{same_numbers}
 
 -- an alternative that is a decision means it
 means : (sought : Sought) (ds : List Decision) (point : Point) (a : ℕ) (d : Decision) (b : Binding)
@@ -77,6 +76,7 @@ means : (sought : Sought) (ds : List Decision) (point : Point) (a : ℕ) (d : De
 means sought ds point a d b is leads =
     subst (λ o. Leads sought (ds ++ unwrap_or o (nowhere sought.system) ∷ []) b) (sym is) leads
 
+-- whatever is looked for starts at the start
 pub start_is_offered : StartIsOffered
 start_is_offered sought b leads =
     let node = leads.starts.0 in
@@ -93,6 +93,7 @@ test_passes test (y ∷ xs) x e = elim (test y) as (λ t. test y ≡ t → test 
   | false ↦ λ fails. test_passes test xs x (rw fails at e)
 ] refl
 
+-- each enabled binding starts at a node that may start a firing
 pub starts_are_kept : StartsAreKept
 starts_are_kept system m b depth enabled =
     let start = enabled.shape.start in
@@ -103,7 +104,7 @@ starts_are_kept system m b depth enabled =
     let kept = All-contains (λ node. (n : ℕ) → node.inst ≡ Old n → net_of m n ≡ Some node.net)
     b.nodes node enabled.fits.there there in
     let may : MayStart system m (head_of node) = record {
-      path = same_path node.path []
+      path = same_numbers node.path []
           (test_passes (λ (n : Node). pointwise nat_eq n.path []) b.nodes node start.1);
       number = start.2.exists.0;
       inst = start.2.exists.1;
@@ -112,16 +113,6 @@ starts_are_kept system m b depth enabled =
       uplink = start.2.uplink;
     } in
     (head_of node, may, (node, start.1, refl))
-
-pub finds_a_token : (kind : ArcKind) → finds_token kind ≡ true → finds_values kind ≡ true
-finds_a_token Input e = refl
-finds_a_token Test e = refl
-finds_a_token Reserve e = refl
-finds_a_token Output e = absurd (let no : ⊥ = cc in no)
-finds_a_token FlexInput e = absurd (let no : ⊥ = cc in no)
-finds_a_token FlexOutput e = absurd (let no : ⊥ = cc in no)
-finds_a_token Inhibit e = absurd (let no : ⊥ = cc in no)
-finds_a_token Clear e = absurd (let no : ⊥ = cc in no)
 
 no_list : (kind : ArcKind) → finds_token kind ≡ true → kind ≡ Clear → ⊥
 no_list kind finds is =
@@ -165,13 +156,14 @@ module _ (sought : Sought) (ds : List Decision) (b : Binding) (leads : Leads sou
       leads_on sought ds b leads (Found head k v) (found node k x)
       (found_is_item sought.system b node there k x at finds) (is, refl, value)
 
+-- an arc that finds a token finds one of the tokens of its place
 pub tokens_are_offered : TokensAreOffered
 tokens_are_offered sought ds b node k x leads at finds =
     let head = node_of sought ds node in
     let n = its_node sought ds b leads node in
     let arc : slice_get (transition_of sought.system n.0).arcs k ≡ Some x =
     subst (λ h. slice_get (transition_in sought.system h).arcs k ≡ Some x) n.2 at in
-    let values = finds_a_token x.kind finds in
+    let values = token_is_value x.kind finds in
     let v = finds_value sought ds b leads n.0 n.1 k x arc values in
     let token : Contains (tokens sought.marking n.0.inst x.place) v.0 =
     elim v.1.1 as (λ _. Contains (tokens sought.marking n.0.inst x.place) v.0) [
@@ -229,6 +221,7 @@ finds_all sought ds b leads node k x v there at is clear =
       | inr one ↦ sym (the_one held all (subst (λ vs. Contains vs all) one.0 listed))
     ]
 
+-- a clear arc finds the list of all tokens of its place
 pub lists_are_offered : ListsAreOffered
 lists_are_offered sought ds b node k x leads at clear =
     let head = node_of sought ds node in
@@ -273,6 +266,7 @@ at_site t k hole at =
 read_as : (o : Option Value) (v w : Value) → o ≡ Some v → v ≡ w → o ≡ Some w
 read_as o v w e is = e ∙ ap Some is
 
+-- an operator application that is known has a value, a whole number, and that is it
 pub results_are_offered : ResultsAreOffered
 results_are_offered sought ds b node k hole env leads turns some at known =
     let head = node_of sought ds node in
@@ -349,6 +343,7 @@ module _ (sought : Sought) (ds : List Decision) (b : Binding) (leads : Leads sou
       let place : 0 + c.transition ≡ c.transition = omega arith in
       (answer.0, answer.1 ∙ ap Some place)
 
+-- the child at a downlink with a forced target is by a transition that answers it
 pub calls_are_offered : CallsAreOffered
 calls_are_offered sought ds b node i downlink called leads turns some at forced =
     let system = sought.system in
@@ -401,6 +396,7 @@ nodes_have_room needed sought ds b head good leads entered =
     (sought.depth - length h.path) (transition_in sought.system h) ≡ true)) (sym n.2)
     (deep, needed sought.system b sought.depth n.0 good shape n.1)
 
+-- a guard of an entered node is true, where it is known
 pub known_guards_hold : KnownGuardsHold
 known_guards_hold sought ds b head guard env leads turns some entered there known =
     let system = sought.system in
@@ -417,6 +413,7 @@ known_guards_hold sought ds b head guard env leads turns some entered there know
     (subst (λ h. IsKnown system ds h e env) n.2 (known e side)))
     ∙ holds
 
+-- the place of an inhibitor arc of such a node doesn't hold the token that is known of it
 pub known_inhibitors_hold : KnownInhibitorsHold
 known_inhibitors_hold sought ds b head k x v env leads turns some entered at inhibits_it known is
     held =
@@ -436,6 +433,7 @@ known_inhibitors_hold sought ds b head k x v env leads turns some entered at inh
     (in_ordered v (asked_at inhibits system (readings system b) node.inst x.place) asked)
     (subst (λ ts. Contains ts v) tokens_are held)
 
+-- the equations of decisions that lead to a binding can be satisfied
 pub leading_is_solvable : LeadingIsSolvable
 leading_is_solvable sought ds b leads turns =
     ((own_values sought ds b leads).0, own_solve sought ds b leads turns)

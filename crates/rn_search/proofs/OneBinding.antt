@@ -106,13 +106,13 @@ same_lists (x ∷ xs) (y ∷ ys) a c there back =
     ap (λ zs. x ∷ zs) rest ∙ ap (λ z. z ∷ ys) first
 
 -- Values beside numbers that ascend are told by what stands beside each number.
-passed : (x y : ℕ) (w : Value) (rest : Option Value) (same : Bool) → nat_eq x y ≡ same → x < y →
+pub passed : (x y : ℕ) (w : Value) (rest : Option Value) (same : Bool) → nat_eq x y ≡ same → x < y →
     (if same then Some w else rest) ≡ rest
 passed x y w rest true e low =
     let is : x ≡ y = eqb-true x y e in absurd (let no : ⊥ = omega (arith, is, low) in no)
 passed x y w rest false e low = refl
 
-here_is : (x : ℕ) (w : Value) (rest : Option Value) → (if nat_eq x x then Some w else rest) ≡
+pub here_is : (x : ℕ) (w : Value) (rest : Option Value) → (if nat_eq x x then Some w else rest) ≡
     Some w
 here_is x w rest = rw (eq-eqb x x refl) refl
 

@@ -51,6 +51,7 @@ module _ (sought : Sought) (ds : List Decision) (b : Binding) (whole : IsWhole s
     fits = leads.enabled.fits;
   }
 
+-- a whole binding is the only one to which the decisions lead, or they lead to none
 pub whole_is_only : WholeIsOnly
 whole_is_only sought ds b whole = (
   λ passes. (they_lead sought ds b whole passes, the_same sought ds b whole),

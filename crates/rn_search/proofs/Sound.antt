@@ -59,6 +59,7 @@ module _ (P : List Decision → Decision → Type 0) (ds : List Decision) where
       subst (λ es. P es d) (take-append-drop there.0 ds)
       (by_more (take there.0 ds) (drop there.0 ds) d (each there.0 d at))
 
+-- the empty list of decisions is sound
 pub none_are_sound : NoneAreSound
 none_are_sound system depth = record {
   turns = record {
@@ -70,6 +71,7 @@ none_are_sound system depth = record {
   right = λ k d at. absurd (let no : ⊥ = cc in no);
 }
 
+-- sound decisions stay so with one more that may be made
 pub sound_by_one : SoundByOne
 sound_by_one system depth ds d sound may = record {
   turns = turns_more system ds d sound.turns may.may may.fresh;
@@ -87,6 +89,7 @@ in_front_in n ds d there =
     subst (λ es. Contains es d) (take-append-drop n ds)
     (Contains-append_left (take n ds) (drop n ds) d there)
 
+-- and where the last ones are taken back
 pub sound_by_fewer : SoundByFewer
 sound_by_fewer system depth n ds room sound = record {
   turns = turns_front system ds n room sound.turns;
@@ -95,6 +98,7 @@ sound_by_fewer system depth n ds room sound = record {
   right = each_front (IsRight system) ds n room sound.right;
 }
 
+-- all of them name what was made, and are right
 pub sound_are_right : SoundAreRight
 sound_are_right system depth ds sound = (
   each_whole (NamesMade system) ds (names_by_more system) sound.made,

@@ -233,6 +233,7 @@ module _ (system : System) (inst : InstRef) (place : ℕ) where
         (flat_map (asked_by_node takes system inst place) (map reading nodes)) in
         omega (arith, first, rest, whole, all)
 
+-- a place holds each token at least as often as the decisions take it
 pub taken_are_there : TakenAreThere
 taken_are_there sought ds b inst place leads turns some w =
     let system = sought.system in
@@ -261,6 +262,7 @@ one_within f w xs x there =
     let two = slice_get_within (x ∷ []) k z also in omega (arith, one, two)) in
     omega (arith, part, single)
 
+-- the place of a flexible arc holds each element of its known list as often as that does
 pub known_lists_are_there : KnownListsAreThere
 known_lists_are_there sought ds b head k x v env leads turns some entered at flex known is w =
     let system = sought.system in

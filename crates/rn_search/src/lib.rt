@@ -4,11 +4,11 @@
 //! it misses nothing').
 #![tactic(auto)]
 
+mod deciding_node;
 mod laws;
 mod offering;
 mod point;
 mod problem;
-mod system_parts;
 mod tokens;
 
 pub use laws::{
@@ -18,4 +18,3 @@ pub use laws::{
 };
 pub use point::{Called, Point};
 pub use problem::Problem;
-pub use system_parts::transition_in;

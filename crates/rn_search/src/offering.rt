@@ -15,12 +15,12 @@ ghost use Rattle.rn_search.specs.Points.{child, instance_of, net_called, node_of
 ghost use Rattle.rn_search.specs.Points.{first_token, offered, tokens_of};
 ghost use Rattle.rn_search.specs.declared.point.Point.TheVariants as P;
 
+use crate::deciding_node::node_on;
 use crate::point::{Called, Point};
 use crate::problem::Problem;
-use crate::system_parts::{node_on, transition_in};
 use crate::tokens::{first_token_after, index_of, repeats_from};
 use rn_bag::Bag;
-use rn_growing::{Caller, Decision, Head, copy_head};
+use rn_growing::{Caller, Decision, Head, copy_head, transition_in};
 use rn_items::Items;
 use rn_model::Downlink;
 use rn_shared::Shared;

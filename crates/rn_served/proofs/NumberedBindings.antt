@@ -94,6 +94,7 @@ module _ (system : System) (m : Marking) (depth : ℕ) where
         let at_c = (enabled.just c).1 is in
         by_order c at_c.0 below at_c.1 at_c.2 (nat_lt at_c.0 k) refl
 
+    -- the binding at an index, from 0, has the number one above it
     pub at_is_numbered : IsNumbered system m depth (suc k) b
     at_is_numbered = record {
       enabled = (enabled.just b).0 (k, within, at);

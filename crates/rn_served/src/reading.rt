@@ -1,5 +1,5 @@
 //! Reading the lines of a session.
-ghost use Rattle.std.specs.Prelude.{◌≡◌, ◌∷◌, ◌<◌, ◌≤◌, [], length, IfSome, IfNone};
+ghost use Rattle.std.specs.Prelude.{◌≡◌, ◌∷◌, ◌<◌, [], length, IfSome, IfNone};
 ghost use Rattle.std.specs.List.{list_all};
 ghost use Rattle.rn_value.specs.Characters.{is_digit};
 ghost use Rattle.rn_served.specs.Lines.{are_digits, lines_of, number_of, request_of, with_number};

@@ -10,6 +10,7 @@ use Rattle.rn_model.specs.declared.system.System.{System}
 use Rattle.rn_record.specs.RecordText.{entries_text, entry_text}
 use Rattle.rn_fire.specs.declared.setup.Setup.{Setup}
 use Rattle.rn_fire.specs.States.{State, IsState, logged}
+use Rattle.rn_fire.proofs.EntryLemmas.{going_count}
 use Rattle.rn_served.specs.Entries.{Entries}
 use Rattle.rn_served.specs.Lines.{lines_of, request_of}
 use Rattle.rn_served.specs.Served.{FiresTo, Served, added_text, fire_text, ok_text}
@@ -22,7 +23,6 @@ use Rattle.rn_session.specs.Serving.{HasLast, IsAnswered, ServesAll, last_text, 
 use Rattle.rn_session.specs.Sessions.{Stays, so_far}
 use Rattle.rn_session.proofs.LastEntries.{last_got}
 use Rattle.rn_session.proofs.NamesSoFar.{has_last}
-use Rattle.rn_session.proofs.SessionStates.{count_of}
 
 -- one line more
 pub one_line : (first s t : State) (lines rest after line before out more : List ℕ) →
@@ -109,7 +109,7 @@ text_of_come old new come =
     let names = names_at old in
     let system = old.setup.system in
     let long = length-append es (e ∷ []) in
-    let firings = count_of old come.going in
+    let firings = going_count old come.going in
     let entries = ap length come.came in
     let step : length (logged new) ≡ suc (length old.fired) = omega (arith, long, firings, entries) in
     let lines : List Entry → List ℕ = λ xs. entries_text system names (suc (length old.fired)) xs in

@@ -18,11 +18,10 @@ use Rattle.rn_fire.specs.Ends.{with_end}
 use Rattle.rn_fire.specs.States.{State, end_marking, logged}
 use Rattle.rn_fire.specs.declared.committing.Commit.{Commit}
 use Rattle.rn_fire.specs.declared.committing.Commit.TheVariants.{Fired, Conflict, Faulted, Ended, NoMemory}
-use Rattle.rn_fire.proofs.EntryLemmas.{count_ended, count_going}
+use Rattle.rn_fire.proofs.EntryLemmas.{count_ended, count_going, going_count}
 use Rattle.rn_session.specs.Keeping.{AreTablesBefore, CommitsTo, IsFirst, IsTableAfter, Tells}
 use Rattle.rn_session.specs.Sessions.{so_far}
 use Rattle.rn_session.proofs.KeptTables.{one_more}
-use Rattle.rn_session.proofs.SessionStates.{count_of}
 
 -- nobody came before it
 pub is_first : (old new : State) (b : Binding) (seen : ℕ) (committed : Commit) → old.ended ≡ None →
@@ -117,4 +116,4 @@ pub kept_more : (old new : State) (kept : List Kept) (t : Kept) → Grows old ne
     IsTableAfter old (length old.fired) t → AreTablesBefore old kept →
     AreTablesBefore new (kept ++ t ∷ [])
 kept_more old new kept t is going now before =
-    one_more old new kept t is.setup is.gs is.more (count_of old going) is.count now before
+    one_more old new kept t is.setup is.gs is.more (going_count old going) is.count now before

@@ -11,11 +11,7 @@ use Rattle.rn_search.specs.Problems.{HasFitTokens}
 use Rattle.rn_found.proofs.FitTokens.{standing_tokens_fit}
 use Rattle.rn_fire.specs.Commits.{IsEnabledNow, WasEnabled}
 use Rattle.rn_fire.specs.States.{State, IsState, end_marking, logged}
-use Rattle.rn_fire.proofs.EntryLemmas.{count_ended, count_going}
-
--- how many entries there are: as many as firings, and one for an end
-pub count_of : (s : State) → s.ended ≡ None → length (logged s) ≡ length s.fired
-count_of s going = ap (λ e. length (entries_of s.fired e)) going ∙ count_going s.fired
+use Rattle.rn_fire.proofs.EntryLemmas.{count_ended, count_going, going_count}
 
 pub most_entries : (fs : List Firing) (ended : Option Reason) →
     (length fs ≤ length (entries_of fs ended)) × (length (entries_of fs ended) ≤ length fs + 1)
@@ -32,7 +28,7 @@ fit_tokens s is =
 pub was_enabled : (s : State) (b : Binding) (seen : ℕ) → s.ended ≡ None → seen ≡ length (logged s) →
     IsEnabledNow s b → WasEnabled s b seen
 was_enabled s b seen going count now =
-    let all : seen ≡ length s.fired = count ∙ count_of s going in
+    let all : seen ≡ length s.fired = count ∙ going_count s going in
     record {
       firings = omega (arith, all);
       enabled = subst (λ fs. Enabled s.setup.system (end_of s.setup.system fs) b s.setup.options.depth)

@@ -1,19 +1,10 @@
 -- The first of some names.
 use Rattle.std.proofs.Common.{◌≡◌, ◌<◌, ◌≤◌, ◌+◌, ◌-◌, ℕ, List, [], ◌∷◌, ◌++◌, length, get_or, take, sym, ap, ◌∙◌, arith}
-use Rattle.std.specs.Prelude.{None, Some, slice_get}
+use Rattle.std.specs.Prelude.{None, Some}
 use Rattle.std.proofs.lemmas.List.{append-nil, length-append, take_more}
-use Rattle.std.proofs.lemmas.Option.{slice_get-get_or}
 use Rattle.std.proofs.Math.Seq.{take-append_seam}
 use Rattle.rn_value.specs.Names.{name_of}
-use Rattle.rn_value.proofs.Written.{name_of_some}
-
--- the name with the next number
-numbered_name : (names : List (List ℕ)) (k : ℕ) → k < length names →
-    name_of names (k + 1) ≡ Some (get_or names k [])
-numbered_name names k below =
-    let apart : ¬ (k + 1 ≡ 0) = λ e. let no : ⊥ = omega (arith, e) in no in
-    let index : k + 1 - 1 ≡ k = omega arith in
-    name_of_some names (k + 1) apart ∙ ap (slice_get names) index ∙ slice_get-get_or names k [] below
+use Rattle.rn_record.proofs.NamesInOrder.{numbered_name}
 
 -- one name more is taken
 pub taken_more : (names copied after : List (List ℕ)) (k : ℕ) (name : List ℕ) → k < length names →

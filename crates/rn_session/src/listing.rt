@@ -1,5 +1,5 @@
 //! What `list` writes.
-ghost use Rattle.std.specs.Prelude.{◌≡◌, ◌++◌, All, IfOk, OnOk, codes, length};
+ghost use Rattle.std.specs.Prelude.{◌≡◌, ◌++◌, All, IfOk, OnOk, codes};
 ghost use Rattle.rn_value.specs.Text.{numeral};
 ghost use Rattle.rn_record.specs.RecordText.{binding_text};
 ghost use Rattle.rn_record.specs.Writable.{HasLines};

@@ -38,6 +38,7 @@ room_of_two depth f n [] first h all = h
 room_of_two depth f n (x ∷ xs) first h all =
     room_of_two depth f n xs (max first (depth (f x))) (omega (arith, h, all.0)) all.1
 
+-- what holds of all elements and of one more holds of all with that one
 pub push : {A : Type 0} (P : A → Type 0) (xs : List A) (x : A) → AllByRecursion P xs → P x →
     AllByRecursion P (xs ++ x ∷ [])
 push P [] x all is = (is, tt)

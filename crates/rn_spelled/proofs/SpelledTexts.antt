@@ -317,6 +317,7 @@ tokens_named : {text : List ℕ} {tokens : List Token} → Tokens text tokens �
 tokens_named {text = text} t =
     subst AllNamed (sym t.among) (pieces_named [] text t.pieces [] t.stand)
 
+-- the plain form that a text spells is well formed
 pub spelled_forms_are_well_formed : SpelledFormsAreWellFormed
 spelled_forms_are_well_formed bytes plain spelled =
     system_well spelled.system

@@ -6,6 +6,7 @@ use Rattle.std.specs.Prelude.{Some, if◌then◌else◌}
 use Rattle.std.specs.List.{AllByRecursion}
 use Rattle.std.proofs.lemmas.Bool.Decides.{nat_tests}
 use Rattle.std.proofs.lemmas.Grind.{common_steps}
+use Rattle.std.proofs.Math.Bool.{and-false}
 use Rattle.rn_value.specs.Words.{IsName}
 use Rattle.rn_model.specs.declared.expr.OpKind.{OpKind}
 use Rattle.rn_model.specs.declared.expr.CompareKind.{CompareKind}
@@ -22,6 +23,7 @@ use Rattle.rn_net.specs.Levels.{Region}
 use Rattle.rn_net.specs.Levels.Region.{between, declaring, inscribing}
 use Rattle.rn_net.specs.Levels.{begun_by, after, inscribed_by, inscribed_from, open_after}
 use Rattle.rn_net.specs.Levels.{is_too_deep, is_semicolon, is_comma, IsShallow}
+use Rattle.rn_items.proofs.Bools.{and_right}
 
 -- each name among these tokens is an identifier and no reserved word
 abbrev pub IsNamed : TokenKind → Type 0
@@ -279,10 +281,6 @@ inscribed_close {t = t} {ts = ts} {k = k} o e d =
       names = d.names.1;
     }
 
-second_true : (a b : Bool) → (a && b) ≡ true → b ≡ true
-second_true true b h = h
-second_true false b h = absurd (let no : ⊥ = cc in no)
-
 none_open : (m : ℕ) → nat_eq m 0 ≡ true → m ≡ 0
 none_open m h = grind (arith, nat_tests)
 
@@ -291,7 +289,7 @@ goes_on_from : (m : ℕ) (c : Count) {n : ℕ} {k : TokenKind} {ts : List Token}
     n ≤ brackets c.levels → n ≤ 64 → IsShallow (inscribed_by m c k) ts → AllNamed ts →
     (anew : Bool) → (is_comma k && nat_eq m 0) ≡ anew → Inscribed n ts
 goes_on_from m c {n = n} {k = k} {ts = ts} o inside around few shallow names true is =
-    let none = none_open m (second_true (is_comma k) (nat_eq m 0) is) in
+    let none = none_open m (and_right (is_comma k) (nat_eq m 0) is) in
     let next : inscribed_by m c k ≡ inscribing 0 at_first = rw (o.goes_on, is) in
     record {
       depth = 0;
@@ -322,14 +320,10 @@ inscribed_on {t = t} {ts = ts} {k = k} o e d =
     let f = first (inscribing d.depth d.count) t ts e d.shallow in
     goes_on_from d.depth d.count o d.inside d.around d.few f.1 d.names.1 (is_comma k && nat_eq d.depth 0) refl
 
-never : (b : Bool) → (b && false) ≡ false
-never true = refl
-never false = refl
-
 at_first_near : (k : TokenKind) → goes_too_far at_first k ≡ false
 at_first_near k =
-    let one = never (opens k || (is_minus k && true)) in
-    let two = never (is_operator k) in
+    let one = and-false (opens k || (is_minus k && true)) in
+    let two = and-false (is_operator k) in
     rw (one, two)
 
 -- an inscription's first token, where a statement may begin

@@ -6,6 +6,7 @@ use Rattle.std.specs.List.Sorted.{IsSorted}
 use Rattle.std.proofs.lemmas.List.Sums.{sum_by-cons, sum_by-append}
 use Rattle.std.proofs.lemmas.List.{map-append}
 use Rattle.std.proofs.lemmas.List.Elements.{filter-append}
+use Rattle.std.proofs.Math.Bool.{and-false}
 use Rattle.rn_value.specs.Order.{value_cmp}
 use Rattle.rn_value.specs.declared.value.Value.{Value}
 use Rattle.rn_value.proofs.SortedLists.{values_by_counts}
@@ -22,7 +23,7 @@ use Rattle.rn_table.specs.Steps.{Step, AreNet, step_at, after_step, steps_at, af
 use Rattle.rn_table.specs.Tables.{started, starting_in}
 use Rattle.rn_model.specs.Systems.{may_start}
 use Rattle.rn_table.proofs.InstanceLemmas.{numbered_at, all_get}
-use Rattle.rn_table.proofs.StepLemmas.{step_sorted, with_places, and_false}
+use Rattle.rn_table.proofs.StepLemmas.{step_sorted, with_places}
 
 -- steps, one place at a time
 abbrev steps_on : List Step → Instance → Instance
@@ -80,12 +81,12 @@ module _ (n place : ℕ) (z : Value) (s : Step) (vs : List Value) (up : IsSorted
   count_case false puts = λ enough. refl
   count_case true true = λ enough.
       let more = count_with z s.value vs up in
-      let none : one_if (same_value z s.value && false) ≡ one_if false = ap one_if (and_false (same_value z s.value)) in
+      let none : one_if (same_value z s.value && false) ≡ one_if false = ap one_if (and-false (same_value z s.value)) in
       let one : one_if (same_value z s.value && true) ≡ one_if (same_value z s.value) = ap one_if (and_true (same_value z s.value)) in
       omega (arith, more, none, one)
   count_case true false = λ enough.
       let less = count_without z s.value vs in
-      let none : one_if (same_value z s.value && false) ≡ one_if false = ap one_if (and_false (same_value z s.value)) in
+      let none : one_if (same_value z s.value && false) ≡ one_if false = ap one_if (and-false (same_value z s.value)) in
       let one : one_if (same_value z s.value && true) ≡ one_if (same_value z s.value) = ap one_if (and_true (same_value z s.value)) in
       omega (arith, less, none, one, enough)
 
@@ -115,9 +116,9 @@ count_append z xs ys = sum_by-append (λ v. one_if (same_value z v)) xs ys
 step_hit : (b h : Bool) (z v : Value) → cond (b && (same_value z v && h)) 1 0 ≡ cond (b && h) (one_if (same_value z v)) 0
 step_hit false h z v = refl
 step_hit true true z v = ap (λ c. cond c 1 0) (and_true (same_value z v))
-step_hit true false z v = ap (λ c. cond c 1 0) (and_false (same_value z v))
+step_hit true false z v = ap (λ c. cond c 1 0) (and-false (same_value z v))
 
-add_hit : (c : Bool) (a b : ℕ) → cond c a 0 + cond c b 0 ≡ cond c (a + b) 0
+pub add_hit : (c : Bool) (a b : ℕ) → cond c a 0 + cond c b 0 ≡ cond c (a + b) 0
 add_hit true a b = refl
 add_hit false a b = refl
 

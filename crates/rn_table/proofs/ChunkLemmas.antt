@@ -1,5 +1,5 @@
 -- Lists in chunks of 32: an element of the whole list is read, and changed, in its chunk.
-use Rattle.std.proofs.Common.{◌≡◌, ℕ, zero, suc, ◌+◌, ◌-◌, ◌*◌, ◌<◌, ◌≤◌, None, slice_get, List, [], ◌∷◌, ◌++◌, length, get_or, set, append-nil, length-append, length-set, refl, sym, ap, ◌∙◌, subst, arith, inl, inr}
+use Rattle.std.proofs.Common.{◌≡◌, ℕ, zero, suc, ◌+◌, ◌-◌, ◌*◌, ◌<◌, ◌≤◌, None, slice_get, List, [], ◌∷◌, ◌++◌, length, get_or, set, append-nil, length-append, length-set, sym, ap, ◌∙◌, subst, arith, inl, inr}
 use Rattle.std.specs.Prelude.{unwrap_or}
 use Rattle.std.specs.List.{AllByRecursion}
 use Rattle.std.proofs.lemmas.Bool.{cases_lt}
@@ -10,7 +10,7 @@ use Rattle.rn_value.specs.declared.value.Value.{Value}
 use Rattle.rn_bag.proofs.CountLemmas.{get_prefix, get_suffix}
 use Rattle.rn_table.specs.Chunks.{AreChunks, joined}
 use Rattle.rn_table.specs.Steps.{Step, stepped, with_step}
-use Rattle.rn_table.proofs.InstanceLemmas.{all_joined}
+use Rattle.rn_model.proofs.EachElement.{each_append}
 
 module _ {A : Type 0} where
   -- only the last has room for more
@@ -80,7 +80,7 @@ module _ {A : Type 0} where
   chunks_more (xs ∷ rest) ys full small = ((omega (arith, full.0), λ _. full.0), chunks_more rest ys full.1 small)
 
   pub full_more : (xss : List (List A)) (ys : List A) (yss : List (List A)) → AllByRecursion (λ xs. length xs ≡ 32) xss → length ys ≡ 32 → yss ≡ xss ++ ys ∷ [] → AllByRecursion (λ xs. length xs ≡ 32) yss
-  full_more xss ys yss full len is = subst (AllByRecursion (λ xs. length xs ≡ 32)) (sym is) (all_joined (λ xs. length xs ≡ 32) xss (ys ∷ []) full (len, tt))
+  full_more xss ys yss full len is = subst (AllByRecursion (λ xs. length xs ≡ 32)) (sym is) (each_append (λ xs. length xs ≡ 32) xss (ys ∷ []) full (len, tt))
 
   pub joined_more : (xss : List (List A)) (ys : List A) → joined (xss ++ ys ∷ []) ≡ joined xss ++ ys
   joined_more xss ys = flat_map-append (λ xs. xs) xss (ys ∷ []) ∙ ap (λ zs. joined xss ++ zs) (append-nil ys)

@@ -75,6 +75,7 @@ module _ (system : System) (made : List Made) (b : Binding) (acts : Effects) (ch
       ap (λ j. j ∷ map change_of (new_from system (next + 1) (map (λ c. c.net) ms))) (ap (with_places i) (places_same (changed_tokens change next) (tokens_after system b acts next) 0 i.places (λ k vs inside vs_is. new_place next (0 + k) vs (leaves next (0 + k) (omega arith)))))
       ∙ ap (λ r. new_instance system b acts (next, made) ∷ r) (new_instances (next + 1) ms (λ n place high. leaves n place (omega (arith, high))))
 
+-- a change with the rows of a firing leads to the marking after it
 pub firing_is_change : FiringsAreChanges
 firing_is_change system m made b acts change is leaves =
     let nets : List ℕ = map (λ c. c.net) made in

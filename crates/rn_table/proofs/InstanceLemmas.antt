@@ -4,14 +4,17 @@ use Rattle.std.specs.Prelude.{filter, ◌&&◌}
 use Rattle.std.proofs.lemmas.Bool.{false≢true, true≢false, eqb-true, eqb-false, cases_lt}
 use Rattle.std.specs.List.{AllByRecursion}
 use Rattle.rn_model.specs.Markings.{Instance}
+use Rattle.rn_model.proofs.EachElement.{each_append}
 use Rattle.rn_table.specs.Leaves.{Ascending, numbered}
 
+-- a number is equal to itself
 pub same_number : (n : ℕ) → nat_eq n n ≡ true
 same_number n = elim (nat_eq n n) as (λ t. nat_eq n n ≡ t → t ≡ true) [
   | true ↦ λ _. refl
   | false ↦ λ e. absurd (eqb-false n n e refl)
 ] refl
 
+-- different numbers aren't equal
 pub other_number : (a b : ℕ) → a ≢ b → nat_eq a b ≡ false
 other_number a b differ = elim (nat_eq a b) as (λ t. nat_eq a b ≡ t → t ≡ false) [
   | true ↦ λ e. absurd (differ (eqb-true a b e))
@@ -27,10 +30,6 @@ all_get P (y ∷ ys) (suc k) x all inside is = all_get P ys k x all.1 (omega ari
 pub all_map : {A : Type 0} (P Q : A → Type 0) (xs : List A) → ((x : A) → P x → Q x) → AllByRecursion P xs → AllByRecursion Q xs
 all_map P Q [] f all = tt
 all_map P Q (x ∷ xs) f all = (f x all.0, all_map P Q xs f all.1)
-
-pub all_joined : {A : Type 0} (P : A → Type 0) (xs ys : List A) → AllByRecursion P xs → AllByRecursion P ys → AllByRecursion P (xs ++ ys)
-all_joined P [] ys all more = more
-all_joined P (x ∷ xs) ys all more = (all.0, all_joined P xs ys all.1 more)
 
 all_cond : {A : Type 0} (P : A → Type 0) (b : Bool) (x : A) (xs : List A) → P x → AllByRecursion P xs → AllByRecursion P (cond b (x ∷ xs) xs)
 all_cond P true x xs here rest = (here, rest)
@@ -49,6 +48,7 @@ above_it a n high differ = elim (cases_lt n a) [
 all_other : (n : ℕ) (is : List Instance) → AllByRecursion (λ i. n < i.number) is → AllByRecursion (λ i. nat_eq i.number n ≡ false) is
 all_other n is high = all_map (λ i. n < i.number) (λ i. nat_eq i.number n ≡ false) is (λ i h. other_number i.number n (λ e. omega (arith, e, h))) high
 
+-- instances with lower numbers don't have this one
 pub all_lower : (n : ℕ) (is : List Instance) → AllByRecursion (λ i. i.number < n) is → AllByRecursion (λ i. nat_eq i.number n ≡ false) is
 all_lower n is low = all_map (λ i. i.number < n) (λ i. nat_eq i.number n ≡ false) is (λ i h. other_number i.number n (λ e. omega (arith, e, h))) low
 
@@ -60,6 +60,7 @@ pub numbered_none : (n : ℕ) (is : List Instance) → NoneHas n is → numbered
 numbered_none n [] none = refl
 numbered_none n (i ∷ is) none = ap (λ b. cond b (Some i) (numbered n is)) none.0 ∙ numbered_none n is none.1
 
+-- the one of a number that the first ones don't have is among the others
 pub numbered_later : (n : ℕ) (is js : List Instance) → NoneHas n is → numbered n (is ++ js) ≡ numbered n js
 numbered_later n [] js none = refl
 numbered_later n (i ∷ is) js none = ap (λ b. cond b (Some i) (numbered n (is ++ js))) none.0 ∙ numbered_later n is js none.1
@@ -68,6 +69,7 @@ pub numbered_earlier : (n : ℕ) (is js : List Instance) → NoneHas n js → nu
 numbered_earlier n [] js none = numbered_none n js none
 numbered_earlier n (i ∷ is) js none = ap (λ r. cond (nat_eq i.number n) (Some i) r) (numbered_earlier n is js none)
 
+-- the one of a number stays the same where others come after
 pub numbered_kept : (n : ℕ) (is js : List Instance) (x : Instance) → numbered n is ≡ Some x → numbered n (is ++ js) ≡ Some x
 numbered_kept n [] js x e = absurd (let no : ⊥ = cc in no)
 numbered_kept n (i ∷ is) js x e = elim (nat_eq i.number n) as (λ b. cond b (Some i) (numbered n is) ≡ Some x → cond b (Some i) (numbered n (is ++ js)) ≡ Some x) [
@@ -179,7 +181,7 @@ ascending_filtered t (i ∷ is) up =
 -- one more instance with a higher number
 pub ascending_more : (is : List Instance) (x : Instance) → Ascending is → AllByRecursion (λ i. i.number < x.number) is → Ascending (is ++ x ∷ [])
 ascending_more [] x up low = (tt, tt)
-ascending_more (i ∷ is) x up low = (all_joined (λ j. i.number < j.number) is (x ∷ []) up.0 (low.0, tt), ascending_more is x up.1 low.1)
+ascending_more (i ∷ is) x up low = (each_append (λ j. i.number < j.number) is (x ∷ []) up.0 (low.0, tt), ascending_more is x up.1 low.1)
 
 -- what is found has the number, and what holds of all
 pub numbered_is : (P : Instance → Type 0) (n : ℕ) (is : List Instance) (x : Instance) → AllByRecursion P is → numbered n is ≡ Some x → (x.number ≡ n) × P x

@@ -6,11 +6,12 @@ use Rattle.std.proofs.lemmas.List.Elements.{filter-append}
 use Rattle.std.proofs.lemmas.Nat.Bits.{bit_at-zero}
 use Rattle.std.specs.List.{AllByRecursion}
 use Rattle.rn_model.specs.Markings.{Instance}
+use Rattle.rn_model.proofs.EachElement.{each_append}
 use Rattle.rn_bag.specs.Words.{has_bit}
 use Rattle.rn_bag.specs.Slots.{there_from}
 use Rattle.rn_table.proofs.StartingLemmas.{bit_added, bit_dropped}
 use Rattle.rn_table.specs.Leaves.{Leaf, starting_of, upward, Ascending, HasSortedPlaces, IsLeaf, bit_of, page_of, has_number, kept_in, numbered}
-use Rattle.rn_table.proofs.InstanceLemmas.{same_number, all_map, all_joined, all_lower, all_filtered, ascending_filtered, ascending_more, numbered_later, numbered_kept, numbered_passed, numbered_is, filter_same, filter_both, filter_again, filter_none}
+use Rattle.rn_table.proofs.InstanceLemmas.{same_number, all_map, all_lower, all_filtered, ascending_filtered, ascending_more, numbered_later, numbered_kept, numbered_passed, numbered_is, filter_same, filter_both, filter_again, filter_none}
 
 -- numbers of one page
 pub page_is : (k n : ℕ) → 64 * k < n → n ≤ 64 * k + 64 → page_of n ≡ k
@@ -35,7 +36,7 @@ bits_differ : (k a b : ℕ) → 64 * k < a → a ≤ 64 * k + 64 → 64 * k < b 
 bits_differ k a b a_low a_high b_low b_high differ = λ e. differ (bit_is k a a_low a_high ∙ ap (λ j. 64 * k + j + 1) e ∙ sym (bit_is k b b_low b_high))
 
 -- what is known of two facts of each instance
-all_two : (P Q R : Instance → Type 0) (is : List Instance) → ((i : Instance) → P i → Q i → R i) → AllByRecursion P is → AllByRecursion Q is → AllByRecursion R is
+pub all_two : (P Q R : Instance → Type 0) (is : List Instance) → ((i : Instance) → P i → Q i → R i) → AllByRecursion P is → AllByRecursion Q is → AllByRecursion R is
 all_two P Q R [] f p q = tt
 all_two P Q R (i ∷ is) f p q = (f i p.0 q.0, all_two P Q R is f p.1 q.1)
 
@@ -71,8 +72,8 @@ module _ (l : Leaf) (x : Instance) (u : ℕ) (some : 0 < x.number) (is : IsLeaf 
   added_below held at n more =
       let low : AllByRecursion (λ i. i.number < n) l.held = all_map (λ i. i.number < x.number) (λ i. i.number < n) l.held (λ i h. omega (arith, h, more)) last in
       elim at [
-        | inl e ↦ subst (AllByRecursion (λ i. i.number < n)) (sym e) (all_joined (λ i. i.number < n) l.held (x ∷ []) low (more, tt))
-        | inr e ↦ subst (AllByRecursion (λ i. i.number < n)) (sym e) (all_joined (λ i. i.number < n) (filter (has_number l.kept) l.held) (x ∷ []) (all_filtered (λ i. i.number < n) (has_number l.kept) l.held low) (more, tt))
+        | inl e ↦ subst (AllByRecursion (λ i. i.number < n)) (sym e) (each_append (λ i. i.number < n) l.held (x ∷ []) low (more, tt))
+        | inr e ↦ subst (AllByRecursion (λ i. i.number < n)) (sym e) (each_append (λ i. i.number < n) (filter (has_number l.kept) l.held) (x ∷ []) (all_filtered (λ i. i.number < n) (has_number l.kept) l.held low) (more, tt))
       ]
 
   -- the page of some of the old instances with the new one
@@ -83,9 +84,9 @@ module _ (l : Leaf) (x : Instance) (u : ℕ) (some : 0 < x.number) (is : IsLeaf 
       let high : x.number ≤ 64 * K + 64 = page_high x.number in
       subst (λ h. let new : Leaf = record { held = h; kept = u; starting = s } in IsLeaf K new) (sym e) (record {
         ascending = ascending_more xs x up low;
-        above = all_joined (λ i. 64 * K < i.number) xs (x ∷ []) above (page_low x.number some, tt);
-        below = all_joined (λ i. i.number ≤ 64 * K + 64) xs (x ∷ []) (all_map (λ i. i.number < x.number) (λ i. i.number ≤ 64 * K + 64) xs (λ i h. omega (arith, h, high)) low) (high, tt);
-        sorted = all_joined HasSortedPlaces xs (x ∷ []) sorted (x_sorted, tt);
+        above = each_append (λ i. 64 * K < i.number) xs (x ∷ []) above (page_low x.number some, tt);
+        below = each_append (λ i. i.number ≤ 64 * K + 64) xs (x ∷ []) (all_map (λ i. i.number < x.number) (λ i. i.number ≤ 64 * K + 64) xs (λ i h. omega (arith, h, high)) low) (high, tt);
+        sorted = each_append HasSortedPlaces xs (x ∷ []) sorted (x_sorted, tt);
         filled = λ bit inside set. elim (nat_eq bit (bit_of x.number)) as (λ t. nat_eq bit (bit_of x.number) ≡ t → (i : Instance) × (numbered (64 * K + bit + 1) (xs ++ x ∷ []) ≡ Some i)) [
           | true ↦ λ same. (x, new_found xs bit low (eqb-true bit (bit_of x.number) same))
           | false ↦ λ other. (let old = filled bit inside (sym (others bit inside (λ e. true≢false (sym (ap (λ j. nat_eq bit j) (sym e) ∙ same_number bit) ∙ other))) ∙ set) in

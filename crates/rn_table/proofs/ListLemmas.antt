@@ -1,15 +1,9 @@
 -- Lists of values that are compared one after another.
-use Rattle.std.proofs.Common.{◌≡◌, ℕ, zero, suc, ◌+◌, ◌<◌, ◌≤◌, List, [], ◌∷◌, ◌++◌, length, take, drop, get_or, refl, sym, ap, ◌∙◌, subst, arith}
-use Rattle.std.proofs.lemmas.List.{take_more, drop_more}
+use Rattle.std.proofs.Common.{◌≡◌, ℕ, zero, suc, ◌+◌, ◌<◌, ◌≤◌, List, [], ◌∷◌, ◌++◌, length, take, get_or, refl, sym, ap, ◌∙◌, subst, arith}
+use Rattle.std.proofs.lemmas.List.{take_more}
 use Rattle.std.specs.Prelude.{Bool, true, false, cond, not, nat_lt, Some, None, position}
 use Rattle.std.specs.List.{AllByRecursion, position_or_len}
 use Rattle.std.proofs.lemmas.Bool.{lt-ltb, le-ltb}
-use Rattle.rn_value.specs.declared.value.Value.{Value}
-use Rattle.rn_model.specs.Lists.{with_value, ordered_values}
-
--- one value more before those that were put in order
-pub ordered_more : (vs : List Value) (i : ℕ) (v : Value) → i < length vs → v ≡ get_or vs i v → with_value v (ordered_values (drop (i + 1) vs)) ≡ ordered_values (drop i vs)
-ordered_more vs i v within is = sym (ap ordered_values (drop_more vs i v within) ∙ ap (λ z. with_value z (ordered_values (drop (i + 1) vs))) (sym is))
 
 lt_true : (a b : ℕ) → a < b → nat_lt a b ≡ true
 lt_true a b less = lt-ltb a b less
@@ -29,13 +23,16 @@ module _ {A : Type 0} (p : A → Bool) where
   len_none [] none = refl
   len_none (y ∷ ys) none = ap (λ b. cond (not b) (1 + position_or_len p ys) 0) none.0 ∙ ap (λ n. 1 + n) (len_none ys none.1) ∙ omega arith
 
+  -- one that passes is the first where none before it does
   pub first_at : (xs : List A) (i : ℕ) (x : A) → AllByRecursion (λ y. p y ≡ false) (take i xs) → i < length xs → x ≡ get_or xs i x → p x ≡ true → position p xs ≡ Some i
   first_at xs i x none inside is yes_x =
       ap (λ n. cond (nat_lt n (length xs)) (Some n) None) (len_first xs i x none inside is yes_x) ∙ ap (λ b. cond b (Some i) None) (lt_true i (length xs) inside)
 
+  -- where none passes there is no first
   pub first_none : (xs : List A) → AllByRecursion (λ y. p y ≡ false) xs → position p xs ≡ None
   first_none xs none = ap (λ n. cond (nat_lt n (length xs)) (Some n) None) (len_none xs none) ∙ ap (λ b. cond b (Some (length xs)) None) (lt_false (length xs) (length xs) (omega arith))
 
+  -- where none so far passes and the next one doesn't, none does up to that
   pub none_more : (xs : List A) (i : ℕ) (x : A) → AllByRecursion (λ y. p y ≡ false) (take i xs) → i < length xs → x ≡ get_or xs i x → p x ≡ false → AllByRecursion (λ y. p y ≡ false) (take (i + 1) xs)
   none_more xs i x none inside is out =
       subst (AllByRecursion (λ y. p y ≡ false)) (sym (take_more xs i x inside ∙ ap (λ y. take i xs ++ y ∷ []) (sym is))) (joined (take i xs) (x ∷ []) none (out, tt))

@@ -3,6 +3,7 @@ use Rattle.std.proofs.Common.{◌≡◌, ◌≢◌, ℕ, zero, suc, ◌+◌, ◌
 use Rattle.std.specs.Prelude.{filter, ◌&&◌}
 use Rattle.std.proofs.lemmas.Bool.{cases_lt}
 use Rattle.std.proofs.lemmas.List.{get_or_default, set_past}
+use Rattle.std.proofs.Math.Bool.{and-false}
 use Rattle.std.specs.List.{AllByRecursion, enumerate_from}
 use Rattle.std.specs.Ordering.{is_lt}
 use Rattle.std.specs.List.Sorted.{IsSorted}
@@ -75,12 +76,8 @@ step_here : (s : Step) (n place : ℕ) (vs : List Value) → n ≡ s.inst → pl
 step_here s n place vs inst at =
     ap (λ b. cond (b && nat_eq place s.place) (stepped s vs) vs) (ap (λ m. nat_eq m s.inst) inst ∙ same_number s.inst) ∙ ap (λ b. cond b (stepped s vs) vs) (ap (λ m. nat_eq m s.place) at ∙ same_number s.place)
 
-pub and_false : (b : Bool) → (b && false) ≡ false
-and_false true = refl
-and_false false = refl
-
 step_there : (s : Step) (n place : ℕ) (vs : List Value) → place ≢ s.place → step_at s n place vs ≡ vs
-step_there s n place vs differ = ap (λ b. cond (nat_eq n s.inst && b) (stepped s vs) vs) (other_number place s.place differ) ∙ ap (λ b. cond b (stepped s vs) vs) (and_false (nat_eq n s.inst))
+step_there s n place vs differ = ap (λ b. cond (nat_eq n s.inst && b) (stepped s vs) vs) (other_number place s.place differ) ∙ ap (λ b. cond b (stepped s vs) vs) (and-false (nat_eq n s.inst))
 
 step_else : (s : Step) (n place : ℕ) (vs : List Value) → nat_eq n s.inst ≡ false → step_at s n place vs ≡ vs
 step_else s n place vs differ = ap (λ b. cond (b && nat_eq place s.place) (stepped s vs) vs) differ

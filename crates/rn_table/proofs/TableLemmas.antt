@@ -3,7 +3,6 @@ use Rattle.std.proofs.Common.{◌≡◌, ◌≢◌, ℕ, zero, suc, ◌+◌, ◌
 use Rattle.std.specs.Prelude.{filter, not, ◌||◌, ◌&&◌}
 use Rattle.std.specs.List.{list_any}
 use Rattle.std.proofs.lemmas.Bool.{true≢false}
-use Rattle.std.proofs.lemmas.List.{get_or_default}
 use Rattle.std.proofs.lemmas.List.Elements.{filter-append, All-from_recursion}
 use Rattle.std.specs.List.{AllByRecursion}
 use Rattle.std.specs.List.Sorted.{IsSorted, IsStrictlyIncreasing}
@@ -15,20 +14,17 @@ use Rattle.rn_model.specs.Limits.{greatest_instance}
 use Rattle.rn_model.specs.Lists.{ordered_values}
 use Rattle.rn_model.specs.Systems.{may_start}
 use Rattle.rn_model.proofs.ValueLists.{ordered_values_ascend}
+use Rattle.rn_model.proofs.EachElement.{each_append}
 use Rattle.rn_table.specs.Tables.{started}
 use Rattle.rn_model.specs.Markings.{Instance}
 use Rattle.rn_bag.specs.Words.{has_bit}
 use Rattle.rn_table.specs.Leaves.{Leaf, Ascending, HasSortedPlaces, IsTable, IsLeaf, AreLeaves, page_of, has_number, kept_in, instances_in, numbered, starting_of, starting_from, stays, upward}
-use Rattle.rn_table.proofs.InstanceLemmas.{filter_both, filter_all, all_true, NoneHas, other_number, all_map, all_joined, all_filtered, ascending_filtered, numbered_none, numbered_later, numbered_earlier}
+use Rattle.rn_table.proofs.InstanceLemmas.{filter_both, filter_all, all_true, NoneHas, other_number, all_map, all_filtered, ascending_filtered, numbered_none, numbered_later, numbered_earlier}
 use Rattle.rn_bag.proofs.SlotLemmas.{there_all}
-use Rattle.rn_table.proofs.LeafLemmas.{page_is, no_bit}
+use Rattle.rn_table.proofs.LeafLemmas.{page_is, no_bit, all_two}
 use Rattle.rn_table.proofs.StartingLemmas.{numbers_all, no_starts}
 
 -- the numbers of a page have its index
-all_two : (P Q R : Instance → Type 0) (is : List Instance) → ((i : Instance) → P i → Q i → R i) → AllByRecursion P is → AllByRecursion Q is → AllByRecursion R is
-all_two P Q R [] f p q = tt
-all_two P Q R (i ∷ is) f p q = (f i p.0 q.0, all_two P Q R is f p.1 q.1)
-
 pub leaf_pages : (k : ℕ) (l : Leaf) → IsLeaf k l → AllByRecursion (λ i. (page_of i.number ≡ k) × (0 < i.number)) (kept_in l)
 leaf_pages k l is =
     all_filtered (λ i. (page_of i.number ≡ k) × (0 < i.number)) (has_number l.kept) l.held
@@ -41,13 +37,13 @@ none_of_page k n is differ all = all_map (λ i. (page_of i.number ≡ k) × (0 <
 pub none_beyond : (k n : ℕ) (ls : List Leaf) → AreLeaves k ls → (page_of n < k → ⊥) → k + length ls ≤ page_of n → NoneHas n (instances_in ls)
 none_beyond k n [] are low high = tt
 none_beyond k n (l ∷ ls) are low high =
-    all_joined (λ i. nat_eq i.number n ≡ false) (kept_in l) (instances_in ls) (none_of_page k n (kept_in l) (λ e. omega (arith, e, high)) (leaf_pages k l are.0))
+    each_append (λ i. nat_eq i.number n ≡ false) (kept_in l) (instances_in ls) (none_of_page k n (kept_in l) (λ e. omega (arith, e, high)) (leaf_pages k l are.0))
     (none_beyond (suc k) n ls are.1 (λ less. omega (arith, less, high)) (omega (arith, high)))
 
 pub none_later : (k n : ℕ) (ls : List Leaf) → AreLeaves k ls → page_of n < k → NoneHas n (instances_in ls)
 none_later k n [] are low = tt
 none_later k n (l ∷ ls) are low =
-    all_joined (λ i. nat_eq i.number n ≡ false) (kept_in l) (instances_in ls) (none_of_page k n (kept_in l) (λ e. omega (arith, e, low)) (leaf_pages k l are.0)) (none_later (suc k) n ls are.1 (omega (arith, low)))
+    each_append (λ i. nat_eq i.number n ≡ false) (kept_in l) (instances_in ls) (none_of_page k n (kept_in l) (λ e. omega (arith, e, low)) (leaf_pages k l are.0)) (none_later (suc k) n ls are.1 (omega (arith, low)))
 
 -- the instance of a number stands in its page
 pub found_in : (k n : ℕ) (ls : List Leaf) (i : ℕ) (x : Leaf) → AreLeaves k ls → i < length ls → x ≡ get_or ls i x → page_of n ≡ k + i → numbered n (instances_in ls) ≡ numbered n (kept_in x)
@@ -111,13 +107,13 @@ start_pages k n l differ =
 starts_beyond : (k n : ℕ) (ls : List Leaf) → (page_of n < k → ⊥) → k + length ls ≤ page_of n → AllByRecursion (λ m. nat_eq m n ≡ false) (starting_from k ls)
 starts_beyond k n [] low high = tt
 starts_beyond k n (l ∷ ls) low high =
-    all_joined (λ m. nat_eq m n ≡ false) (starting_of k l) (starting_from (suc k) ls) (start_pages k n l (λ e. omega (arith, e, high)))
+    each_append (λ m. nat_eq m n ≡ false) (starting_of k l) (starting_from (suc k) ls) (start_pages k n l (λ e. omega (arith, e, high)))
     (starts_beyond (suc k) n ls (λ less. omega (arith, less, high)) (omega (arith, high)))
 
 starts_later : (k n : ℕ) (ls : List Leaf) → page_of n < k → AllByRecursion (λ m. nat_eq m n ≡ false) (starting_from k ls)
 starts_later k n [] low = tt
 starts_later k n (l ∷ ls) low =
-    all_joined (λ m. nat_eq m n ≡ false) (starting_of k l) (starting_from (suc k) ls) (start_pages k n l (λ e. omega (arith, e, low))) (starts_later (suc k) n ls (omega (arith, low)))
+    each_append (λ m. nat_eq m n ≡ false) (starting_of k l) (starting_from (suc k) ls) (start_pages k n l (λ e. omega (arith, e, low))) (starts_later (suc k) n ls (omega (arith, low)))
 
 pub starts_dropped : (k n : ℕ) (ls : List Leaf) (i : ℕ) (x y : Leaf) → i < length ls → x ≡ get_or ls i x → page_of n ≡ k + i → starting_of (page_of n) y ≡ filter (λ m. not (nat_eq m n)) (starting_of (page_of n) x) →
     starting_from k (set ls i y) ≡ filter (λ m. not (nat_eq m n)) (starting_from k ls)
@@ -139,7 +135,7 @@ starts_none n ls past = starts_all n (starting_from 0 ls) (starts_beyond 0 n ls 
 pub all_positive : (k : ℕ) (ls : List Leaf) → AreLeaves k ls → NoneHas 0 (instances_in ls)
 all_positive k [] are = tt
 all_positive k (l ∷ ls) are =
-    all_joined (λ i. nat_eq i.number 0 ≡ false) (kept_in l) (instances_in ls)
+    each_append (λ i. nat_eq i.number 0 ≡ false) (kept_in l) (instances_in ls)
     (all_map (λ i. (page_of i.number ≡ k) × (0 < i.number)) (λ i. nat_eq i.number 0 ≡ false) (kept_in l) (λ i h. other_number i.number 0 (λ e. omega (arith, e, h.1))) (leaf_pages k l are.0)) (all_positive (suc k) ls are.1)
 
 pub dropped_zero : (ls : List Leaf) → AreLeaves 0 ls → filter (Other 0) (instances_in ls) ≡ instances_in ls
@@ -148,7 +144,7 @@ dropped_zero ls are = stays_all 0 (instances_in ls) (all_positive 0 ls are)
 starts_positive : (k : ℕ) (ls : List Leaf) → AllByRecursion (λ m. nat_eq m 0 ≡ false) (starting_from k ls)
 starts_positive k [] = tt
 starts_positive k (l ∷ ls) =
-    all_joined (λ m. nat_eq m 0 ≡ false) (starting_of k l) (starting_from (suc k) ls)
+    each_append (λ m. nat_eq m 0 ≡ false) (starting_of k l) (starting_from (suc k) ls)
     (there_all (λ m. nat_eq m 0 ≡ false) (has_bit l.starting) 0 (upward (64 * k + 1) 64) (numbers_all (λ m. nat_eq m 0 ≡ false) (64 * k + 1) 64 (λ m low high. other_number m 0 (λ e. omega (arith, e, low))))) (starts_positive (suc k) ls)
 
 pub starts_zero : (ls : List Leaf) → filter (λ m. not (nat_eq m 0)) (starting_from 0 ls) ≡ starting_from 0 ls
@@ -216,7 +212,7 @@ page_more next ls l is held kept starting size =
     let more = length-append ls (l ∷ []) in
     record {
       leaves = leaves_more 0 ls l is.leaves (λ j. empty_is j l held kept starting);
-      below = all_joined (λ m. AllByRecursion (λ i. i.number < next) m.held) ls (l ∷ []) is.below (subst (AllByRecursion (λ i. i.number < next)) (sym held) tt, tt);
+      below = each_append (λ m. AllByRecursion (λ i. i.number < next) m.held) ls (l ∷ []) is.below (subst (AllByRecursion (λ i. i.number < next)) (sym held) tt, tt);
       first = is.first;
       most = is.most;
       roomy = omega (arith, is.roomy, more);
@@ -240,9 +236,6 @@ pub set_again : (ls : List Leaf) (i : ℕ) (y : Leaf) → i < length ls → y �
 set_again [] i y inside is = refl
 set_again (l ∷ ls) zero y inside is = ap (λ z. z ∷ ls) is
 set_again (l ∷ ls) (suc i) y inside is = ap (λ r. l ∷ r) (set_again ls i y (omega arith) is)
-
-pub same_table : (next : ℕ) (ls : List Leaf) (i : ℕ) (x y : Leaf) → IsTable next ls → i < length ls → x ≡ get_or ls i x → y ≡ x → IsTable next (set ls i y)
-same_table next ls i x y is inside is_x same = subst (IsTable next) (sym (set_again ls i y inside (same ∙ is_x ∙ get_or_default ls i x y inside))) is
 
 -- instances with the same parts
 pub same_instance : (x y : Instance) → x.number ≡ y.number → x.net ≡ y.net → x.places ≡ y.places → x ≡ y
@@ -268,9 +261,6 @@ one_started system n net = started_case (may_start system net) n net
 new_case : (b : Bool) (i : Instance) → map (λ (p : ℕ × ℕ). p.0) (cond b ((i.number, i.net) ∷ []) []) ≡ map (λ (j : Instance). j.number) (cond b (i ∷ []) [])
 new_case true i = refl
 new_case false i = refl
-
-pub starts_as : (system : System) (i : Instance) → started system i.number (i.net ∷ []) ≡ map (λ (j : Instance). j.number) (filter (λ j. may_start system j.net) (i ∷ []))
-starts_as system i = new_case (may_start system i.net) i
 
 -- one number more that is to go
 stays_case : (a b : Bool) → not (a || b) ≡ (not b && not a)
@@ -301,27 +291,16 @@ filter_more f m ns xs =
 pub filter_start : {A : Type 0} (f : A → ℕ) (xs : List A) → filter (λ x. stays [] (f x)) xs ≡ xs
 filter_start f xs = filter_all (λ x. stays [] (f x)) xs (all_true (λ x. stays [] (f x) ≡ true) (λ x. refl) xs)
 
--- a table without instances
-pub start_table : IsTable 1 []
-start_table = record {
-  leaves = tt;
-  below = tt;
-  first = omega arith;
-  most = omega arith;
-  roomy = omega arith;
-  tight = omega arith;
-}
-
 -- the instances of a table ascend, and so do their tokens
 ascending_append : (m : ℕ) (xs ys : List Instance) → Ascending xs → Ascending ys → AllByRecursion (λ i. i.number ≤ m) xs → AllByRecursion (λ i. m < i.number) ys → Ascending (xs ++ ys)
 ascending_append m [] ys up more low high = more
 ascending_append m (x ∷ xs) ys up more low high =
-    (all_joined (λ j. x.number < j.number) xs ys up.0 (all_map (λ j. m < j.number) (λ j. x.number < j.number) ys (λ j h. omega (arith, h, low.0)) high), ascending_append m xs ys up.1 more low.1 high)
+    (each_append (λ j. x.number < j.number) xs ys up.0 (all_map (λ j. m < j.number) (λ j. x.number < j.number) ys (λ j h. omega (arith, h, low.0)) high), ascending_append m xs ys up.1 more low.1 high)
 
 all_above : (k : ℕ) (ls : List Leaf) → AreLeaves k ls → AllByRecursion (λ i. 64 * k < i.number) (instances_in ls)
 all_above k [] are = tt
 all_above k (l ∷ ls) are =
-    all_joined (λ i. 64 * k < i.number) (kept_in l) (instances_in ls) (all_filtered (λ i. 64 * k < i.number) (has_number l.kept) l.held are.0.above)
+    each_append (λ i. 64 * k < i.number) (kept_in l) (instances_in ls) (all_filtered (λ i. 64 * k < i.number) (has_number l.kept) l.held are.0.above)
     (all_map (λ i. 64 * suc k < i.number) (λ i. 64 * k < i.number) (instances_in ls) (λ i h. omega (arith, h)) (all_above (suc k) ls are.1))
 
 pub all_ascend : (k : ℕ) (ls : List Leaf) → AreLeaves k ls → Ascending (instances_in ls)
@@ -332,12 +311,12 @@ all_ascend k (l ∷ ls) are =
 
 pub all_sorted : (k : ℕ) (ls : List Leaf) → AreLeaves k ls → AllByRecursion HasSortedPlaces (instances_in ls)
 all_sorted k [] are = tt
-all_sorted k (l ∷ ls) are = all_joined HasSortedPlaces (kept_in l) (instances_in ls) (all_filtered HasSortedPlaces (has_number l.kept) l.held are.0.sorted) (all_sorted (suc k) ls are.1)
+all_sorted k (l ∷ ls) are = each_append HasSortedPlaces (kept_in l) (instances_in ls) (all_filtered HasSortedPlaces (has_number l.kept) l.held are.0.sorted) (all_sorted (suc k) ls are.1)
 
 -- what a table keeps of all its instances
 all_below : (next : ℕ) (ls : List Leaf) → AllByRecursion (λ l. AllByRecursion (λ i. i.number < next) l.held) ls → AllByRecursion (λ i. i.number < next) (instances_in ls)
 all_below next [] below = tt
-all_below next (l ∷ ls) below = all_joined (λ i. i.number < next) (kept_in l) (instances_in ls) (all_filtered (λ i. i.number < next) (has_number l.kept) l.held below.0) (all_below next ls below.1)
+all_below next (l ∷ ls) below = each_append (λ i. i.number < next) (kept_in l) (instances_in ls) (all_filtered (λ i. i.number < next) (has_number l.kept) l.held below.0) (all_below next ls below.1)
 
 pub all_between : (next : ℕ) (ls : List Leaf) → IsTable next ls → All (λ i. (0 < i.number) × (i.number < next)) (instances_in ls)
 all_between next ls is =

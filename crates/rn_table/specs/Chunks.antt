@@ -1,5 +1,6 @@
 -- Lists in chunks of 32. They only connect the code to the marking.
 use Rattle.std.specs.Prelude.{◌≡◌, ◌<◌, ◌≤◌, ⊤, List, [], ◌∷◌, length, flat_map}
+use Rattle.rn_table.specs.declared.places.TheConstants.{PLACES}
 
 -- all chunks, one after another
 abbrev pub joined : {A : Type 0} → List (List A) → List A
@@ -9,4 +10,4 @@ joined = flat_map (λ xs. xs)
 abbrev pub AreChunks : {A : Type 0} → List (List A) → Type 0
 AreChunks [] = ⊤
 AreChunks (xs ∷ rest) =
-    ((length xs ≤ 32) × (0 < length rest → length xs ≡ 32)) × AreChunks rest
+    ((length xs ≤ PLACES) × (0 < length rest → length xs ≡ PLACES)) × AreChunks rest

@@ -13,6 +13,8 @@ use Rattle.rn_model.specs.MarkingCodes.{instance_code}
 use Rattle.rn_bag.specs.Slots.{there_from}
 use Rattle.rn_bag.specs.Words.{has_bit}
 use Rattle.rn_model.specs.Limits.{greatest_instance}
+use Rattle.rn_bag.specs.declared.words.TheConstants.{ROOM}
+use Rattle.rn_table.specs.declared.dir.TheConstants.{PAGES}
 use Rattle.rn_table.specs.declared.leaf.Words.{Words}
 
 -- a page with the words beside it: the instances that it holds, which of its 64 numbers are kept, and
@@ -31,11 +33,11 @@ leaf_code =
 
 -- the index of a number in its page
 abbrev pub bit_of : ℕ → ℕ
-bit_of n = (n - 1) % 64
+bit_of n = (n - 1) % ROOM
 
 -- the index of the page of a number
 abbrev pub page_of : ℕ → ℕ
-page_of n = (n - 1) / 64
+page_of n = (n - 1) / ROOM
 
 -- what a page holds, where this is the word of its kept numbers: a page without kept instances counts
 -- as given up, even where it is still there
@@ -55,7 +57,7 @@ leaves_by h (w ∷ ws) = leaf_with (h 0) w.kept w.starting ∷ leaves_by (λ i. 
 -- What the page of an index holds, of directories of 32 pages each. A page that isn't there holds
 -- nothing.
 abbrev pub held_at : List (List (List Instance)) → ℕ → List Instance
-held_at ds i = slice_index_or (slice_index_or ds (i / 32) []) (i % 32) []
+held_at ds i = slice_index_or (slice_index_or ds (i / PAGES) []) (i % PAGES) []
 
 -- whether a word has the number of an instance
 abbrev pub has_number : ℕ → Instance → Bool
@@ -84,7 +86,7 @@ upward first (suc count) = first ∷ upward (suc first) count
 
 -- the numbers of a page that may start, where the page has this index
 abbrev pub starting_of : ℕ → Leaf → List ℕ
-starting_of k l = there_from (has_bit l.starting) 0 (upward (64 * k + 1) 64)
+starting_of k l = there_from (has_bit l.starting) 0 (upward (ROOM * k + 1) ROOM)
 
 -- the numbers that may start, where the first page has this index
 abbrev pub starting_from : ℕ → List Leaf → List ℕ
@@ -104,12 +106,12 @@ HasSortedPlaces i = AllByRecursion (IsSorted value_cmp) i.places
 -- each that is kept. None may start but those that are kept.
 pub record IsLeaf (k : ℕ) (l : Leaf) : Type 0 where
   pub ascending : Ascending l.held
-  pub above : AllByRecursion (λ i. 64 * k < i.number) l.held
-  pub below : AllByRecursion (λ i. i.number ≤ 64 * k + 64) l.held
+  pub above : AllByRecursion (λ i. ROOM * k < i.number) l.held
+  pub below : AllByRecursion (λ i. i.number ≤ ROOM * k + ROOM) l.held
   pub sorted : AllByRecursion HasSortedPlaces l.held
-  pub filled : (bit : ℕ) → bit < 64 → has_bit l.kept bit ≡ true →
-      (i : Instance) × (numbered (64 * k + bit + 1) l.held ≡ Some i)
-  pub starts : (bit : ℕ) → bit < 64 → has_bit l.starting bit ≡ true → has_bit l.kept bit ≡ true
+  pub filled : (bit : ℕ) → bit < ROOM → has_bit l.kept bit ≡ true →
+      (i : Instance) × (numbered (ROOM * k + bit + 1) l.held ≡ Some i)
+  pub starts : (bit : ℕ) → bit < ROOM → has_bit l.starting bit ≡ true → has_bit l.kept bit ≡ true
 
 -- pages from this index on
 abbrev pub AreLeaves : ℕ → List Leaf → Type 0
@@ -122,5 +124,5 @@ pub record IsTable (next : ℕ) (ls : List Leaf) : Type 0 where
   pub below : AllByRecursion (λ l. AllByRecursion (λ i. i.number < next) l.held) ls
   pub first : 1 ≤ next
   pub most : next ≤ greatest_instance + 1
-  pub roomy : next ≤ 64 * length ls + 1
-  pub tight : 64 * length ls ≤ next + 63
+  pub roomy : next ≤ ROOM * length ls + 1
+  pub tight : ROOM * length ls ≤ next + 63

@@ -29,6 +29,7 @@ impl Model for Dir {
     ghost use Rattle.std.specs.Option.{option_map_or};
     ghost use Rattle.rn_model.specs.Markings.{Instance};
     ghost use Rattle.rn_model.specs.MarkingCodes.{instance_code};
+    ghost use Rattle.rn_table.specs.declared.dir.TheConstants.{PAGES};
 
     ghost Value = { List (List Instance) };
 
@@ -36,13 +37,13 @@ impl Model for Dir {
 
     ghost view = { λ dir. map (λ page. option_map_or (λ p. p.value) page []) dir.pages.items };
 
-    ghost invariant = { λ dir. length dir.pages.items ≡ 32 };
+    ghost invariant = { λ dir. length dir.pages.items ≡ PAGES };
 }
 
 impl Dir {
     /// A directory without pages.
     fn new(alloc: Global) -> Result<Dir, NoMemory>
-        ensures { IfOk result (λ dir. (i : ℕ) → i < 32 → slice_index_or dir i [] ≡ []) }
+        ensures { IfOk result (λ dir. (i : ℕ) → i < PAGES → slice_index_or dir i [] ≡ []) }
     {
         let mut pages = Vec::with_capacity(alloc, PAGES)?;
         for _ in 0..PAGES {
@@ -54,7 +55,7 @@ impl Dir {
     /// The same directory with those pages alone of which something is kept. It shares them with the
     /// first.
     fn copy_kept(&self, alloc: Global, words: &[Words]) -> Result<Dir, NoMemory>
-        ensures { IfOk result (λ dir. (i : ℕ) (w : PageWords) → i < 32 → i < length words.now → w ≡ slice_index_or words.now i w → w.kept ≢ 0 → slice_index_or dir i [] ≡ slice_index_or self.now i []) }
+        ensures { IfOk result (λ dir. (i : ℕ) (w : PageWords) → i < PAGES → i < length words.now → w ≡ slice_index_or words.now i w → w.kept ≢ 0 → slice_index_or dir i [] ≡ slice_index_or self.now i []) }
     {
         let mut pages = Vec::with_capacity(alloc, PAGES)?;
         for index in 0..PAGES {
@@ -66,7 +67,7 @@ impl Dir {
 
     /// The page of an index, where something is kept of it.
     fn kept_page(&self, index: usize, words: &[Words]) -> Result<Option<Arc<Page>>, NoMemory>
-        requires { index < 32 }
+        requires { index < PAGES }
         ensures { IfOk result (λ page. (w : PageWords) → index < length words.now → w ≡ slice_index_or words.now index w → w.kept ≢ 0 → option_map_or (λ p. p.value) page [] ≡ slice_index_or self.now index []) }
     {
         if index < words.len() && words[index].kept == 0 {
@@ -77,7 +78,7 @@ impl Dir {
 
     /// The page of an index.
     fn page(&self, index: usize) -> Option<&Arc<Page>>
-        requires { index < 32 }
+        requires { index < PAGES }
         ensures { option_map_or (λ p. p.now.value) result [] ≡ slice_index_or self.now index [] }
     {
         match &self.pages[index] {
@@ -88,7 +89,7 @@ impl Dir {
 
     /// One more instance in a page.
     fn add(&mut self, alloc: Global, index: usize, kept: u64, inst: Inst) -> Result<(), NoMemory>
-        requires { index < 32 }
+        requires { index < PAGES }
         ensures here { OnOk result (Grows kept inst (held_if kept (slice_index_or self.old index [])) (slice_index_or self.new index [])) }
         ensures others { OnOk result ((i : ℕ) → i ≢ index → slice_index_or self.new i [] ≡ slice_index_or self.old i []) }
     {
@@ -105,7 +106,7 @@ impl Dir {
         kept: u64,
         edit: &Edit<'_>,
     ) -> Result<(), NoMemory>
-        requires inside { index < 32 }
+        requires inside { index < PAGES }
         requires ascending { Ascending (slice_index_or self.old index []) }
         ensures here { OnOk result (Steps kept edit.now (slice_index_or self.old index []) (slice_index_or self.new index [])) }
         ensures others { OnOk result ((i : ℕ) → i ≢ index → slice_index_or self.new i [] ≡ slice_index_or self.old i []) }
@@ -117,7 +118,7 @@ impl Dir {
 
     /// Lets go of a page.
     fn give_up(&mut self, index: usize)
-        requires { index < 32 }
+        requires { index < PAGES }
         ensures { (i : ℕ) → i ≢ index → slice_index_or self.new i [] ≡ slice_index_or self.old i [] }
     {
         self.pages[index] = None;
@@ -146,7 +147,7 @@ pub(crate) fn copy_dir(dir: &Option<Arc<Dir>>) -> Result<Option<Arc<Dir>>, NoMem
 
 /// The page of an index in directories.
 pub(crate) fn page_in(dirs: &[Option<Arc<Dir>>], at: usize) -> Option<&Arc<Page>>
-    requires { at / 32 < length dirs.now }
+    requires { at / PAGES < length dirs.now }
     ensures { option_map_or (λ p. p.now.value) result [] ≡ held_at (map (λ dir. option_map_or (λ d. d.value) dir []) dirs.now) at }
 {
     match &dirs[at / PAGES] {
@@ -164,11 +165,11 @@ pub(crate) fn add_to(
     words: &[Words],
     inst: Inst,
 ) -> Result<(), NoMemory>
-    requires inside { index < 32 }
+    requires inside { index < PAGES }
     requires there { index < length words.now }
     requires word { (w : PageWords) → w ≡ slice_index_or words.now index w → w.kept ≡ kept }
     ensures here { OnOk result (Grows kept inst (held_if kept (slice_index_or (option_map_or (λ d. d.value) dir.old []) index [])) (slice_index_or (option_map_or (λ d. d.value) dir.new []) index [])) }
-    ensures others { OnOk result ((i : ℕ) (w : PageWords) → i < 32 → i < length words.now → i ≢ index → w ≡ slice_index_or words.now i w → w.kept ≢ 0 → slice_index_or (option_map_or (λ d. d.value) dir.new []) i [] ≡ slice_index_or (option_map_or (λ d. d.value) dir.old []) i []) }
+    ensures others { OnOk result ((i : ℕ) (w : PageWords) → i < PAGES → i < length words.now → i ≢ index → w ≡ slice_index_or words.now i w → w.kept ≢ 0 → slice_index_or (option_map_or (λ d. d.value) dir.new []) i [] ≡ slice_index_or (option_map_or (λ d. d.value) dir.old []) i []) }
 {
     match dir {
         None => {
@@ -190,11 +191,11 @@ fn add_to_shared(
     words: &[Words],
     inst: Inst,
 ) -> Result<(), NoMemory>
-    requires inside { index < 32 }
+    requires inside { index < PAGES }
     requires there { index < length words.now }
     requires word { (w : PageWords) → w ≡ slice_index_or words.now index w → w.kept ≡ kept }
     ensures here { OnOk result (Grows kept inst (held_if kept (slice_index_or dir.old.value index [])) (slice_index_or dir.new.value index [])) }
-    ensures others { OnOk result ((i : ℕ) (w : PageWords) → i < 32 → i < length words.now → i ≢ index → w ≡ slice_index_or words.now i w → w.kept ≢ 0 → slice_index_or dir.new.value i [] ≡ slice_index_or dir.old.value i []) }
+    ensures others { OnOk result ((i : ℕ) (w : PageWords) → i < PAGES → i < length words.now → i ≢ index → w ≡ slice_index_or words.now i w → w.kept ≢ 0 → slice_index_or dir.new.value i [] ≡ slice_index_or dir.old.value i []) }
 {
     if let Some(own) = Arc::get_mut(dir) {
         return own.add(alloc, index, kept, inst);
@@ -214,12 +215,12 @@ pub(crate) fn edit_in(
     words: &[Words],
     edit: &Edit<'_>,
 ) -> Result<(), NoMemory>
-    requires inside { index < 32 }
+    requires inside { index < PAGES }
     requires there { index < length words.now }
     requires word { (w : PageWords) → w ≡ slice_index_or words.now index w → w.kept ≡ kept }
     requires ascending { Ascending (held_if kept (slice_index_or (option_map_or (λ d. d.value) dir.old []) index [])) }
     ensures here { OnOk result (Steps kept edit.now (held_if kept (slice_index_or (option_map_or (λ d. d.value) dir.old []) index [])) (held_if kept (slice_index_or (option_map_or (λ d. d.value) dir.new []) index []))) }
-    ensures others { OnOk result ((i : ℕ) (w : PageWords) → i < 32 → i < length words.now → i ≢ index → w ≡ slice_index_or words.now i w → w.kept ≢ 0 → slice_index_or (option_map_or (λ d. d.value) dir.new []) i [] ≡ slice_index_or (option_map_or (λ d. d.value) dir.old []) i []) }
+    ensures others { OnOk result ((i : ℕ) (w : PageWords) → i < PAGES → i < length words.now → i ≢ index → w ≡ slice_index_or words.now i w → w.kept ≢ 0 → slice_index_or (option_map_or (λ d. d.value) dir.new []) i [] ≡ slice_index_or (option_map_or (λ d. d.value) dir.old []) i []) }
 {
     match dir {
         None => Ok(()),
@@ -236,12 +237,12 @@ fn edit_in_shared(
     words: &[Words],
     edit: &Edit<'_>,
 ) -> Result<(), NoMemory>
-    requires inside { index < 32 }
+    requires inside { index < PAGES }
     requires there { index < length words.now }
     requires word { (w : PageWords) → w ≡ slice_index_or words.now index w → w.kept ≡ kept }
     requires ascending { Ascending (held_if kept (slice_index_or dir.old.value index [])) }
     ensures here { OnOk result (Steps kept edit.now (held_if kept (slice_index_or dir.old.value index [])) (held_if kept (slice_index_or dir.new.value index []))) }
-    ensures others { OnOk result ((i : ℕ) (w : PageWords) → i < 32 → i < length words.now → i ≢ index → w ≡ slice_index_or words.now i w → w.kept ≢ 0 → slice_index_or dir.new.value i [] ≡ slice_index_or dir.old.value i []) }
+    ensures others { OnOk result ((i : ℕ) (w : PageWords) → i < PAGES → i < length words.now → i ≢ index → w ≡ slice_index_or words.now i w → w.kept ≢ 0 → slice_index_or dir.new.value i [] ≡ slice_index_or dir.old.value i []) }
 {
     if kept == 0 {
         return Ok(());
@@ -257,7 +258,7 @@ fn edit_in_shared(
 
 /// Lets go of a page that nothing is kept of, where nothing shares the directory.
 pub(crate) fn give_up_page(dir: &mut Option<Arc<Dir>>, index: usize)
-    requires { index < 32 }
+    requires { index < PAGES }
     ensures { (i : ℕ) → i ≢ index → slice_index_or (option_map_or (λ d. d.value) dir.new []) i [] ≡ slice_index_or (option_map_or (λ d. d.value) dir.old []) i [] }
 {
     match dir {
@@ -267,7 +268,7 @@ pub(crate) fn give_up_page(dir: &mut Option<Arc<Dir>>, index: usize)
 }
 
 fn give_up_own(dir: &mut Arc<Dir>, index: usize)
-    requires { index < 32 }
+    requires { index < PAGES }
     ensures { (i : ℕ) → i ≢ index → slice_index_or dir.new.value i [] ≡ slice_index_or dir.old.value i [] }
 {
     if let Some(own) = Arc::get_mut(dir) {

@@ -1,5 +1,5 @@
 //! A change as single tokens that are taken or put.
-ghost use Rattle.std.specs.Prelude.{◌≡◌, ◌++◌, IfOk, OnOk, IsTrue};
+ghost use Rattle.std.specs.Prelude.{◌≡◌, ◌++◌, IfOk, OnOk};
 ghost use Rattle.std.specs.Bool.{OnTrue};
 ghost use Rattle.std.specs.List.Sorted.{IsPermutation};
 ghost use Rattle.rn_table.specs.Steps.{AreNet, Cancels, all_steps, steps_in, steps_of};

@@ -6,7 +6,7 @@ ghost use Rattle.rn_bag.specs.Words.{has_bit};
 
 use crate::instance::Inst;
 use crate::page::{Page, is_kept};
-use rn_bag::words;
+use rn_bag::words::{self, ROOM};
 use rn_items::NoMemory;
 use std::marker::Model;
 use std::sync::Arc;
@@ -42,9 +42,9 @@ impl<'a> Model for Leaf<'a> {
 /// The index of a number in its page.
 pub(crate) fn bit(number: u32) -> usize
     ensures index { result ≡ bit_of number }
-    ensures bound { result < 64 }
+    ensures bound { result < ROOM }
 {
-    (number.saturating_sub(1) % 64) as usize
+    number.saturating_sub(1) as usize % ROOM
 }
 
 impl<'a> Leaf<'a> {
@@ -66,10 +66,10 @@ impl<'a> Leaf<'a> {
     pub(crate) fn page(&self) -> Option<&'a Arc<Page>>
         requires { (k : ℕ) × IsLeaf k self.now }
         ensures held { IfSome result (λ page. page.now.value ≡ self.now.held) }
-        ensures kept { IfSome result (λ page. (bit : ℕ) × (bit < 64) × (has_bit self.now.kept bit ≡ true)) }
-        ensures none { IfNone result ((bit : ℕ) → bit < 64 → has_bit self.now.kept bit ≡ false) }
+        ensures kept { IfSome result (λ page. (bit : ℕ) × (bit < ROOM) × (has_bit self.now.kept bit ≡ true)) }
+        ensures none { IfNone result ((bit : ℕ) → bit < ROOM → has_bit self.now.kept bit ≡ false) }
     {
-        if words::first_from(self.kept, 0) == words::ROOM {
+        if words::first_from(self.kept, 0) == ROOM {
             return None;
         }
         self.page

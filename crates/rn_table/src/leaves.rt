@@ -11,7 +11,7 @@ use crate::dir::{Dir, PAGES, add_to, copy_dir, edit_in, give_up_page, page_in};
 use crate::edits::Edit;
 use crate::instance::Inst;
 use crate::leaf::{Leaf, Words, bit};
-use rn_bag::words;
+use rn_bag::words::{self, ROOM};
 use rn_items::NoMemory;
 use std::alloc::Global;
 use std::marker::Model;
@@ -32,6 +32,7 @@ impl Model for Leaves {
     ghost use Rattle.std.specs.Coded.{coded_list};
     ghost use Rattle.std.specs.Option.{option_map_or};
     ghost use Rattle.rn_table.specs.Leaves.{Leaf as Seen, held_at, leaf_code, leaves_by};
+    ghost use Rattle.rn_table.specs.declared.dir.TheConstants.{PAGES};
 
     ghost Value = { List Seen };
 
@@ -39,7 +40,7 @@ impl Model for Leaves {
 
     ghost view = { λ leaves. leaves_by (held_at (map (λ dir. option_map_or (λ d. d.value) dir []) leaves.dirs.items)) leaves.words.items };
 
-    ghost invariant = { λ leaves. length leaves.words.items ≤ 32 * length leaves.dirs.items };
+    ghost invariant = { λ leaves. length leaves.words.items ≤ PAGES * length leaves.dirs.items };
 }
 
 impl Leaves {
@@ -180,7 +181,7 @@ impl Leaves {
 /// The words of a page's directory and of those after it.
 fn words_of_dir(words: &[Words], at: usize) -> &[Words]
     requires { at < length words.now }
-    ensures { result.now ≡ drop (at - at % 32) words.now }
+    ensures { result.now ≡ drop (at - at % PAGES) words.now }
 {
     let first = at - at % PAGES;
     &words[first..]
@@ -188,9 +189,9 @@ fn words_of_dir(words: &[Words], at: usize) -> &[Words]
 
 /// There is a directory for one more page.
 fn make_room(dirs: &mut Vec<Option<Arc<Dir>>>, pages: usize) -> Result<(), NoMemory>
-    requires { pages ≤ 32 * length dirs.old.items }
+    requires { pages ≤ PAGES * length dirs.old.items }
     ensures same { OnOk result ((i : ℕ) → held_at (map (λ dir. option_map_or (λ d. d.value) dir []) dirs.new.items) i ≡ held_at (map (λ dir. option_map_or (λ d. d.value) dir []) dirs.old.items) i) }
-    ensures room { OnOk result (pages < 32 * length dirs.new.items) }
+    ensures room { OnOk result (pages < PAGES * length dirs.new.items) }
     ensures more { length dirs.old.items ≤ length dirs.new.items }
 {
     if pages / PAGES < dirs.len() {
@@ -202,9 +203,9 @@ fn make_room(dirs: &mut Vec<Option<Arc<Dir>>>, pages: usize) -> Result<(), NoMem
 
 /// The set without a number. An empty one stays empty.
 fn without(word: u64, bit: usize) -> u64
-    requires { bit < 64 }
+    requires { bit < ROOM }
     ensures gone { has_bit result bit ≡ false }
-    ensures others { (i : ℕ) → i < 64 → i ≢ bit → has_bit result i ≡ has_bit word i }
+    ensures others { (i : ℕ) → i < ROOM → i ≢ bit → has_bit result i ≡ has_bit word i }
     ensures none { word ≡ 0 → result ≡ 0 }
 {
     if word == 0 {
@@ -216,7 +217,7 @@ fn without(word: u64, bit: usize) -> u64
 /// Lets go of a page of which nothing is kept, where no copy shares its directory, and of the directory
 /// where nothing of it is kept. A page of which nothing is kept isn't seen, whether it is there or not.
 fn give_up(dirs: &mut Vec<Option<Arc<Dir>>>, words: &[Words], at: usize)
-    requires inside { at / 32 < length dirs.old.items }
+    requires inside { at / PAGES < length dirs.old.items }
     requires words { at < length words.now }
     requires none { (w : PageWords) → w ≡ slice_index_or words.now at w → w.kept ≡ 0 }
     ensures same { leaves_by (held_at (map (λ dir. option_map_or (λ d. d.value) dir []) dirs.new.items)) words.now ≡ leaves_by (held_at (map (λ dir. option_map_or (λ d. d.value) dir []) dirs.old.items)) words.now }
@@ -233,7 +234,7 @@ fn give_up(dirs: &mut Vec<Option<Arc<Dir>>>, words: &[Words], at: usize)
 
 /// Whether nothing is kept of the first 32 pages with these words.
 fn none_kept(words: &[Words]) -> bool
-    ensures { IsTrue result → ((i : ℕ) (w : PageWords) → i < 32 → i < length words.now → w ≡ slice_index_or words.now i w → w.kept ≡ 0) }
+    ensures { IsTrue result → ((i : ℕ) (w : PageWords) → i < PAGES → i < length words.now → w ≡ slice_index_or words.now i w → w.kept ≡ 0) }
 {
     for index in 0..PAGES {
         if !is_none_kept(words, index) {

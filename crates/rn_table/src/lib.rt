@@ -22,6 +22,6 @@ pub use instance::Inst;
 pub use laws::{
     firings_are_changes, kept_after_removal, nets_are_few, same_is_left, tokens_after_change,
 };
-pub use nets::has_start;
+pub use nets::{has_start, main_net_of, starts};
 pub use page::Page;
 pub use table::Table;

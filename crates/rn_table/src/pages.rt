@@ -1,5 +1,5 @@
 //! The pages of a table, and what changes them.
-ghost use Rattle.std.specs.Prelude.{◌≡◌, ◌<◌, ◌≤◌, ◌+◌, ◌*◌, ◌^◌, ℕ, [], ◌∷◌, ◌++◌, length, map, take, find, nat_le, OnOk};
+ghost use Rattle.std.specs.Prelude.{◌≡◌, ◌<◌, ◌≤◌, ◌+◌, ◌*◌, ◌^◌, ℕ, [], ◌∷◌, ◌++◌, length, map, find, nat_le, OnOk};
 ghost use Rattle.std.specs.List.{AllByRecursion};
 ghost use Rattle.rn_model.specs.Markings.{fresh_instance};
 ghost use Rattle.rn_table.specs.Changes.{new_from};
@@ -12,28 +12,28 @@ use crate::edits::Edit;
 use crate::instance::Inst;
 use crate::leaf::bit;
 use crate::leaves::Leaves;
-use crate::nets::{places_of, starts};
-use rn_bag::words;
+use crate::nets::starts;
+use rn_bag::words::{self, ROOM};
 use rn_items::NoMemory;
-use rn_model::System;
+use rn_model::{System, places_of};
 
 /// The index of the page of a number.
 pub(crate) fn leaf_of(number: u32) -> usize
     ensures { result ≡ page_of number }
 {
-    (number.saturating_sub(1) / 64) as usize
+    number.saturating_sub(1) as usize / ROOM
 }
 
 /// The first number from this one on that may start.
 pub(crate) fn first_start(leaves: &Leaves, from: u32) -> Option<u32>
-    requires { 64 * length leaves.now < 2 ^ 32 }
+    requires { ROOM * length leaves.now < 2 ^ 32 }
     ensures { result ≡ find (λ n. nat_le from n) (starting_from 0 leaves.now) }
 {
     let mut index = bit(from);
     for at in leaf_of(from)..leaves.len() {
         let found = words::first_from(leaves.starting(at), index);
-        if found < words::ROOM {
-            return Some((64 * at + found + 1) as u32);
+        if found < ROOM {
+            return Some((ROOM * at + found + 1) as u32);
         }
         index = 0;
     }

@@ -18,6 +18,7 @@ use crate::nets::main_net_of;
 use crate::page::Page;
 use crate::pages::{add_all, change_all, first_start, leaf_of};
 use rn_bag::Bag;
+use rn_bag::words::ROOM;
 use rn_items::NoMemory;
 use rn_model::System;
 use std::alloc::Global;
@@ -126,8 +127,8 @@ impl Table {
 
     /// The page in which the instances 64k + 1 to 64k + 64 stand, where one of them is kept.
     pub fn page(&self, k: u32) -> Option<&Arc<Page>>
-        ensures some { IsSome result ↔ ((n : ℕ) × (64 * k < n) × (n ≤ 64 * k + 64) × IsThere self.now.marking n) }
-        ensures held { IfSome result (λ page. (n : ℕ) (i : Instance) → 64 * k < n → n ≤ 64 * k + 64 → instance_at self.now.marking n ≡ Some i → find (λ j. nat_eq j.number n) page.now.value ≡ Some i) }
+        ensures some { IsSome result ↔ ((n : ℕ) × (ROOM * k < n) × (n ≤ ROOM * k + ROOM) × IsThere self.now.marking n) }
+        ensures held { IfSome result (λ page. (n : ℕ) (i : Instance) → ROOM * k < n → n ≤ ROOM * k + ROOM → instance_at self.now.marking n ≡ Some i → find (λ j. nat_eq j.number n) page.now.value ≡ Some i) }
     {
         let at = k as usize;
         if at >= self.leaves.len() {

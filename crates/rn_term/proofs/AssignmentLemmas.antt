@@ -32,6 +32,7 @@ same_parts f g n alike (id ∷ ids) below =
     ap (λ v. v ∷ map f ids) (alike id below.0)
     ∙ ap (λ vs. g id ∷ vs) (same_parts f g n alike ids below.1)
 
+-- and so do the values of parts
 pub parts_stay : (vs ws : List Value) (n : ℕ) (ids : List ℕ) → n ≤ length vs →
     All (λ id. id < n) ids → map (value_at vs) ids ≡ map (value_at (vs ++ ws)) ids
 parts_stay vs ws n ids room below =
@@ -125,6 +126,7 @@ satisfies_note s var to vs sat alike none = record {
         sat.links id x (was ∙ sym (link-stays s.notes ((var, to) ∷ []) id y was) ∙ is)
     split id x is None was = last id x (sym (link-new s.notes var to id was) ∙ is)
 
+-- what satisfies a store with one more note satisfies it before, and gives both ids one value
 pub satisfied_before : (s : State) (var to : ℕ) (vs : List Value) → link_of s.notes var ≡ None →
     Satisfies (with_note s var to) vs →
     Satisfies s vs × (value_at vs var ≡ value_at vs to)

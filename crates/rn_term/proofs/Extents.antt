@@ -16,6 +16,7 @@ abbrev pub greatest : (ℕ → ℕ) → List ℕ → ℕ
 greatest f [] = 0
 greatest f (id ∷ ids) = max (f id) (greatest f ids)
 
+-- no element's number is greater than the greatest
 pub greatest-part : (f : ℕ → ℕ) (ids : List ℕ) (k d : ℕ) → k < length ids →
     f (get_or ids k d) ≤ greatest f ids
 greatest-part f [] k d within = absurd (let no : ⊥ = omega (arith, within) in no)
@@ -23,6 +24,7 @@ greatest-part f (id ∷ ids) zero d within = omega arith
 greatest-part f (id ∷ ids) (suc k) d within =
     omega (arith, greatest-part f ids k d (omega (arith, within)))
 
+-- the greatest of joined lists is the greater of those of the two
 pub greatest-append : (f : ℕ → ℕ) (ids others : List ℕ) →
     greatest f (ids ++ others) ≡ max (greatest f ids) (greatest f others)
 greatest-append f [] others = omega arith
@@ -79,6 +81,7 @@ pub extent-is : (s : State) → Keeps s → (id : ℕ) → id < length s.terms �
 extent-is s keeps id within =
     sym (stays s (length s.terms) id (all_within s keeps id within))
 
+-- the number of a term's parts and the greatest of their extents are together below its own
 pub extent-parts : (s : State) → Keeps s → (id : ℕ) → id < length s.terms →
     length (parts_of (term_at s id)) + greatest (extent s) (parts_of (term_at s id)) < extent s id
 extent-parts s keeps id within = omega (

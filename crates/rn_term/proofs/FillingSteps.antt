@@ -14,6 +14,7 @@ use Rattle.rn_term.specs.Forcing.{items_of}
 use Rattle.rn_term.proofs.Parts.{same_over}
 use Rattle.rn_term.proofs.Ranks.{IsWithin}
 
+-- the elements of a value that is a list
 pub items_of-list : (vs : List Value) → items_of (Value.List vs) ≡ vs
 items_of-list vs = rw (Value.outs-List vs)
 

@@ -14,7 +14,7 @@ use Rattle.rn_term.specs.Stores.{State, term_at, link_of, Leads, IsBuiltBelow, w
 use Rattle.rn_term.specs.Assignments.{Keeps}
 use Rattle.rn_term.specs.Kept.{AreFloors, AreLowered, IsLowAlong, floor_of}
 use Rattle.rn_term.proofs.Following.{leads_within}
-use Rattle.rn_term.proofs.LinkLemmas.{none_or_some, link-here, link-other}
+use Rattle.rn_term.proofs.LinkLemmas.{link-here, link-other}
 use Rattle.rn_term.proofs.LinkRanks.{leads-more}
 
 -- with fewer notes links lead to less
@@ -185,11 +185,3 @@ lowered_more notes from floor end to before floors after so_far is lower low = r
         ((next : ℕ) × (link_of notes to ≡ Some next) × Leads notes next id)
     split _ Leads.here here = inl here
     split id (Leads.next {to = next} first more) here = inr (next, first, more)
-
-pub lowered_all : (notes : List (ℕ × ℕ)) (from floor end : ℕ) (before floors : List ℕ) →
-    IsLowering notes from floor end before floors → link_of notes end ≡ None →
-    IsLowAlong notes from floor floors
-lowered_all notes from floor end before floors so_far none id leads = ⊎_elim
-    (λ here. here)
-    (λ on. none_or_some on.0 (sym none ∙ on.1))
-    (so_far.along id leads)

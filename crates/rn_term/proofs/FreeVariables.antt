@@ -76,7 +76,7 @@ free_is_no_list s keeps var free none =
     (some.0, some.1, some.2 var free ∙ one_value-here var (Value.Tuple []) var refl)
 
 -- what isn't a variable is a term of the store
-cons_within : (s : State) (id : ℕ) (ids : List ℕ) (tail : ℕ) → term_at s id ≡ T.Cons ids tail →
+pub cons_within : (s : State) (id : ℕ) (ids : List ℕ) (tail : ℕ) → term_at s id ≡ T.Cons ids tail →
     id < length s.terms
 cons_within s id ids tail is = ⊎_elim
     (λ small. small)

@@ -63,6 +63,7 @@ last_has s t vs v built each sat =
     (get_or-append_seam s.terms t [] T.Free)
     (sat.terms (length s.terms) (omega (arith, long)))))
 
+-- one more term adds just its own value to what satisfies the store
 pub terms_extend : TermsExtend
 terms_extend s t vs v keeps built each = (
   λ sat. (satisfied_prefix s t vs v keeps each sat, last_has s t vs v built each sat),

@@ -34,6 +34,7 @@ note_stays terms t before note is =
       apart = is.apart;
     }
 
+-- a store stays sound with one more term of earlier ones, whose tail, if any, may be a list
 pub keeps_term : (s : State) (t : Term) → Keeps s → IsBuiltBelow (length s.terms) t →
     HasListTail s t → Keeps (with_term s t)
 keeps_term s t keeps built tail =
@@ -48,6 +49,7 @@ keeps_term s t keeps built tail =
       );
     }
 
+-- and with one more note of a variable that may be one with what it is bound to
 pub keeps_note : (s : State) (var to : ℕ) → Keeps s → IsNote s.terms s.notes (var, to) →
     MayBeOne s var to → Keeps (with_note s var to)
 keeps_note s var to keeps note one = record {

@@ -8,7 +8,8 @@ use Rattle.rn_term.specs.declared.term.Term.{Term}
 use Rattle.rn_term.specs.declared.term.Term.TheVariants as T
 use Rattle.rn_term.specs.Stores.{State, term_at}
 use Rattle.rn_term.specs.Kept.{HasNoListBelow, KeepsAll, last_cons, or_cons}
-use Rattle.rn_term.proofs.ReadingLemmas.{EndsElsewhere, cons_within}
+use Rattle.rn_term.proofs.ReadingLemmas.{EndsElsewhere}
+use Rattle.rn_term.proofs.FreeVariables.{cons_within}
 
 -- the number past an id, and 0 without one
 abbrev pub past : Option ℕ → ℕ

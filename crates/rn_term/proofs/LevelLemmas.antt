@@ -371,10 +371,3 @@ raised_enough s flags var to level levels rest so_far empty = ⊎_elim
     (λ later. none_in to (subst (λ xs. Contains xs to) empty later))
     more))
     so_far.start
-
--- where no level is noted, all are the lowest
-pub none_noted : (levels : List ℕ) (flags : List Bool) (s : State) → levels ≡ [] →
-    AreLevels levels flags s
-none_noted levels flags s empty id under there =
-    inr (subst (λ ls. level_of ls id ≤ level_of ls under) (sym empty)
-    (let first : level_of [] id ≡ 0 = get_or_past [] id 0 (omega arith) in omega (arith, first)))

@@ -40,6 +40,7 @@ occurs-through s a b c low (Occurs.in_part {part = part} is rest) =
 occurs-through s a b c low (Occurs.in_bound {to = to} is rest) =
     Occurs.in_bound is (occurs-through s a b to low rest)
 
+-- an id to which links lead occurs in the one from which they do
 pub leads_occurs : (s : State) (id end : ℕ) → Leads s.notes id end → Occurs s end id
 leads_occurs s id _ Leads.here = Occurs.here
 leads_occurs s id end (Leads.next {to = to} is rest) =

@@ -61,14 +61,6 @@ IsWithin s (suc n) id =
     ((p : ℕ) → Contains (parts_of (term_at s id)) p → IsWithin s n p) ×
     ((to : ℕ) → link_of s.notes id ≡ Some to → IsWithin s n to)
 
-pub within-more : (s : State) (n m id : ℕ) → n ≤ m → IsWithin s n id → IsWithin s m id
-within-more s zero m id le is = absurd is
-within-more s (suc n) zero id le is = absurd (omega (arith, le))
-within-more s (suc n) (suc m) id le is = (
-  λ p has. within-more s n m p (omega (arith, le)) (is.0 p has),
-  λ to link. within-more s n m to (omega (arith, le)) (is.1 to link),
-)
-
 -- how many of the first numbers a function gives less than a bound
 abbrev below : (ℕ → ℕ) → ℕ → ℕ → ℕ
 below f bound zero = 0

@@ -1,19 +1,16 @@
 -- What assignments give an id whose links lead to a term, and which ids are always lists.
 use Rattle.std.proofs.Common.{◌≡◌, ◌<◌, ◌++◌, ℕ, List, [], length, map, refl, sym, ◌∙◌, subst}
 use Rattle.std.specs.Prelude.{None, ◌↔◌, Bool, true, false, IsTrue}
-use Rattle.std.specs.List.{Contains}
-use Rattle.std.proofs.lemmas.List.Elements.{Contains-push}
 use Rattle.rn_value.specs.declared.value.Value.{Value}
 use Rattle.rn_term.specs.declared.term.Term.{Term}
 use Rattle.rn_term.specs.declared.term.Term.TheVariants as T
 use Rattle.rn_term.specs.Stores.{State, term_at, link_of, Leads}
 use Rattle.rn_term.specs.Assignments.{value_at, HasValue, Satisfies, Keeps}
 use Rattle.rn_term.specs.Forcing.{IsList, IsAlwaysList, EndsAList}
-use Rattle.rn_term.specs.Occurring.{parts_of, IsFree}
+use Rattle.rn_term.specs.Occurring.{IsFree}
 use Rattle.rn_term.proofs.Agreement.{leads-same}
-use Rattle.rn_term.proofs.FreeVariables.{free_is_no_list}
+use Rattle.rn_term.proofs.FreeVariables.{free_is_no_list, cons_within}
 use Rattle.rn_term.proofs.Occurrences.{one_end}
-use Rattle.rn_term.proofs.Parts.{whole_within}
 use Rattle.rn_value.proofs.Variants.{tuple_is_no_list}
 
 -- an id has a value of the term to which its links lead
@@ -43,6 +40,7 @@ pub list_is_list : (s : State) (id end : ℕ) (ids : List ℕ) → Leads s.notes
 list_is_list s id end ids leads within is vs sat =
     (map (value_at vs) ids, value_at_end s vs id end (T.List ids) sat leads within is)
 
+-- and so are lists with a tail
 pub cons_is_list : (s : State) (id end : ℕ) (ids : List ℕ) (tail : ℕ) → Leads s.notes id end →
     end < length s.terms → T.Cons ids tail ≡ term_at s end → IsAlwaysList s id
 cons_is_list s id end ids tail leads within is vs sat =
@@ -78,13 +76,6 @@ end_is_list s var (id, ids, tail, within, is, leads) = list_at_end s tail var le
     (λ vs sat.
     let has = subst (λ u. HasValue vs u (value_at vs id)) is (sat.terms id within) in
     (has.0, has.1))
-
--- what names a list with a tail is an id of the store
-pub cons_within : (s : State) (id : ℕ) (ids : List ℕ) (tail : ℕ) → term_at s id ≡ T.Cons ids tail →
-    id < length s.terms
-cons_within s id ids tail is =
-    whole_within s id tail
-    (subst (λ t. Contains (parts_of t) tail) (sym is) (Contains-push ids tail))
 
 -- a free variable in which no list ends isn't always a list, nor is what leads there
 other_than_list : (s : State) (id var : ℕ) → Keeps s → Leads s.notes id var → IsFree s var →

@@ -1,6 +1,6 @@
 //! What is a list under all assignments.
 ghost use Rattle.std.specs.Prelude.{◌≡◌, ◌↔◌, ◌<◌, length, None, IsTrue};
-ghost use Rattle.rn_term.specs.Stores.{link_of, Leads};
+ghost use Rattle.rn_term.specs.Stores.{link_of};
 ghost use Rattle.rn_term.specs.Assignments.{Keeps};
 ghost use Rattle.rn_term.specs.Forcing.{IsAlwaysList, EndsAList};
 

@@ -1,5 +1,5 @@
 //! Ids that a walk through terms has seen, so that it goes through each shared term once.
-ghost use Rattle.std.specs.Prelude.{◌≡◌, ◌↔◌, ◌⊎◌, ℕ, IsTrue, IfOk};
+ghost use Rattle.std.specs.Prelude.{◌≡◌, ◌↔◌, ◌⊎◌, ℕ, IsTrue};
 ghost use Rattle.rn_term.specs.Seen.{IsSeen};
 
 use rn_value::NoMemory;

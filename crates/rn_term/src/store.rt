@@ -1,7 +1,7 @@
 //! The store: its terms, the links of its variables, and the trail by which bindings are undone.
-ghost use Rattle.std.specs.Prelude.{◌≡◌, ◌↔◌, ◌<◌, ◌≤◌, ◌++◌, ◌∷◌, [], length, IfOk, OnOk, OnErr};
+ghost use Rattle.std.specs.Prelude.{◌≡◌, ◌↔◌, ◌<◌, ◌≤◌, [], length, IfOk, OnOk, OnErr};
 ghost use Rattle.std.specs.Prelude.{◌⊎◌, ◌≢◌, IsTrue};
-ghost use Rattle.std.specs.Prelude.{ℕ, List, Some, None, slice_index_or, take};
+ghost use Rattle.std.specs.Prelude.{ℕ, List, Some, None, take};
 ghost use Rattle.rn_term.specs.declared.term.Term.TheVariants as T;
 ghost use Rattle.rn_term.specs.declared.term.Mark.{Mark};
 ghost use Rattle.rn_value.specs.declared.value.Value.{Value};

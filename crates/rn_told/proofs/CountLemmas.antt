@@ -89,12 +89,6 @@ prints_few_from system made step worker (line ∷ lines) =
     by (Print.prints v) few = omega (arith, few)
     by (Print.refused refusal) few = omega arith
 
-pub prints_few : (system : System) (made : List ℕ) (step worker : ℕ) (lines : List (Option LineSaid))
-    (vs : List Value) (e : PrintsEnd) → (vs, e) ≡ prints_from system made step worker lines →
-    length vs + after e ≤ length lines
-prints_few system made step worker lines vs e is =
-    subst (AreAllPrinted (length lines)) (sym is) (prints_few_from system made step worker lines)
-
 -- marks are no more than the lines
 marks_few_from : (format : ℕ) (system : System) (made : List ℕ) (held : ℕ) (lines : List (Option LineSaid)) →
     length (marks_from format system made held lines).0 ≤ length lines

@@ -1,13 +1,12 @@
 -- Paths that part, in order, and those of children among them.
-use Rattle.std.proofs.Common.{◌≡◌, ℕ, zero, suc, ◌+◌, ◌<◌, ◌⊎◌, inl, inr, Bool, true, false, cond, List, [], ◌∷◌, ◌++◌, refl, sym, ap, ◌∙◌, subst, append_assoc, arith}
-use Rattle.std.specs.Prelude.{Some, Contains, find, ⊤}
+use Rattle.std.proofs.Common.{◌≡◌, ℕ, zero, suc, ◌+◌, ◌<◌, ◌⊎◌, inl, inr, List, [], ◌∷◌, ◌++◌, refl, sym, ap, ◌∙◌, subst, append_assoc, arith}
+use Rattle.std.specs.Prelude.{Contains, ⊤}
 use Rattle.std.specs.List.{AllByRecursion}
 use Rattle.std.specs.Cmp.{nat_cmp_is, tied_itself}
 use Rattle.std.specs.Cmp.Lexicographic.{slice_cmp}
 use Rattle.std.specs.Ordering.{nat_cmp, ordering_then}
 use Rattle.std.specs.declared.cmp.Ordering.TheVariants.{Less, Equal}
 use Rattle.std.proofs.lemmas.Cmp.{nat_cmp_total, nat_list_cmp_total}
-use Rattle.std.proofs.lemmas.Option.{same_Some}
 use Rattle.rn_model.proofs.EachElement.{each_append, each_weaker}
 use Rattle.rn_model.proofs.EnablingLemmas.{not_in_nil}
 use Rattle.rn_told.specs.Paths.{children_from}
@@ -96,14 +95,6 @@ each_of P (x ∷ xs) y all there = elim (in_cons x xs y there) as (λ _. P y) [
   | inl same ↦ subst P same all.0
   | inr rest ↦ each_of P xs y all.1 rest
 ]
-
-pub find_passes : {X : Type 0} (test : X → Bool) (xs : List X) (y : X) → find test xs ≡ Some y → test y ≡ true
-find_passes test [] y e = absurd (let no : ⊥ = cc in no)
-find_passes test (x ∷ xs) y e = by (test x) refl e (find_passes test xs y)
-  where
-    by : (b : Bool) → test x ≡ b → cond b (Some x) (find test xs) ≡ Some y → (find test xs ≡ Some y → test y ≡ true) → test y ≡ true
-    by true passes e more = subst (λ z. test z ≡ true) (same_Some x y e) passes
-    by false fails e more = more e
 
 -- the paths among children
 pub is_child : (path : List ℕ) (i more : ℕ) (q : List ℕ) → Contains (children_from path i more) q →

@@ -1,6 +1,6 @@
 -- Runs, entry by entry.
 use Rattle.std.proofs.Common.{◌≡◌, ℕ, zero, suc, ◌+◌, ◌≤◌, List, [], ◌∷◌, ◌++◌, length, take, drop, refl, sym, ap, subst, arith}
-use Rattle.std.specs.Prelude.{All, Option, Some, None, Result, Ok, Err, bytes_eq}
+use Rattle.std.specs.Prelude.{All, Option, Some, bytes_eq}
 use Rattle.std.proofs.lemmas.Option.{cond_some}
 use Rattle.std.proofs.lemmas.List.Elements.{All-weaker}
 use Rattle.rn_model.specs.declared.system.System.{System}
@@ -10,14 +10,9 @@ use Rattle.rn_model.specs.Good.{Good, IsGoodNet}
 use Rattle.rn_lines.specs.LineText.{LineSaid}
 use Rattle.rn_lookup.specs.Tables.{AreFew}
 use Rattle.rn_lookup.specs.declared.refusal.Refusal.{Refusal}
-use Rattle.rn_lookup.specs.declared.refusal.Refusal.TheVariants.{Form, Name, Step, Many}
-use Rattle.rn_record.specs.RecordText.{header_text}
-use Rattle.rn_told.specs.Lines.{lines_in}
-use Rattle.rn_told.specs.Runs.{Verdict, with_entry, Tells, TellsAfter, TellsRecord, bytes_after, first_line, first_made}
-use Rattle.rn_told.specs.RunsAhead.{with_entries, FaultTells, RecordTells}
+use Rattle.rn_told.specs.Runs.{Verdict, with_entry, Tells, bytes_after, first_made}
+use Rattle.rn_told.specs.RunsAhead.{with_entries, FaultTells}
 use Rattle.rn_told.specs.declared.fault.RecordFault.{RecordFault}
-use Rattle.rn_told.specs.declared.fault.RecordFault.TheVariants.{Q1, Q2, Q3, Q4, NoMemory}
-use Rattle.rn_model.specs.declared.log.Told.{Told}
 
 -- the parts of the nets of a good system can be counted
 pub all_few : (system : System) → Good system → All AreFew system.nets
@@ -59,25 +54,6 @@ pub fault_tells : (es : List Entry) (line : ℕ) (refusal : Refusal) (fault : Re
 fault_tells es line refusal fault =
     subst (λ w. FaultTells (λ v. v ≡ w) fault) (sym (entries_bad es line refusal))
 
--- what is told is told by the result that says it
-pub record_tells : (T : Verdict → Type 0) (w : Verdict) (result : Result Told RecordFault) → T w →
-    RecordTells (λ v. v ≡ w) result → RecordTells T result
-record_tells T w (Ok told) t is = subst T (sym is) t
-record_tells T w (Err (Q1 line)) t is = subst T (sym is) t
-record_tells T w (Err (Q2 line)) t is = subst T (sym is) t
-record_tells T w (Err (Q3 line)) t is = subst T (sym is) t
-record_tells T w (Err (Q4 line)) t is = subst T (sym is) t
-record_tells T w (Err (NoMemory _)) t is = tt
-
--- at the start
-pub none_read : (format : ℕ) (system : System) (first : ℕ) (lines : List (Option LineSaid))
-    (made : List ℕ) → made ≡ first_made system → IsSoFar format system first lines [] made 1 first lines
-none_read format system first lines made is = record {
-  tells = λ v told. subst (λ m. Tells format system m 1 first lines v) is told;
-  few = omega arith;
-  early = omega arith;
-}
-
 -- after one more firing
 pub one_read : (format : ℕ) (system : System) (first : ℕ) (whole : List (Option LineSaid))
     (es more : List Entry) (made all : List ℕ) (step line count : ℕ)
@@ -96,28 +72,6 @@ one_read format system first whole es more made all step line count lines rest e
   few = let a = so_far.few in let b = on.2 in omega (arith, a, b);
   early = let a = so_far.early in let b = on.1 in omega (arith, a, b);
 }
-
--- What the lines after the name of the format tell, the record tells; without that name its first line
--- is bad.
-pub after_named : (format : ℕ) (system : System) (bytes rest : List ℕ) (result : Result Told RecordFault) →
-    Some rest ≡ bytes_after (header_text format) bytes →
-    RecordTells (Tells format system (first_made system) 1 (first_line format) (lines_in rest)) result →
-    RecordTells (TellsRecord system format bytes) result
-after_named format system bytes rest (Ok told) is t =
-    subst (λ o. TellsAfter format system o (Verdict.tells told.entries told.marks)) is t
-after_named format system bytes rest (Err (Q1 line)) is t =
-    subst (λ o. TellsAfter format system o (Verdict.bad line Form)) is t
-after_named format system bytes rest (Err (Q2 line)) is t =
-    subst (λ o. TellsAfter format system o (Verdict.bad line Name)) is t
-after_named format system bytes rest (Err (Q3 line)) is t =
-    subst (λ o. TellsAfter format system o (Verdict.bad line Step)) is t
-after_named format system bytes rest (Err (Q4 line)) is t =
-    subst (λ o. TellsAfter format system o (Verdict.bad line Many)) is t
-after_named format system bytes rest (Err (NoMemory _)) is t = tt
-
-pub not_named : (format : ℕ) (system : System) (bytes : List ℕ) →
-    None ≡ bytes_after (header_text format) bytes → TellsRecord system format bytes (Verdict.bad 1 Form)
-not_named format system bytes is = subst (λ o. TellsAfter format system o (Verdict.bad 1 Form)) is refl
 
 -- and they are no more bytes
 drop_short : (n : ℕ) (xs : List ℕ) → length (drop n xs) ≤ length xs

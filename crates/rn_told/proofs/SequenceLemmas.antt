@@ -1,17 +1,8 @@
 -- What is read one after the other, and why it ends.
-use Rattle.std.proofs.Common.{◌≡◌, List, [], ◌∷◌, ◌++◌, sym, ap, ◌∙◌, append_assoc}
+use Rattle.std.proofs.Common.{◌≡◌, List, [], ◌++◌, sym, ap, ◌∙◌}
 use Rattle.std.proofs.lemmas.List.{append-nil}
 
 module _ {X E : Type 0} (xs : List X) (here all : List X × E) where
-  -- one more is read
-  pub one_on : (ys : List X) (x : X) (rest : List X × E) → here ≡ (x ∷ rest.0, rest.1) →
-      ys ≡ xs ++ x ∷ [] → (xs ++ here.0, here.1) ≡ all → (ys ++ rest.0, rest.1) ≡ all
-  one_on ys x rest is more so_far =
-      ap (λ zs. (zs ++ rest.0, rest.1)) more
-      ∙ ap (λ zs. (zs, rest.1)) (append_assoc xs (x ∷ []) rest.0)
-      ∙ ap (λ h. (xs ++ h.0, h.1)) (sym is)
-      ∙ so_far
-
   -- no more is read
   pub one_ends : (s t : E) → here ≡ ([], s) → t ≡ s → (xs ++ here.0, here.1) ≡ all → (xs, t) ≡ all
   one_ends s t is same so_far =

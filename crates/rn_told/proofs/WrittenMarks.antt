@@ -8,6 +8,7 @@ use Rattle.std.proofs.lemmas.List.Elements.{All-from_recursion, recursion_from_A
 use Rattle.std.proofs.lemmas.Slice.Eq.{bytes_eq-Decides}
 use borrow.Author.Tests.{eq-eqb, eqb-false, eqb-true}
 use Rattle.rn_items.proofs.Bools.{true_both}
+use Rattle.rn_items.proofs.Lists.{element_at}
 use Rattle.rn_value.specs.Kinds.{HasKind, value_has_kind}
 use Rattle.rn_value.specs.Names.{AreNamed}
 use Rattle.rn_value.specs.Text.{value_text}
@@ -47,7 +48,7 @@ use Rattle.rn_told.proofs.SpelledMarks.{repeat_of, repeats_values}
 use Rattle.rn_told.proofs.SpelledNodes.{names_for}
 use Rattle.rn_told.proofs.WrittenLines.{line_then}
 use Rattle.rn_told.proofs.WrittenNodes.{instance_written, net_found}
-use Rattle.rn_told.proofs.WrittenValues.{IsNet, element_at, number_is, value_read}
+use Rattle.rn_told.proofs.WrittenValues.{IsNet, number_is, value_read}
 
 mark_cut : (inst place tokens rest : List ℕ) →
     ((inst ++ codes "." ++ place) ++ tokens ++ codes "\n") ++ rest ≡ (inst ++ (46 ∷ (place ++ tokens))) ++ 10 ∷ rest

@@ -9,6 +9,7 @@ use Rattle.std.proofs.lemmas.List.{length-map}
 use Rattle.std.proofs.lemmas.List.Elements.{All-contains, recursion_from_All}
 use Rattle.std.proofs.lemmas.Slice.Eq.{bytes_eq-Decides}
 use Rattle.rn_items.proofs.Bools.{and_left, and_right, true_both}
+use Rattle.rn_items.proofs.Lists.{element_at}
 use Rattle.rn_value.specs.Kinds.{HasKind, value_has_kind}
 use Rattle.rn_value.specs.Names.{AreNamed, inst_within}
 use Rattle.rn_value.specs.Text.{numeral, value_text}
@@ -37,7 +38,7 @@ use Rattle.rn_model.specs.NodeText.{IsWritable, all_given_text, instance_text, n
 use Rattle.rn_told.specs.Nodes.{Placed, placed_at}
 use Rattle.rn_told.specs.Readable.{IsReadable}
 use Rattle.rn_told.proofs.SpelledNodes.{names_for}
-use Rattle.rn_told.proofs.WrittenValues.{IsNet, element_at, net_there, number_is, value_read}
+use Rattle.rn_told.proofs.WrittenValues.{IsNet, net_there, number_is, value_read}
 
 -- a net that is there is found by its name
 pub net_found : (system : System) → Good system → (net : ℕ) → IsNet system net →

@@ -1,12 +1,13 @@
 -- The nodes of a binding stand in the order in which they are due.
-use Rattle.std.proofs.Common.{◌≡◌, ◌≢◌, ℕ, zero, suc, ◌+◌, ◌<◌, ◌⊎◌, inl, inr, List, [], ◌∷◌, ◌++◌, length, get_or, refl, sym, ap, ◌∙◌, subst, arith}
+use Rattle.std.proofs.Common.{◌≡◌, ◌≢◌, ℕ, ◌+◌, ◌<◌, ◌⊎◌, inl, inr, List, [], ◌∷◌, ◌++◌, length, refl, sym, ap, ◌∙◌, subst, arith}
 use Rattle.std.specs.Prelude.{Some, Contains, nat_eq}
-use Rattle.std.specs.List.{AllAdjacentBelow, AllByRecursion}
+use Rattle.std.specs.List.{AllByRecursion}
 use Rattle.std.specs.Cmp.Lexicographic.{pointwise}
 use Rattle.std.proofs.lemmas.Cmp.{nat_list_cmp_total}
 use Rattle.std.proofs.lemmas.List.Elements.{All-contains, Contains-append_cases, Contains-append_left, Contains-append_right}
 use Rattle.std.proofs.lemmas.Option.{slice_get_within}
 use Rattle.rn_items.proofs.Numbers.{same_numbers}
+use Rattle.rn_items.proofs.Lists.{element_at, find_passes}
 use Rattle.rn_model.specs.declared.system.System.{System}
 use Rattle.rn_model.specs.declared.binding.Binding.{Binding}
 use Rattle.rn_model.specs.declared.binding.Node.{Node}
@@ -16,26 +17,8 @@ use Rattle.rn_model.proofs.EnablingLemmas.{not_in_nil}
 use Rattle.rn_model.proofs.MarkingsOfRuns.{found_is_there}
 use Rattle.rn_told.specs.Paths.{children}
 use Rattle.rn_model.proofs.AskedValues.{later}
-use Rattle.rn_told.proofs.PathsInOrder.{Ahead, AllAhead, IsBefore, ahead_before, child_there, children_ahead, crossed, each_of, find_passes, goes_on, in_cons, is_child, never}
-use Rattle.rn_told.proofs.WrittenValues.{element_at}
-
-abbrev IsBelow : Node → Node → Type 0
-IsBelow x y = IsBefore x.path y.path
-
-abbrev Ascending : List Node → Type 0
-Ascending nodes = AllAdjacentBelow IsBelow nodes (length nodes)
-
-tail_ascends : (x : Node) (xs : List Node) → Ascending (x ∷ xs) → Ascending xs
-tail_ascends x xs a k d h =
-    let place : suc k + 1 ≡ suc (k + 1) = omega arith in
-    subst (λ j. IsBelow (get_or xs k d) (get_or (x ∷ xs) j d)) place (a (suc k) d (omega (arith, h)))
-
-below_others : (x : Node) (xs : List Node) (y : Node) → Ascending (x ∷ xs) → Contains xs y → IsBelow x y
-below_others x [] y a (k, h, e) = let no : ⊥ = omega (arith, h) in absurd no
-below_others x (z ∷ zs) y a (zero, h, e) = subst (IsBelow x) e (a 0 x (omega arith))
-below_others x (z ∷ zs) y a (suc k, h, e) =
-    let rest : IsBelow z y = below_others z zs y (tail_ascends x (z ∷ zs) a) (k, omega (arith, h), e) in
-    nat_list_cmp_total.trans x.path z.path y.path (a 0 x (omega arith)) rest
+use Rattle.rn_model.proofs.NodesByPath.{Ascending, tail_ascends, below_others}
+use Rattle.rn_told.proofs.PathsInOrder.{Ahead, AllAhead, IsBefore, ahead_before, child_there, children_ahead, crossed, each_of, goes_on, in_cons, is_child, never}
 
 module _ (system : System) where
   -- how many nodes a node calls

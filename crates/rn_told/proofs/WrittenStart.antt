@@ -6,6 +6,7 @@ use Rattle.std.proofs.lemmas.Bool.{eqb-true, false≢true}
 use Rattle.std.proofs.lemmas.List.Quantifiers.{position-Some}
 use Rattle.std.proofs.lemmas.Option.{get_or_from_slice_get, same_Some, unwrap_or-slice_get}
 use Rattle.rn_items.proofs.Numbers.{numbers_themselves, same_numbers}
+use Rattle.rn_items.proofs.Lists.{element_at}
 use Rattle.rn_model.specs.declared.system.System.{System}
 use Rattle.rn_model.specs.declared.system.Net.{Net}
 use Rattle.rn_model.specs.Good.{Good}
@@ -22,7 +23,7 @@ use Rattle.rn_told.proofs.SpelledNodes.{has_name, names_for}
 use Rattle.rn_told.proofs.SpelledRuns.{main_there}
 use Rattle.rn_told.proofs.WrittenFirings.{IsAt}
 use Rattle.rn_told.proofs.WrittenNodes.{net_found}
-use Rattle.rn_told.proofs.WrittenValues.{IsNet, element_at, net_there}
+use Rattle.rn_told.proofs.WrittenValues.{IsNet, net_there}
 
 module _ (system : System) (good : Good system) where
   abbrev is_main : Net → Bool

@@ -9,6 +9,7 @@ use Rattle.std.proofs.lemmas.Option.{get_or_from_slice_get, same_Some, slice_get
 use Rattle.std.proofs.lemmas.Slice.Eq.{bytes_eq-Decides}
 use Rattle.std.proofs.lemmas.List.{length-map}
 use Rattle.rn_items.proofs.Bools.{and_right, both_true, true_both}
+use Rattle.rn_items.proofs.Lists.{element_at}
 use Rattle.rn_value.specs.Names.{AreNamed, instances_within, within_step}
 use Rattle.rn_value.specs.Text.{value_text}
 use Rattle.rn_value.specs.Words.{IsName}
@@ -168,11 +169,6 @@ module _ {X : Type 0} (name : X → List ℕ) (word : List ℕ) where
       by false other more =
           let next : (k + 1) + i ≡ k + suc i = omega arith in
           more ∙ ap (λ n. Some n) next
-
-pub element_at : {X : Type 0} (xs : List X) (i : ℕ) → i < length xs → (x : X) × (slice_get xs i ≡ Some x)
-element_at [] i low = absurd (let no : ⊥ = omega (arith, low) in no)
-element_at (x ∷ xs) zero low = (x, refl)
-element_at (x ∷ xs) (suc i) low = element_at xs i (omega (arith, low))
 
 -- a net that is there
 abbrev pub IsNet : System → ℕ → Type 0

@@ -1,6 +1,5 @@
 //! Whether the instances that the nodes of a binding name are made.
 ghost use Rattle.std.specs.Prelude.{◌≡◌, ◌++◌, OnOk, option_map, map};
-ghost use Rattle.std.specs.List.{prefix_len};
 ghost use Rattle.rn_model.specs.Systems.{transition_at};
 ghost use Rattle.rn_lookup.specs.Found.{node_is_called};
 ghost use Rattle.rn_lines.specs.NodeSeen.{node};
@@ -12,9 +11,8 @@ ghost use Rattle.rn_told.specs.NodesAhead.{placed, stop};
 use crate::nodes::{NodesEnd, NodesRead, PlacedNode};
 use rn_lines::ReadNode;
 use rn_lookup::{Refusal, node_is_called};
-use rn_model::{Creation, System};
+use rn_model::{Creation, System, transition_at};
 use rn_value::NoMemory;
-use std::alloc::Global;
 
 /// A bad line: how many lines of its entry are before it, and why it is refused.
 #[derive(Clone, Copy, Debug)]
@@ -35,10 +33,8 @@ fn push_nets(creations: &[Creation], made: &mut Vec<u32>) -> Result<(), NoMemory
 fn push_by(system: &System, x: &PlacedNode<'_>, made: &mut Vec<u32>) -> Result<(), NoMemory>
     ensures { OnOk result (made.new.items ≡ made.old.items ++ nets_by system.now (placed x.now)) }
 {
-    if let Some(net) = system.nets.get(x.found.net as usize) {
-        if let Some(transition) = net.transitions.get(x.found.transition as usize) {
-            push_nets(transition.creations.as_slice(), made)?;
-        }
+    if let Some(transition) = transition_at(system, x.found.net, x.found.transition) {
+        push_nets(transition.creations.as_slice(), made)?;
     }
     Ok(())
 }

@@ -1,5 +1,5 @@
 //! Single lines where a node is due.
-ghost use Rattle.std.specs.Prelude.{◌≡◌, ◌<◌, IsTrue, IfOk, option_map, length};
+ghost use Rattle.std.specs.Prelude.{◌≡◌, ◌<◌, IfOk, option_map};
 ghost use Rattle.std.specs.Prelude.{ℕ, List};
 ghost use Rattle.rn_lines.specs.LinesSeen.{lead, line};
 ghost use Rattle.rn_lines.specs.NodeSeen.{node};

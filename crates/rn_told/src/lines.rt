@@ -1,5 +1,5 @@
 //! The lines of a record, one after the other.
-ghost use Rattle.std.specs.Prelude.{◌≡◌, ◌<◌, IfOk, length};
+ghost use Rattle.std.specs.Prelude.{◌<◌, IfOk};
 ghost use Rattle.rn_told.specs.Lines.{lines_in};
 ghost use Rattle.rn_told.specs.LinesAhead.{Follows, IsShorter};
 

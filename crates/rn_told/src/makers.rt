@@ -8,7 +8,7 @@ ghost use Rattle.rn_told.specs.NodesAhead.{placed};
 use crate::maker::Maker;
 use crate::nodes::PlacedNode;
 use rn_items::Items;
-use rn_model::{Creation, System};
+use rn_model::{Creation, System, transition_at};
 use rn_value::{InstRef, NoMemory};
 use std::alloc::Global;
 
@@ -42,11 +42,9 @@ fn put_makers_by(
     ensures { OnOk result (makers.new.items
         ≡ makers.old.items ++ makers_by system.now (placed x.now)) }
 {
-    if let Some(net) = system.nets.get(x.found.net as usize) {
-        if let Some(transition) = net.transitions.get(x.found.transition as usize) {
-            let creations = transition.creations.as_slice();
-            put_makers(alloc, x.path.as_slice(), creations, makers)?;
-        }
+    if let Some(transition) = transition_at(system, x.found.net, x.found.transition) {
+        let creations = transition.creations.as_slice();
+        put_makers(alloc, x.path.as_slice(), creations, makers)?;
     }
     Ok(())
 }

@@ -12,7 +12,7 @@ use crate::judging::{NodeLine, judge_next};
 use crate::role::Role;
 use rn_lines::ReadNode;
 use rn_lookup::{Directory, FoundNode, Refusal};
-use rn_model::System;
+use rn_model::{System, transition_at};
 use rn_value::{NoMemory, Path};
 use std::alloc::Global;
 
@@ -48,12 +48,10 @@ pub(crate) struct NodesRead<'a> {
 fn count_called(system: &System, found: FoundNode) -> usize
     ensures { result ≡ length (transition_at system.now found.net found.transition).downlinks }
 {
-    if let Some(net) = system.nets.get(found.net as usize) {
-        if let Some(transition) = net.transitions.get(found.transition as usize) {
-            return transition.downlinks.len();
-        }
+    match transition_at(system, found.net, found.transition) {
+        Some(transition) => transition.downlinks.len(),
+        None => 0,
     }
-    0
 }
 
 /// The same, which is small in a good system.

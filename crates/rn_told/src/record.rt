@@ -5,7 +5,7 @@ ghost use Rattle.rn_lookup.specs.Found.{net_named};
 ghost use Rattle.rn_record.specs.RecordText.{IsFormat, header_text};
 ghost use Rattle.rn_told.specs.Lines.{lines_in};
 ghost use Rattle.rn_told.specs.Runs.{Tells, TellsRecord, Verdict, longest_record};
-ghost use Rattle.rn_told.specs.Runs.{bytes_after, first_line, first_made};
+ghost use Rattle.rn_told.specs.Runs.{bytes_after, first_made};
 ghost use Rattle.rn_told.specs.RunsAhead.{FaultTells, RecordTells, end_verdict, with_entries};
 
 use crate::ends::EndRead;

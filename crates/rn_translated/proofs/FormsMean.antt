@@ -1,10 +1,11 @@
 -- A plain form that stands for a weighted net means the system of that net.
-use Rattle.std.proofs.Common.{◌≡◌, ℕ, zero, suc, ◌+◌, ◌<◌, Bool, true, false, List, [], ◌∷◌, ◌++◌, map, length, refl, sym, ap, ◌∙◌, subst, arith}
+use Rattle.std.proofs.Common.{◌≡◌, ℕ, zero, suc, ◌+◌, ◌<◌, Bool, true, false, List, [], ◌∷◌, ◌++◌, map, length, refl, sym, ap, ◌∙◌, arith}
 use Rattle.std.specs.Prelude.{◌≢◌, Option, Some, All, AllPairs, codes, nat_lt, replicate, flat_map, slice_get, unwrap_or}
 use Rattle.std.specs.List.{AllZip}
 use Rattle.std.specs.Option.{option_map_or}
 use Rattle.std.proofs.lemmas.List.Elements.{All-head, All-tail}
 use Rattle.rn_items.proofs.Numbers.{same_numbers, numbers_themselves}
+use Rattle.rn_items.proofs.Lists.{pairs_head, pairs_tail}
 use Rattle.rn_notation.specs.declared.token.Spot.{Spot}
 use Rattle.rn_value.specs.declared.value.Kind.{Kind}
 use Rattle.rn_value.specs.declared.value.Kind.TheVariants as Kind
@@ -14,6 +15,7 @@ use Rattle.rn_model.specs.declared.expr.Expr.TheVariants as Expr
 use Rattle.rn_model.specs.declared.system.ArcKind.{ArcKind}
 use Rattle.rn_model.specs.declared.system.NetArc.{NetArc}
 use Rattle.rn_model.specs.declared.system.Place.{Place}
+use Rattle.rn_model.proofs.EachElement.{at_place}
 use Rattle.rn_inscript.specs.declared.exprs.PExpr.{PExpr, fold-roll-PExpr}
 use Rattle.rn_inscript.specs.declared.exprs.PForm.{fold_out-PForm}
 use Rattle.rn_inscript.specs.declared.exprs.PForm.TheVariants as F
@@ -149,23 +151,6 @@ differ x y apart = by (same_name x y) refl
     by false e = refl
     by true e = absurd (apart (same_numbers x y e))
 
-pub pairs_head : {X : Type 0} (R : X → X → Type 0) (x : X) (xs : List X) → AllPairs R (x ∷ xs) →
-    All (R x) xs
-pairs_head R x xs pairs k d within = pairs 0 (suc k) d (omega arith) (omega (arith, within))
-
-pub pairs_tail : {X : Type 0} (R : X → X → Type 0) (x : X) (xs : List X) → AllPairs R (x ∷ xs) →
-    AllPairs R xs
-pairs_tail R x xs pairs i j d below within =
-    pairs (suc i) (suc j) d (omega (arith, below)) (omega (arith, within))
-
-pub at_index : {X : Type 0} (P : X → Type 0) (xs : List X) (k : ℕ) (x : X) → All P xs →
-    slice_get xs k ≡ Some x → P x
-at_index P [] k x all at = let never : ⊥ = cc in absurd never
-at_index P (y ∷ xs) zero x all at =
-    let same : y ≡ x = cc in
-    subst P same (All-head P y xs all)
-at_index P (y ∷ xs) (suc k) x all at = at_index P xs k x (All-tail P y xs all) at
-
 numbered : (n : ℕ) (wps : List WPlace) (k : ℕ) (wp : WPlace) →
     AllPairs (λ p q. p.name ≢ q.name) wps → slice_get wps k ≡ Some wp →
     number_from n (map (λ p. p.name) wps) wp.name ≡ Some (n + k)
@@ -180,7 +165,7 @@ numbered n (p ∷ wps) (suc k) wp apart at =
     let R = λ (p q : WPlace). p.name ≢ q.name in
     let other : same_name p.name wp.name ≡ false =
     differ p.name wp.name
-    (at_index (λ q. p.name ≢ q.name) wps k wp (pairs_head R p wps apart) at) in
+    (at_place (λ q. p.name ≢ q.name) wps k wp (pairs_head R p wps apart) at) in
     let next : (n + 1) + k ≡ n + suc k = omega arith in
     rw other (numbered (n + 1) wps k wp (pairs_tail R p wps apart) at ∙ ap Some next)
 

@@ -1,7 +1,7 @@
 -- The live part of a marking that stands for one of a weighted net, and its lines.
-use Rattle.std.proofs.Common.{◌≡◌, ℕ, zero, suc, ◌+◌, ◌≤◌, Bool, true, false, cond, List, [], ◌∷◌, ◌++◌, length, get_or, map, refl, sym, ap, ◌∙◌, subst, inr, arith}
-use Rattle.std.specs.Prelude.{Some, None, ⊤, ◌≢◌, Contains, IsTrue, is_none, slice_index, nat_eq, option_map}
-use Rattle.std.specs.List.{AllAdjacentBelow, AllByRecursion, list_any}
+use Rattle.std.proofs.Common.{◌≡◌, ℕ, zero, suc, ◌+◌, ◌≤◌, Bool, true, false, cond, List, [], ◌∷◌, ◌++◌, map, refl, sym, ap, ◌∙◌, subst, inr, arith}
+use Rattle.std.specs.Prelude.{Some, None, ◌≢◌, Contains, IsTrue, is_none, slice_index, nat_eq, option_map}
+use Rattle.std.specs.List.{AllByRecursion, list_any}
 use Rattle.std.proofs.lemmas.Bool.{eqb-true}
 use Rattle.std.proofs.lemmas.Option.{same_Some}
 use Rattle.std.proofs.lemmas.List.Elements.{All-nil, All-from_recursion, Contains-append_right}
@@ -12,24 +12,11 @@ use Rattle.rn_model.specs.Markings.{Instance, Marking, IsThere, net_of, tokens_a
 use Rattle.rn_model.specs.Liveness.{IsLive, ComesBefore, IsMarkOf, LivePart}
 use Rattle.rn_model.proofs.DeadInstances.{live_there}
 use Rattle.rn_model.proofs.EachElement.{each_weaker}
+use Rattle.rn_model.proofs.LivePartIsThere.{Ascend, to_adjacent}
 use Rattle.rn_weighted.specs.declared.weighted.Weighted.{Weighted}
 use Rattle.rn_weighted.specs.declared.weighted.WTransition.{WTransition}
 use Rattle.rn_translated.specs.TranslatedSystem.{blacks, net_transition, translated_system, marking_of}
 use Rattle.rn_translated.proofs.BlackTokens.{held}
-
--- lines of which each comes before all later ones
-abbrev Ascend : List MarkLine → Type 0
-Ascend [] = ⊤
-Ascend (x ∷ xs) = AllByRecursion (ComesBefore x) xs × Ascend xs
-
-to_adjacent : (xs : List MarkLine) → Ascend xs → AllAdjacentBelow ComesBefore xs (length xs)
-to_adjacent [] a k d h = absurd (let no : ⊥ = omega (arith, h) in no)
-to_adjacent (x ∷ []) a k d h = absurd (let no : ⊥ = omega (arith, h) in no)
-to_adjacent (x ∷ y ∷ xs) a zero d h = a.0.0
-to_adjacent (x ∷ y ∷ xs) a (suc k) d h =
-    let next : suc k + 1 ≡ suc (k + 1) = omega arith in
-    subst (λ j. ComesBefore (get_or (y ∷ xs) k d) (get_or (x ∷ y ∷ xs) j d)) (sym next)
-    (to_adjacent (y ∷ xs) a.1 k d (omega (arith, h)))
 
 -- the line of a place with so many tokens
 abbrev pub place_line : ℕ → ℕ → List MarkLine

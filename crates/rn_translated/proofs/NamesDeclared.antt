@@ -14,7 +14,8 @@ use Rattle.rn_inscript.specs.declared.inscriptions.PName.{PName}
 use Rattle.rn_declared.specs.declared.fault.Rule.TheVariants as Rule
 use Rattle.rn_declared.specs.Faults.{broken, broken_if, past_limit}
 use Rattle.rn_declared.specs.Names.{same_name, name_faults, names_faults, declared_faults}
-use Rattle.rn_translated.proofs.FormsMean.{differ, pairs_head, pairs_tail}
+use Rattle.rn_translated.proofs.FormsMean.{differ}
+use Rattle.rn_items.proofs.Lists.{pairs_head, pairs_tail}
 
 pub none_both : {A : Type 0} (xs ys : List A) → xs ≡ [] → ys ≡ [] → xs ++ ys ≡ []
 none_both xs ys a b = ap (λ zs. zs ++ ys) a ∙ b

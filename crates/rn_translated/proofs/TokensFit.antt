@@ -5,6 +5,7 @@ use Rattle.std.proofs.lemmas.List.Elements.{All-head, All-tail}
 use Rattle.rn_items.proofs.Bools.{both_true}
 use Rattle.rn_value.specs.Words.{IsName, is_identifier, is_reserved, index_of, reserved_words}
 use Rattle.rn_model.specs.declared.system.ArcKind.{ArcKind}
+use Rattle.rn_model.proofs.EachElement.{at_place}
 use Rattle.rn_notation.specs.declared.token.Token.{Token}
 use Rattle.rn_notation.specs.declared.token.TokenKind.TheVariants.{Name}
 use Rattle.rn_net.specs.Levels.{IsShallow, after}
@@ -24,7 +25,7 @@ use Rattle.rn_translated.specs.TranslatedSystem.{flexible}
 use Rattle.rn_translated.specs.Translation.{place_name}
 use Rattle.rn_translated.proofs.ArcDemands.{by_kind}
 use Rattle.rn_translated.proofs.FormsOfNets.{form_kind}
-use Rattle.rn_translated.proofs.FormsMean.{some_place, name_of, at_index}
+use Rattle.rn_translated.proofs.FormsMean.{some_place, name_of}
 use Rattle.rn_translated.proofs.TokensOfNets.{tok, more_blacks, initial_tokens, list_tokens, arc_word, inscription_tokens, arcs_tokens, transitions_tokens, places_tokens, net_tokens}
 
 -- names are legal
@@ -63,7 +64,7 @@ module _ (wps : List WPlace) (good : All IsWPlace wps) where
   legal_place_name : (k : ℕ) → k < length wps → Legal (Name (place_name wps k))
   legal_place_name k within =
       let at = some_place wps k within in
-      let is = at_index IsWPlace wps k at.0 good at.1 in
+      let is = at_place IsWPlace wps k at.0 good at.1 in
       subst (λ name. Legal (Name name)) (sym (name_of wps k at.0 at.1))
       (legal_name at.0.name is.name.0)
 

@@ -22,7 +22,7 @@ use Rattle.rn_net.specs.declared.plain.PNet.{PNet}
 use Rattle.rn_net.specs.Words.{semicolon, net_word, place_word, trans_word}
 use Rattle.rn_net.specs.Kinds.{IsKind, AreListed}
 use Rattle.rn_net.specs.Constants.{IsConstant, AreItems, AreConstants, AreMoreConstants}
-use Rattle.rn_net.specs.Nets.{IsKindOfPlace, IsCapacity, AreInitial, IsPlace, AreInscribed, AreInscriptions, IsTransition, AreParts, IsNet, IsSystem, net_of, plain_of}
+use Rattle.rn_net.specs.Nets.{IsKindOfPlace, IsCapacity, AreInitial, IsPlace, AreInscribed, AreInscriptions, IsTransition, AreParts, IsNet, IsSystem, net_of}
 use Rattle.rn_net.specs.Nets as Nets
 use Rattle.rn_weighted.specs.declared.weighted.Weighted.{Weighted}
 use Rattle.rn_weighted.specs.declared.weighted.WPlace.{WPlace}

@@ -25,6 +25,7 @@ pub fn translations_are_accepted()
     ensures accepted { TranslationsAreAccepted }
     ensures read { OneSystemIsRead }
 {
+    // For its clause: what a canonical text is read as is what it was written of, but for spots.
     printing_laws();
 }
 

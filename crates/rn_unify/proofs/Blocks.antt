@@ -4,7 +4,7 @@ use Rattle.std.proofs.Common.{length, map, sym, ◌∙◌, ap, subst, append_ass
 use Rattle.std.proofs.Common.{length-append, length-drop, length-take, take-append-drop}
 use Rattle.std.specs.Prelude.{◌↔◌, All, Option, Some, None, Result, Ok, Err, IfOk, OnOk}
 use Rattle.std.proofs.lemmas.List.{map-append, map_push, append-nil}
-use Rattle.std.proofs.lemmas.List.{reverse-append, reverse-reverse}
+use Rattle.std.proofs.lemmas.List.{reverse-append}
 use Rattle.std.proofs.lemmas.List.Elements.{All-take, All-drop, All-weaker, All-append}
 use Rattle.std.proofs.lemmas.List.Elements.{All-from_recursion}
 use Rattle.std.proofs.lemmas.Result.{IfOk-weaker}
@@ -315,13 +315,3 @@ all_added old s wish ids [] none turned =
       λ is. is ∙ ap (λ xs. Value.List xs) (sym (append-nil (map (value_at vs) ids))),
     )))
 all_added old s wish ids (v ∷ left) none turned = absurd (omega (arith, none))
-
--- of values none was added yet
-pub none_added : (s : State) (values left : List Value) (ids : List ℕ) → Keeps s → ids ≡ [] →
-    left ≡ reverse values → Turns s (IsOther (O.Values values)) s (IsAll ids (reverse left))
-none_added s values left ids keeps is_none is_left =
-    subst (λ xs. Turns s (IsOther (O.Values values)) s (IsAll xs (reverse left))) (sym is_none)
-    (subst (λ vs. Turns s (IsOther (O.Values values)) s (IsAll [] vs))
-    (sym (ap reverse is_left ∙ reverse-reverse values))
-    (turns_same s (IsOther (O.Values values)) (IsAll [] values) keeps
-    (λ vs v sat. (λ is. is, λ is. is))))

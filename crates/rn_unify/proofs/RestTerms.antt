@@ -2,16 +2,15 @@
 use Rattle.std.proofs.Common.{◌≡◌, ◌≢◌, ◌-◌, ⊎_elim, ◌<◌, ◌≤◌, ℕ, List, ◌++◌, arith, length}
 use Rattle.std.proofs.Common.{refl, sym, map}
 use Rattle.std.proofs.Common.{◌∙◌, ap, subst, drop, Bool}
-use Rattle.std.specs.Prelude.{Result, IfOk, All, Option, Some, None, ◌↔◌}
+use Rattle.std.specs.Prelude.{Result, IfOk, Option, Some, None, ◌↔◌}
 use Rattle.std.proofs.lemmas.Bool.{cases_lt}
 use Rattle.std.proofs.lemmas.List.{length-drop, drop_all, nil_from_length}
-use Rattle.std.proofs.lemmas.List.Elements.{All-drop, All-weaker}
 use Rattle.std.proofs.lemmas.Result.{IfOk-weaker}
 use Rattle.rn_value.specs.declared.value.Value.{Value}
 use Rattle.rn_value.specs.declared.value.Value.TheVariants as Value
 use Rattle.rn_term.specs.declared.term.Term.{Term}
 use Rattle.rn_term.specs.declared.term.Term.TheVariants as T
-use Rattle.rn_term.specs.Stores.{State, term_at, IsBuiltBelow}
+use Rattle.rn_term.specs.Stores.{State, term_at}
 use Rattle.rn_term.specs.Assignments.{value_at, HasValue, Satisfies, Keeps}
 use Rattle.rn_term.specs.Occurring.{IsFree}
 use Rattle.rn_term.specs.Forcing.{IsAlwaysList, items_of}
@@ -21,46 +20,16 @@ use Rattle.rn_unify.specs.declared.equation.Equation.{Equation}
 use Rattle.rn_unify.specs.declared.equation.Other.TheVariants as O
 use Rattle.rn_unify.specs.declared.rests.Rest.{Rest}
 use Rattle.rn_unify.specs.Equations.{CanStand, Finds, HasBefore, IsOther, IsSource, left_other}
-use Rattle.rn_unify.specs.Adding.{IsOf, MayStand, Turns, list_of}
+use Rattle.rn_unify.specs.Adding.{IsOf, Turns, list_of}
 use Rattle.rn_unify.specs.Rests.{IsRest, elements_of, rest_value}
 use Rattle.rn_unify.proofs.Findings.{finds_noted}
-use Rattle.rn_unify.proofs.ListPositions.{built_at}
 use Rattle.rn_unify.proofs.ListPositions.{list_of_items, rest-List, rest-Cons, tail_is_list}
 use Rattle.rn_unify.proofs.TermEquations.{IsNoted}
 use Rattle.rn_unify.proofs.Turning.{turns_same}
 use Rattle.rn_unify.proofs.Blocks.{through_result}
 
--- the later ids of a list are below what all are
-later_below : (low high from : ℕ) (ids : List ℕ) → low ≤ high → All (λ id. id < low) ids →
-    All (λ id. id < high) (drop from ids)
-later_below low high from ids more below =
-    All-drop (λ id. id < high) from ids
-    (All-weaker (λ id. id < low) (λ id. id < high) (λ id small. omega (arith, small, more)) ids
-    below)
-
 -- What is left of a list of terms.
 module _ (s : State) (rest : Rest) (keeps : Keeps s) (within : rest.id < length s.terms) where
-  -- it may be added
-  pub rest_stands : (ids : List ℕ) (tail : Option ℕ) → term_at s rest.id ≡ list_of ids tail →
-      HasBefore rest.from (list_of ids tail) → MayStand s (list_of (drop rest.from ids) tail)
-  rest_stands ids None is before = (
-    later_below rest.id (length s.terms) rest.from ids (omega (arith, within))
-        (built_at s rest.id (T.List ids) keeps within is),
-    tt,
-    λ free. cc,
-  )
-  rest_stands ids (Some tail) is before =
-      let built : IsBuiltBelow rest.id (T.Cons ids tail) =
-      built_at s rest.id (T.Cons ids tail) keeps within is in (
-        (
-          later_below rest.id (length s.terms) rest.from ids (omega (arith, within)) built.0,
-          omega (arith, before, length-drop rest.from ids),
-          omega (arith, built.2, within),
-        ),
-        λ vs sat. tail_is_list s vs rest.id ids tail sat within is,
-        λ free. cc,
-      )
-
   -- and has just this value
   rest_has : (vs : List Value) (ids : List ℕ) (tail : Option ℕ) (v : Value) → Satisfies s vs →
       term_at s rest.id ≡ list_of ids tail → HasBefore rest.from (list_of ids tail) →

@@ -46,9 +46,6 @@ module _ (s : State) (a b x y : ℕ) (left : Leads s.notes a x) (right : Leads s
       let second = leads-same s vs b y sat right in
       (λ same. sym first ∙ same ∙ second, λ same. first ∙ same ∙ sym second)
 
-  pub one_at_end : x ≡ y → (vs : List Value) → Satisfies s vs → AreOne a b vs
-  one_at_end same vs sat = (same_at_ends vs sat).1 (ap (value_at vs) same)
-
   -- where links lead to a variable, it has to be the other
   pub first_noted : {E : Type 0} (before after : List Equation) (r : Result Bool E) →
       IsFree s x → y < length s.terms → link_of s.notes y ≡ None → (x ≡ y → ⊥) →

@@ -3,7 +3,6 @@
 //! A block of a list's elements stands before the next one as its tail. So what is left of a long
 //! list after some elements is a part of one block, before a tail that is there already.
 ghost use Rattle.std.specs.Prelude.{◌≡◌, ◌≢◌, ◌<◌, length, IfOk};
-ghost use Rattle.rn_value.specs.declared.value.Value.TheVariants as Worth;
 ghost use Rattle.rn_term.specs.declared.term.Term.TheVariants as T;
 ghost use Rattle.rn_term.specs.Stores.{term_at};
 ghost use Rattle.rn_term.specs.Assignments.{Keeps};

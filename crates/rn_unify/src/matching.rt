@@ -1,5 +1,5 @@
 //! Matching terms against values: what gives a term a value.
-ghost use Rattle.std.specs.Prelude.{◌≡◌, ◌↔◌, ◌<◌, IsTrue, map, length, IfOk, All};
+ghost use Rattle.std.specs.Prelude.{◌≡◌, ◌<◌, map, length, IfOk, All};
 ghost use Rattle.rn_value.specs.declared.value.Value.TheVariants as Worth;
 ghost use Rattle.rn_term.specs.Assignments.{Keeps, value_at};
 ghost use Rattle.rn_unify.specs.Equations.{Finds, IsSource, left_other};
@@ -8,7 +8,6 @@ ghost use Rattle.rn_unify.specs.Rests.{IsRest, rest_value};
 use crate::comparing::note;
 use crate::equation::{Equation, Other};
 use crate::rests::{Rest, advance, items};
-use rn_items::Items;
 use rn_term::{Store, Term};
 use rn_value::{NoMemory, Value, copy, copy_all, same, same_all};
 use std::alloc::Global;

@@ -1,10 +1,9 @@
 //! Unification: what makes two ids one, and binding variables accordingly.
-ghost use Rattle.std.specs.Prelude.{◌≡◌, ◌↔◌, ◌<◌, List, IsTrue, length, IfOk, OnErr, MatchBool, []};
+ghost use Rattle.std.specs.Prelude.{◌≡◌, ◌↔◌, ◌<◌, List, IsTrue, length, IfOk, []};
 ghost use Rattle.std.specs.Prelude.{MatchOption};
 ghost use Rattle.std.specs.List.{AllByRecursion};
 ghost use Rattle.rn_value.specs.declared.value.Value.{Value};
 ghost use Rattle.rn_term.specs.Assignments.{Keeps, MayBeOne, Satisfies};
-ghost use Rattle.rn_term.specs.Occurring.{IsFree};
 ghost use Rattle.rn_term.specs.Undoing.{LeavesEarlier};
 ghost use Rattle.rn_unify.specs.Binding.{IsBound};
 ghost use Rattle.rn_unify.specs.Equations.{AreEachOne, AreWithin, Finds, IsFound, Solves};

@@ -17,9 +17,6 @@ use Rattle.rn_value.specs.Grammar.{IsNumeral}
 use Rattle.rn_value.specs.Grammar.IsNumeral.{digit, more}
 use borrow.Author.Tests.{ne_eqb}
 
-shift : ℕ → ℕ
-shift d = 48 + d
-
 digits_of_digit : (n : ℕ) → 0 < n → n < 10 → digits_of 10 n ≡ n ∷ []
 digits_of_digit n low high =
     let prefix : n / 10 ≡ 0 = div-eq_of_lt high in
@@ -30,6 +27,7 @@ pub numeral_positive : (n : ℕ) → 0 < n → numeral n ≡ map (λ d. 48 + d) 
 unfolding numeral
 numeral_positive n low = ap (λ t. cond t (48 ∷ []) (map (λ d. 48 + d) (digits_of 10 n))) (ne_eqb n 0 (λ e. omega arith))
 
+-- the numeral of a number below 10 is its one digit
 pub numeral_digit : (n : ℕ) → n < 10 → numeral n ≡ (48 + n) ∷ []
 unfolding numeral
 numeral_digit zero high = refl
@@ -84,6 +82,7 @@ value_is (more {n = n} {d = d} {prefix = prefix} low more_prefix small) =
 pub IsNumeral-same : {m n : ℕ} {digits : List ℕ} → IsNumeral m digits → IsNumeral n digits → m ≡ n
 IsNumeral-same a b = sym (value_is a) ∙ value_is b
 
+-- what the library writes of a number below 2^64 is its numeral
 pub decimal-numeral : (n : ℕ) → n < 2 ^ 64 → decimal n ≡ numeral n
 decimal-numeral zero small = decimal_digit 0 (omega arith) ∙ sym (numeral_digit 0 (omega arith))
 decimal-numeral (suc n) small = decimal-digits_of (suc n) (omega arith) small ∙ sym (numeral_positive (suc n) (omega arith))

@@ -14,6 +14,7 @@ use Rattle.rn_value.proofs.Spelling.{name_bytes, named_is}
 abbrev pub OneLine : List ℕ → Type 0
 OneLine = AllByRecursion (λ c. c ≢ 10)
 
+-- two lists of bytes without a newline, joined, hold none
 pub joined : (a b : List ℕ) → OneLine a → OneLine b → OneLine (a ++ b)
 joined [] b p q = q
 joined (c ∷ a) b p q = (p.0, joined a b p.1 q)
@@ -21,10 +22,12 @@ joined (c ∷ a) b p q = (p.0, joined a b p.1 q)
 digit_line : (d : ℕ) → OneLine ((48 + d) ∷ [])
 digit_line d = ((λ e. omega arith), tt)
 
+-- a numeral holds no newline
 pub numeral_line : {n : ℕ} {a : List ℕ} → IsNumeral n a → OneLine a
 numeral_line (IsNumeral.digit {d = d} small) = digit_line d
 numeral_line (IsNumeral.more {d = d} {prefix = prefix} low before small) = joined prefix ((48 + d) ∷ []) (numeral_line before) (digit_line d)
 
+-- bytes without a newline, between two that are none, hold none
 pub bracketed : (before after : ℕ) (a : List ℕ) → before ≢ 10 → after ≢ 10 → OneLine a → OneLine (before ∷ a ++ after ∷ [])
 bracketed before after a first last line = (first, joined a (after ∷ []) line (last, tt))
 
@@ -35,10 +38,12 @@ escaped_line IsEscaped.newline = ((λ e. omega arith), ((λ e. omega arith), tt)
 escaped_line IsEscaped.tab = ((λ e. omega arith), ((λ e. omega arith), tt))
 escaped_line (IsEscaped.itself q b n t) = (n, tt)
 
+-- what stands between the quotes of a text holds no newline
 pub inside_line : {s a : List ℕ} → IsInside s a → OneLine a
 inside_line IsInside.empty = tt
 inside_line (IsInside.byte {written = written} {rest = rest} first others) = joined written rest (escaped_line first) (inside_line others)
 
+-- bytes that may stand in a name hold no newline
 pub name_line : (name : List ℕ) → list_all is_name_byte name ≡ true → OneLine name
 name_line [] all = tt
 name_line (c ∷ name) all = (

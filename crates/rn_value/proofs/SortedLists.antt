@@ -18,13 +18,13 @@ use Rattle.rn_value.specs.Sorting.{count_of, SortsOneWay, SortsByCounts}
 abbrev one_if : Bool → ℕ
 one_if t = cond t 1 0
 
--- neither of two comparisons, which are each other's reverse, is Less
-neither : (r s : Ordering) → r ≡ ordering_reverse s → is_lt r ≡ false → is_lt s ≡ false → r ≡ Equal
-neither Less s e p q = absurd (false≢true (sym p))
-neither Equal s e p q = refl
-neither Greater Less e p q = absurd (false≢true (sym q))
-neither Greater Equal e p q = cc
-neither Greater Greater e p q = cc
+-- neither_way of two comparisons, which are each other's reverse, is Less
+pub neither_way : (r s : Ordering) → r ≡ ordering_reverse s → is_lt r ≡ false → is_lt s ≡ false → r ≡ Equal
+neither_way Less s e p q = absurd (false≢true (sym p))
+neither_way Equal s e p q = refl
+neither_way Greater Less e p q = absurd (false≢true (sym q))
+neither_way Greater Equal e p q = cc
+neither_way Greater Greater e p q = cc
 
 module _ {A : Type 0} (cmp : A → A → Ordering) (total : IsTotalOrder cmp) (apart : IsAntisymmetric cmp) where
   count_of-cons : (z x : A) (xs : List A) → count_of cmp z (x ∷ xs) ≡ one_if (is_eq (cmp z x)) + count_of cmp z xs
@@ -60,8 +60,9 @@ module _ {A : Type 0} (cmp : A → A → Ordering) (total : IsTotalOrder cmp) (a
       subst (λ j. is_lt (cmp (get_or (x ∷ xs) j d) (get_or xs k d)) ≡ false) e here
 
   neither_less : (x y : A) → is_lt (cmp x y) ≡ false → is_lt (cmp y x) ≡ false → x ≡ y
-  neither_less x y p q = apart x y (neither (cmp x y) (cmp y x) (total.antisymm x y) p q)
+  neither_less x y p q = apart x y (neither_way (cmp x y) (cmp y x) (total.antisymm x y) p q)
 
+  -- two ascending lists that hold each element equally often are equal
   pub by_counts : SortsByCounts cmp
   by_counts [] [] up down same = refl
   by_counts [] (y ∷ ys) up down same =
@@ -90,5 +91,6 @@ module _ {A : Type 0} (cmp : A → A → Ordering) (total : IsTotalOrder cmp) (a
 pub values_one_way : SortsOneWay value_cmp
 values_one_way = one_way value_cmp value_cmp-total value_cmp-apart
 
+-- so are two ascending lists of values
 pub values_by_counts : SortsByCounts value_cmp
 values_by_counts = by_counts value_cmp value_cmp-total value_cmp-apart

@@ -8,9 +8,11 @@ use Rattle.rn_value.specs.Characters.{is_letter, is_name_byte}
 use Rattle.rn_value.specs.Words.{begins_with, is_identifier}
 use Rattle.rn_items.proofs.Bools.{and_left, and_right}
 
+-- a letter is a byte that may stand in a name
 pub name_byte-letter : (c : ℕ) → is_letter c ≡ true → is_name_byte c ≡ true
 name_byte-letter c h = rw h refl
 
+-- a byte that may stand in a name is below 128
 pub name_byte-low : (c : ℕ) → is_name_byte c ≡ true → c < 128
 name_byte-low c h = grind (arith, nat_tests)
 
@@ -21,6 +23,7 @@ name_bytes-low (c ∷ word) h zero =
 name_bytes-low (c ∷ word) h (suc i) =
     name_bytes-low word (and_right (is_name_byte c) (list_all is_name_byte word) h) i
 
+-- an identifier is UTF-8
 pub identifier-utf8 : (word : List ℕ) → is_identifier word ≡ true → IsUtf8 word
 identifier-utf8 word h = IsUtf8-from_ascii word
     (name_bytes-low word (and_right (begins_with is_letter word) (list_all is_name_byte word) h))

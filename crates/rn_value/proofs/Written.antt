@@ -79,9 +79,11 @@ inside_is : (s : List ℕ) → IsInside s (flat_map escaped s)
 inside_is [] = IsInside.empty
 inside_is (c ∷ s) = IsInside.byte (escaped_is c) (inside_is s)
 
+-- the number 0 has no name
 pub name_of_none : (names : List (List ℕ)) (k : ℕ) → k ≡ 0 → name_of names k ≡ None
 name_of_none names k e = ap (λ t. cond t None (slice_get names (k - 1))) (eq-eqb k 0 e)
 
+-- any other number has the name at the index below it, if one is there
 pub name_of_some : (names : List (List ℕ)) (k : ℕ) → k ≢ 0 → name_of names k ≡ slice_get names (k - 1)
 name_of_some names k apart = ap (λ t. cond t None (slice_get names (k - 1))) (ne_eqb k 0 apart)
 

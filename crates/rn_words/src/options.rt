@@ -1,5 +1,5 @@
 //! Options and their values, word by word.
-ghost use Rattle.std.specs.Prelude.{◌≡◌, ◌≤◌, map, string_bytes, option_map, MatchResult};
+ghost use Rattle.std.specs.Prelude.{◌≡◌, ◌≤◌, map, string_bytes, option_map};
 ghost use Rattle.rn_words.specs.Reading.{after_dashes, name_length, name_part, value_part, option_of, with_value};
 ghost use Rattle.rn_words.specs.Reading.{after_word, read_from};
 ghost use Rattle.rn_words.specs.Choices.{nothing};

@@ -1,6 +1,6 @@
 //! From the words of the command line to a command.
 ghost use Rattle.std.specs.Prelude.{◌≡◌, ◌↔◌, map, string_bytes, Ok};
-ghost use Rattle.rn_words.specs.Reading.{reading, read_copies, read_after};
+ghost use Rattle.rn_words.specs.Reading.{reading, read_after};
 ghost use Rattle.rn_words.specs.Commands.{WordsOk};
 
 use crate::chosen::command_of;

@@ -13,7 +13,7 @@ const MOST_DIGITS: usize = 6;
 
 // The number that at most six digits spell.
 fn number_of(digits: &[u8]) -> u32
-    requires few { length digits.now ≤ 6 }
+    requires few { length digits.now ≤ MOST_DIGITS }
     requires digits { IsTrue (list_all is_digit digits.now) }
     ensures { result ≡ number_after 0 digits.now }
 {

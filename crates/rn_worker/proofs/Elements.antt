@@ -14,15 +14,18 @@ module _ {A : Type 0} where
   written_back new others n e = ap (λ k. take k (new ++ others)) e ∙ take-append_seam new others
 
 module _ {A B : Type 0} (f : A → B) where
+  -- a mapped list is as long as the list
   pub length-of_map : (xs : List A) → length (map f xs) ≡ length xs
   length-of_map [] = refl
   length-of_map (x ∷ xs) = let r = length-of_map xs in omega arith
 
+  -- at an index of it stands what the element there is mapped to
   pub get_or-map_at : (xs : List A) (k : ℕ) (y : B) (x : A) → k < length xs → get_or (map f xs) k y ≡ f (get_or xs k x)
   get_or-map_at [] k y x h = absurd (omega arith)
   get_or-map_at (z ∷ zs) zero y x h = refl
   get_or-map_at (z ∷ zs) (suc k) y x h = get_or-map_at zs k y x (omega arith)
 
+  -- what holds by number of all that elements are mapped to holds of the mapped list
   pub EachAt-map : (P : ℕ → B → Type 0) (xs : List A) → EachAt (λ n a. P n (f a)) xs → EachAt P (map f xs)
   EachAt-map P xs each k y inside = let same = length-of_map xs in let n : k < length xs = omega arith in let x : A = one_of xs k n in
       subst (P (k + 1)) (sym (get_or-map_at xs k y x n)) (each k x n)

@@ -2,7 +2,7 @@
 use Rattle.std.proofs.Common.{◌≡◌, ℕ, Bool, true, false, List, refl, sym, ap, ◌∙◌, subst}
 use Rattle.std.specs.Prelude.{◌↔◌, Contains, filter, nat_eq, not}
 use Rattle.std.specs.List.{list_any}
-use Rattle.std.proofs.lemmas.Bool.{eq-eqb}
+use Rattle.std.proofs.lemmas.Bool.{eq-eqb, not-true}
 use Rattle.std.proofs.lemmas.List.Elements.{All-contains, All-contains_itself, All-filter, filter_passes}
 use Rattle.rn_model.specs.declared.system.System.{System}
 use Rattle.rn_model.specs.Liveness.{IsLive, Stands}
@@ -29,10 +29,6 @@ live_or_not : (system : System) (m : Marking) (n : ℕ) → ¬ (¬ IsLive system
 live_or_not system m n some =
     let test = live_decided system m in live_by system m n test.0 test.1 some (test.0 n) refl
 
-kept_not : (b : Bool) → not b ≡ true → b ≡ false
-kept_not true e = let none : not true ≡ true = e in absurd (let never : ⊥ = cc in never)
-kept_not false e = refl
-
 -- an instance that is left was there, and wasn't dropped
 left : (drops : ℕ → Bool) (m : Marking) (n : ℕ) → IsThere (without_instances drops m) n →
     IsThere m n × (drops n ≡ false)
@@ -45,7 +41,7 @@ left drops m n there =
     let was = All-contains (Contains is) (filter keeps is) i
     (All-filter keeps (Contains is) is (All-contains_itself is)) found in
     let stays = All-contains (λ j. keeps j ≡ true) (filter keeps is) i (filter_passes keeps is) found in
-    (some_found is n i was number, kept_not (drops n) (ap (λ k. not (drops k)) (sym number) ∙ stays))
+    (some_found is n i was number, not-true (drops n) (ap (λ k. not (drops k)) (sym number) ∙ stays))
 
 -- A table that stands for a marking, and the numbers of its instances that aren't live.
 module _ (system : System) (table m : Marking) (numbers : List ℕ) (stands : Stands system table m)

@@ -12,7 +12,7 @@ use Rattle.rn_model.proofs.DeadInstances.{live_there}
 use Rattle.rn_model.proofs.SoundRuns.{dead_stay_dead_in_runs, runs_end_sound}
 use Rattle.rn_model.proofs.StandingTables.{as_in_table, same_live, tables_have_the_same_live}
 use Rattle.rn_desk.specs.Entries.{StartsWith}
-use Rattle.rn_reach.specs.Reach.{DifferAtMostIn, RefersTo}
+use Rattle.rn_reach.specs.Reach.{DifferAtMostIn}
 use Rattle.rn_fire.specs.declared.setup.Setup.{Setup}
 use Rattle.rn_fire.specs.States.{State, end_marking, firings_in, logged}
 use Rattle.rn_fire.proofs.EntryLemmas.{firings_of}
@@ -151,6 +151,7 @@ module _ (old new : State) (worker : ℕ) (fired : Bool) (setup : Setup) (es : L
       let few = had_seen old es begins going in
       omega (arith, few, count)
 
+  -- after the turn there are at least so many firings
   pub few_after : looked ≤ length new.fired
   few_after =
       let more = fired_more_by fired adds in
@@ -170,9 +171,11 @@ module _ (old new : State) (worker : ℕ) (fired : Bool) (setup : Setup) (es : L
       ∙ ap (λ (s : Setup). end_of s.system (firings_in es))
       (kept_setup worker fired old new adds ∙ same)
 
+  -- the next number after the entries is that after so many firings
   pub next_is : (next : ℕ) → next ≡ (marking_after setup es).next → next ≡ next_after new looked
   next_is next is = is ∙ ap (λ (m : Marking). m.next) (sym led_to)
 
+  -- what changed since so many firings changed between those entries and the later ones
   pub changed_between : (more : List Entry) → more ≡ logged new → (o : Option View) →
       IfSome o (λ v. IfSome v.changed (λ c. ChangedSince new looked c.items)) →
       IfSome o (ChangedBetween setup es more)

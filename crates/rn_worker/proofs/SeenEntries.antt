@@ -35,12 +35,14 @@ module _ (t : State) (es : List Entry) (begins : StartsWith (logged t) es) where
   fired_then =
       sym (firings_of t.fired t.ended) ∙ ap firings_in begins.1 ∙ firings_joined es begins.0
 
+  -- where no end was seen, it has at least as many firings
   pub had_seen : GoesOn es → length es ≤ length t.fired
   had_seen going =
       let whole = ap length fired_then ∙ length-append (firings_in es) (firings_in begins.0) in
       let count = going_count es going in
       omega (arith, whole, count)
 
+  -- and the first of them are those that were seen
   pub taken : GoesOn es → take (length es) t.fired ≡ firings_in es
   taken going =
       ap (take (length es)) fired_then

@@ -1,6 +1,6 @@
 -- What is so after the entries that a worker has seen, and in a later state.
 use Rattle.std.proofs.Common.{◌≡◌, ℕ, ◌+◌, ◌*◌, ◌-◌, ◌<◌, ◌≤◌, List, length, cond, refl, sym, ap, ◌∙◌, subst, arith}
-use Rattle.std.specs.Prelude.{Option, Some, None, Result, Ok, Err, Bool, true, false, IfOk, IfSome}
+use Rattle.std.specs.Prelude.{Option, Some, None, Result, Ok, Err, Bool, true, false, IfOk}
 use Rattle.std.proofs.lemmas.List.{length-append}
 use Rattle.rn_choices.specs.declared.flag.Halt.{Halt}
 use Rattle.rn_model.specs.declared.binding.Binding.{Binding}
@@ -49,6 +49,7 @@ shows t v setup es (is, going, table, count) same are =
       count = count ∙ ap length (sym are);
     })
 
+-- a turn leaves the setup as it was
 pub kept_setup : (worker : ℕ) (fired : Bool) (old new : State) → AddsOwn worker fired old new →
     new.setup ≡ old.setup
 kept_setup worker true old new adds = adds.0
@@ -95,6 +96,7 @@ module _ (setup : Setup) (es : List Entry) (v : Sight) (shown : Shows setup es v
             ((tables_have_the_same_live setup.system v.table.marking m shown.stands n).1 live),
       )
 
+  -- what a plan says of the snapshot is so after the entries
   pub knows : (p : Plan) → IsPlanAt setup.system setup.options.depth v.table p → Knows setup es p
   knows p plan = (found_after p.found plan.0, dead_after p.dead.items plan.1)
 
@@ -105,6 +107,7 @@ module _ (setup : Setup) (es : List Entry) (v : Sight) (shown : Shows setup es v
       let few = shown.log.steps in
       omega (arith, count, few)
 
+  -- so they are no more than any run may have
   pub never_many : length es ≤ most_steps
   never_many =
       let few = few_seen in
@@ -121,6 +124,7 @@ module _ (setup : Setup) (system : System) (options : Options)
   own_shown : Shows own es v
   own_shown = subst (λ x. Shows x es v) same shown
 
+  -- the snapshot may be searched
   pub searched_by : (uplinks : Uplinks) → AreUplinksOf system uplinks →
       IsToSearch system uplinks v.table
   searched_by uplinks are = to_search own es v own_shown uplinks are
@@ -130,6 +134,7 @@ module _ (setup : Setup) (system : System) (options : Options)
   known_by (Ok p) plan = subst (λ x. Knows x es p) (sym same) (knows own es v own_shown p plan)
   known_by (Err halt) plan = tt
 
+  -- the entries are no more than the limit
   pub few_by : length es ≤ options.steps
   few_by = few_seen own es v own_shown
 
@@ -165,6 +170,7 @@ module _ (t : State) (is : IsState t) (es : List Entry) (begins : StartsWith (lo
       (subst (Run system t.setup.options.depth) then is.log.run) n here.0 here.1
       (subst (λ fs. IsLive system (end_of system fs) n) then live)
 
+  -- a plan that is known after the entries fits the later state
   pub fits_in : (setup : Setup) → t.setup ≡ setup → (p : Plan) → Knows setup es p →
       FitsIn t (length es) p
   fits_in setup same p known =

@@ -40,6 +40,7 @@ authored_firings n some fs ended =
     ∙ ap (λ es. authored author_of n (map entry_of fs) ++ es) (no_end n some ended)
     ∙ append-nil (authored author_of n (map entry_of fs))
 
+-- a worker authored as many entries as it has firings
 pub own_count : (n : ℕ) → 0 ≢ n → (fs : List Firing) (ended : Option Reason) →
     length (authored author_of n (entries_of fs ended)) ≡ fired_by n fs
 own_count n some fs ended = ap length (authored_firings n some fs ended) ∙ own_firings n fs
@@ -71,6 +72,7 @@ few_from workers system depth step m (f ∷ fs) (fires, run) none =
     (few_from workers system depth (suc step) (after_firing system step m f) fs run
     (λ n above. none_then (f.worker == n) (entry_of f) (rest n) (none n above)))
 
+-- where no entry is by a worker above a number, all firings are by workers up to it
 pub few_workers : (workers : ℕ) (system : System) (depth : ℕ) (m : Marking) (fs : List Firing)
     (ended : Option Reason) → RunFrom system depth 1 m fs →
     ((n : ℕ) → workers < n → authored author_of n (entries_of fs ended) ≡ []) →

@@ -23,12 +23,14 @@ use Rattle.rn_worker.specs.contracts.posts.Post as post
 pub state_send : IsSend state.the_row
 state_send = search state_sends depth 40 fits 20000
 
+-- threads may share the uplinks of a system
 pub uplinks_sync : IsSync uplinks.the_row
 uplinks_sync = search (items.the_sync, maps.crosses, sendable, crosses) depth 40 fits 20000
 
 pub post_send : IsSend post.the_row
 post_send = search (seat.the_send, state_send, sendable, crosses) depth 40 fits 20000
 
+-- and the options of a run
 pub options_sync : IsSync options.the_row
 options_sync = search (sendable, crosses) depth 40 fits 20000
 

@@ -5,7 +5,7 @@ ghost use Rattle.rn_desk.specs.Entries.{StartsWith};
 ghost use Rattle.rn_desk.specs.Passes.{fixed_of, number, seen, mine, IsOf, HasNoTurn};
 ghost use Rattle.rn_fire.specs.Ends.{MayGoOn};
 ghost use Rattle.rn_fire.specs.States.{logged};
-ghost use Rattle.rn_worker.specs.Seen.{KeepsLog, GoesOn, StaysOrEnds, marking_after};
+ghost use Rattle.rn_worker.specs.Seen.{KeepsLog, GoesOn, marking_after};
 ghost use Rattle.rn_worker.specs.Views.{ChangedBetween, ShowsView};
 ghost use Rattle.rn_worker.specs.Pacing.{DoesFiring, DropsListed, DropsThenFires, IsSwept};
 ghost use Rattle.rn_worker.specs.Pacing.{dropped_by, kept_among};

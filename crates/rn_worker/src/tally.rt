@@ -1,5 +1,5 @@
 //! What each worker did.
-ghost use Rattle.std.specs.Prelude.{◌≡◌, ◌<◌, ◌+◌, ◌^◌, MatchBool, false, min};
+ghost use Rattle.std.specs.Prelude.{◌≡◌, ◌<◌, ◌+◌, ◌^◌, MatchBool, min};
 ghost use Rattle.rn_worker.specs.Pacing.{last_count};
 
 use rn_items::Items;

@@ -1,5 +1,5 @@
 //! Runs of net texts by several workers.
-ghost use Rattle.std.specs.Prelude.{◌≡◌, ◌≤◌, IfOk};
+ghost use Rattle.std.specs.Prelude.{◌≤◌, IfOk};
 ghost use Rattle.rn_model.specs.Good.{Good, IsInLimits};
 ghost use Rattle.rn_model.specs.Limits.{greatest_sweep, most_workers};
 

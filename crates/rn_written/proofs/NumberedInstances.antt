@@ -1,9 +1,9 @@
 -- An enabled binding, under the numbers of the instances that it makes, names none above the last
 -- of them.
-use Rattle.std.proofs.Common.{◌≡◌, ℕ, ◌+◌, ◌<◌, ◌≤◌, Bool, true, false, List, [], ◌∷◌, length, map, refl, sym, ap, ◌∙◌, subst, arith}
-use Rattle.std.specs.Prelude.{◌&&◌, Option, Some, None, Contains, All, is_some, nat_eq, nat_le, position, slice_get, option_and_then, option_map, unwrap_or}
+use Rattle.std.proofs.Common.{◌≡◌, ℕ, ◌+◌, ◌<◌, ◌≤◌, Bool, true, false, List, length, map, refl, sym, ap, ◌∙◌, subst, arith}
+use Rattle.std.specs.Prelude.{◌&&◌, Option, Some, None, Contains, All, is_some, nat_eq, nat_le, position, slice_get, option_map}
 use Rattle.std.specs.Option.{option_map_or}
-use Rattle.std.specs.List.{enumerate_from, list_all}
+use Rattle.std.specs.List.{enumerate_from}
 use Rattle.std.specs.Cmp.Lexicographic.{pointwise}
 use Rattle.std.proofs.lemmas.Bool.{eq-eqb}
 use Rattle.std.proofs.lemmas.Bool.Decides.{nat_tests}
@@ -13,11 +13,10 @@ use Rattle.std.proofs.lemmas.List.Quantifiers.{position-Some}
 use Rattle.std.proofs.lemmas.Option.{same_Some}
 use Rattle.rn_items.proofs.Numbers.{numbers_themselves}
 use Rattle.rn_items.proofs.Bools.{true_both}
-use Rattle.rn_value.specs.Names.{inst_within, instances_within, within_step}
+use Rattle.rn_value.specs.Names.{inst_within, instances_within}
 use Rattle.rn_value.specs.declared.value.InstRef.{InstRef}
 use Rattle.rn_value.specs.declared.value.InstRef.TheVariants.{Old, New}
-use Rattle.rn_value.specs.declared.value.Value.{Value, fold-roll-Value, ind-Value, map-Value}
-use Rattle.rn_value.specs.declared.value.Value.TheOpen as V
+use Rattle.rn_value.specs.declared.value.Value.{Value}
 use Rattle.rn_model.specs.declared.system.System.{System}
 use Rattle.rn_model.specs.declared.system.Creation.{Creation}
 use Rattle.rn_model.specs.declared.binding.Node.{Node}
@@ -27,74 +26,19 @@ use Rattle.rn_model.specs.Enabling.{Enabled}
 use Rattle.rn_model.specs.Firing.{Made, creations_of, made_by, named, numbered_inst, renamed_node, renamed_value}
 use Rattle.rn_model.specs.Good.{Good}
 use Rattle.rn_model.specs.Liveness.{mentions}
-use Rattle.rn_model.specs.Markings.{Instance, IsMarking, IsThere, Marking, instance_at, net_of, tokens_at}
+use Rattle.rn_model.specs.Markings.{IsMarking, IsThere, Marking, net_of}
 use Rattle.rn_model.specs.SoundTokens.{HasSoundTokens, holds_new}
 use Rattle.rn_model.specs.Systems.{transition_of}
-use Rattle.rn_model.proofs.AfterFiring.{found_number}
 use Rattle.rn_model.proofs.AskedValues.{contained_flat, contained_mapped}
 use Rattle.rn_model.proofs.DeadInstances.{there_of_net}
 use Rattle.rn_model.proofs.DerivedInstances.{PassesOn, inst_passes, value_passes}
-use Rattle.rn_model.proofs.EnablingLemmas.{not_in_nil}
 use Rattle.rn_model.proofs.IndicesInLists.{has_position, in_enumerated}
-use Rattle.rn_model.proofs.MarkingsOfRuns.{found_is_there}
 use Rattle.rn_model.proofs.NodesByPath.{node_at-path}
-use Rattle.rn_model.proofs.PassingInstances.{names_passing, only, only_step}
+use Rattle.rn_model.proofs.PassingInstances.{names_passing, only}
 use Rattle.rn_model.proofs.PutValues.{renamed_passes}
+use Rattle.rn_model.proofs.NumbersOfRuns.{is_given, holder_there}
+use Rattle.rn_model.proofs.InstancesWithin.{is_low, within_is_only}
 use Rattle.rn_model.specs.NodeText.{IsWritable}
-
--- Whether all instances of a value are within, by the test of each.
-module _ (last : ℕ) where
-  abbrev pub is_low : InstRef → Bool
-  is_low i = inst_within i last
-
-  abbrev IsSame : Value → Type 0
-  IsSame v = instances_within v last ≡ only is_low v
-
-  abbrev Part : Type 0
-  Part = (v : Value) × IsSame v
-
-  parts_same : (parts : List Part) →
-      list_all (λ within. within last) (map instances_within (map (λ e. e.0) parts))
-      ≡ list_all (λ p. p) (map (only is_low) (map (λ e. e.0) parts))
-  parts_same [] = refl
-  parts_same (part ∷ parts) =
-      ap (λ b. b && list_all (λ within. within last) (map instances_within (map (λ e. e.0) parts))) part.1
-      ∙ ap (λ b. only is_low part.0 && b) (parts_same parts)
-
-  abbrev LayerIsSame : V.Value-F Value → Type 0
-  LayerIsSame x = within_step (map-Value Value (ℕ → Bool) instances_within x) last
-      ≡ only_step is_low (map-Value Value Bool (only is_low) x)
-
-  layer : (y : V.Value-F Part) → LayerIsSame (map-Value Part Value (λ e. e.0) y)
-  layer (V.Int n) = refl
-  layer (V.Text s) = refl
-  layer (V.Tuple parts) = parts_same parts
-  layer (V.List parts) = parts_same parts
-  layer (V.Inst i) = refl
-
-  pub within_is_only : (v : Value) → IsSame v
-  within_is_only = ind-Value IsSame (λ x y is.
-      ap (λ f. f last) (fold-roll-Value (ℕ → Bool) within_step x) ∙ subst LayerIsSame is (layer y)
-      ∙ sym (fold-roll-Value Bool (only_step is_low) x))
-
--- an instance that is there has a number from 1 to below the next
-pub number_there : (system : System) (m : Marking) (n : ℕ) → IsMarking system m → IsThere m n →
-    (0 < n) × (n < m.next)
-number_there system m n is (i, e) =
-    let numbers = All-contains (λ i. (0 < i.number) × (i.number < m.next)) m.instances i
-    is.numbered (found_is_there _ m.instances i e) in
-    let number = found_number m.instances n i e in
-    (omega (arith, numbers.0, number), omega (arith, numbers.1, number))
-
--- an instance that holds tokens is there
-pub holder_there : (m : Marking) (n place : ℕ) (v : Value) → Contains (tokens_at m n place) v →
-    IsThere m n
-holder_there m n place v = by (instance_at m n) refl
-  where
-    by : (o : Option Instance) → instance_at m n ≡ o →
-        Contains (unwrap_or (option_and_then (λ i. slice_get i.places place) o) []) v → IsThere m n
-    by None e h = absurd (not_in_nil v h)
-    by (Some i) e h = (i, e)
 
 is_low_number : (last n : ℕ) → 0 < n → n ≤ last → is_low last (Old n) ≡ true
 is_low_number last n low high =
@@ -107,7 +51,7 @@ pub there_is_low : (system : System) (m : Marking) (last : ℕ) (v : Value) → 
 there_is_low system m last v is high old there =
     names_passing (is_low last) v (record {
       old = λ n said.
-          let number = number_there system m n is (there n said) in
+          let number = is_given system m n is (there n said) in
           is_low_number last n number.0 (omega (arith, number.1, high));
       new = λ path j news. let both : true ≡ false = sym news ∙ old in absurd (let no : ⊥ = cc in no);
     })
@@ -130,7 +74,7 @@ module _ (system : System) (m : Marking) (b : Binding) (depth before : ℕ) (goo
 
   there_low : (n : ℕ) → IsThere m n → is_named_low (Old n) ≡ true
   there_low n there =
-      let number = number_there system m n is there in
+      let number = is_given system m n is there in
       is_low_number last n number.0 (omega (arith, number.1, first))
 
   abbrev is_made_at : List ℕ → ℕ → Made → Bool

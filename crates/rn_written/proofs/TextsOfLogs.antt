@@ -22,13 +22,14 @@ use Rattle.rn_model.proofs.CountsAfterFiring.{next_after_firing}
 use Rattle.rn_model.proofs.InitialTokens.{initial_tokens_are_sound}
 use Rattle.rn_model.proofs.MarkingsOfRuns.{firings_keep_markings, initial_is_marking}
 use Rattle.rn_model.proofs.SoundAfter.{firings_keep_tokens_sound, firings_report_what_is_there}
+use Rattle.rn_model.proofs.NumbersOfRuns.{stays_within}
+use Rattle.rn_model.proofs.InstancesWithin.{within_is_only}
 use Rattle.rn_model.specs.NodeText.{IsWritable}
 use Rattle.rn_record.specs.RecordText.{first_names, names_after, names_at_end, names_by}
 use Rattle.rn_record.specs.Writable.{HasLines, HaveEntries}
 use Rattle.rn_written.specs.Laws.{EnabledHaveLines, LogsHaveText}
-use Rattle.rn_fire.proofs.OutcomeLemmas.{stays_within}
 use Rattle.rn_written.proofs.NamesOfRuns.{count_after, few_names}
-use Rattle.rn_written.proofs.NumberedInstances.{nodes_writable, there_is_low, within_is_only}
+use Rattle.rn_written.proofs.NumberedInstances.{nodes_writable, there_is_low}
 
 -- the numbers of a binding's instances stay below 2^32
 low_numbers : (system : System) (names : List (List ℕ)) (b : Binding) (depth next : ℕ) →
@@ -186,6 +187,7 @@ names_are_counted system depth fs good run =
     (named_at_end system depth good fs None 1 (initial_marking system) first_names
     (first_named system depth good) run).count
 
+-- a log of a good system has a text, with the live part of the marking at its end
 pub logs_have_text : LogsHaveText
 logs_have_text system options fs ended marks good log live =
     let depth = options.depth in
@@ -200,6 +202,7 @@ logs_have_text system options fs ended marks good log live =
           (mark_named system depth good (end_of system fs) names at_end) marks live.each;
     }
 
+-- a binding that is enabled at the end of a run can be written there
 pub enabled_have_lines : EnabledHaveLines
 enabled_have_lines system depth fs b good run enabled =
     has_lines system depth good (end_of system fs) (names_at_end system first_names (entries_of fs None)) b

@@ -1,5 +1,5 @@
 //! Writing the record of a state.
-ghost use Rattle.std.specs.Prelude.{◌≡◌, ◌≢◌, None, IfOk};
+ghost use Rattle.std.specs.Prelude.{◌≢◌, None, IfOk};
 ghost use Rattle.rn_record.specs.RecordText.{IsFormat};
 ghost use Rattle.rn_written.specs.Written.{IsRecordOf};
 

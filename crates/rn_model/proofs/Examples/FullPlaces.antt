@@ -1,7 +1,7 @@
 -- Places with a capacity: after a firing none holds more tokens.
-use Rattle.std.proofs.Common.{◌≡◌, ℕ, zero, suc, ◌≤◌, ◌+◌, pos, List, [], ◌∷◌, length, refl, subst}
+use Rattle.std.proofs.Common.{◌≡◌, zero, suc, ◌≤◌, ◌+◌, pos, List, [], ◌∷◌, refl, subst}
 use Rattle.std.proofs.Common.{arith}
-use Rattle.std.specs.Prelude.{None, Some, codes}
+use Rattle.std.specs.Prelude.{Some, codes}
 use Rattle.std.proofs.lemmas.List.Elements.{All-contains}
 use Rattle.rn_value.proofs.Variants.{same_old}
 use Rattle.rn_value.specs.declared.value.InstRef.TheVariants.{Old, New}
@@ -18,7 +18,7 @@ use Rattle.rn_model.specs.declared.system.NetArc.{NetArc}
 use Rattle.rn_model.specs.declared.system.Action.TheVariants.{Set}
 use Rattle.rn_model.specs.declared.binding.Node.{Node}
 use Rattle.rn_model.specs.declared.binding.Binding.{Binding}
-use Rattle.rn_model.specs.Systems.{empty_transition, capacity}
+use Rattle.rn_model.specs.Systems.{empty_transition}
 use Rattle.rn_model.specs.Markings.{initial_marking}
 use Rattle.rn_model.specs.Demands.{put_at, filled_at}
 use Rattle.rn_model.specs.Firing.{Made, creations_of}

@@ -1,4 +1,4 @@
-use Rattle.std.proofs.Common.{◌≡◌, ◌∙◌, ◌<◌, ◌≤◌, ap, length, map, subst, get_or, take, arith}
+use Rattle.std.proofs.Common.{◌≡◌, ◌∙◌, ◌<◌, ◌≤◌, ap, length, map, subst, get_or}
 use Rattle.std.proofs.lemmas.List.{take_all}
 use Rattle.rn_model.specs.declared.system.Transition.{Transition}
 use Rattle.rn_channel.specs.Kept.{least_height}

@@ -1,7 +1,6 @@
 -- The net text or the record is refused, or both are migrated.
-use Rattle.std.proofs.Common.{◌≡◌, ◌++◌, ◌∙◌, List, ℕ, ap, sym, subst, arith, rules, codes}
+use Rattle.std.proofs.Common.{◌≡◌, ◌++◌, ◌∙◌, ap, sym, subst, arith, rules, codes}
 use Rattle.std.proofs.lemmas.Bool.{eqb-true}
-use Rattle.rn_model.specs.declared.log.Told.{Told}
 use Rattle.rn_migrate.specs.Migrated.{migrated_text}
 use Rattle.rn_commands.specs.Migrating.{MigrateComesTo, migrated_pair}
 use Rattle.rn_commands.proofs.PartLemmas.{rest_few}

@@ -1,5 +1,5 @@
 -- A run of an accepted net text comes to what its job does.
-use Rattle.std.proofs.Common.{inr, subst, ◌∙◌, sym}
+use Rattle.std.proofs.Common.{inr, subst, ◌∙◌}
 use Rattle.rn_commands.specs.LeastRuns.{RunsLeastTo}
 use Rattle.rn_commands.specs.Runs.{RunsTo}
 use Rattle.rn_commands.proofs.runs.run_by.Goals as goal

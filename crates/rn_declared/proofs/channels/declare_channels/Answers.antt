@@ -5,8 +5,8 @@ use Rattle.rn_declared.specs.Patterns.{pattern_of}
 use Rattle.rn_declared.specs.Channels.{channels_faults}
 use Rattle.rn_declared.specs.Tables.{number_in_tables}
 use Rattle.rn_declared.proofs.ChannelLemmas.{channel_more, channels_told_more, channels_told_all}
-use Rattle.rn_declared.proofs.ToldLemmas.{map_more}
 use Rattle.rn_declared.proofs.channels.declare_channels.Goals as goal
+use Rattle.rn_items.proofs.Lists.{map_more}
 
 pub loop-i-preserved : goal.loop-i-preserved
 loop-i-preserved c =

@@ -10,9 +10,10 @@ use Rattle.rn_declared.specs.Names.{declared_faults}
 use Rattle.rn_declared.specs.Tables.{found_in}
 use Rattle.rn_declared.specs.Declarations.{place_faults}
 use Rattle.rn_declared.proofs.ToldLemmas.{first_from-append}
-use Rattle.rn_declared.proofs.ToldLemmas.{told_more, map_more}
+use Rattle.rn_declared.proofs.ToldLemmas.{told_more}
 use Rattle.rn_declared.proofs.PlaceLemmas.{pattern_found, capacity_found}
 use Rattle.rn_declared.proofs.places.declare_places.Goals as goal
+use Rattle.rn_items.proofs.Lists.{map_more}
 
 pub loop-place-preserved : goal.loop-place-preserved
 loop-place-preserved c =

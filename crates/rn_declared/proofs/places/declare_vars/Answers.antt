@@ -11,9 +11,10 @@ use Rattle.rn_declared.specs.Tables.{found_in}
 use Rattle.rn_declared.specs.Declarations.{kind_faults}
 use Rattle.rn_declared.proofs.FirstLemmas.{told_again}
 use Rattle.rn_declared.proofs.ToldLemmas.{first_from-append}
-use Rattle.rn_declared.proofs.ToldLemmas.{told_more, map_more}
+use Rattle.rn_declared.proofs.ToldLemmas.{told_more}
 use Rattle.rn_declared.proofs.PlaceLemmas.{pattern_found, last_more}
 use Rattle.rn_declared.proofs.places.declare_vars.Goals as goal
+use Rattle.rn_items.proofs.Lists.{map_more}
 
 pub loop-var-preserved : goal.loop-var-preserved
 loop-var-preserved c =

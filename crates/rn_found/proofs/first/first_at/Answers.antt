@@ -1,4 +1,4 @@
-use Rattle.std.proofs.Common.{◌+◌, ◌∙◌, sym, arith, []}
+use Rattle.std.proofs.Common.{◌∙◌, sym, arith, []}
 use Rattle.std.specs.Prelude.{⊤}
 use Rattle.rn_model.specs.declared.binding.Binding.{Binding}
 use Rattle.rn_found.specs.Starting.{HasStartIn}

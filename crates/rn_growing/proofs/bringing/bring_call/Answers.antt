@@ -13,7 +13,7 @@ returns-clause-brings c =
     let downlink = c.in-Some-get.downlink.now in
     let there : slice_get (transition_in c.args.system.now from.head).downlinks from.downlink ≡
     Some downlink =
-    ap (λ t. slice_get t.downlinks from.downlink) (sym c.in-Some-transition_of.ensures)
+    ap (λ t. slice_get t.downlinks from.downlink) (sym c.in-Some-transition_in.ensures)
     ∙ sym c.in-Some-get.ensures.value in
     let brings : IfOk c.bring_args.result
     (λ told. BringsIn c.args.laid.now

@@ -1,9 +1,9 @@
 use Rattle.std.proofs.Common.{◌≡◌, ◌<◌, length, subst, sym, arith, rules}
 use Rattle.std.specs.Prelude.{Some, None, slice_get, Contains}
-use Rattle.rn_live.proofs.TokenLemmas.{past}
 use Rattle.rn_reach.specs.Reach.{RefersTo}
 use Rattle.rn_holders.proofs.ReachingLemmas.{gone_nowhere, gone_one, gone_all, joins_as}
 use Rattle.rn_holders.proofs.backwards.go_back.Goals as goal
+use Rattle.rn_items.proofs.Lists.{is_past}
 
 pub loop-at-init : goal.loop-at-init
 loop-at-init c = gone_nowhere c.args.table.now.marking c.args.found.now.keys
@@ -29,7 +29,7 @@ pub returns-in_default : goal.returns-in_default
 returns-in_default c =
     let none : slice_get c.loop-at.found.keys c.loop-at.at ≡ None = search rules in
     gone_all c.args.table.now.marking c.args.found.now.keys c.loop-at.found.keys c.loop-at.at
-    c.loop-at.invariant (past c.loop-at.found.keys c.loop-at.at none)
+    c.loop-at.invariant (is_past c.loop-at.found.keys c.loop-at.at none)
 
 pub returns : goal.returns
 returns c =

@@ -1,9 +1,9 @@
 use Rattle.std.proofs.Common.{◌≡◌, ◌<◌, length, subst, arith, rules}
 use Rattle.std.specs.Prelude.{Some, None, slice_get, Contains}
-use Rattle.rn_live.proofs.TokenLemmas.{past}
 use Rattle.rn_holders.specs.Puts.{Joins}
 use Rattle.rn_holders.proofs.BackLemmas.{gone_by_none, gone_by_one, gone_by_all}
 use Rattle.rn_holders.proofs.backwards.go_back_by.Goals as goal
+use Rattle.rn_items.proofs.Lists.{is_past}
 
 pub loop-at-init : goal.loop-at-init
 loop-at-init c = gone_by_none c.args.holders.now c.args.found.now.keys
@@ -22,7 +22,7 @@ pub returns-in_default : goal.returns-in_default
 returns-in_default c =
     let none : slice_get c.loop-at.found.keys c.loop-at.at ≡ None = search rules in
     gone_by_all c.args.holders.now c.args.found.now.keys c.loop-at.found.keys c.loop-at.at
-    c.loop-at.invariant (past c.loop-at.found.keys c.loop-at.at none)
+    c.loop-at.invariant (is_past c.loop-at.found.keys c.loop-at.at none)
 
 pub returns : goal.returns
 returns c =

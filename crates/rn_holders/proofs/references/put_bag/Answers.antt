@@ -3,9 +3,10 @@ use Rattle.std.specs.Prelude.{Some, None, slice_get}
 use Rattle.std.specs.List.{list_any}
 use Rattle.rn_value.specs.declared.value.Value.{Value}
 use Rattle.rn_model.specs.Liveness.{mentions}
-use Rattle.rn_live.proofs.TokenLemmas.{got, past, same_run}
+use Rattle.rn_live.proofs.TokenLemmas.{got, same_run}
 use Rattle.rn_holders.proofs.PutLemmas.{then, through}
 use Rattle.rn_holders.proofs.references.put_bag.Goals as goal
+use Rattle.rn_items.proofs.Lists.{is_past}
 
 pub loop-token-preserved : goal.loop-token-preserved
 loop-token-preserved c =
@@ -30,4 +31,4 @@ returns c =
     let i = c.loop-token.index in
     let none : slice_get tokens i ≡ None = search rules in
     through (λ (tokens : List Value) (n : ℕ). list_any (λ token. mentions token n) tokens) tokens i
-    (past tokens i none) c.loop-token.invariant.puts
+    (is_past tokens i none) c.loop-token.invariant.puts

@@ -5,10 +5,11 @@ use Rattle.rn_value.specs.declared.value.Value.{Value}
 use Rattle.rn_model.specs.Markings.{instance_at}
 use Rattle.rn_live.specs.Marks.{places_of, holds}
 use Rattle.rn_live.proofs.HolderLemmas.{any_mentions, place_at}
-use Rattle.rn_live.proofs.TokenLemmas.{one_got, past}
+use Rattle.rn_live.proofs.TokenLemmas.{one_got}
 use Rattle.rn_holders.proofs.PutLemmas.{then, through, puts_as}
 use Rattle.rn_holders.proofs.ReferenceLemmas.{near_tell}
 use Rattle.rn_holders.proofs.references.put_instance.Goals as goal
+use Rattle.rn_items.proofs.Lists.{is_past}
 
 pub loop-place-preserved : goal.loop-place-preserved
 loop-place-preserved c =
@@ -40,4 +41,4 @@ returns-in_default c =
     let is : option_and_then (λ j. slice_get j.places i) (instance_at m c.args.number) ≡ None =
     search rules in
     through (λ (places : List (List Value)) (n : ℕ). list_any (any_mentions n) places) places i
-    (past places i (place_at m c.args.number i ∙ is)) c.loop-place.invariant
+    (is_past places i (place_at m c.args.number i ∙ is)) c.loop-place.invariant

@@ -5,7 +5,6 @@ use Rattle.rn_model.specs.declared.system.System.{System}
 use Rattle.rn_search.specs.Problems.{HasFitTokens}
 use Rattle.rn_table.specs.Tables.{Kept, IsTableOf}
 use Rattle.rn_fire.specs.States.{State}
-use Rattle.rn_incr.specs.Lists.{AreListsOf}
 use Rattle.rn_incr.proofs.RunningLemmas.{fit_tokens}
 use Rattle.rn_incr_tests.proofs.following.opened.Goals as goal
 

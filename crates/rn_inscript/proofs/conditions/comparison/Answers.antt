@@ -1,14 +1,8 @@
-use Rattle.std.proofs.Common.{◌≡◌, ◌+◌, ◌≤◌, List, length, ℕ, ◌<◌, true, false, [], ◌∷◌, ◌++◌, drop, refl, sym, ◌∙◌, ap, subst, arith, rules, Err, Ok}
 use Rattle.rn_inscript.specs.declared.fault.InscriptFault.TheVariants as Fault
-use Rattle.rn_inscript.specs.declared.conds.PSimple.TheVariants as S
-use Rattle.rn_inscript.specs.Conditions.{IsCond, IsAlternatives, IsMoreAlternatives, IsBoth, IsMoreBoth, IsSimple}
-use Rattle.rn_inscript.specs.Levels.{bracket}
-use Rattle.rn_inscript.specs.Stages.{Done, Reads, IsSoFar, ready}
-use Rattle.rn_inscript.proofs.Chains.{first_fails, first_read, sign_taken, sign_far, item_fails, item_read, all_read, operator_separates}
-use Rattle.rn_inscript.proofs.OneSign.{next-of, none-of}
-use Rattle.rn_inscript.proofs.ConditionPhrases.{conjunctions, disjunctions, sign-binary, compare-binary, cond_fails, cond_read, left_fails, left_read, bare_read, compare_far, right_fails, right_read}
-use Rattle.rn_inscript.proofs.NegationReading.{not_far, opening_fails, InNot, negated_fails, negated_stuck, negated_read}
-use Rattle.rn_inscript.proofs.ReaderExits.{failed, failed_as, ended_at}
+use Rattle.rn_inscript.specs.Conditions.{IsSimple}
+use Rattle.rn_inscript.specs.Stages.{ready}
+use Rattle.rn_inscript.proofs.ConditionPhrases.{left_fails, left_read, bare_read, compare_far, right_fails, right_read}
+use Rattle.rn_inscript.proofs.ReaderExits.{failed, failed_as}
 use Rattle.rn_inscript.proofs.conditions.comparison.Goals as goal
 
 pub returns-in_err-left-clause-reads : goal.returns-in_err-left-clause-reads

@@ -1,4 +1,4 @@
-use Rattle.std.proofs.Common.{◌≡◌, ◌+◌, ◌≤◌, List, length, ℕ, ◌<◌, true, false, [], ◌∷◌, ◌++◌, drop, refl, sym, ◌∙◌, ap, subst, arith, Err, Ok}
+use Rattle.std.proofs.Common.{◌≡◌, ◌+◌, List, length, false, [], ◌∷◌, drop, refl, sym, ◌∙◌, ap, subst, arith, Err}
 use Rattle.rn_inscript.specs.declared.fault.InscriptFault.TheVariants as Fault
 use Rattle.rn_inscript.specs.declared.exprs.PForm.TheVariants as F
 use Rattle.rn_inscript.specs.Signs.{close_bracket}
@@ -10,7 +10,7 @@ use Rattle.rn_inscript.proofs.Chains.{first_fails, first_read, sign_taken, sign_
 use Rattle.rn_inscript.proofs.OneSign.{next-of, none-of, comma_separates}
 use Rattle.rn_inscript.proofs.ExpressionPhrases.{products, sums, lists}
 use Rattle.rn_inscript.proofs.OperandReading.{none_begins, none_next, leaf_read, paren_far, tuple_far, tuple_fails, tuple_read, minus_far, minus_fails, minus_read, primary_reads}
-use Rattle.rn_inscript.proofs.ListReading.{paren_fails, paren_stuck, paren_read, list_far, InList, list_empty, elements_fail, elements_read, tail_fails, tail_stuck, tail_read, list_stuck, list_read}
+use Rattle.rn_inscript.proofs.ListReading.{paren_fails, paren_stuck, paren_read, list_far, list_empty, elements_fail, elements_read, tail_fails, tail_stuck, tail_read, list_stuck, list_read}
 use Rattle.rn_inscript.proofs.ListReading.{listed_empty, listed_fails, listed_stuck, listed_read}
 use Rattle.std.proofs.Common.{rules}
 use Rattle.std.proofs.lemmas.Bool.Decides.{nat_tests}

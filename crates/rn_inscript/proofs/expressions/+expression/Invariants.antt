@@ -1,4 +1,4 @@
-use Rattle.std.proofs.Common.{◌≡◌, ◌+◌, ◌≤◌, ◌*◌, ◌-◌, List, length}
+use Rattle.std.proofs.Common.{◌≡◌, ◌+◌, ◌*◌, ◌-◌, List, length}
 use Rattle.rn_inscript.specs.Expressions.{IsExpr, IsTerms, IsProduct, IsFactors, IsExprs, IsMoreExprs}
 use Rattle.rn_inscript.specs.Levels.{Level, without_minuses}
 use Rattle.rn_inscript.specs.Stages.{IsSoFar, HasMoved, ready}

@@ -1,4 +1,4 @@
-use Rattle.std.proofs.Common.{◌≡◌, false, arith, sym, ◌∙◌, ap, refl}
+use Rattle.std.proofs.Common.{◌≡◌, false, arith, ◌∙◌, ap, refl}
 use Rattle.std.proofs.lemmas.Bool.Decides.{nat_tests}
 use Rattle.rn_notation.specs.declared.token.TokenKind.TheVariants as Kind
 use Rattle.rn_inscript.specs.declared.exprs.PForm.TheVariants as F

@@ -1,4 +1,4 @@
-use Rattle.std.proofs.Common.{◌≡◌, refl, subst, []}
+use Rattle.std.proofs.Common.{refl, []}
 use Rattle.rn_inscript.specs.Expressions.{IsExpr}
 use Rattle.rn_inscript.proofs.ReadingFacts.{read_answer, refused_answer}
 use Rattle.rn_inscript.proofs.reading.expr_at.Goals as goal

@@ -1,4 +1,3 @@
-use Rattle.std.proofs.Common.{◌≡◌, refl, subst, []}
 use Rattle.rn_inscript.specs.Inscriptions.{IsInscribed}
 use Rattle.rn_inscript.proofs.ReadingFacts.{read_answer, refused_answer}
 use Rattle.rn_inscript.proofs.reading.form_at.Goals as goal

@@ -1,4 +1,3 @@
-use Rattle.std.proofs.Common.{◌≡◌, refl, subst, []}
 use Rattle.rn_inscript.proofs.InscriptionFacts.{answer_to, refused_to, not_empty}
 use Rattle.rn_notation.specs.StoredTokens.{lent}
 use Rattle.rn_inscript.proofs.reading.inscription_at.Goals as goal

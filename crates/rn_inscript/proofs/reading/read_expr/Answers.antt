@@ -1,5 +1,4 @@
-use Rattle.std.proofs.Common.{◌≡◌, refl, subst, []}
-use Rattle.rn_inscript.specs.Readings.{IsAnswer, IsWholeExpr}
+use Rattle.rn_inscript.specs.Readings.{IsWholeExpr}
 use Rattle.rn_inscript.proofs.ReadingFacts.{answer_read, answer_refused, answer_reads, answer_stops, answer_deep}
 use Rattle.rn_inscript.proofs.reading.read_expr.Goals as goal
 

@@ -1,5 +1,3 @@
-use Rattle.std.proofs.Common.{◌≡◌, refl, subst, []}
-use Rattle.rn_inscript.specs.Readings.{IsAnswer}
 use Rattle.rn_inscript.specs.Inscriptions.{IsInscription}
 use Rattle.rn_inscript.proofs.ReadingFacts.{answer_read, answer_refused, answer_reads, answer_stops, answer_deep}
 use Rattle.rn_inscript.proofs.reading.read_transition_inscription.Goals as goal

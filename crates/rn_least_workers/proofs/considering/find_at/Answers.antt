@@ -1,7 +1,6 @@
 -- What the search finds is the least binding, or that there is none.
 use Rattle.std.proofs.Common.{List, ℕ, subst, sym}
 use Rattle.std.specs.Prelude.{MatchOption, ⊤}
-use Rattle.std.proofs.lemmas.Result.{IfOk-weaker}
 use Rattle.rn_model.specs.Markings.{Marking}
 use Rattle.rn_firsts.specs.Known.{ComesAfter, IsKnown}
 use Rattle.rn_least_workers.proofs.LeastSeen.{least_both}

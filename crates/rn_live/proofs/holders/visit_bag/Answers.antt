@@ -4,8 +4,9 @@ use Rattle.std.specs.List.{list_any}
 use Rattle.rn_value.specs.declared.value.Value.{Value}
 use Rattle.rn_model.specs.Liveness.{mentions}
 use Rattle.rn_live.proofs.FindLemmas.{then, through}
-use Rattle.rn_live.proofs.TokenLemmas.{got, past, same_run}
+use Rattle.rn_live.proofs.TokenLemmas.{got, same_run}
 use Rattle.rn_live.proofs.holders.visit_bag.Goals as goal
+use Rattle.rn_items.proofs.Lists.{is_past}
 
 pub loop-token-preserved : goal.loop-token-preserved
 loop-token-preserved c =
@@ -27,4 +28,4 @@ returns c =
     let tokens = c.args.bag.now in
     let i = c.loop-token.index in
     let none : slice_get tokens i ≡ None = search rules in
-    through c.args.table.now.marking (λ (tokens : List Value) (n : ℕ). list_any (λ token. mentions token n) tokens) tokens i (past tokens i none) c.loop-token.invariant.finds
+    through c.args.table.now.marking (λ (tokens : List Value) (n : ℕ). list_any (λ token. mentions token n) tokens) tokens i (is_past tokens i none) c.loop-token.invariant.finds

@@ -8,6 +8,6 @@ use Rattle.rn_lookup.proofs.nodes.check_given.Goals as goal
 
 pub variables_fit-requires : goal.variables_fit-requires
 variables_fit-requires c =
-    let fit : values_fit c.net_of-net.result.now (map given c.args.all.now) c.vars_of-vars.result.now ≡ true = search rules in
+    let fit : values_fit c.net_at-net.result.now (map given c.args.all.now) c.vars_of-vars.result.now ≡ true = search rules in
     sym (length-map c.args.all.now given)
-    ∙ as_many c.net_of-net.result.now (map given c.args.all.now) c.vars_of-vars.result.now fit
+    ∙ as_many c.net_at-net.result.now (map given c.args.all.now) c.vars_of-vars.result.now fit

@@ -1,17 +1,16 @@
-use Rattle.std.proofs.Common.{rules, ◌≡◌, ℕ, ◌+◌, ◌≤◌, length, drop, List, [], ◌∷◌, ◌++◌, refl, sym, ◌∙◌, ap, subst, arith, inl, inr}
+use Rattle.std.proofs.Common.{rules, ◌≡◌, ◌+◌, length, drop, List, [], ◌∷◌, ◌++◌, refl, sym, ◌∙◌, subst, arith}
 use Rattle.rn_notation.specs.declared.token.TokenKind.TheVariants as Kind
 use Rattle.rn_inscript.specs.declared.fault.InscriptFault.TheVariants as Fault
-use Rattle.rn_inscript.specs.Signs.{open_brace, open_bracket, close_bracket, close_brace}
+use Rattle.rn_inscript.specs.Signs.{close_bracket, close_brace}
 use Rattle.rn_net.specs.declared.constants.PConstForm.TheVariants as C
-use Rattle.rn_net.specs.Constants.{IsConstant, AreItems, constant_at}
-use Rattle.rn_net.specs.Levels.{Region}
+use Rattle.rn_net.specs.Constants.{IsConstant, constant_at}
 use Rattle.rn_net.specs.Levels.Region.{declaring}
-use Rattle.rn_net.specs.Progress.{Reads, Moves, HasNext, Stage, done}
+use Rattle.rn_net.specs.Progress.{Stage, done}
 use Rattle.rn_net.specs.Lists.{AreConstantsUpTo}
 use Rattle.rn_net.proofs.Steps.{failed, failed_as, same_end, whole_reads}
 use Rattle.rn_net.proofs.Sorts.{kind_read, kind_stuck, then_read, then_fails}
 use Rattle.rn_net.proofs.Rows.{row_on, row_up_to, row_first, row_comma, row_close, one-less}
-use Rattle.rn_net.proofs.ConstantPhrases.{constants, listed, constant_row, number_leaf, text_leaf, none_next, tuple_open, tuple_deep, list_open, list_deep, tuple_end, list_end, listed_none, listed_some, end_small, end-comma}
+use Rattle.rn_net.proofs.ConstantPhrases.{constants, listed, constant_row, number_leaf, text_leaf, none_next, tuple_open, tuple_deep, list_open, list_deep, listed_none, listed_some, end_small, end-comma}
 use Rattle.rn_net.proofs.constant_reader.+constant.Goals as goal
 
 pub constant-returns-in-Some-clause-reads : goal.constant-returns-in-Some-clause-reads

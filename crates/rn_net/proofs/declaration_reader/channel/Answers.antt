@@ -1,11 +1,9 @@
-use Rattle.std.proofs.Common.{rules, ◌≡◌, ℕ, ◌+◌, ◌≤◌, length, drop, List, [], ◌∷◌, ◌++◌, refl, sym, ◌∙◌, ap, subst, arith, inl, inr}
-use Rattle.rn_notation.specs.declared.token.TokenKind.TheVariants as Kind
+use Rattle.std.proofs.Common.{length, refl, arith}
 use Rattle.rn_inscript.specs.declared.fault.InscriptFault.TheVariants as Fault
-use Rattle.rn_inscript.specs.Signs.{open_brace, close_brace, open_paren, close_paren, comma, colon, equals}
-use Rattle.rn_net.specs.Words.{semicolon}
-use Rattle.rn_net.specs.Levels.Region.{between, declaring}
-use Rattle.rn_net.specs.Progress.{Stage, done}
-use Rattle.rn_net.proofs.Steps.{failed, failed_as, same_end, whole_reads}
+use Rattle.rn_inscript.specs.Signs.{close_paren}
+use Rattle.rn_net.specs.Levels.Region.{between}
+use Rattle.rn_net.specs.Progress.{done}
+use Rattle.rn_net.proofs.Steps.{failed, failed_as}
 use Rattle.rn_net.proofs.Sorts.{kind_read, kind_stuck, name_fails, then_read, then_fails}
 use Rattle.rn_net.proofs.KindPhrases as KP
 use Rattle.rn_net.specs.Nets.{IsChannel, channel_of}

@@ -1,4 +1,4 @@
-use Rattle.std.proofs.Common.{◌≡◌, ◌+◌, ◌≤◌, ◌-◌, List, length, ℕ, drop}
+use Rattle.std.proofs.Common.{◌≤◌, ◌-◌, length, drop}
 use Rattle.rn_inscript.specs.Signs.{colon}
 use Rattle.rn_net.specs.Levels.Region.{declaring}
 use Rattle.rn_net.specs.Progress.{Stage}

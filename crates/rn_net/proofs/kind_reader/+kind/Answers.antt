@@ -1,11 +1,11 @@
-use Rattle.std.proofs.Common.{rules, ◌≡◌, ℕ, ◌+◌, ◌≤◌, length, drop, List, [], ◌∷◌, ◌++◌, refl, sym, ◌∙◌, ap, subst, arith}
+use Rattle.std.proofs.Common.{rules, ◌≡◌, ◌+◌, length, drop, List, [], ◌∷◌, ◌++◌, refl, sym, subst, arith}
 use Rattle.rn_notation.specs.declared.token.TokenKind.TheVariants as Kind
 use Rattle.rn_inscript.specs.declared.fault.InscriptFault.TheVariants as Fault
-use Rattle.rn_inscript.specs.Signs.{open_brace, open_bracket, close_bracket}
+use Rattle.rn_inscript.specs.Signs.{close_bracket}
 use Rattle.rn_net.specs.declared.kinds.PKindForm.TheVariants as K
-use Rattle.rn_net.specs.Kinds.{IsKind, AreListed, kind_at}
+use Rattle.rn_net.specs.Kinds.{IsKind, kind_at}
 use Rattle.rn_net.specs.Levels.Region.{declaring}
-use Rattle.rn_net.specs.Progress.{Reads, Moves, HasNext, Stage, done}
+use Rattle.rn_net.specs.Progress.{Stage, done}
 use Rattle.rn_net.specs.Lists.{AreKindsUpTo}
 use Rattle.rn_net.proofs.Steps.{failed, failed_as, same_end, whole_reads}
 use Rattle.rn_net.proofs.Sorts.{kind_read, kind_stuck, then_read, then_fails}

@@ -1,6 +1,5 @@
-use Rattle.std.proofs.Common.{◌≡◌, ◌+◌, ◌≤◌, ◌*◌, ◌-◌, List, length, ℕ, drop}
+use Rattle.std.proofs.Common.{◌≡◌, ◌+◌, ◌≤◌, ◌*◌, ◌-◌, length, ℕ, drop}
 use Rattle.rn_notation.specs.declared.token.TokenKind.TheVariants as Kind
-use Rattle.rn_net.specs.Levels.{Region}
 use Rattle.rn_net.specs.Levels.Region.{declaring}
 use Rattle.rn_net.specs.Progress.{Stage}
 use Rattle.rn_net.specs.Lists.{AreKindsUpTo}

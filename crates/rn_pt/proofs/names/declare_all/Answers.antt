@@ -4,8 +4,9 @@ use Rattle.std.proofs.lemmas.List.{length-map}
 use Rattle.rn_pt.specs.Faults.{first_from}
 use Rattle.rn_pt.specs.Rules.{names_broken}
 use Rattle.rn_pt.specs.Tables.{found_in}
-use Rattle.rn_pt.proofs.NameLemmas.{found_more, names_noted_more, names_noted_all, map_item, length_names, texts}
+use Rattle.rn_pt.proofs.NameLemmas.{found_more, names_noted_more, names_noted_all, length_names, texts}
 use Rattle.rn_pt.proofs.names.declare_all.Goals as goal
+use Rattle.rn_items.proofs.Lists.{map_item}
 
 pub loop-i-preserved : goal.loop-i-preserved
 loop-i-preserved g c =

@@ -5,8 +5,8 @@ use Rattle.std.specs.Option.{option_map_or}
 use Rattle.std.proofs.lemmas.Simd.{map-map}
 use Rattle.rn_pt.specs.declared.fault.Rule.TheVariants as Rule
 use Rattle.rn_pt.specs.Faults.{first_from, first_with, broken}
-use Rattle.rn_pt.proofs.NameLemmas.{slice_item, no_item}
 use Rattle.rn_pt.proofs.names.note_past_name.Goals as goal
+use Rattle.rn_items.proofs.Lists.{slice_item, no_item}
 
 pub returns-then-most-items : goal.returns-then-most-items
 returns-then-most-items g c =

@@ -1,7 +1,6 @@
-use Rattle.std.proofs.Common.{◌≡◌, ◌++◌, OnOk, flat_map, ap, sym, subst, ◌∙◌}
+use Rattle.std.proofs.Common.{sym, subst}
 use Rattle.std.specs.Prelude.{All}
 use Rattle.rn_value.specs.Names.{AreNamed}
-use Rattle.rn_model.specs.Repeats.{repeats_of, values_of}
 use Rattle.rn_record.proofs.NamedRepeats.{all_repeats}
 use Rattle.rn_record.proofs.marks.put_tokens.Goals as goal
 

@@ -1,4 +1,4 @@
-use Rattle.std.proofs.Common.{◌<◌, length, subst}
+use Rattle.std.proofs.Common.{◌<◌, subst}
 use Rattle.rn_record.proofs.NamesInOrder.{next_name}
 use Rattle.rn_record.proofs.naming.copy_names.Goals as goal
 

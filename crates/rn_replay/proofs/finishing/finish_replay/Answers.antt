@@ -2,8 +2,8 @@
 use Rattle.std.proofs.Common.{refl, ◌∙◌}
 use Rattle.rn_model.specs.declared.log.Reason.TheVariants.{Dead}
 use Rattle.rn_replay.proofs.Endings.{dead_at_table, ended_dead, marked_end, refused_end, was_dead}
-use Rattle.rn_replay.proofs.Refusals.{going_count}
 use Rattle.rn_replay.proofs.finishing.finish_replay.Goals as goal
+use Rattle.rn_fire.proofs.EntryLemmas.{going_count}
 
 pub commit_none-requires-clause-dead : goal.commit_none-requires-clause-dead
 commit_none-requires-clause-dead c =

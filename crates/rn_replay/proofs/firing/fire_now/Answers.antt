@@ -1,7 +1,8 @@
 -- A commit of what is enabled, in a log that hasn't ended.
 use Rattle.std.proofs.Common.{◌∙◌}
-use Rattle.rn_replay.proofs.Refusals.{going_count, was_enabled}
+use Rattle.rn_replay.proofs.Refusals.{was_enabled}
 use Rattle.rn_replay.proofs.firing.fire_now.Goals as goal
+use Rattle.rn_fire.proofs.EntryLemmas.{going_count}
 
 pub commit-requires-clause-seen : goal.commit-requires-clause-seen
 commit-requires-clause-seen c =

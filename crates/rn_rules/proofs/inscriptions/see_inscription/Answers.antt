@@ -1,5 +1,5 @@
 -- Arcs and creations, in the terms of what is known.
-use Rattle.std.proofs.Common.{◌∙◌, ap, sym, Bool, List, ℕ}
+use Rattle.std.proofs.Common.{◌∙◌, ap, sym, Bool, List}
 use Rattle.std.specs.Prelude.{is_some, if◌then◌else◌}
 use Rattle.rn_declared.specs.declared.fault.Fault.{Fault}
 use Rattle.rn_declared.specs.Faults.{first_from}

@@ -1,9 +1,7 @@
 use Rattle.std.proofs.Common.{◌≡◌, ◌∙◌, ap, sym, subst, ◌<◌, ◌≤◌, length, get_or}
 use Rattle.std.specs.Prelude.{unwrap_or}
-use Rattle.rn_model.specs.declared.system.Net.{Net}
-use Rattle.rn_model.specs.Systems.{net_at, empty_net}
+use Rattle.rn_model.specs.Systems.{empty_net}
 use Rattle.rn_channel.specs.Answering.{answering_from}
-use Rattle.rn_channel.specs.Kept.{looked_up}
 use Rattle.rn_channel.proofs.NetLemmas.{kept_is_of, none_past}
 use Rattle.rn_channel.proofs.uplinks.Uplinks.answering.Goals as goal
 

@@ -1,11 +1,11 @@
 -- The first entries are kept, and the room for all.
-use Rattle.std.proofs.Common.{◌≡◌, ◌≤◌, length, take, sym, ap, ◌∙◌, subst}
+use Rattle.std.proofs.Common.{◌≤◌, length, take, sym, ap, ◌∙◌, subst}
 use Rattle.std.specs.Prelude.{None, vec_capacity}
 use Rattle.rn_model.specs.Liveness.{Stands}
 use Rattle.rn_model.specs.Runs.{end_of}
 use Rattle.rn_table.specs.Tables.{IsTableOf}
 use Rattle.rn_fire.specs.declared.setup.Setup.{Setup}
-use Rattle.rn_fire.specs.States.{State, KeepsState, firings_in, state_of}
+use Rattle.rn_fire.specs.States.{State, KeepsState, state_of}
 use Rattle.rn_fire.proofs.RewindingLemmas.{goes_back, keeps_first}
 use Rattle.rn_fire.proofs.state.SimState.rewind.Goals as goal
 

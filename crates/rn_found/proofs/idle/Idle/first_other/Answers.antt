@@ -1,4 +1,4 @@
-use Rattle.std.proofs.Common.{ℕ, ◌≡◌, ◌<◌, ◌≤◌, ◌+◌, ◌*◌, ◌∙◌, length, get_or, true, subst, arith}
+use Rattle.std.proofs.Common.{◌≡◌, ◌<◌, ◌∙◌, length, true, subst, arith}
 use Rattle.std.proofs.lemmas.List.{get_or_default}
 use Rattle.rn_bag.specs.Words.{has_bit}
 use Rattle.rn_found.specs.Idle.{IsIn}

@@ -1,5 +1,5 @@
 -- The state that a least run keeps lists what may have changed.
-use Rattle.std.proofs.Common.{◌≡◌, ℕ, take, drop, subst}
+use Rattle.std.proofs.Common.{ℕ, take, drop, subst}
 use Rattle.std.specs.Prelude.{◌↔◌, Contains, IfOk}
 use Rattle.rn_model.specs.Runs.{end_of}
 use Rattle.rn_reach.specs.Changes.{MayChange}

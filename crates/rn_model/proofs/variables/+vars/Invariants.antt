@@ -2,7 +2,7 @@
 use Rattle.std.proofs.Common.{◌≡◌, ◌++◌, drop, map}
 use Rattle.std.specs.List.{concat}
 use Rattle.rn_model.specs.Systems.{vars_in}
-use Rattle.rn_occurring.proofs.occurring.+vars.Given as goal
+use Rattle.rn_model.proofs.variables.+vars.Given as goal
 
 abbrev pub invariant-put_vars_of-loop-expr : goal.invariant-put_vars_of-loop-expr
 invariant-put_vars_of-loop-expr l =
