@@ -15,9 +15,9 @@ abbrev pub line_text : List ℕ → List ℕ → List ℕ
 line_text sign text = spelled sign text ++ 10 ∷ []
 
 -- bytes so many times
-abbrev pub times : ℕ → List ℕ → List ℕ
-times zero bytes = []
-times (suc n) bytes = times n bytes ++ bytes
+abbrev pub bytes_times : ℕ → List ℕ → List ℕ
+bytes_times zero bytes = []
+bytes_times (suc n) bytes = bytes_times n bytes ++ bytes
 
 -- so many lines, one for each number from this one on
 abbrev pub numbered : ℕ → List ℕ → ℕ → List ℕ
@@ -28,7 +28,7 @@ numbered from text (suc n) = numbered from text n ++ line_text (numeral (from + 
 abbrev pub piece_text : Piece → List ℕ
 piece_text (Line text) = line_text at_sign text.now
 piece_text (Text text) = spelled at_sign text.now
-piece_text (Repeated n text) = times n (spelled at_sign text.now)
+piece_text (Repeated n text) = bytes_times n (spelled at_sign text.now)
 piece_text (Numbered from count text) = numbered from text.now count
 
 -- how a piece is written: `|` or `+` and its text, `*`, a number and its text, or `@`, the first

@@ -1,5 +1,5 @@
 //! A driver of rows: it reads rows from standard input, calls the top call of the program for
-//! each, over a source and sinks in memory, and tells which don't come to what they say.
+//! each, over a source and sinks in memory, and reports which don't come to what they say.
 #![tactic(auto)]
 
 mod calling;

@@ -2,7 +2,7 @@
 ghost use Rattle.std.specs.Prelude.{◌≡◌, ◌∷◌, ◌++◌, ◌+◌, ◌-◌, ℕ, List, IfSome, OnOk};
 ghost use Rattle.rn_value.specs.Text.{numeral};
 ghost use Rattle.renew_rows.specs.Numbers.{SpellsNumber};
-ghost use Rattle.renew_rows.specs.Pieces.{IsWritten, at_sign, line_text, numbered, piece_text, times};
+ghost use Rattle.renew_rows.specs.Pieces.{IsWritten, at_sign, line_text, numbered, piece_text, bytes_times};
 ghost use Rattle.renew_rows.specs.Spelling.{spelled};
 
 use crate::lines::word_and_rest;
@@ -101,7 +101,7 @@ fn put_line(text: &[u8], sign: &[u8], into: &mut Vec<u8>) -> Result<(), NoMemory
 
 // Appends bytes so many times, one after another.
 fn put_one_by_one(count: u64, bytes: &[u8], into: &mut Vec<u8>) -> Result<(), NoMemory>
-    ensures { OnOk result (into.new.items ≡ into.old.items ++ times count bytes.now) }
+    ensures { OnOk result (into.new.items ≡ into.old.items ++ bytes_times count bytes.now) }
 {
     for _i in 0..count {
         into.extend_from_slice(bytes)?;
@@ -114,7 +114,7 @@ const BLOCK: u64 = 64;
 
 // Appends bytes so many times, by blocks, which takes less time for few bytes.
 fn put_times(alloc: Global, count: u64, bytes: &[u8], into: &mut Vec<u8>) -> Result<(), NoMemory>
-    ensures { OnOk result (into.new.items ≡ into.old.items ++ times count bytes.now) }
+    ensures { OnOk result (into.new.items ≡ into.old.items ++ bytes_times count bytes.now) }
 {
     let mut block = Vec::new(alloc);
     put_one_by_one(BLOCK, bytes, &mut block)?;
@@ -131,7 +131,7 @@ fn put_text_times(
     into: &mut Vec<u8>,
 ) -> Result<(), NoMemory>
     ensures { OnOk result (into.new.items
-        ≡ into.old.items ++ times count (spelled at_sign text.now)) }
+        ≡ into.old.items ++ bytes_times count (spelled at_sign text.now)) }
 {
     let mut bytes = Vec::new(alloc);
     spell(text, b"@", &mut bytes)?;

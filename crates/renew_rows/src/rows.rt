@@ -8,7 +8,7 @@ use crate::judging::{is_wrong, judge};
 use crate::lines::Lines;
 use crate::reading::read_row;
 use crate::saying::Unread;
-use crate::tally::Tally;
+use crate::tally::RowTally;
 use crate::telling::{last_line, line_of, unread_line};
 use rn_items::NoMemory;
 use rn_outside::{ReadAllFault, Sink, Source, WriteFault, read_all, write_all};
@@ -33,7 +33,7 @@ const LONGEST: usize = 1 << 30;
 
 /// Why not all rows were judged.
 #[derive(Clone, Copy, PartialEq, Eq)]
-pub(crate) enum Stopped {
+pub(crate) enum RowsStopped {
     /// The line of this number can't be read.
     Line(usize),
     NoMemory(NoMemory),
@@ -42,36 +42,36 @@ pub(crate) enum Stopped {
     WriteFault,
 }
 
-impl From<NoMemory> for Stopped {
-    fn from(no_memory: NoMemory) -> Stopped {
-        Stopped::NoMemory(no_memory)
+impl From<NoMemory> for RowsStopped {
+    fn from(no_memory: NoMemory) -> RowsStopped {
+        RowsStopped::NoMemory(no_memory)
     }
 }
 
-impl From<WriteFault> for Stopped {
-    fn from(_fault: WriteFault) -> Stopped {
-        Stopped::WriteFault
+impl From<WriteFault> for RowsStopped {
+    fn from(_fault: WriteFault) -> RowsStopped {
+        RowsStopped::WriteFault
     }
 }
 
-impl From<ReadAllFault> for Stopped {
-    fn from(fault: ReadAllFault) -> Stopped {
+impl From<ReadAllFault> for RowsStopped {
+    fn from(fault: ReadAllFault) -> RowsStopped {
         match fault {
-            ReadAllFault::ReadFault => Stopped::ReadFault,
-            ReadAllFault::TooLong => Stopped::TooLong,
-            ReadAllFault::NoMemory(no_memory) => Stopped::NoMemory(no_memory),
+            ReadAllFault::ReadFault => RowsStopped::ReadFault,
+            ReadAllFault::TooLong => RowsStopped::TooLong,
+            ReadAllFault::NoMemory(no_memory) => RowsStopped::NoMemory(no_memory),
         }
     }
 }
 
-// The next row, whose call is made; none at the end. One that isn't as it must be is told.
+// The next row, whose call is made; none at the end. One that isn't as it must be is reported.
 fn judge_next<R: Threads + Wait + Sync, O: Sink>(
     rt: &R,
     alloc: Global,
     lines: &mut Lines<'_>,
-    tally: Tally,
+    tally: RowTally,
     out: &mut O,
-) -> Result<Option<Tally>, Stopped>
+) -> Result<Option<RowTally>, RowsStopped>
     requires { tally.rows + length lines.old.rest.now < 2 ^ 64 }
     ensures next { IfOk result (λ counted.
         CountsNext (headings (lines_of lines.old.rest.now))
@@ -82,8 +82,8 @@ fn judge_next<R: Threads + Wait + Sync, O: Sink>(
     let row = match read_row(alloc, lines) {
         Ok(None) => return Ok(None),
         Ok(Some(row)) => row,
-        Err(Unread::Line) => return Err(Stopped::Line(lines.taken)),
-        Err(Unread::NoMemory(no_memory)) => return Err(Stopped::NoMemory(no_memory)),
+        Err(Unread::Line) => return Err(RowsStopped::Line(lines.taken)),
+        Err(Unread::NoMemory(no_memory)) => return Err(RowsStopped::NoMemory(no_memory)),
     };
     let judged = judge(rt, alloc, row)?;
     let wrong = is_wrong(&judged);
@@ -100,25 +100,25 @@ fn judge_all<R: Threads + Wait + Sync, O: Sink>(
     alloc: Global,
     text: &[u8],
     out: &mut O,
-) -> Result<Tally, Stopped>
+) -> Result<RowTally, RowsStopped>
     ensures { IfOk result (λ tally.
         AreJudged (headings (lines_of text.now)) tally.rows tally.differ) }
 {
     let mut lines = Lines::of(text);
-    let mut tally = Tally::nothing();
+    let mut tally = RowTally::nothing();
     while let Some(more) = judge_next(rt, alloc, &mut lines, tally, out)? {
         tally = more;
     }
     Ok(tally)
 }
 
-// Judges all rows of the input, and tells how many differ.
+// Judges all rows of the input, and reports how many differ.
 fn judge_input_to<R: Threads + Wait + Sync, I: Source, O: Sink>(
     rt: &R,
     alloc: Global,
     input: &mut I,
     out: &mut O,
-) -> Result<u8, Stopped>
+) -> Result<u8, RowsStopped>
     ensures { IfOk result (λ status. EndsWith (I.left input.old) (I.left input.new) status) }
 {
     let text = read_all(alloc, input, LONGEST)?;
@@ -132,7 +132,7 @@ fn judge_input_to<R: Threads + Wait + Sync, I: Source, O: Sink>(
     }
 }
 
-// Tells which line can't be read, and returns the status.
+// Reports which line can't be read, and returns the status.
 fn tell_unread<O: Sink>(alloc: Global, number: usize, out: &mut O) -> u8
     ensures { UNREAD ≤ result }
 {
@@ -146,17 +146,17 @@ fn tell_unread<O: Sink>(alloc: Global, number: usize, out: &mut O) -> u8
 }
 
 // The line of what else stopped the program.
-fn fault_line(stopped: Stopped) -> &'static [u8] {
+fn fault_line(stopped: RowsStopped) -> &'static [u8] {
     match stopped {
-        Stopped::Line(_) => b"a line can't be read\n",
-        Stopped::NoMemory(_) => b"memory\n",
-        Stopped::ReadFault => b"read fault\n",
-        Stopped::TooLong => b"the input is too long\n",
-        Stopped::WriteFault => b"write fault\n",
+        RowsStopped::Line(_) => b"a line can't be read\n",
+        RowsStopped::NoMemory(_) => b"memory\n",
+        RowsStopped::ReadFault => b"read fault\n",
+        RowsStopped::TooLong => b"the input is too long\n",
+        RowsStopped::WriteFault => b"write fault\n",
     }
 }
 
-/// Judges all rows of the input, tells of each that isn't as it must be, and then how many rows
+/// Judges all rows of the input, reports each that isn't as it must be, and then how many rows
 /// there are and how many of these. It returns the status with which the program ends.
 pub(crate) fn judge_input<R: Threads + Wait + Sync, I: Source, O: Sink, E: Sink>(
     rt: &R,
@@ -171,7 +171,7 @@ pub(crate) fn judge_input<R: Threads + Wait + Sync, I: Source, O: Sink, E: Sink>
 {
     match judge_input_to(rt, alloc, input, out) {
         Ok(status) => status,
-        Err(Stopped::Line(number)) => tell_unread(alloc, number, out),
+        Err(RowsStopped::Line(number)) => tell_unread(alloc, number, out),
         Err(stopped) => {
             let _ = write_all(err, fault_line(stopped));
             UNDONE

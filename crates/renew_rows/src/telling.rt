@@ -4,12 +4,12 @@ ghost use Rattle.std.specs.Prelude.{◌≤◌, length};
 use crate::calling::Found;
 use crate::judging::{Judged, agrees};
 use crate::row::Wanted;
-use crate::tally::Tally;
+use crate::tally::RowTally;
 use rn_items::NoMemory;
 use rn_value::write_numeral;
 use std::alloc::Global;
 
-/// How many bytes of a text are told at most.
+/// How many bytes of a text are printed at most.
 const TOLD: usize = 60;
 
 // A hexadecimal digit.
@@ -136,7 +136,7 @@ pub(crate) fn line_of(alloc: Global, judged: &Judged) -> Result<Vec<u8>, NoMemor
 }
 
 /// The last line.
-pub(crate) fn last_line(alloc: Global, tally: &Tally) -> Result<Vec<u8>, NoMemory> {
+pub(crate) fn last_line(alloc: Global, tally: &RowTally) -> Result<Vec<u8>, NoMemory> {
     let mut line = Vec::new(alloc);
     write_numeral(alloc, tally.rows, &mut line)?;
     line.extend_from_slice(b" rows, ")?;

@@ -5,7 +5,7 @@ use Rattle.rn_model.specs.declared.system.Downlink.{Downlink}
 use Rattle.rn_model.specs.declared.binding.Node.{Node}
 use Rattle.rn_model.specs.declared.binding.Binding.{Binding}
 use Rattle.rn_model.specs.Systems.{transition_of}
-use Rattle.rn_model.specs.Bindings.{node_at, IsNodeOf, Answers, IsOfCreation}
+use Rattle.rn_model.specs.Bindings.{node_at, IsNodeOf, HasUplinkOf, IsOfCreation}
 
 -- a node of the system, no deeper than that
 pub record IsInRange (system : System) (depth : ℕ) (node : Node) : Type 0 where
@@ -17,7 +17,7 @@ abbrev pub HasChildren : System → Binding → Node → Type 0
 HasChildren system b caller = (i : ℕ) (downlink : Downlink) →
     slice_get (transition_of system caller).downlinks i ≡ Some downlink →
     (node : Node) × (node_at b (caller.path ++ i ∷ []) ≡ Some node)
-    × Answers system node downlink.channel
+    × HasUplinkOf system node downlink.channel
 
 -- unless the node's path is empty, some downlink of some node leads there
 abbrev pub HasCaller : System → Binding → Node → Type 0

@@ -2,7 +2,7 @@
 ghost use Rattle.std.specs.Prelude.{◌≡◌, ◌<◌, ◌≤◌, ◌↔◌, ◌∷◌, ◌++◌, [], All, IsTrue, Some};
 ghost use Rattle.std.specs.Prelude.{length};
 ghost use Rattle.rn_model.specs.declared.binding.Node.{Node as Occurrence};
-ghost use Rattle.rn_model.specs.Bindings.{IsNodeOf, Answers, IsOfCreation, node_at};
+ghost use Rattle.rn_model.specs.Bindings.{IsNodeOf, HasUplinkOf, IsOfCreation, node_at};
 ghost use Rattle.rn_model.specs.Limits.{most_nodes};
 ghost use Rattle.rn_agree.specs.Paths.{AscendByPath};
 ghost use Rattle.rn_agree.specs.Parts.{HasChildren, HasCaller, IsLinked};
@@ -18,7 +18,7 @@ fn has_child(system: &System, binding: &Binding, parent: &[u32], i: u32, channel
     requires nodes { All (IsNodeOf system.now) binding.now.nodes }
     ensures { IsTrue result
         ↔ ((node : Occurrence) × (node_at binding.now (parent.now ++ i ∷ []) ≡ Some node)
-        × Answers system.now node channel) }
+        × HasUplinkOf system.now node channel) }
 {
     match child_on(binding, parent, i) {
         Some(child) => answers(system, child, channel),

@@ -1,6 +1,6 @@
 //! Single nodes beside a system.
 ghost use Rattle.std.specs.Prelude.{◌↔◌, IsTrue};
-ghost use Rattle.rn_model.specs.Bindings.{IsNodeOf, IsStart, Answers};
+ghost use Rattle.rn_model.specs.Bindings.{IsNodeOf, IsStart, HasUplinkOf};
 
 use rn_model::{Node, System, transition_of, transitions_of};
 use rn_value::InstRef;
@@ -30,7 +30,7 @@ pub(crate) fn is_start(system: &System, node: &Node) -> bool
 /// Whether a node's transition has an uplink of this channel.
 pub(crate) fn answers(system: &System, node: &Node, channel: u32) -> bool
     requires { IsNodeOf system.now node.now }
-    ensures { IsTrue result ↔ Answers system.now node.now channel }
+    ensures { IsTrue result ↔ HasUplinkOf system.now node.now channel }
 {
     match &transition_of(system, node).uplink {
         Some(uplink) => uplink.channel == channel,

@@ -9,7 +9,7 @@ use Rattle.rn_answer.specs.declared.answer.Answer.{Answer}
 use Rattle.rn_answer.specs.Refusing.{done}
 use Rattle.rn_answer.specs.NetTexts.{Accepted}
 
--- an accepted net text is told to be one
+-- an accepted net text is reported to be one
 abbrev pub ChecksTo : List ℕ → Answer → Type 0
 ChecksTo bytes a = (system : System) × Accepted bytes system × (a ≡ done (codes "ok\n"))
 

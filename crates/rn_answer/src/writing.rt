@@ -9,8 +9,8 @@ use crate::answer::Answer;
 use crate::status::{NO_MEMORY, WRITE_FAULT};
 use rn_outside::{Sink, write_all};
 
-/// Writes what a command comes to: its text, and then its line. Memory that ran out stays told where
-/// the line fails.
+/// Writes what a command comes to: its text, and then its line. Memory that ran out stays reported
+/// where the line fails.
 #[tactic(auto, using(rn_outside::proofs::ByteLemmas::seldom))]
 pub fn write_answer<O: Sink, E: Sink>(out: &mut O, err: &mut E, answer: &Answer) -> u8
     ensures written { result ≢ WRITE_FAULT → (result ≡ answer.now.status)

@@ -157,7 +157,7 @@ refusing_status : Laws → (format : ℕ) (system : System) (options : Options) 
 refusing_status laws format system options rest line a is wrong told =
     ap (λ x. x.status) (laws.one format system options rest a (refusal RECORD_REFUSED line) is told (RecordTo.refused line wrong))
 
--- and its moves aren't told
+-- and its moves aren't listed
 moving_status : Laws → (format : ℕ) (system : System) (options : Options) (rest line : List ℕ) (a : Answer) → IsFormat format → IsNoRunBy format system options rest line → RecordMovesTo format system options rest a → a.status ≡ RECORD_REFUSED
 moving_status laws format system options rest line a is wrong (RecordMovesTo.refused other why) = refl
 moving_status laws format system options rest line a is wrong (RecordMovesTo.moved count reason run read text moves) =
@@ -266,7 +266,7 @@ done_record laws options bytes rest system a within r more same told =
     let its : RecordTo format r.system options r.record_bytes a = subst (λ s. RecordTo format s options r.record_bytes a) (sym same) (subst (λ b. RecordTo format system options b a) (sym more) told) in
     ap (λ x. x.status) (laws.one format r.system options r.record_bytes a (done (replayed_text r.count r.reason)) (laws.formats r.net r.system r.accepted) its (RecordTo.replayed r.count r.reason r.run read))
 
--- and its moves are told
+-- and its moves are listed
 moved_record : Laws → (options : Options) (bytes rest : List ℕ) (system : System) (a : Answer) → IsInLimits options → (r : IsRecorded options bytes) → r.record_bytes ≡ rest → r.system ≡ system → RecordMovesTo r.accepted.plain.notation system options rest a → a.status ≡ DONE
 moved_record laws options bytes rest system a within r more same (RecordMovesTo.refused line why) =
     let no = done_record laws options bytes rest system (refusal RECORD_REFUSED line) within r more same (RecordTo.refused line why) in

@@ -59,7 +59,7 @@ memory_line End.Steps step is = absurd cc
 memory_line End.Memory step is = refl
 memory_line (End.Fault cause b) step is = absurd cc
 
--- What a command comes to, told by its end: it is refused, it is done without a line, or it is a run.
+-- What a command comes to, by its end: it is refused, it is done without a line, or it is a run.
 pub data IsToldBy (a : Answer) : Type 0 where
   refused : (a.status ≡ NET_REFUSED) ⊎ ((a.status ≡ WORDS_REFUSED) ⊎ (a.status ≡ RECORD_REFUSED)) → IsToldBy a
   quiet : a.status ≡ DONE → a.line ≡ [] → IsToldBy a
@@ -79,7 +79,7 @@ migrate_told plain system bytes net rest a (NetMigratesTo.alone first all) = IsT
 migrate_told plain system bytes net rest a (NetMigratesTo.unread first more line why bad) = IsToldBy.refused (inr (inr refl))
 migrate_told plain system bytes net rest a (NetMigratesTo.both first more told tells) = IsToldBy.quiet refl refl
 
--- each thing that a command comes to is told so
+-- each thing that a command comes to is reported so
 pub command_told : (c : Command) (bytes : List ℕ) (a : Answer) → ComesTo c bytes a → IsToldBy a
 command_told (command.Run options) bytes a (inl (line, why, is)) = IsToldBy.refused (inl (ap (λ x. x.status) is))
 command_told (command.Run options) bytes a (inr runs) = IsToldBy.ended runs.reason (suc (length runs.run.firings)) runs.status runs.line
@@ -159,7 +159,7 @@ seeded_runs options seed = record { reads = refl; runs = λ bytes a comes. comes
 pub least_runs : (options : Options) → RunsNet (RunsLeastTo options) (command.RunLeast options)
 least_runs options = record { reads = refl; runs = λ bytes a comes. comes }
 
--- where the words are those of a run, and it is done or faulted, a run of the input is told
+-- where the words are those of a run, and it is done or faulted, a run of the input is reported
 run_told : ReadsWhatIsAccepted → (words : List (List ℕ)) (left left_after : Option (List ℕ)) (T : List ℕ → Answer → Type 0) (run : Command) (a : Answer) → RunsNet T run → WordsOk words run → (a.status ≡ DONE) ⊎ (a.status ≡ FAULTED) →
     Comes words left left_after a → (bytes : List ℕ) × GivesAll left bytes left_after × T bytes a
 run_told law words left left_after T run a net accepted which (Comes.wordless fault faulty same) = absurd (not_faulty law words run fault accepted faulty)

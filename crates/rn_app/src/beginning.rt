@@ -127,8 +127,8 @@ pub fn begin<I: Source, O: Sink, E: Sink>(
         GivesAtMost (limit + 1) (I.left input.old) (I.left input.new)
         × (I.reads input.new ≤ I.reads input.old + (limit + 1)) }
 
-    // A fault that rises in this call is never passed over: it is the only one, and it is told by the
-    // status, unless the line of status 4 or 6 meets one more.
+    // A fault that rises in this call is never passed over: it is the only one, and it is reported
+    // by the status, unless the line of status 4 or 6 meets one more.
     ensures input_faults { result ≢ Begun.Done READ_FAULT →
         I.faults input.new ≡ I.faults input.old }
     ensures one_read_fault { result ≡ Begun.Done READ_FAULT →

@@ -9,7 +9,7 @@ use Rattle.rn_value.specs.declared.value.Value.{Value}
 use Rattle.rn_value.specs.declared.value.Value.TheVariants as Value
 use Rattle.rn_bag.specs.Slots.{there_from}
 use Rattle.rn_bag.specs.Words.{has_bit}
-use Rattle.rn_bag.specs.Chunks.{Slots, AreCounted, tokens_of, tokens_in, values_in}
+use Rattle.rn_bag.specs.Chunks.{Slots, AreCounted, tokens_in_chunk, tokens_in, values_in}
 use Rattle.std.proofs.lemmas.List.{take_more, take-take, get_or-take, get_or-drop}
 use Rattle.std.proofs.lemmas.Option.{slice_get-get_or, get_or_from_slice_get}
 use Rattle.std.specs.List.{slice_range}
@@ -206,16 +206,16 @@ run_here t vs s a e n within small low high later present absent is =
 
 -- the token that halving over chunks ends at
 pub token_found : (ss : List Slots) (i n : ℕ) (x : Slots) → i < length ss → x ≡ get_or ss i x → length (tokens_in (take i ss)) ≤ n → n < length (tokens_in (take (i + 1) ss)) →
-    (n - length (tokens_in (take i ss)) < length (tokens_of x)) × (slice_get (tokens_in ss) n ≡ slice_get (tokens_of x) (n - length (tokens_in (take i ss))))
+    (n - length (tokens_in (take i ss)) < length (tokens_in_chunk x)) × (slice_get (tokens_in ss) n ≡ slice_get (tokens_in_chunk x) (n - length (tokens_in (take i ss))))
 token_found ss i n x within is low high =
     let a : List Value = tokens_in (take i ss) in
     let d : List Value = tokens_in (drop (suc i) ss) in
-    let more : tokens_in (take (i + 1) ss) ≡ a ++ tokens_of x =
-    ap tokens_in (take_more ss i x within ∙ ap (λ y. take i ss ++ y ∷ []) (sym is)) ∙ flat_map-append tokens_of (take i ss) (x ∷ []) ∙ ap (λ r. a ++ r) (append-nil (tokens_of x)) in
-    let size : length (tokens_in (take (i + 1) ss)) ≡ length a + length (tokens_of x) = ap length more ∙ length-append a (tokens_of x) in
-    let inside : n - length a < length (tokens_of x) = omega (arith, size, low, high) in (
+    let more : tokens_in (take (i + 1) ss) ≡ a ++ tokens_in_chunk x =
+    ap tokens_in (take_more ss i x within ∙ ap (λ y. take i ss ++ y ∷ []) (sym is)) ∙ flat_map-append tokens_in_chunk (take i ss) (x ∷ []) ∙ ap (λ r. a ++ r) (append-nil (tokens_in_chunk x)) in
+    let size : length (tokens_in (take (i + 1) ss)) ≡ length a + length (tokens_in_chunk x) = ap length more ∙ length-append a (tokens_in_chunk x) in
+    let inside : n - length a < length (tokens_in_chunk x) = omega (arith, size, low, high) in (
       inside,
-      ap (λ r. slice_get r n) (tokens_parts ss i x within is) ∙ get_suffix a (tokens_of x ++ d) n low ∙ get_prefix (tokens_of x) d (n - length a) inside,
+      ap (λ r. slice_get r n) (tokens_parts ss i x within is) ∙ get_suffix a (tokens_in_chunk x ++ d) n low ∙ get_prefix (tokens_in_chunk x) d (n - length a) inside,
     )
 
 -- what a chunk says stands before it
@@ -225,41 +225,41 @@ counted_at k n [] i x told within is = absurd (omega arith)
 counted_at k n (s ∷ ss) zero x told within is =
     (ap (λ (y : Slots). y.before) is ∙ told.0 ∙ omega arith, omega (arith, told.1))
 counted_at k n (s ∷ ss) (suc i) x told within is =
-    let rest = counted_at (suc k) (n + length (tokens_of s)) ss i x told.2 (omega arith) is in
-    let size = length-append (tokens_of s) (tokens_in (take i ss)) in
+    let rest = counted_at (suc k) (n + length (tokens_in_chunk s)) ss i x told.2 (omega arith) is in
+    let size = length-append (tokens_in_chunk s) (tokens_in (take i ss)) in
     (omega (arith, rest.0, size), omega (arith, rest.1, size))
 
 pub token_read : (ss : List Slots) (i high n b : ℕ) (x : Slots) → AreCounted 0 0 ss → i < length ss → x ≡ get_or ss i x → high ≡ i + 1 → b ≡ x.before →
-    length (tokens_in (take i ss)) ≤ n → n < length (tokens_in (take high ss)) → (b ≤ n) × (n - b < length (tokens_of x)) × (slice_get (tokens_in ss) n ≡ slice_get (tokens_of x) (n - b))
+    length (tokens_in (take i ss)) ≤ n → n < length (tokens_in (take high ss)) → (b ≤ n) × (n - b < length (tokens_in_chunk x)) × (slice_get (tokens_in ss) n ≡ slice_get (tokens_in_chunk x) (n - b))
 token_read ss i high n b x told within is next before low up =
     let at = counted_at 0 0 ss i x told within is in
     let start : length (tokens_in (take i ss)) ≡ b = omega (arith, at.0, before) in
     let found = token_found ss i n x within is low (subst (λ k. n < length (tokens_in (take k ss))) next up) in
-    (omega (arith, start, low), omega (arith, start, found.0), found.1 ∙ ap (λ k. slice_get (tokens_of x) (n - k)) start)
+    (omega (arith, start, low), omega (arith, start, found.0), found.1 ∙ ap (λ k. slice_get (tokens_in_chunk x) (n - k)) start)
 
 -- the tokens that stand side by side in a chunk, among all
 pub run_read : (ss : List Slots) (i n b m : ℕ) (x : Slots) → AreCounted 0 0 ss → i < length ss →
     x ≡ get_or ss i x → b ≡ x.before → length (tokens_in (take i ss)) ≤ n →
-    (n - b) + m ≤ length (tokens_of x) →
+    (n - b) + m ≤ length (tokens_in_chunk x) →
     (n + m ≤ length (tokens_in ss)) × ((k : ℕ) → k < m →
-    slice_get (tokens_in ss) (n + k) ≡ slice_get (tokens_of x) ((n - b) + k))
+    slice_get (tokens_in ss) (n + k) ≡ slice_get (tokens_in_chunk x) ((n - b) + k))
 run_read ss i n b m x told within is before low few =
     let a : List Value = tokens_in (take i ss) in
     let at = counted_at 0 0 ss i x told within is in
     let start : length a ≡ b = omega (arith, at.0, before) in
-    let more : tokens_in (take (i + 1) ss) ≡ a ++ tokens_of x =
+    let more : tokens_in (take (i + 1) ss) ≡ a ++ tokens_in_chunk x =
     ap tokens_in (take_more ss i x within ∙ ap (λ y. take i ss ++ y ∷ []) (sym is))
-    ∙ flat_map-append tokens_of (take i ss) (x ∷ []) ∙ ap (λ r. a ++ r) (append-nil (tokens_of x)) in
-    let size : length (tokens_in (take (i + 1) ss)) ≡ length a + length (tokens_of x)
-    = ap length more ∙ length-append a (tokens_of x) in
+    ∙ flat_map-append tokens_in_chunk (take i ss) (x ∷ []) ∙ ap (λ r. a ++ r) (append-nil (tokens_in_chunk x)) in
+    let size : length (tokens_in (take (i + 1) ss)) ≡ length a + length (tokens_in_chunk x)
+    = ap length more ∙ length-append a (tokens_in_chunk x) in
     let rest : List Value = tokens_in (drop (suc i) ss) in
-    let all : length (tokens_in ss) ≡ length a + (length (tokens_of x) + length rest)
-    = ap length (tokens_parts ss i x within is) ∙ length-append a (tokens_of x ++ rest)
-    ∙ ap (λ k. length a + k) (length-append (tokens_of x) rest) in (
+    let all : length (tokens_in ss) ≡ length a + (length (tokens_in_chunk x) + length rest)
+    = ap length (tokens_parts ss i x within is) ∙ length-append a (tokens_in_chunk x ++ rest)
+    ∙ ap (λ k. length a + k) (length-append (tokens_in_chunk x) rest) in (
       omega (arith, start, all, few, low),
       λ k less.
           (token_found ss i (n + k) x within is (omega (arith, low)) (omega (arith, size, start, few, low, less))).1
-          ∙ ap (slice_get (tokens_of x))
+          ∙ ap (slice_get (tokens_in_chunk x))
           (let e : (n + k) - length a ≡ (n - b) + k = omega (arith, start, low) in e),
     )
 
@@ -267,18 +267,18 @@ pub counted_prefix : (k n : ℕ) (ss : List Slots) (i : ℕ) → AreCounted k n 
 counted_prefix k n [] zero told = tt
 counted_prefix k n [] (suc i) told = tt
 counted_prefix k n (s ∷ ss) zero told = tt
-counted_prefix k n (s ∷ ss) (suc i) told = (told.0, told.1, counted_prefix (suc k) (n + length (tokens_of s)) ss i told.2)
+counted_prefix k n (s ∷ ss) (suc i) told = (told.0, told.1, counted_prefix (suc k) (n + length (tokens_in_chunk s)) ss i told.2)
 
 -- one more chunk that says rightly what stands before it
 pub counted_more : (k n : ℕ) (ss : List Slots) (x : Slots) → AreCounted k n ss → x.before ≡ n + length (tokens_in ss) → n + length (tokens_in ss) ≤ 64 * (k + length ss) → AreCounted k n (ss ++ x ∷ [])
 counted_more k n [] x told is few = (omega (arith, is), omega (arith, few), tt)
 counted_more k n (s ∷ ss) x told is few =
-    let size = length-append (tokens_of s) (tokens_in ss) in
-    (told.0, told.1, counted_more (suc k) (n + length (tokens_of s)) ss x told.2 (omega (arith, is, size)) (omega (arith, few, size)))
+    let size = length-append (tokens_in_chunk s) (tokens_in ss) in
+    (told.0, told.1, counted_more (suc k) (n + length (tokens_in_chunk s)) ss x told.2 (omega (arith, is, size)) (omega (arith, few, size)))
 
 -- how many tokens the first chunks have
-pub count_of_prefix : (ss : List Slots) (i : ℕ) (x : Slots) → AreCounted 0 0 (take (i + 1) ss) → i < length ss → x ≡ get_or ss i x → length (tokens_of x) ≤ 64 →
-    (x.before + length (tokens_of x) ≡ length (tokens_in (take (i + 1) ss))) × (x.before ≤ 64 * i)
+pub count_of_prefix : (ss : List Slots) (i : ℕ) (x : Slots) → AreCounted 0 0 (take (i + 1) ss) → i < length ss → x ≡ get_or ss i x → length (tokens_in_chunk x) ≤ 64 →
+    (x.before + length (tokens_in_chunk x) ≡ length (tokens_in (take (i + 1) ss))) × (x.before ≤ 64 * i)
 count_of_prefix ss i x told within is few =
     let more : take (i + 1) ss ≡ take i ss ++ x ∷ [] = take_more ss i x within ∙ ap (λ y. take i ss ++ y ∷ []) (sym is) in
     let size : length (take i ss) ≡ i = omega (arith, length-take i ss) in
@@ -286,31 +286,31 @@ count_of_prefix ss i x told within is few =
     let at = counted_at 0 0 (take (i + 1) ss) i x told (omega (arith, length-take (i + 1) ss)) here in
     let cut : take i (take (i + 1) ss) ≡ take i ss = take-take i (i + 1) ss (omega arith) in
     let before : x.before ≡ length (tokens_in (take i ss)) = at.0 ∙ omega (arith, ap (λ r. length (tokens_in r)) cut) in
-    let all : tokens_in (take (i + 1) ss) ≡ tokens_in (take i ss) ++ tokens_of x = ap tokens_in more ∙ flat_map-append tokens_of (take i ss) (x ∷ []) ∙ ap (λ r. tokens_in (take i ss) ++ r) (append-nil (tokens_of x)) in
-    (omega (arith, before, ap length all, length-append (tokens_in (take i ss)) (tokens_of x)), omega (arith, at.1, at.0, before))
+    let all : tokens_in (take (i + 1) ss) ≡ tokens_in (take i ss) ++ tokens_in_chunk x = ap tokens_in more ∙ flat_map-append tokens_in_chunk (take i ss) (x ∷ []) ∙ ap (λ r. tokens_in (take i ss) ++ r) (append-nil (tokens_in_chunk x)) in
+    (omega (arith, before, ap length all, length-append (tokens_in (take i ss)) (tokens_in_chunk x)), omega (arith, at.1, at.0, before))
 
-pub same_tokens_of : (x y : Slots) → y.values ≡ x.values → y.there ≡ x.there → tokens_of y ≡ tokens_of x
+pub same_tokens_of : (x y : Slots) → y.values ≡ x.values → y.there ≡ x.there → tokens_in_chunk y ≡ tokens_in_chunk x
 same_tokens_of x y values there = ap (λ w. there_from (has_bit w) 0 y.values) there ∙ ap (there_from (has_bit x.there) 0) values
 
 -- a chunk says anew what stands before it
-pub recounted : (ss : List Slots) (i total : ℕ) (x y : Slots) → i < length ss → x ≡ get_or ss i x → y.values ≡ x.values → y.there ≡ x.there → y.before ≡ total → length (tokens_of x) ≤ 64 →
+pub recounted : (ss : List Slots) (i total : ℕ) (x y : Slots) → i < length ss → x ≡ get_or ss i x → y.values ≡ x.values → y.there ≡ x.there → y.before ≡ total → length (tokens_in_chunk x) ≤ 64 →
     AreCounted 0 0 (take i ss) → total ≡ length (tokens_in (take i ss)) → total ≤ 64 * i →
-    AreCounted 0 0 (take (i + 1) (set ss i y)) × (total + length (tokens_of y) ≡ length (tokens_in (take (i + 1) (set ss i y)))) × (total + length (tokens_of y) ≤ 64 * (i + 1))
+    AreCounted 0 0 (take (i + 1) (set ss i y)) × (total + length (tokens_in_chunk y) ≡ length (tokens_in (take (i + 1) (set ss i y)))) × (total + length (tokens_in_chunk y) ≤ 64 * (i + 1))
     × (tokens_in (set ss i y) ≡ tokens_in ss) × (values_in (set ss i y) ≡ values_in ss)
 recounted ss i total x y within is values there before few told count bound =
-    let tokens : tokens_of y ≡ tokens_of x = same_tokens_of x y values there in
+    let tokens : tokens_in_chunk y ≡ tokens_in_chunk x = same_tokens_of x y values there in
     let size : length (take i ss) ≡ i = omega (arith, length-take i ss) in
     let more : take (i + 1) (set ss i y) ≡ take i ss ++ y ∷ [] = ap (λ k. take k (set ss i y)) (let e : i + 1 ≡ suc i = omega arith in e) ∙ take-suc-set ss i y within in
-    let all : tokens_in (take (i + 1) (set ss i y)) ≡ tokens_in (take i ss) ++ tokens_of y = ap tokens_in more ∙ flat_map-append tokens_of (take i ss) (y ∷ []) ∙ ap (λ r. tokens_in (take i ss) ++ r) (append-nil (tokens_of y)) in (
+    let all : tokens_in (take (i + 1) (set ss i y)) ≡ tokens_in (take i ss) ++ tokens_in_chunk y = ap tokens_in more ∙ flat_map-append tokens_in_chunk (take i ss) (y ∷ []) ∙ ap (λ r. tokens_in (take i ss) ++ r) (append-nil (tokens_in_chunk y)) in (
       subst (AreCounted 0 0) (sym more) (counted_more 0 0 (take i ss) y told (omega (arith, before, count)) (omega (arith, count, bound, size))),
-      omega (arith, count, ap length all, length-append (tokens_in (take i ss)) (tokens_of y)),
+      omega (arith, count, ap length all, length-append (tokens_in (take i ss)) (tokens_in_chunk y)),
       omega (arith, few, bound, ap length tokens),
       replaced_tokens_of ss i x y within is tokens,
       same_values ss i x y within is values,
     )
 
 -- the same of a list that is that one
-pub recounted_to : (ss new : List Slots) (i total count : ℕ) → i < length ss → ((x : Slots) → x ≡ get_or ss i x → new ≡ set ss i (record { values = x.values; there = x.there; before = total })) → ((x : Slots) → x ≡ get_or new i x → count ≡ length (tokens_of x)) → count ≤ 64 →
+pub recounted_to : (ss new : List Slots) (i total count : ℕ) → i < length ss → ((x : Slots) → x ≡ get_or ss i x → new ≡ set ss i (record { values = x.values; there = x.there; before = total })) → ((x : Slots) → x ≡ get_or new i x → count ≡ length (tokens_in_chunk x)) → count ≤ 64 →
     AreCounted 0 0 (take i ss) → total ≡ length (tokens_in (take i ss)) → total ≤ 64 * i →
     AreCounted 0 0 (take (i + 1) new) × (total + count ≡ length (tokens_in (take (i + 1) new))) × (total + count ≤ 64 * (i + 1))
     × (tokens_in new ≡ tokens_in ss) × (values_in new ≡ values_in ss) × (length new ≡ length ss)
@@ -318,7 +318,7 @@ recounted_to ss new i total count within step counts few told sum bound =
     let r = read_at ss i within in
     let y : Slots = record { values = r.0.values; there = r.0.there; before = total } in
     let is : new ≡ set ss i y = step r.0 r.1 in
-    let size : count ≡ length (tokens_of y) = counts y (subst (λ (zs : List Slots). y ≡ get_or zs i y) (sym is) (sym (get_or-set_at ss i i y y refl within))) in
+    let size : count ≡ length (tokens_in_chunk y) = counts y (subst (λ (zs : List Slots). y ≡ get_or zs i y) (sym is) (sym (get_or-set_at ss i i y y refl within))) in
     let all = recounted ss i total r.0 y within r.1 refl refl refl (omega (arith, few, size)) told sum bound in (
       subst (λ (zs : List Slots). AreCounted 0 0 (take (i + 1) zs)) (sym is) all.0,
       ap (λ n. total + n) size ∙ all.1 ∙ ap (λ (zs : List Slots). length (tokens_in (take (i + 1) zs))) (sym is),

@@ -8,7 +8,7 @@ use Rattle.rn_value.specs.declared.value.Value.{Value}
 use Rattle.rn_bag.specs.declared.cut.Cut.TheVariants.{UpTo}
 use Rattle.rn_bag.specs.Cuts.{is_before, AllBefore, NoneBefore, NoneBelow, Ascends}
 use Rattle.rn_bag.specs.Slots.{there_from}
-use Rattle.rn_bag.specs.Chunks.{Slots, HasRoom, IsChunk, AreCounted, AreSound, tokens_of, tokens_in, values_in, Replaces}
+use Rattle.rn_bag.specs.Chunks.{Slots, HasRoom, IsChunk, AreCounted, AreSound, tokens_in_chunk, tokens_in, values_in, Replaces}
 use Rattle.rn_bag.specs.Tags.{IsFull}
 use Rattle.rn_bag.specs.SlotIndices.{tokens_before, tokens_after, values_before, values_after}
 use Rattle.rn_bag.specs.Words.{has_bit}
@@ -45,13 +45,13 @@ regroup : {A : Type 0} (a f r d : List A) → a ++ ((f ++ r) ++ d) ≡ (a ++ f) 
 regroup a f r d = ap (λ z. a ++ z) (append_assoc f r d) ∙ sym (append_assoc a f (r ++ d))
 
 -- a chunk in place of another
-replaced : (ss : List Slots) (i : ℕ) (y : Slots) → i < length ss → tokens_in (set ss i y) ≡ tokens_in (take i ss) ++ (tokens_of y ++ tokens_in (drop (suc i) ss))
-replaced ss i y within = ap tokens_in (set_split ss i y within) ∙ flat_map-append tokens_of (take i ss) (y ∷ drop (suc i) ss)
+replaced : (ss : List Slots) (i : ℕ) (y : Slots) → i < length ss → tokens_in (set ss i y) ≡ tokens_in (take i ss) ++ (tokens_in_chunk y ++ tokens_in (drop (suc i) ss))
+replaced ss i y within = ap tokens_in (set_split ss i y within) ∙ flat_map-append tokens_in_chunk (take i ss) (y ∷ drop (suc i) ss)
 
 replaced_values : (ss : List Slots) (i : ℕ) (y : Slots) → i < length ss → values_in (set ss i y) ≡ values_in (take i ss) ++ (y.values ++ values_in (drop (suc i) ss))
 replaced_values ss i y within = ap values_in (set_split ss i y within) ∙ flat_map-append (λ (s : Slots). s.values) (take i ss) (y ∷ drop (suc i) ss)
 
-pub replaced_tokens : (ss : List Slots) (i n : ℕ) (x y : Slots) (rest : List Value) → i < length ss → x ≡ get_or ss i x → tokens_of y ≡ there_from (has_bit x.there) 0 (take n x.values) ++ rest →
+pub replaced_tokens : (ss : List Slots) (i n : ℕ) (x y : Slots) (rest : List Value) → i < length ss → x ≡ get_or ss i x → tokens_in_chunk y ≡ there_from (has_bit x.there) 0 (take n x.values) ++ rest →
     tokens_in (set ss i y) ≡ tokens_before ss i n ++ (rest ++ tokens_in (drop (suc i) ss))
 replaced_tokens ss i n x y rest within is here =
     replaced ss i y within
@@ -64,23 +64,23 @@ same_values ss i x y within is same =
     replaced_values ss i y within ∙ ap (λ z. values_in (take i ss) ++ (z ++ values_in (drop (suc i) ss))) same ∙ sym (values_parts ss i x within is)
 
 -- a token goes
-pub cleared : (ss : List Slots) (i n : ℕ) (x y : Slots) → i < length ss → x ≡ get_or ss i x → tokens_of y ≡ there_from (has_bit x.there) 0 (take n x.values) ++ there_from (has_bit x.there) (suc n) (drop (suc n) x.values) →
+pub cleared : (ss : List Slots) (i n : ℕ) (x y : Slots) → i < length ss → x ≡ get_or ss i x → tokens_in_chunk y ≡ there_from (has_bit x.there) 0 (take n x.values) ++ there_from (has_bit x.there) (suc n) (drop (suc n) x.values) →
     tokens_in (set ss i y) ≡ tokens_before ss i n ++ tokens_after ss i (suc n)
 cleared ss i n x y within is here =
     replaced_tokens ss i n x y (there_from (has_bit x.there) (suc n) (drop (suc n) x.values)) within is here
     ∙ ap (λ z. tokens_before ss i n ++ z) (sym (tokens_after_is ss i (suc n) x within is))
 
 -- a token comes back
-pub set_again : (ss : List Slots) (i n : ℕ) (x y : Slots) (v : Value) → i < length ss → x ≡ get_or ss i x → tokens_of y ≡ there_from (has_bit x.there) 0 (take n x.values) ++ v ∷ there_from (has_bit x.there) (suc n) (drop (suc n) x.values) →
+pub set_again : (ss : List Slots) (i n : ℕ) (x y : Slots) (v : Value) → i < length ss → x ≡ get_or ss i x → tokens_in_chunk y ≡ there_from (has_bit x.there) 0 (take n x.values) ++ v ∷ there_from (has_bit x.there) (suc n) (drop (suc n) x.values) →
     tokens_in (set ss i y) ≡ tokens_before ss i n ++ v ∷ tokens_after ss i (suc n)
 set_again ss i n x y v within is here =
     replaced_tokens ss i n x y (v ∷ there_from (has_bit x.there) (suc n) (drop (suc n) x.values)) within is here
     ∙ ap (λ z. tokens_before ss i n ++ v ∷ z) (sym (tokens_after_is ss i (suc n) x within is))
 
 -- a chunk without tokens goes
-pub dropped : (ss : List Slots) (i : ℕ) (y : Slots) → i < length ss → tokens_of y ≡ [] → tokens_in (take i ss ++ drop (suc i) ss) ≡ tokens_in (set ss i y)
+pub dropped : (ss : List Slots) (i : ℕ) (y : Slots) → i < length ss → tokens_in_chunk y ≡ [] → tokens_in (take i ss ++ drop (suc i) ss) ≡ tokens_in (set ss i y)
 dropped ss i y within none =
-    flat_map-append tokens_of (take i ss) (drop (suc i) ss) ∙ sym (replaced ss i y within ∙ ap (λ z. tokens_in (take i ss) ++ (z ++ tokens_in (drop (suc i) ss))) none)
+    flat_map-append tokens_in_chunk (take i ss) (drop (suc i) ss) ∙ sym (replaced ss i y within ∙ ap (λ z. tokens_in (take i ss) ++ (z ++ tokens_in (drop (suc i) ss))) none)
 
 ascends_without : (xs ys zs : List Value) → Ascends (xs ++ (ys ++ zs)) → Ascends (xs ++ zs)
 ascends_without [] ys zs up = ascends_suffix ys zs up
@@ -195,7 +195,7 @@ there_full t n (v ∷ vs) size =
     let both : (t n ≡ true) × (length r ≡ length vs) = cond_full (t n) v r vs (there_length t (suc n) vs) size in
     ap (λ b. cond b (v ∷ r) r) both.0 ∙ ap (λ z. v ∷ z) (there_full t (suc n) vs both.1)
 
-pub replaces_one : (ss : List Slots) (i : ℕ) (y : Slots) (ws : List Value) → i < length ss → y.values ≡ ws → tokens_of y ≡ ws → Replaces ss i ws (set ss i y)
+pub replaces_one : (ss : List Slots) (i : ℕ) (y : Slots) (ws : List Value) → i < length ss → y.values ≡ ws → tokens_in_chunk y ≡ ws → Replaces ss i ws (set ss i y)
 replaces_one ss i y ws within values tokens = record {
   prefix = take-set ss i y;
   tokens = replaced ss i y within ∙ ap (λ z. tokens_in (take i ss) ++ (z ++ tokens_in (drop (suc i) ss))) tokens;
@@ -204,15 +204,15 @@ replaces_one ss i y ws within values tokens = record {
 
 -- two chunks of these tokens where one was
 two_replace : (ss new : List Slots) (i : ℕ) (y z : Slots) (ts us vs ws : List Value) → i < length ss → new ≡ take i ss ++ y ∷ z ∷ drop (suc i) ss →
-    tokens_of y ≡ ts → y.values ≡ us → tokens_of z ≡ vs → z.values ≡ vs → ts ++ vs ≡ ws → us ++ vs ≡ ws → Replaces ss i ws new
+    tokens_in_chunk y ≡ ts → y.values ≡ us → tokens_in_chunk z ≡ vs → z.values ≡ vs → ts ++ vs ≡ ws → us ++ vs ≡ ws → Replaces ss i ws new
 two_replace ss new i y z ts us vs ws within placed y_tokens y_values z_tokens z_values tokens values =
     let t : List Value = tokens_in (drop (suc i) ss) in
     let d : List Value = values_in (drop (suc i) ss) in
     let size : length (take i ss) ≡ i = omega (arith, length-take i ss) in
     record {
       tokens = ap tokens_in placed
-          ∙ flat_map-append tokens_of (take i ss) (y ∷ z ∷ drop (suc i) ss)
-          ∙ ap (λ w. tokens_in (take i ss) ++ (w ++ (tokens_of z ++ t))) y_tokens
+          ∙ flat_map-append tokens_in_chunk (take i ss) (y ∷ z ∷ drop (suc i) ss)
+          ∙ ap (λ w. tokens_in (take i ss) ++ (w ++ (tokens_in_chunk z ++ t))) y_tokens
           ∙ ap (λ w. tokens_in (take i ss) ++ (ts ++ (w ++ t))) z_tokens
           ∙ ap (λ w. tokens_in (take i ss) ++ w) (sym (append_assoc ts vs t) ∙ ap (λ w. w ++ t) tokens);
       values = ap values_in placed
@@ -223,13 +223,13 @@ two_replace ss new i y z ts us vs ws within placed y_tokens y_values z_tokens z_
       prefix = ap (take i) placed ∙ take-append-le i (take i ss) (y ∷ z ∷ drop (suc i) ss) (omega (arith, size)) ∙ take_all i (take i ss) (omega (arith, size));
     }
 
-pub replaces_two : (ss : List Slots) (i : ℕ) (y z : Slots) (us vs ws : List Value) → i < length ss → y.values ≡ us → tokens_of y ≡ us → z.values ≡ vs → tokens_of z ≡ vs → us ++ vs ≡ ws → Replaces ss i ws (set (take (i + 1) ss ++ z ∷ drop (i + 1) ss) i y)
+pub replaces_two : (ss : List Slots) (i : ℕ) (y z : Slots) (us vs ws : List Value) → i < length ss → y.values ≡ us → tokens_in_chunk y ≡ us → z.values ≡ vs → tokens_in_chunk z ≡ vs → us ++ vs ≡ ws → Replaces ss i ws (set (take (i + 1) ss ++ z ∷ drop (i + 1) ss) i y)
 replaces_two ss i y z us vs ws within y_values y_tokens z_values z_tokens parts =
     let x : Slots = get_or ss i y in
     two_replace ss (set (take (i + 1) ss ++ z ∷ drop (i + 1) ss) i y) i y z us us vs ws within (two_placed ss i x y z within (get_or_default ss i y x within)) y_tokens y_values z_tokens z_values parts parts
 
 -- a chunk comes after a full one
-pub comes_after : (ss : List Slots) (i : ℕ) (x z : Slots) (v : Value) → i < length ss → x ≡ get_or ss i x → tokens_of x ≡ x.values → z.values ≡ v ∷ [] → tokens_of z ≡ v ∷ [] →
+pub comes_after : (ss : List Slots) (i : ℕ) (x z : Slots) (v : Value) → i < length ss → x ≡ get_or ss i x → tokens_in_chunk x ≡ x.values → z.values ≡ v ∷ [] → tokens_in_chunk z ≡ v ∷ [] →
     Replaces ss i (x.values ++ v ∷ []) (take (i + 1) ss ++ z ∷ drop (i + 1) ss)
 comes_after ss i x z v within is full z_values z_tokens =
     let next : i + 1 ≡ suc i = omega arith in
@@ -329,16 +329,16 @@ pub few_counted : (vs : List Value) (t count : ℕ) → IsChunk vs t count → c
 few_counted vs t count is = omega (arith, is.counted, is.room.small, there_length (has_bit t) 0 vs)
 
 -- where a chunk is full and the value comes after all its slots
-pub full_grown : (x : Slots) (n : ℕ) (v : Value) → n ≡ length x.values → length (tokens_of x) ≡ 64 → HasRoom x.values →
-    (tokens_of x ≡ x.values) × (x.values ++ v ∷ [] ≡ there_from (has_bit x.there) 0 (take n x.values) ++ v ∷ there_from (has_bit x.there) n (drop n x.values))
+pub full_grown : (x : Slots) (n : ℕ) (v : Value) → n ≡ length x.values → length (tokens_in_chunk x) ≡ 64 → HasRoom x.values →
+    (tokens_in_chunk x ≡ x.values) × (x.values ++ v ∷ [] ≡ there_from (has_bit x.there) 0 (take n x.values) ++ v ∷ there_from (has_bit x.there) n (drop n x.values))
 full_grown x n v end full room =
-    let size : length (tokens_of x) ≡ length x.values = omega (arith, full, room.small, there_length (has_bit x.there) 0 x.values) in
-    let all : tokens_of x ≡ x.values = there_full (has_bit x.there) 0 x.values size in
+    let size : length (tokens_in_chunk x) ≡ length x.values = omega (arith, full, room.small, there_length (has_bit x.there) 0 x.values) in
+    let all : tokens_in_chunk x ≡ x.values = there_full (has_bit x.there) 0 x.values size in
     let prefix : there_from (has_bit x.there) 0 (take n x.values) ≡ x.values = ap (there_from (has_bit x.there) 0) (take_all n x.values (omega (arith, end))) ∙ all in
     let rest : there_from (has_bit x.there) n (drop n x.values) ≡ [] = ap (there_from (has_bit x.there) n) (drop_all n x.values (omega (arith, end))) in
     (all, ap (λ r. r ++ v ∷ []) (sym prefix) ∙ ap (λ r. there_from (has_bit x.there) 0 (take n x.values) ++ v ∷ r) (sym rest))
 
-pub replaced_tokens_of : (ss : List Slots) (i : ℕ) (x y : Slots) → i < length ss → x ≡ get_or ss i x → tokens_of y ≡ tokens_of x → tokens_in (set ss i y) ≡ tokens_in ss
+pub replaced_tokens_of : (ss : List Slots) (i : ℕ) (x y : Slots) → i < length ss → x ≡ get_or ss i x → tokens_in_chunk y ≡ tokens_in_chunk x → tokens_in (set ss i y) ≡ tokens_in ss
 replaced_tokens_of ss i x y within is same =
     replaced ss i y within ∙ ap (λ z. tokens_in (take i ss) ++ (z ++ tokens_in (drop (suc i) ss))) same ∙ sym (tokens_parts ss i x within is)
 
@@ -368,7 +368,7 @@ first_put new vs v one r =
     let values : values_in new ≡ v ∷ [] = ap values_in r.2 ∙ append-nil r.0.values ∙ r.1.values ∙ one in
     let single : Ascends (v ∷ []) = (tt, tt) in
     let counted : AreCounted 0 0 (r.0 ∷ []) = (r.1.first, omega arith, tt) in (
-      ap tokens_in r.2 ∙ append-nil (tokens_of r.0) ∙ r.1.tokens_are ∙ one,
+      ap tokens_in r.2 ∙ append-nil (tokens_in_chunk r.0) ∙ r.1.tokens_are ∙ one,
       record { ascend = subst Ascends (sym values) single; counted = subst (AreCounted 0 0) (sym r.2) counted },
     )
 

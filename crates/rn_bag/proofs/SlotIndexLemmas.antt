@@ -7,7 +7,7 @@ use Rattle.rn_value.specs.declared.value.Value.{Value}
 use Rattle.rn_bag.specs.declared.cut.Cut.{Cut}
 use Rattle.rn_bag.specs.Cuts.{is_before, AllBefore, NoneBefore, Ascends}
 use Rattle.rn_bag.specs.Slots.{there_from}
-use Rattle.rn_bag.specs.Chunks.{Slots, tokens_of, tokens_in, values_in}
+use Rattle.rn_bag.specs.Chunks.{Slots, tokens_in_chunk, tokens_in, values_in}
 use Rattle.rn_bag.specs.SlotIndices.{tokens_before, tokens_after, values_before, values_after}
 use Rattle.rn_bag.specs.Words.{has_bit}
 use Rattle.rn_bag.proofs.SlotLemmas.{there_all, there_parts, all_joined, all_prefix, all_suffix}
@@ -30,7 +30,7 @@ pub tokens_before_is : (ss : List Slots) (i n : ℕ) (x : Slots) → i < length 
 tokens_before_is [] i n x within is = absurd (omega arith)
 tokens_before_is (s ∷ ss) zero n x within is = ap (λ (y : Slots). there_from (has_bit y.there) 0 (take n y.values)) (sym is)
 tokens_before_is (s ∷ ss) (suc i) n x within is =
-    ap (λ r. tokens_of s ++ r) (tokens_before_is ss i n x (omega arith) is) ∙ sym (append_assoc (tokens_of s) (tokens_in (take i ss)) (there_from (has_bit x.there) 0 (take n x.values)))
+    ap (λ r. tokens_in_chunk s ++ r) (tokens_before_is ss i n x (omega arith) is) ∙ sym (append_assoc (tokens_in_chunk s) (tokens_in (take i ss)) (there_from (has_bit x.there) 0 (take n x.values)))
 
 pub tokens_after_is : (ss : List Slots) (i n : ℕ) (x : Slots) → i < length ss → x ≡ get_or ss i x → tokens_after ss i n ≡ there_from (has_bit x.there) n (drop n x.values) ++ tokens_in (drop (suc i) ss)
 tokens_after_is [] i n x within is = absurd (omega arith)
@@ -43,22 +43,22 @@ values_parts [] i x within is = absurd (omega arith)
 values_parts (s ∷ ss) zero x within is = ap (λ (y : Slots). y.values ++ values_in ss) (sym is)
 values_parts (s ∷ ss) (suc i) x within is = ap (λ r. s.values ++ r) (values_parts ss i x (omega arith) is) ∙ sym (append_assoc s.values (values_in (take i ss)) (x.values ++ values_in (drop (suc i) ss)))
 
-pub tokens_parts : (ss : List Slots) (i : ℕ) (x : Slots) → i < length ss → x ≡ get_or ss i x → tokens_in ss ≡ tokens_in (take i ss) ++ (tokens_of x ++ tokens_in (drop (suc i) ss))
+pub tokens_parts : (ss : List Slots) (i : ℕ) (x : Slots) → i < length ss → x ≡ get_or ss i x → tokens_in ss ≡ tokens_in (take i ss) ++ (tokens_in_chunk x ++ tokens_in (drop (suc i) ss))
 tokens_parts [] i x within is = absurd (omega arith)
-tokens_parts (s ∷ ss) zero x within is = ap (λ (y : Slots). tokens_of y ++ tokens_in ss) (sym is)
-tokens_parts (s ∷ ss) (suc i) x within is = ap (λ r. tokens_of s ++ r) (tokens_parts ss i x (omega arith) is) ∙ sym (append_assoc (tokens_of s) (tokens_in (take i ss)) (tokens_of x ++ tokens_in (drop (suc i) ss)))
+tokens_parts (s ∷ ss) zero x within is = ap (λ (y : Slots). tokens_in_chunk y ++ tokens_in ss) (sym is)
+tokens_parts (s ∷ ss) (suc i) x within is = ap (λ r. tokens_in_chunk s ++ r) (tokens_parts ss i x (omega arith) is) ∙ sym (append_assoc (tokens_in_chunk s) (tokens_in (take i ss)) (tokens_in_chunk x ++ tokens_in (drop (suc i) ss)))
 
 -- what holds of all values holds of all tokens
 pub all_tokens_in : (P : Value → Type 0) (ss : List Slots) → AllByRecursion P (values_in ss) → AllByRecursion P (tokens_in ss)
 all_tokens_in P [] all = tt
 all_tokens_in P (s ∷ ss) all =
-    all_joined P (tokens_of s) (tokens_in ss) (there_all P (has_bit s.there) 0 s.values (all_prefix P s.values (values_in ss) all)) (all_tokens_in P ss (all_suffix P s.values (values_in ss) all))
+    all_joined P (tokens_in_chunk s) (tokens_in ss) (there_all P (has_bit s.there) 0 s.values (all_prefix P s.values (values_in ss) all)) (all_tokens_in P ss (all_suffix P s.values (values_in ss) all))
 
 pub all_tokens_before : (P : Value → Type 0) (ss : List Slots) (i n : ℕ) → AllByRecursion P (values_before ss i n) → AllByRecursion P (tokens_before ss i n)
 all_tokens_before P [] i n all = tt
 all_tokens_before P (s ∷ ss) zero n all = there_all P (has_bit s.there) 0 (take n s.values) all
 all_tokens_before P (s ∷ ss) (suc i) n all =
-    all_joined P (tokens_of s) (tokens_before ss i n) (there_all P (has_bit s.there) 0 s.values (all_prefix P s.values (values_before ss i n) all)) (all_tokens_before P ss i n (all_suffix P s.values (values_before ss i n) all))
+    all_joined P (tokens_in_chunk s) (tokens_before ss i n) (there_all P (has_bit s.there) 0 s.values (all_prefix P s.values (values_before ss i n) all)) (all_tokens_before P ss i n (all_suffix P s.values (values_before ss i n) all))
 
 pub all_tokens_after : (P : Value → Type 0) (ss : List Slots) (i n : ℕ) → AllByRecursion P (values_after ss i n) → AllByRecursion P (tokens_after ss i n)
 all_tokens_after P [] i n all = tt
@@ -143,22 +143,22 @@ tokens_before_first : (ss : List Slots) (i : ℕ) → tokens_before ss i 0 ≡ t
 tokens_before_first [] zero = refl
 tokens_before_first [] (suc i) = refl
 tokens_before_first (s ∷ ss) zero = refl
-tokens_before_first (s ∷ ss) (suc i) = ap (λ r. tokens_of s ++ r) (tokens_before_first ss i)
+tokens_before_first (s ∷ ss) (suc i) = ap (λ r. tokens_in_chunk s ++ r) (tokens_before_first ss i)
 
 -- all tokens are those before a place and those from it on
 pub tokens_whole : (ss : List Slots) (i n : ℕ) → tokens_in ss ≡ tokens_before ss i n ++ tokens_after ss i n
 tokens_whole [] i n = refl
 tokens_whole (s ∷ ss) zero n =
     ap (λ r. r ++ tokens_in ss) (there_parts (has_bit s.there) n s.values) ∙ append_assoc (there_from (has_bit s.there) 0 (take n s.values)) (there_from (has_bit s.there) n (drop n s.values)) (tokens_in ss)
-tokens_whole (s ∷ ss) (suc i) n = ap (λ r. tokens_of s ++ r) (tokens_whole ss i n) ∙ sym (append_assoc (tokens_of s) (tokens_before ss i n) (tokens_after ss i n))
+tokens_whole (s ∷ ss) (suc i) n = ap (λ r. tokens_in_chunk s ++ r) (tokens_whole ss i n) ∙ sym (append_assoc (tokens_in_chunk s) (tokens_before ss i n) (tokens_after ss i n))
 
 -- on to the next chunk, where no token is left in this one
 pub next_before : (ss : List Slots) (i n : ℕ) (x : Slots) → i < length ss → x ≡ get_or ss i x → there_from (has_bit x.there) n (drop n x.values) ≡ [] → tokens_before ss (i + 1) 0 ≡ tokens_before ss i n
 next_before ss i n x within is none =
     let more : take (i + 1) ss ≡ take i ss ++ x ∷ [] = take_more ss i x within ∙ ap (λ y. take i ss ++ y ∷ []) (sym is) in
-    let parts : tokens_in (take (i + 1) ss) ≡ tokens_in (take i ss) ++ (tokens_of x ++ []) = ap tokens_in more ∙ flat_map-append tokens_of (take i ss) (x ∷ []) in
-    let here : tokens_of x ≡ there_from (has_bit x.there) 0 (take n x.values) = there_parts (has_bit x.there) n x.values ∙ ap (λ r. there_from (has_bit x.there) 0 (take n x.values) ++ r) none ∙ append-nil (there_from (has_bit x.there) 0 (take n x.values)) in
-    tokens_before_first ss (i + 1) ∙ parts ∙ ap (λ r. tokens_in (take i ss) ++ r) (append-nil (tokens_of x) ∙ here) ∙ sym (tokens_before_is ss i n x within is)
+    let parts : tokens_in (take (i + 1) ss) ≡ tokens_in (take i ss) ++ (tokens_in_chunk x ++ []) = ap tokens_in more ∙ flat_map-append tokens_in_chunk (take i ss) (x ∷ []) in
+    let here : tokens_in_chunk x ≡ there_from (has_bit x.there) 0 (take n x.values) = there_parts (has_bit x.there) n x.values ∙ ap (λ r. there_from (has_bit x.there) 0 (take n x.values) ++ r) none ∙ append-nil (there_from (has_bit x.there) 0 (take n x.values)) in
+    tokens_before_first ss (i + 1) ∙ parts ∙ ap (λ r. tokens_in (take i ss) ++ r) (append-nil (tokens_in_chunk x) ∙ here) ∙ sym (tokens_before_is ss i n x within is)
 
 pub next_after : (ss : List Slots) (i n : ℕ) (x : Slots) → i < length ss → x ≡ get_or ss i x → there_from (has_bit x.there) n (drop n x.values) ≡ [] → tokens_after ss (i + 1) 0 ≡ tokens_after ss i n
 next_after ss i n x within is none =

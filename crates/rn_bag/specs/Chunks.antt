@@ -26,8 +26,8 @@ slots_code =
     (λ _. refl)
 
 -- the tokens of a chunk
-abbrev pub tokens_of : Slots → List Value
-tokens_of s = there_from (has_bit s.there) 0 s.values
+abbrev pub tokens_in_chunk : Slots → List Value
+tokens_in_chunk s = there_from (has_bit s.there) 0 s.values
 
 -- the values of all slots of some chunks
 abbrev pub values_in : List Slots → List Value
@@ -35,7 +35,7 @@ values_in = flat_map (λ s. s.values)
 
 -- the tokens of some chunks
 abbrev pub tokens_in : List Slots → List Value
-tokens_in = flat_map tokens_of
+tokens_in = flat_map tokens_in_chunk
 
 -- a chunk has a slot, and at most 64 of them
 pub record HasRoom (values : List Value) : Type 0 where
@@ -52,7 +52,7 @@ pub record IsChunk (values : List Value) (there count : ℕ) : Type 0 where
 abbrev pub AreCounted : ℕ → ℕ → List Slots → Type 0
 AreCounted k n [] = ⊤
 AreCounted k n (s ∷ ss) =
-    (s.before ≡ n) × (n ≤ ROOM * k) × AreCounted (suc k) (n + length (tokens_of s)) ss
+    (s.before ≡ n) × (n ≤ ROOM * k) × AreCounted (suc k) (n + length (tokens_in_chunk s)) ss
 
 -- the values of slots ascend over all chunks, also of those without a token, and tokens are counted
 pub record AreSound (chunks : List Slots) : Type 0 where

@@ -2,14 +2,14 @@
 use Rattle.std.specs.Prelude.{ℕ, zero, suc, List, [], ◌∷◌, ◌++◌, take, drop}
 use Rattle.rn_value.specs.declared.value.Value.{Value}
 use Rattle.rn_bag.specs.Slots.{there_from}
-use Rattle.rn_bag.specs.Chunks.{Slots, tokens_of, tokens_in, values_in}
+use Rattle.rn_bag.specs.Chunks.{Slots, tokens_in_chunk, tokens_in, values_in}
 use Rattle.rn_bag.specs.Words.{has_bit}
 
 -- the tokens before a slot
 abbrev pub tokens_before : List Slots → ℕ → ℕ → List Value
 tokens_before [] chunk slot = []
 tokens_before (s ∷ ss) zero slot = there_from (has_bit s.there) 0 (take slot s.values)
-tokens_before (s ∷ ss) (suc chunk) slot = tokens_of s ++ tokens_before ss chunk slot
+tokens_before (s ∷ ss) (suc chunk) slot = tokens_in_chunk s ++ tokens_before ss chunk slot
 
 -- the tokens from a slot on
 abbrev pub tokens_after : List Slots → ℕ → ℕ → List Value

@@ -3,7 +3,7 @@ use Rattle.std.specs.Prelude.{◌≡◌, ◌<◌, List, [], length, map, slice_i
 use Rattle.std.specs.List.{AllByRecursion}
 use Rattle.rn_value.specs.declared.value.Value.{Value}
 use Rattle.rn_bag.specs.declared.tag.Tag.{Tag}
-use Rattle.rn_bag.specs.Chunks.{Slots, IsChunk, tokens_of}
+use Rattle.rn_bag.specs.Chunks.{Slots, IsChunk, tokens_in_chunk}
 use Rattle.rn_bag.specs.Slots.{there_from}
 use Rattle.rn_bag.specs.Words.{has_bit}
 
@@ -31,7 +31,7 @@ AreTags lists = AllByRecursion (IsTag lists)
 -- a chunk has these values, each is a token, and it says that none stands before it
 pub record IsFull (tokens : List Value) (chunk : Slots) : Type 0 where
   pub values : chunk.values ≡ tokens
-  pub tokens_are : tokens_of chunk ≡ tokens
+  pub tokens_are : tokens_in_chunk chunk ≡ tokens
   pub first : chunk.before ≡ 0
 
 -- the tag of a chunk of these tokens, which come after the lists of a pool

@@ -2,7 +2,7 @@
 ghost use Rattle.std.specs.Prelude.{◌≡◌, ◌+◌, ◌<◌, ◌≤◌, ◌↔◌, ℕ, suc, [], ◌∷◌, ◌++◌, true, false, take, drop, length, IfOk, IfSome, IfNone, IsTrue, slice_get, Some};
 ghost use Rattle.std.specs.List.{AllByRecursion};
 ghost use Rattle.rn_value.specs.declared.value.Value.{Value};
-ghost use Rattle.rn_bag.specs.Chunks.{Slots, HasRoom, IsChunk, tokens_of};
+ghost use Rattle.rn_bag.specs.Chunks.{Slots, HasRoom, IsChunk, tokens_in_chunk};
 ghost use Rattle.rn_bag.specs.Cuts.{AllBefore, NoneBelow, Ascends};
 ghost use Rattle.rn_bag.specs.Slots.{there_from};
 ghost use Rattle.rn_bag.specs.Words.{has_bit};
@@ -73,7 +73,7 @@ impl<'a> Chunk<'a> {
 
     /// How many tokens there are.
     pub(crate) fn count(&self) -> usize
-        ensures count { result ≡ length (tokens_of self.now) }
+        ensures count { result ≡ length (tokens_in_chunk self.now) }
         ensures bound { result ≤ ROOM }
     {
         self.count
@@ -134,7 +134,7 @@ impl<'a> Chunk<'a> {
 
     /// The slot of the token of this index, by halving over how many stand before a slot.
     fn slot_of(&self, index: usize) -> usize
-        requires { index < length (tokens_of self.now) }
+        requires { index < length (tokens_in_chunk self.now) }
         ensures inside { result < length self.now.values }
         ensures before { length (there_from (has_bit self.now.there) 0
             (take result self.now.values)) ≤ index }
@@ -157,8 +157,8 @@ impl<'a> Chunk<'a> {
 
     /// The token of this index.
     pub(crate) fn nth(&self, index: usize) -> &'a Value
-        requires { index < length (tokens_of self.now) }
-        ensures { slice_get (tokens_of self.now) index ≡ Some result.now }
+        requires { index < length (tokens_in_chunk self.now) }
+        ensures { slice_get (tokens_in_chunk self.now) index ≡ Some result.now }
     {
         let values = self.values();
         &values[self.slot_of(index)]
@@ -167,11 +167,11 @@ impl<'a> Chunk<'a> {
     /// Tokens that stand side by side in the slots, the first of which has this index. After them may
     /// come more.
     pub(crate) fn run_from(&self, index: usize) -> &'a [Value]
-        requires { index < length (tokens_of self.now) }
+        requires { index < length (tokens_in_chunk self.now) }
         ensures some { 0 < length result.now }
-        ensures bound { index + length result.now ≤ length (tokens_of self.now) }
+        ensures bound { index + length result.now ≤ length (tokens_in_chunk self.now) }
         ensures tokens { (k : ℕ) → k < length result.now →
-            slice_get (tokens_of self.now) (index + k) ≡ slice_get result.now k }
+            slice_get (tokens_in_chunk self.now) (index + k) ≡ slice_get result.now k }
     {
         let values = self.values();
         let slot = self.slot_of(index);
@@ -181,7 +181,7 @@ impl<'a> Chunk<'a> {
 
     /// Puts copies of the tokens after others.
     pub(crate) fn append_to(&self, alloc: Global, tokens: &mut Vec<Value>) -> Result<(), NoMemory>
-        ensures { IfOk result (λ _. tokens.new.items ≡ tokens.old.items ++ tokens_of self.now) }
+        ensures { IfOk result (λ _. tokens.new.items ≡ tokens.old.items ++ tokens_in_chunk self.now) }
     {
         copy_there(alloc, self.values(), self.there(), 0, tokens)
     }

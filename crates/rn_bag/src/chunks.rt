@@ -1,6 +1,6 @@
 //! The chunks of a bag, which contracts see as a list of chunks.
 ghost use Rattle.std.specs.Prelude.{◌≡◌, ◌+◌, ◌*◌, ◌^◌, ◌<◌, ◌≤◌, [], ◌∷◌, ◌++◌, length, take, drop, suc, set, slice_index_or as get_or, IfOk, OnOk, OnErr};
-ghost use Rattle.rn_bag.specs.Chunks.{Slots, HasRoom, IsChunk, tokens_of};
+ghost use Rattle.rn_bag.specs.Chunks.{Slots, HasRoom, IsChunk, tokens_in_chunk};
 ghost use Rattle.rn_bag.specs.Tags.{IsFull};
 
 use crate::chunk::Chunk;
@@ -90,7 +90,7 @@ impl Chunks {
     /// How many tokens the chunk of an index has.
     pub(crate) fn count(&self, index: usize) -> usize
         requires { index < length self.now }
-        ensures count { (x : Slots) → x ≡ get_or self.now index x → result ≡ length (tokens_of x) }
+        ensures count { (x : Slots) → x ≡ get_or self.now index x → result ≡ length (tokens_in_chunk x) }
         ensures bound { result ≤ ROOM }
         ensures small { ROOM * length self.now < 2 ^ 64 }
     {

@@ -1,7 +1,7 @@
 //! Changes of one chunk among others.
 ghost use Rattle.std.specs.Prelude.{◌≡◌, ◌<◌, ◌≤◌, suc, [], ◌∷◌, ◌++◌, true, false, length, take, drop, slice_index_or, slice_get, Some, OnOk, OnErr, ◌+◌};
 ghost use Rattle.rn_value.specs.declared.value.Value.{Value};
-ghost use Rattle.rn_bag.specs.Chunks.{Slots, AreSound, Replaces, tokens_of, tokens_in, values_in};
+ghost use Rattle.rn_bag.specs.Chunks.{Slots, AreSound, Replaces, tokens_in_chunk, tokens_in, values_in};
 ghost use Rattle.rn_bag.specs.Cuts.{AllBefore, NoneBefore, Ascends};
 ghost use Rattle.rn_bag.specs.declared.cut.Cut.TheVariants.{UpTo};
 ghost use Rattle.rn_bag.specs.SlotIndices.{tokens_before, tokens_after, values_before, values_after};
@@ -164,7 +164,7 @@ fn replace(
 fn put_after(chunks: &mut Chunks, alloc: Global, at: usize, value: Value) -> Result<(), NoMemory>
     requires at { at < length chunks.old }
     ensures ok { OnOk result ((x : Slots) → x ≡ slice_index_or chunks.old at x →
-        tokens_of x ≡ x.values → Replaces chunks.old at (x.values ++ value ∷ []) chunks.new) }
+        tokens_in_chunk x ≡ x.values → Replaces chunks.old at (x.values ++ value ∷ []) chunks.new) }
     ensures err { OnErr result (chunks.new ≡ chunks.old) }
 {
     let mut tokens = Vec::with_capacity(alloc, 1)?;

@@ -6,7 +6,7 @@ use rn_agree::{child_index, node_index};
 use rn_growing::Site;
 use rn_model::{Binding, Downlink, Expr, Node, System, find_transition};
 
-/// The caller of a node, told by its index, and the downlink that calls.
+/// The caller of a node, given by its index, and the downlink that calls.
 #[derive(Drop)]
 pub(crate) struct Call<'a> {
     pub(crate) caller: usize,

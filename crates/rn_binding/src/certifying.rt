@@ -8,7 +8,7 @@ use rn_agree::{does_agree, has_shape};
 use rn_model::{Binding, System};
 use std::alloc::Global;
 
-/// Certifies a binding for a system and a depth, or tells the first that it lacks. It may be any
+/// Certifies a binding for a system and a depth, or returns the first that it lacks. It may be any
 /// binding, also of numbers that nothing has.
 pub fn certify(
     alloc: Global,

@@ -10,13 +10,14 @@ use crate::headed::{Headed, headed_of};
 use crate::part::Part;
 use crate::parts::parts_of;
 use crate::propagating::propagate;
-use rn_growing::{Growing, Room};
+use rn_growing::{Growing, GrowingRoom};
 use rn_model::{Binding, System};
 use rn_value::NoMemory;
 use std::alloc::Global;
 
-// Tries items one after another, each told by its index and the last of them first, and gives those
-// that are left in the order in which they were tried. So a pass over these goes the other way.
+// Tries items one after another, each given by its index and the last of them first, and gives
+// those that are left in the order in which they were tried. So a pass over these goes the other
+// way.
 fn pass(
     alloc: Global,
     system: &System,
@@ -142,7 +143,7 @@ pub(crate) fn is_derived(
     let headed = headed_of(alloc, binding.nodes.as_slice())?;
     let headed = headed.as_slice();
     let parts = parts_of(alloc, system, headed)?;
-    let room = Room::with_room(alloc, parts.len())?;
+    let room = GrowingRoom::with_room(alloc, parts.len())?;
     let mut growing = Growing::open_in(room, system);
     enter_start(alloc, system, binding, headed, &mut growing)?;
     if !bring_all(

@@ -1,6 +1,6 @@
 //! What happens to a binding while it grows, and what may follow at once.
 
-/// An item is in, told by its index, or a variable of a node is forced, told by the node's index
+/// An item is in, given by its index, or a variable of a node is forced, given by the node's index
 /// and its number.
 #[derive(Clone, Copy, Debug, PartialEq, Eq, PartialOrd, Ord)]
 pub(crate) enum Event {

@@ -14,7 +14,7 @@ use rn_model::{Binding, System};
 use rn_value::NoMemory;
 use std::alloc::Global;
 
-// Which events happened, and those of them whose edges are still to be followed. Each is told by
+// Which events happened, and those of them whose edges are still to be followed. Each is given by
 // the index of the first edge from it.
 #[derive(Drop)]
 struct Agenda {

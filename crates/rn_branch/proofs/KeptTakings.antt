@@ -17,7 +17,7 @@ use Rattle.rn_growing.specs.Decisions.{transition_in}
 use Rattle.rn_growing.specs.Grown.{Grown, Tries}
 use Rattle.rn_growing.proofs.Growth.{either_at, some_equal, stands_at}
 use Rattle.rn_search.specs.Taking.{taken_so_far}
-use Rattle.rn_branch.specs.declared.takings.Takings.{Takings}
+use Rattle.rn_branch.specs.declared.takings.TakingCounts.{TakingCounts}
 use Rattle.rn_branch.specs.Takings.{AreTakings, Takes}
 use Rattle.rn_branch.proofs.TakenTokens.{it_takes, taken_once_more, taken_sooner}
 
@@ -51,7 +51,7 @@ takes_one system d inst other place another v w one two =
     )
 
 -- of what is kept of a decision, the decisions up to all that is kept take so much
-pub kept_so_far : (system : System) (ds : List Decision) (t : Takings) (i n : ℕ) (d : Decision)
+pub kept_so_far : (system : System) (ds : List Decision) (t : TakingCounts) (i n : ℕ) (d : Decision)
     (inst : InstRef) (place : ℕ) (v : Value) → AreTakings system ds t →
     slice_get t.counts.items i ≡ Some n → slice_get ds i ≡ Some d → Takes system d inst place v →
     n ≤ count_of v (taken_so_far system inst place (take (length t.counts.items) ds))
@@ -62,10 +62,10 @@ kept_so_far system ds t i n d inst place v are there at takes =
     (omega (arith, low)) in
     omega (arith, some, more)
 
-module _ (system : System) (ds : List Decision) (t : Takings) (are : AreTakings system ds t)
+module _ (system : System) (ds : List Decision) (t : TakingCounts) (are : AreTakings system ds t)
   where
     -- one more decision that stands already
-    pub one_kept : (next : Takings) (d : Decision) (n : ℕ) →
+    pub one_kept : (next : TakingCounts) (d : Decision) (n : ℕ) →
         next.counts.items ≡ t.counts.items ++ n ∷ [] →
         slice_get ds (length t.counts.items) ≡ Some d →
         ((inst : InstRef) (place : ℕ) (v : Value) → Takes system d inst place v →
@@ -91,7 +91,7 @@ module _ (system : System) (ds : List Decision) (t : Takings) (are : AreTakings 
     }
 
     -- with how often what it takes was taken
-    pub next_kept : (next : Takings) (d : Decision) (inst : InstRef) (place : ℕ) (v : Value)
+    pub next_kept : (next : TakingCounts) (d : Decision) (inst : InstRef) (place : ℕ) (v : Value)
         (times n : ℕ) → next.counts.items ≡ t.counts.items ++ n ∷ [] → n ≤ times + 1 →
         length t.counts.items < length ds → d ≡ get_or ds (length t.counts.items) d →
         Takes system d inst place v →
@@ -111,7 +111,7 @@ module _ (system : System) (ds : List Decision) (t : Takings) (are : AreTakings 
         low (it_takes system d inst place v takes) in omega (arith, few, more)))))
 
     -- nothing is said of a decision
-    pub none_kept : (next : Takings) (d : Decision) → next.counts.items ≡ t.counts.items ++ 0 ∷ [] →
+    pub none_kept : (next : TakingCounts) (d : Decision) → next.counts.items ≡ t.counts.items ++ 0 ∷ [] →
         length t.counts.items < length ds → d ≡ get_or ds (length t.counts.items) d →
         AreTakings system ds next
     none_kept next d is within here =
@@ -119,7 +119,7 @@ module _ (system : System) (ds : List Decision) (t : Takings) (are : AreTakings 
         (λ inst place v takes. omega arith)
 
     -- where nothing changes
-    pub same_kept : (next : Takings) → next.counts.items ≡ t.counts.items →
+    pub same_kept : (next : TakingCounts) → next.counts.items ≡ t.counts.items →
         AreTakings system ds next
     same_kept next is = record {
       within = let room = are.within in let long = ap length is in omega (arith, room, long);
@@ -148,7 +148,7 @@ module _ (system : System) (ds : List Decision) (t : Takings) (are : AreTakings 
         in_front (z ∷ xs) ys (suc k) x low at = in_front xs ys k x (omega (arith, low)) at
 
     -- where decisions are taken back
-    pub kept_of_front : (next : Takings) (n : ℕ) → next.counts.items ≡ take n t.counts.items →
+    pub kept_of_front : (next : TakingCounts) (n : ℕ) → next.counts.items ≡ take n t.counts.items →
         n ≤ length ds → AreTakings system (take n ds) next
     kept_of_front next n is room = record {
       within = let cut = length-take-le n ds room in
@@ -179,7 +179,7 @@ module _ (system : System) (ds : List Decision) (t : Takings) (are : AreTakings 
             let low = rest.0 in (omega (arith, low), rest.1)
 
 -- as a branch keeps them
-pub takings_by_tries : (old new : Grown) (d : Decision) (t : Takings) (yes : Bool) →
+pub takings_by_tries : (old new : Grown) (d : Decision) (t : TakingCounts) (yes : Bool) →
     AreTakings old.system old.decisions t → Tries old d new yes →
     AreTakings new.system new.decisions t
 takings_by_tries old new d t true are tries =

@@ -39,7 +39,7 @@ use Rattle.rn_branch.specs.Parts.{part_of}
 use Rattle.rn_branch.specs.Finders.{IsKnownPart, IsPassed, IsFinder}
 use Rattle.rn_branch.proofs.Pushing.{none_offered}
 
--- what is told of a variable, which is a part of an arc's inscription
+-- what is returned of a variable, which is a part of an arc's inscription
 pub known_is : (g : Grown) (k : ℕ) (s : Finder) (i x : ℕ) (parts : List Expr)
     (told : Result (Option Value) NoMemory) → s.arc.now.inscription ≡ E.Tuple parts →
     slice_get parts i ≡ Some (E.Var x) → list_any (finds s.head.now.path k) g.decisions ≡ false →

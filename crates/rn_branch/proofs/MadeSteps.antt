@@ -28,7 +28,7 @@ use Rattle.rn_branch.specs.Making.{entered_by}
 use Rattle.rn_looking.proofs.ListsBeside.{zip_more, zip_last}
 use Rattle.rn_branch.proofs.MadeNodes.{made_of_them}
 
--- what is told of a variable
+-- what is returned of a variable
 abbrev pub Tells : Grown → List ℕ → ℕ → Option Value → Type 0
 Tells g path x told =
     (v : Value) → (told ≡ Some v) ↔ IsForcedTo g.system g.decisions (λ a. Some (a.var path x)) v

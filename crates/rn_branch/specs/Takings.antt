@@ -11,7 +11,7 @@ use Rattle.rn_growing.specs.declared.decision.Decision.{Decision}
 use Rattle.rn_growing.specs.declared.decision.Decision.TheVariants.{Found}
 use Rattle.rn_growing.specs.Decisions.{transition_in}
 use Rattle.rn_search.specs.Taking.{taken_so_far}
-use Rattle.rn_branch.specs.declared.takings.Takings.{Takings}
+use Rattle.rn_branch.specs.declared.takings.TakingCounts.{TakingCounts}
 
 -- A decision finds a token that its arc takes from a place of an instance.
 pub record Takes (system : System) (d : Decision) (inst : InstRef) (place : ℕ) (v : Value)
@@ -27,7 +27,7 @@ pub record Takes (system : System) (d : Decision) (inst : InstRef) (place : ℕ)
 
 -- Beside the first decisions stand numbers. What a decision takes, those up to it take at least so
 -- often.
-pub record AreTakings (system : System) (ds : List Decision) (t : Takings) : Type 0 where
+pub record AreTakings (system : System) (ds : List Decision) (t : TakingCounts) : Type 0 where
   pub within : length t.counts.items ≤ length ds
   pub each : (i n : ℕ) (d : Decision) (inst : InstRef) (place : ℕ) (v : Value) →
       slice_get t.counts.items i ≡ Some n → slice_get ds i ≡ Some d →

@@ -18,9 +18,9 @@ ghost use Rattle.rn_branch.specs.GoingOn.{IsNextOf};
 use crate::beginning::begun;
 use crate::made::binding_of;
 use crate::refusals::Refusals;
-use crate::room::Room;
+use crate::room::BranchRoom;
 use crate::settling::Settling;
-use crate::takings::Takings;
+use crate::takings::TakingCounts;
 use crate::testing::{Tests, forget_beyond};
 use crate::trying::is_vain;
 use crate::vain::{lacking_at, repeats_at};
@@ -58,7 +58,7 @@ pub struct Branch<'a> {
     repeated: bool,
 
     /// What the decisions take.
-    takings: Takings,
+    takings: TakingCounts,
 
     /// How the last alternatives of its point went.
     refusals: Refusals,
@@ -97,11 +97,11 @@ impl<'a> Branch<'a> {
         requires { HasFewCreations system.now }
         ensures { result ≡ record { system = system.now; decisions = [] } }
     {
-        Branch::open_in(alloc, Room::new(alloc), system, first)
+        Branch::open_in(alloc, BranchRoom::new(alloc), system, first)
     }
 
     /// The same, in the room of another branch.
-    pub fn open_in(alloc: Global, room: Room, system: &'a System, first: usize) -> Branch<'a>
+    pub fn open_in(alloc: Global, room: BranchRoom, system: &'a System, first: usize) -> Branch<'a>
         requires { HasFewCreations system.now }
         ensures { result ≡ record { system = system.now; decisions = [] } }
     {
@@ -112,7 +112,7 @@ impl<'a> Branch<'a> {
             last: None,
             tests: None,
             repeated: false,
-            takings: Takings::new(alloc),
+            takings: TakingCounts::new(alloc),
             refusals: Refusals::none(),
         }
     }
@@ -125,7 +125,7 @@ impl<'a> Branch<'a> {
     }
 
     /// Its room, for another branch.
-    pub fn into_room(self) -> Room {
+    pub fn into_room(self) -> BranchRoom {
         let Branch { growing, .. } = self;
         growing.into_room()
     }
@@ -353,7 +353,7 @@ impl<'a> Grows for Branch<'a> {
         )? {
             Some(decision) => {
                 let tests = self.tests.take();
-                let takings = mem::replace(&mut self.takings, Takings::new(self.alloc));
+                let takings = mem::replace(&mut self.takings, TakingCounts::new(self.alloc));
                 let made = self.growing.decide(self.alloc, decision)?;
                 self.tests = tests;
                 self.takings = takings;

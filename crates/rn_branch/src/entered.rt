@@ -8,7 +8,7 @@ use std::alloc::Global;
 
 /// The keys of the paths of the nodes that the first decisions enter.
 #[derive(Drop)]
-pub(crate) struct Entries {
+pub(crate) struct EnteredPaths {
     keys: Chains,
 }
 
@@ -40,10 +40,10 @@ fn is_child(path: &[u32], above: &[u32], i: usize) -> bool {
     path.len() == n.saturating_add(1) && path[n] as usize == i && path[..n] == above[..]
 }
 
-impl Entries {
+impl EnteredPaths {
     /// Of no decisions. It takes no memory.
-    pub(crate) fn new(alloc: Global) -> Entries {
-        Entries {
+    pub(crate) fn new(alloc: Global) -> EnteredPaths {
+        EnteredPaths {
             keys: Chains::new(alloc),
         }
     }

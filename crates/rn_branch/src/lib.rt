@@ -26,4 +26,4 @@ mod vain;
 
 pub use branch::Branch;
 pub use rn_looking::SHARES;
-pub use room::Room;
+pub use room::BranchRoom;

@@ -2,9 +2,9 @@
 //! Values that flow through calls force the next thing there, and a look would else go through all
 //! nodes to find it. It only decides which nodes are looked at first (`docs/SEARCH.md`, 'What it
 //! does next').
-use crate::entered::Entries;
+use crate::entered::EnteredPaths;
 use rn_growing::{Decision, Site, transition_in};
-use rn_looking::Kept;
+use rn_looking::Remembered;
 use rn_model::{Expr, System, Transition};
 use rn_value::NoMemory;
 use std::alloc::Global;
@@ -113,7 +113,7 @@ fn uplink_arg<'a>(
 fn calling_arg<'a>(
     system: &'a System,
     decisions: &[Decision],
-    entries: &Entries,
+    entries: &EnteredPaths,
     node: usize,
     j: usize,
 ) -> Option<(usize, &'a Expr)> {
@@ -139,7 +139,7 @@ fn calling_arg<'a>(
 fn reach_child(
     system: &System,
     decisions: &[Decision],
-    entries: &Entries,
+    entries: &EnteredPaths,
     path: &[u32],
     i: usize,
     j: usize,
@@ -158,7 +158,7 @@ fn reach_child(
 fn reach_children(
     system: &System,
     decisions: &[Decision],
-    entries: &Entries,
+    entries: &EnteredPaths,
     node: usize,
     x: u32,
     reached: &mut Reached,
@@ -184,7 +184,7 @@ fn reach_children(
 fn reach_caller(
     system: &System,
     decisions: &[Decision],
-    entries: &Entries,
+    entries: &EnteredPaths,
     node: usize,
     x: u32,
     reached: &mut Reached,
@@ -206,7 +206,12 @@ fn reach_caller(
 }
 
 // What the newest decision forces: variables of an inscription, of an equality or of an argument.
-fn put_newest(system: &System, decisions: &[Decision], entries: &Entries, reached: &mut Reached) {
+fn put_newest(
+    system: &System,
+    decisions: &[Decision],
+    entries: &EnteredPaths,
+    reached: &mut Reached,
+) {
     let Some(newest) = decisions.last() else {
         return;
     };
@@ -226,7 +231,12 @@ fn put_newest(system: &System, decisions: &[Decision], entries: &Entries, reache
 }
 
 // What a node that was entered may force: what its caller calls it with.
-fn put_entered(system: &System, decisions: &[Decision], entries: &Entries, reached: &mut Reached) {
+fn put_entered(
+    system: &System,
+    decisions: &[Decision],
+    entries: &EnteredPaths,
+    reached: &mut Reached,
+) {
     let node = decisions.len().saturating_sub(1);
     let Some(transition) = transition_at(system, decisions, node) else {
         return;
@@ -260,7 +270,7 @@ fn put_found(
 fn put_computed(
     system: &System,
     decisions: &[Decision],
-    entries: &Entries,
+    entries: &EnteredPaths,
     node: usize,
     site: Site,
     reached: &mut Reached,
@@ -296,8 +306,8 @@ pub(crate) fn begin_near(
     alloc: Global,
     system: &System,
     decisions: &[Decision],
-    entries: &mut Entries,
-    kept: &mut Kept,
+    entries: &mut EnteredPaths,
+    kept: &mut Remembered,
 ) -> Result<(), NoMemory> {
     if !kept.is_asked() {
         return Ok(());

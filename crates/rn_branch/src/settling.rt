@@ -11,14 +11,14 @@ ghost use Rattle.rn_looking.specs.Branches.{IsBranchOf};
 ghost use Rattle.rn_looking.specs.Looks.{Looked};
 ghost use Rattle.rn_looking.specs.Things.{IsOfEntries};
 
-use crate::entered::Entries;
+use crate::entered::EnteredPaths;
 use crate::reached::begin_near;
-use crate::room::Room;
+use crate::room::BranchRoom;
 use rn_binding::{Application, applications_of};
 use rn_choices::Next;
 use rn_growing::{Decision, Growing, transition_in};
 use rn_items::Items;
-use rn_looking::{Kept, Look, Tested, TextChoice, look_at_all};
+use rn_looking::{Look, Remembered, Tested, TextChoice, look_at_all};
 use rn_model::System;
 use rn_search::{Point, Problem};
 use rn_value::NoMemory;
@@ -41,7 +41,7 @@ pub(crate) struct Settling<'a> {
     applications: Vec<Items<Application<'a>>>,
 
     /// What looks keep for those that follow.
-    kept: Kept,
+    kept: Remembered,
 
     /// Of how many nodes guards and arcs were known to hold before each decision.
     tested_before: Vec<Tested>,
@@ -50,7 +50,7 @@ pub(crate) struct Settling<'a> {
     choices: Vec<(usize, TextChoice)>,
 
     /// The nodes that were entered, where that was asked for.
-    entries: Entries,
+    entries: EnteredPaths,
 }
 
 impl<'a> Model for Settling<'a> {
@@ -81,11 +81,11 @@ impl<'a> Model for Settling<'a> {
 
 impl<'a> Settling<'a> {
     /// Nothing is decided. It is in the room of another one, and takes no memory.
-    pub(crate) fn open_in(alloc: Global, room: Room, system: &'a System) -> Settling<'a>
+    pub(crate) fn open_in(alloc: Global, room: BranchRoom, system: &'a System) -> Settling<'a>
         requires { HasFewCreations system.now }
         ensures { result ≡ record { system = system.now; decisions = [] } }
     {
-        let Room {
+        let BranchRoom {
             growing,
             before,
             tested_before,
@@ -98,7 +98,7 @@ impl<'a> Settling<'a> {
             settled: 0,
             before,
             applications: Vec::new(alloc),
-            kept: Kept::none(),
+            kept: Remembered::none(),
             tested_before,
             choices,
             entries,
@@ -107,7 +107,7 @@ impl<'a> Settling<'a> {
 
     /// Its room, for another one. The operator applications are of its system, so their vector
     /// isn't kept.
-    pub(crate) fn into_room(self) -> Room {
+    pub(crate) fn into_room(self) -> BranchRoom {
         let Settling {
             growing,
             mut before,
@@ -120,7 +120,7 @@ impl<'a> Settling<'a> {
         tested_before.clear();
         choices.clear();
         entries.truncate(0);
-        Room {
+        BranchRoom {
             growing: growing.into_room(),
             before,
             tested_before,
@@ -293,7 +293,7 @@ fn note_choice(choices: &mut Vec<(usize, TextChoice)>, decisions: &[Decision], l
 }
 
 // The choices that were met after so many decisions were gone through in vain.
-fn fail_beyond(choices: &mut Vec<(usize, TextChoice)>, kept: &mut Kept, count: usize) {
+fn fail_beyond(choices: &mut Vec<(usize, TextChoice)>, kept: &mut Remembered, count: usize) {
     for _ in 0..choices.len() {
         let Some(last) = choices.as_slice().last() else {
             return;

@@ -10,7 +10,7 @@ ghost use Rattle.rn_branch.specs.Takings.{AreTakings};
 
 use crate::offer::Offer;
 use crate::taking::{MANY, Taking, takes_it, takes_token};
-use crate::takings::Takings;
+use crate::takings::TakingCounts;
 use rn_growing::{Decision, Growing};
 use rn_model::System;
 use rn_search::Problem;
@@ -36,7 +36,7 @@ fn times_by_all(
     alloc: Global,
     system: &System,
     decisions: &[Decision],
-    takings: &mut Takings,
+    takings: &mut TakingCounts,
     taking: &Taking<'_>,
 ) -> Result<usize, NoMemory>
     requires { AreTakings system.now decisions.now takings.old }
@@ -56,7 +56,7 @@ pub(crate) fn is_taken_up(
     alloc: Global,
     problem: &Problem<'_>,
     growing: &Growing<'_>,
-    takings: &mut Takings,
+    takings: &mut TakingCounts,
     offer: &Offer<'_>,
 ) -> Result<bool, NoMemory>
     requires system { growing.now.system ≡ problem.now.system }

@@ -1,5 +1,5 @@
 //! What decisions take, found by instance, place and token. Beside each decision stands how often
-//! those up to it take that token, so the last that takes it tells the number, and not all are gone
+//! those up to it take that token, so the last that takes it gives the number, and not all are gone
 //! through. What is kept is cut off with the decisions that are taken back (`docs/SEARCH.md`, 'A
 //! binding grows by decisions').
 ghost use Rattle.std.specs.Prelude.{◌≡◌, ◌<◌, ◌≤◌, ◌+◌, ◌++◌, ◌∷◌, [], IfSome, OnErr, OnOk};
@@ -18,7 +18,7 @@ use std::alloc::Global;
 
 /// What the first decisions take.
 #[derive(Drop)]
-pub(crate) struct Takings {
+pub(crate) struct TakingCounts {
     /// The key of what each takes.
     keys: Chains,
 
@@ -26,12 +26,12 @@ pub(crate) struct Takings {
     counts: Vec<usize>,
 }
 
-impl Takings {
+impl TakingCounts {
     /// Of no decisions. It takes no memory.
-    pub(crate) fn new(alloc: Global) -> Takings
+    pub(crate) fn new(alloc: Global) -> TakingCounts
         ensures { length result.counts.items ≡ 0 }
     {
-        Takings {
+        TakingCounts {
             keys: Chains::new(alloc),
             counts: Vec::new(alloc),
         }

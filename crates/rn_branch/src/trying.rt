@@ -12,7 +12,7 @@ ghost use Rattle.rn_branch.specs.Testing.{AreKept};
 
 use crate::offer::offer_at;
 use crate::taken_up::is_taken_up;
-use crate::takings::Takings;
+use crate::takings::TakingCounts;
 use crate::testing::{Tests, fails_kept, keep_tests};
 use rn_growing::Growing;
 use rn_model::Expr;
@@ -27,7 +27,7 @@ fn is_vain_token(
     problem: &Problem<'_>,
     growing: &Growing<'_>,
     kept: &mut Option<Tests>,
-    takings: &mut Takings,
+    takings: &mut TakingCounts,
     node: usize,
     k: usize,
     from: usize,
@@ -79,7 +79,7 @@ pub(crate) fn is_vain(
     problem: &Problem<'_>,
     growing: &Growing<'_>,
     kept: &mut Option<Tests>,
-    takings: &mut Takings,
+    takings: &mut TakingCounts,
     site: Point,
     a: usize,
     again: bool,

@@ -2,7 +2,7 @@
 ghost use Rattle.rn_desk.specs.Passes.{IsBack};
 
 use rn_desk::{Closed, Desk, Kept, Pass, close, open_desk};
-use rn_desk_uses::{Line, Sheet, Sight, look, look_all, write_note, write_sheet};
+use rn_desk_uses::{Line, PassSight, Sheet, look, look_all, write_note, write_sheet};
 use std::sync::Wait;
 use std::test::Fail;
 
@@ -86,9 +86,9 @@ fn passes_look_side_by_side(rt: HostRuntime) -> Result<(), Fail> {
     let (desk, mut passes) = open_desk(rt.alloc(), Sheet::new(rt.alloc(), 7), 2)?;
     let pass = passes.remove(0);
     let mut sights = Vec::with_capacity(rt.alloc(), 2)?;
-    sights.push(Sight { pass, entries: 9 })?;
+    sights.push(PassSight { pass, entries: 9 })?;
     let pass = passes.remove(0);
-    sights.push(Sight { pass, entries: 9 })?;
+    sights.push(PassSight { pass, entries: 9 })?;
     look_all(&rt, &desk, sights.as_mut_slice());
     for sight in &sights {
         assert_eq!(rt; sight.entries, 0);

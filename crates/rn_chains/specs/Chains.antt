@@ -12,7 +12,7 @@ pub record IsUpToLast (IsSo : ℕ → Type 0) (keys : List ℕ) (n told : ℕ) :
 abbrev pub InBucket : ℕ → ℕ → ℕ → Type 0
 InBucket buckets key k = k % buckets ≡ key % buckets
 
--- each key tells the last before it that is in its bucket
+-- each key gives the last before it that is in its bucket
 abbrev pub AreLinked : ℕ → List ℕ → List ℕ → Type 0
 AreLinked buckets keys befores = (i : ℕ) → i < length keys →
     IsUpToLast (InBucket buckets (get_or keys i 0)) keys i (get_or befores i 0)

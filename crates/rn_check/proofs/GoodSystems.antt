@@ -46,7 +46,7 @@ use Rattle.rn_declared.specs.Channels.{same_channel, channel_faults, channels_fa
 use Rattle.rn_rules.specs.Systems.{scope_of}
 use Rattle.rn_rules.specs.Systems.{net_faults, system_faults, text_start}
 use Rattle.rn_numbered.specs.Numbered.{kind_of, value_of, capacity_of}
-use Rattle.rn_numbering.specs.Numbering.{transition_of, net_of, system_of}
+use Rattle.rn_numbering.specs.Numbering.{transition_of, numbered_net_of, system_of}
 use Rattle.rn_spelled.specs.WellFormed.{IsShallowKind, IsWellFormed, IsWellFormedChannel}
 use Rattle.rn_spelled.specs.WellFormed.{IsWellFormedNet, IsWellFormedVar, IsWellFormedPlace}
 use Rattle.rn_spelled.specs.WellFormed.{IsWellFormedTransition}
@@ -264,7 +264,7 @@ module _ (plain : Plain) where
 
   -- where a net that is named `main` was before, none is later
   none_later : (before : List (List ℕ)) (nets : List PNet) → IsIn before main →
-      names_faults before (map name_of nets) ≡ [] → tally is_main (map (net_of plain) nets) ≡ 0
+      names_faults before (map name_of nets) ≡ [] → tally is_main (map (numbered_net_of plain) nets) ≡ 0
   unfolding tally
   none_later before [] there none = refl
   none_later before (net ∷ nets) there none =
@@ -278,9 +278,9 @@ module _ (plain : Plain) where
     where
       by : (b : Bool) → same_name net.name.text main ≡ b →
           list_any (λ declared. same_name declared net.name.text) before ≡ false →
-          tally is_main (map (net_of plain) nets) ≡ 0 →
-          cond b (1 + tally is_main (map (net_of plain) nets))
-          (tally is_main (map (net_of plain) nets)) ≡ 0
+          tally is_main (map (numbered_net_of plain) nets) ≡ 0 →
+          cond b (1 + tally is_main (map (numbered_net_of plain) nets))
+          (tally is_main (map (numbered_net_of plain) nets)) ≡ 0
       by true here new rest =
           let same = same_texts net.name.text main here in
           let again = subst (IsIn before) (sym same) there in
@@ -290,7 +290,7 @@ module _ (plain : Plain) where
   one_main : (before : List (List ℕ)) (nets : List PNet) →
       names_faults before (map name_of nets) ≡ [] →
       list_any (λ net. same_name net.name.text main) nets ≡ true →
-      tally is_main (map (net_of plain) nets) ≡ 1
+      tally is_main (map (numbered_net_of plain) nets) ≡ 1
   unfolding tally
   one_main before [] none there = absurd (let no : ⊥ = cc in no)
   one_main before (net ∷ nets) none there =
@@ -305,18 +305,18 @@ module _ (plain : Plain) where
       by : (b : Bool) → same_name net.name.text main ≡ b →
           (same_name net.name.text main || list_any (λ net. same_name net.name.text main) nets) ≡
           true →
-          (same_name net.name.text main ≡ true → tally is_main (map (net_of plain) nets) ≡ 0) →
+          (same_name net.name.text main ≡ true → tally is_main (map (numbered_net_of plain) nets) ≡ 0) →
           (list_any (λ net. same_name net.name.text main) nets ≡ true →
-          tally is_main (map (net_of plain) nets) ≡ 1) →
-          cond b (1 + tally is_main (map (net_of plain) nets))
-          (tally is_main (map (net_of plain) nets)) ≡ 1
+          tally is_main (map (numbered_net_of plain) nets) ≡ 1) →
+          cond b (1 + tally is_main (map (numbered_net_of plain) nets))
+          (tally is_main (map (numbered_net_of plain) nets)) ≡ 1
       by true here there zero later = let rest = zero here in omega (arith, rest)
       by false here there zero later =
           later (sym (ap (λ b. b || list_any (λ net. same_name net.name.text main) nets) here) ∙
           there)
 
   net_good : (net : PNet) → net_faults plain net ≡ [] → IsWellFormedNet net →
-      length net.name.text ≤ longest_name → IsGoodNet (system_of plain) (net_of plain net)
+      length net.name.text ≤ longest_name → IsGoodNet (system_of plain) (numbered_net_of plain net)
   net_good net none good short =
       let a = declared_faults most_vars (map (λ v. v.name) net.vars) in
       let b = flat_map (λ v. kind_faults v.kind) net.vars in
@@ -357,8 +357,8 @@ module _ (plain : Plain) where
             (each_weaker _ (λ p. IsGoodPlace (place_of p))
             (λ p h. place_good p h.1.0 h.1.1 h.0) net.places places));
         transitions = All-from_recursion _ (map made net.transitions)
-            (each_map (IsGoodTransition (system_of plain) (net_of plain net)) made net.transitions
-            (each_weaker _ (λ t. IsGoodTransition (system_of plain) (net_of plain net) (made t))
+            (each_map (IsGoodTransition (system_of plain) (numbered_net_of plain net)) made net.transitions
+            (each_weaker _ (λ t. IsGoodTransition (system_of plain) (numbered_net_of plain net) (made t))
             (λ t h. is_good plain net t h.1.0 h.1.1 h.0) net.transitions transitions));
         vars_distinct = declared_apart (λ (v : PVar). v.name) var_of (λ v. v.name) (λ v. refl)
             most_vars net.vars n1.0;
@@ -386,7 +386,7 @@ module _ (plain : Plain) where
       let n3 = both_nil ((a ++ b) ++ c) d n4.0 in
       let n2 = both_nil (a ++ b) c n3.0 in
       let n1 = both_nil a b n2.0 in
-      let made = net_of plain in
+      let made = numbered_net_of plain in
       let names = names_faults [] (map name_of plain.nets) in
       let apart = (both_nil names
       (past_limit most_nets (map (λ name. name.spot) (map name_of plain.nets)))

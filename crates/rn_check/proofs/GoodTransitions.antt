@@ -34,7 +34,7 @@ use Rattle.rn_rules.specs.Actions.{set_names}
 use Rattle.rn_rules.specs.Transitions.{inscriptions_faults, at_first, transition_faults}
 use Rattle.rn_rules.specs.Systems.{scope_of}
 use Rattle.rn_numbered.specs.Numbered.{Numbers}
-use Rattle.rn_numbering.specs.Numbering.{numbers_of, net_of, system_of, transition_of}
+use Rattle.rn_numbering.specs.Numbering.{numbers_of, numbered_net_of, system_of, transition_of}
 use Rattle.rn_numbered.specs.Numbered.{inscribed, equality_of, guard_of}
 use Rattle.rn_occurring.specs.TransitionVars.{is_among}
 use Rattle.rn_numbered.specs.Numbered.{action_of, creation_of, uplink_of, downlink_of, arc_of}
@@ -284,9 +284,9 @@ module _ (plain : Plain) (net : PNet) (t : PTransition) where
           base.creations creations);
     }
 
-    counted : AllByRecursion (IsCounted (net_of plain net) made) base.arcs
+    counted : AllByRecursion (IsCounted (numbered_net_of plain net) made) base.arcs
     counted =
-        each_weaker (Facts.Counted plain net sets declared) (IsCounted (net_of plain net) made)
+        each_weaker (Facts.Counted plain net sets declared) (IsCounted (numbered_net_of plain net) made)
         (λ arc has kind held. elim (has kind) [
           | inl none ↦ none
           | inr free ↦
@@ -311,7 +311,7 @@ module _ (plain : Plain) (net : PNet) (t : PTransition) where
         omega (arith, limit, parts, one, forms, spots)
 
     pub is_good : length t.name.text ≤ longest_name →
-        IsGoodTransition (system_of plain) (net_of plain net) made
+        IsGoodTransition (system_of plain) (numbered_net_of plain net) made
     is_good short = record {
       name = (good.name, short);
       its_vars = has_its_vars (length net.vars) base below;
@@ -330,5 +330,5 @@ module _ (plain : Plain) (net : PNet) (t : PTransition) where
           (each_weaker Fine (λ e. IsTrue (expr_narrow e)) (λ e f. f.narrow) (all_exprs base)
           all_fine);
       many = few;
-      counted = All-from_recursion (IsCounted (net_of plain net) made) made.arcs counted;
+      counted = All-from_recursion (IsCounted (numbered_net_of plain net) made) made.arcs counted;
     }

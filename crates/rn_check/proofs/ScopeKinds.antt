@@ -28,7 +28,7 @@ use Rattle.rn_declared.specs.Names.{same_name, number_among}
 use Rattle.rn_rules.specs.Systems.{scope_of}
 use Rattle.rn_declared.specs.Channels.{channel_from, same_channel}
 use Rattle.rn_numbered.specs.Numbered.{kind_of, value_of, capacity_of}
-use Rattle.rn_numbering.specs.Numbering.{net_of, system_of, numbers_of}
+use Rattle.rn_numbering.specs.Numbering.{numbered_net_of, system_of, numbers_of}
 use Rattle.rn_numbered.proofs.NumberLemmas.{number_below}
 use Rattle.rn_check.proofs.DeclaredKinds.{gives_itself}
 
@@ -127,13 +127,13 @@ module _ (plain : Plain) (net : PNet) where
   pub the_var : (name : List ℕ) (p : Pattern) →
       (scope_of plain net).pattern_of_var name ≡ Some p →
       (v : PVar) × (pattern_of v.kind ≡ p)
-      × (var_kind_in (net_of plain net) ((numbers_of plain net).var name) ≡ kind_of v.kind)
+      × (var_kind_in (numbered_net_of plain net) ((numbers_of plain net).var name) ≡ kind_of v.kind)
   the_var name p e =
       let found = found_at (λ v. pattern_of v.kind) net.vars
       (number_among (map (λ v. v.name.text) net.vars) name) p e in (
         found.1,
         found.4,
-        ap (λ o. var_kind_in (net_of plain net) (unwrap_or o 0)) found.2
+        ap (λ o. var_kind_in (numbered_net_of plain net) (unwrap_or o 0)) found.2
             ∙ ap (λ o. option_map_or (λ var. var.kind) o unkinded)
             (slice_get-map var_of net.vars found.0 ∙ ap (option_map var_of) found.3),
       )
@@ -141,14 +141,14 @@ module _ (plain : Plain) (net : PNet) where
   pub the_place : (name : List ℕ) (p : Pattern) →
       (scope_of plain net).pattern_of_place name ≡ Some p →
       (place : PPlace) × (pattern_of place.kind ≡ p)
-      × (place_kind_in (net_of plain net) ((numbers_of plain net).place name) ≡ kind_of place.kind)
+      × (place_kind_in (numbered_net_of plain net) ((numbers_of plain net).place name) ≡ kind_of place.kind)
       × ((numbers_of plain net).place name < length net.places)
   the_place name p e =
       let found = found_at (λ v. pattern_of v.kind) net.places
       (number_among (map (λ v. v.name.text) net.places) name) p e in (
         found.1,
         found.4,
-        ap (λ o. place_kind_in (net_of plain net) (unwrap_or o 0)) found.2
+        ap (λ o. place_kind_in (numbered_net_of plain net) (unwrap_or o 0)) found.2
             ∙ ap (λ o. option_map_or (λ place. place.kind) o unkinded)
             (slice_get-map place_of net.places found.0 ∙ ap (option_map place_of) found.3),
         subst (λ o. unwrap_or o 0 < length net.places) (sym found.2)
@@ -159,7 +159,7 @@ module _ (plain : Plain) (net : PNet) where
   pub no_capacity : (name : List ℕ) (p : Pattern) →
       (scope_of plain net).pattern_of_place name ≡ Some p →
       (scope_of plain net).has_capacity name ≡ false →
-      capacity_in (net_of plain net) ((numbers_of plain net).place name) ≡ None
+      capacity_in (numbered_net_of plain net) ((numbers_of plain net).place name) ≡ None
   no_capacity name p e none =
       let found = found_at (λ v. pattern_of v.kind) net.places
       (number_among (map (λ v. v.name.text) net.places) name) p e in
@@ -170,14 +170,14 @@ module _ (plain : Plain) (net : PNet) where
       ∙ ap (λ o. unwrap_or o false)
       (slice_get-map is_capped net.places found.0 ∙ ap (option_map is_capped) found.3))
       ∙ none in
-      ap (λ o. capacity_in (net_of plain net) (unwrap_or o 0)) found.2
+      ap (λ o. capacity_in (numbered_net_of plain net) (unwrap_or o 0)) found.2
       ∙ ap (option_and_then (λ (place : Place). place.max))
       (slice_get-map place_of net.places found.0 ∙ ap (option_map place_of) found.3)
       ∙ ap capacity_of (none_there found.1.max capped)
 
   pub vars_are_known : (name : List ℕ) (p : Pattern) (k : Kind) →
       (scope_of plain net).pattern_of_var name ≡ Some p → gives_kind p k ≡ true →
-      same_kind (var_kind_in (net_of plain net) ((numbers_of plain net).var name)) k ≡ true
+      same_kind (var_kind_in (numbered_net_of plain net) ((numbers_of plain net).var name)) k ≡ true
   vars_are_known name p k e g =
       let v = the_var name p e in
       ap (λ kind. same_kind kind k) v.2 ∙ sym (gives_itself v.0.kind k)
@@ -185,7 +185,7 @@ module _ (plain : Plain) (net : PNet) where
 
   pub vars_are_seen : (name : List ℕ) (p : Pattern) (k : Kind) →
       (scope_of plain net).pattern_of_var name ≡ Some p →
-      same_kind (var_kind_in (net_of plain net) ((numbers_of plain net).var name)) k ≡ true →
+      same_kind (var_kind_in (numbered_net_of plain net) ((numbers_of plain net).var name)) k ≡ true →
       gives_kind p k ≡ true
   vars_are_seen name p k e h =
       let v = the_var name p e in

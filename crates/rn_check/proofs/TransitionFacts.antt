@@ -50,7 +50,7 @@ use Rattle.rn_rules.specs.Transitions.{after, in_action, in_output, elsewhere}
 use Rattle.rn_declared.specs.Names.{same_name, number_among}
 use Rattle.rn_rules.specs.Systems.{scope_of}
 use Rattle.rn_numbered.specs.Numbered.{Numbers, expr_of, cond_of, equality_of, guard_of}
-use Rattle.rn_numbering.specs.Numbering.{numbers_of, net_of}
+use Rattle.rn_numbering.specs.Numbering.{numbers_of, numbered_net_of}
 use Rattle.rn_numbered.specs.Numbered.{action_of, creation_of, uplink_of, downlink_of, arc_of}
 use Rattle.rn_numbered.specs.Numbered.{inscription_of}
 use Rattle.rn_occurring.specs.TransitionVars.{is_among}
@@ -352,7 +352,7 @@ module _ (plain : Plain) (net : PNet) where
     -- An action doesn't give the list whose elements an arc puts to a place with a capacity.
     abbrev pub Counted : NetArc → Type 0
     Counted arc = arc.kind ≡ FlexOutput →
-        (capacity_in (net_of plain net) arc.place ≡ None)
+        (capacity_in (numbered_net_of plain net) arc.place ≡ None)
         ⊎ AllByRecursion NotActed (vars_in arc.inscription)
 
     never_set : (p : Progress) → p.setter ≡ number_among sets → (name : List ℕ) →
@@ -382,7 +382,7 @@ module _ (plain : Plain) (net : PNet) where
         scope.has_capacity name.text ≡ capped →
         arc_faults FlexOutput o name (Some e) (in_output scope p) ≡ [] →
         counted_faults FlexOutput capped (Some e) (λ name. is_some (p.setter name)) ≡ [] →
-        (capacity_in (net_of plain net) (to.place name.text) ≡ None)
+        (capacity_in (numbered_net_of plain net) (to.place name.text) ≡ None)
         ⊎ AllByRecursion NotActed (vars_in (expr_of e to.var))
     counted p setter name e None known capped has none free =
         absurd (let no : ⊥ = cc in no)
@@ -401,7 +401,7 @@ module _ (plain : Plain) (net : PNet) where
         arc_faults kind (scope.pattern_of_place name.text) name e (arc_stands p kind) ≡ [] →
         counted_faults kind (scope.has_capacity name.text) e (λ name. is_some (p.setter name))
         ≡ [] → kind ≡ FlexOutput →
-        (capacity_in (net_of plain net) (to.place name.text) ≡ None)
+        (capacity_in (numbered_net_of plain net) (to.place name.text) ≡ None)
         ⊎ AllByRecursion NotActed (vars_in (inscription_of to e))
     arc_counted p setter kind name None none free flexible =
         let both = both_nil

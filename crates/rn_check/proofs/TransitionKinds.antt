@@ -61,7 +61,7 @@ use Rattle.rn_rules.specs.Transitions.{after, in_action, in_output, elsewhere, a
 use Rattle.rn_rules.specs.Transitions.{transition_faults}
 use Rattle.rn_rules.specs.Systems.{scope_of}
 use Rattle.rn_numbered.specs.Numbered.{Numbers, kind_of, expr_of, expr_of_form, cond_of}
-use Rattle.rn_numbering.specs.Numbering.{net_of}
+use Rattle.rn_numbering.specs.Numbering.{numbered_net_of}
 use Rattle.rn_numbering.specs.Numbering.{system_of, numbers_of}
 use Rattle.rn_numbered.specs.Numbered.{equality_of, guard_of, action_of}
 use Rattle.rn_numbered.specs.Numbered.{creation_of, uplink_of, downlink_of, arc_of, inscription_of}
@@ -149,7 +149,7 @@ module _ (plain : Plain) (net : PNet) where
   to = numbers_of plain net
 
   abbrev kinds : ℕ → Kind
-  kinds = var_kind_in (net_of plain net)
+  kinds = var_kind_in (numbered_net_of plain net)
 
   module _ (at : Where) (same : at.pattern_of_var ≡ scope.pattern_of_var) where
     -- an expression in which nothing is broken has each kind of its pattern
@@ -261,7 +261,7 @@ module _ (plain : Plain) (net : PNet) where
       let first = both_nil told typed none.0 in
       let parts = both_nil (broken_if (is_none (at.pattern_of_var var.text)) Rule.Known var.spot)
       (broken_if (not (at.may_stand var.text)) Rule.Actions var.spot) first.0 in (
-        subst (λ n. to.net name.text < n) (sym (length-map plain.nets (net_of plain)))
+        subst (λ n. to.net name.text < n) (sym (length-map plain.nets (numbered_net_of plain)))
             (the_net plain net name.text
             (holds (scope.is_net name.text) Rule.Known name.spot none.1)),
         net_var (at.pattern_of_var var.text) (sym (ap (λ f. f var.text) same))
@@ -299,7 +299,7 @@ module _ (plain : Plain) (net : PNet) where
       (name : PName) (o : Option Pattern) → scope.pattern_of_place name.text ≡ o →
       (e : Option PExpr) →
       arc_faults kind o name e at ≡ [] →
-      IsGoodArc (net_of plain net) kinds
+      IsGoodArc (numbered_net_of plain net) kinds
       (record { kind = kind; place = to.place name.text; inscription = inscription_of to e })
   unfolding inscribed_faults
   arc_good kind at same name o is None none =
@@ -411,7 +411,7 @@ module _ (plain : Plain) (net : PNet) where
   stands kind p true = refl
   stands kind p false = refl
 
-  arc_given : Gives (IsGoodArc (net_of plain net) kinds) (arc_of to)
+  arc_given : Gives (IsGoodArc (numbered_net_of plain net) kinds) (arc_of to)
   arc_given i p (I.Arc kind place e) none =
       let at = if is_output kind then in_output scope p else elsewhere scope p in
       let o = scope.pattern_of_place place.text in
@@ -437,7 +437,7 @@ module _ (plain : Plain) (net : PNet) where
   first_of_all Q (y ∷ ys) x all e = subst Q (same_Some y x e) all.0
 
   pub is_well_kinded : (t : PTransition) → transition_faults scope t ≡ [] →
-      IsWellKinded (system_of plain) (net_of plain net) kinds (transition_of plain net t)
+      IsWellKinded (system_of plain) (numbered_net_of plain net) kinds (transition_of plain net t)
   is_well_kinded t e =
       let is = t.inscriptions in
       let none = both_nil (inscriptions_faults scope (at_first is) is)

@@ -9,9 +9,9 @@ use Rattle.rn_model.specs.declared.system.System.{System}
 use Rattle.rn_model.specs.Good.{Good}
 use Rattle.rn_model.specs.Systems.{var_kind_in}
 use Rattle.rn_model.specs.Kinds.{HasExprKind}
-use Rattle.rn_declared.specs.Patterns.{Gives}
+use Rattle.rn_declared.specs.Patterns.{IsKindBy}
 use Rattle.rn_rules.specs.Expressions.{Where, seen_of}
-use Rattle.rn_numbering.specs.Numbering.{net_of, numbers_of}
+use Rattle.rn_numbering.specs.Numbering.{numbered_net_of, numbers_of}
 use Rattle.rn_numbered.specs.Numbered.{expr_of}
 use Rattle.rn_rules.specs.Systems.{scope_of}
 use Rattle.rn_check.specs.Checked.{Checked}
@@ -22,8 +22,8 @@ use Rattle.rn_spelled.specs.WellFormed.{IsWellFormed}
 abbrev pub CheckedExpressionsHaveKinds : Type 0
 CheckedExpressionsHaveKinds = (plain : Plain) (net : PNet) (at : Where) (e : PExpr) (kind : Kind) →
     at.pattern_of_var ≡ (scope_of plain net).pattern_of_var → (seen_of e at).faults ≡ [] →
-    Gives (seen_of e at).pattern kind
-    ↔ HasExprKind (var_kind_in (net_of plain net)) (expr_of e (numbers_of plain net).var) kind
+    IsKindBy (seen_of e at).pattern kind
+    ↔ HasExprKind (var_kind_in (numbered_net_of plain net)) (expr_of e (numbers_of plain net).var) kind
 
 -- A plain form that is well formed, and in which nothing is broken, means a good system.
 abbrev pub CheckedSystemsAreGood : Type 0

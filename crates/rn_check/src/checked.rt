@@ -26,7 +26,7 @@ pub fn check_system(alloc: Global, plain: Plain) -> Result<System, CheckFault>
     ensures accepted { IfOk result (λ system. Checked plain system) }
     ensures refused { (rule : Rule) (spot : Spot) → result ≡ Err (report_of rule spot) →
         BreaksFirst plain rule spot }
-    // Where no rule is broken the system is returned, and where one is the first is told.
+    // Where no rule is broken the system is returned, and where one is the first is reported.
     ensures accepts { (system : Made) → Checked plain system → Answers result (Ok system) }
     ensures refuses { (rule : Rule) (spot : Spot) → BreaksFirst plain rule spot →
         Answers result (Err (report_of rule spot)) }

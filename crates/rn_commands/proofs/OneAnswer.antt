@@ -36,7 +36,7 @@ caused (V4 n) has = λ is. let never : ⊥ = cc in never
 caused (V5 n) has = λ is. let never : ⊥ = cc in never
 caused (NoMemory _) has = absurd has
 
--- what is told of a verdict
+-- what is reported of a verdict
 same_told : (told other : Told) →
     Verdict.tells told.entries told.marks ≡ Verdict.tells other.entries other.marks → told ≡ other
 same_told told other is =

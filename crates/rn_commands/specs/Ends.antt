@@ -1,4 +1,4 @@
--- The end of a log, as the program tells it.
+-- The end of a log, as the program reports it.
 use Rattle.std.specs.Prelude.{ℕ, suc, ◌≡◌, List, [], Some, length, codes}
 use Rattle.rn_model.specs.declared.log.FaultKind.{FaultKind}
 use Rattle.rn_model.specs.declared.log.FaultKind.TheVariants.{Action, Instances}

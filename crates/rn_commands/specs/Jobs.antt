@@ -13,7 +13,7 @@ use Rattle.rn_commands.specs.Runs.{RunsTo}
 use Rattle.rn_commands.specs.LeastRuns.{RunsLeastTo}
 use Rattle.rn_commands.specs.Workloads.{GensTo}
 
--- a run has these options, what fires in it is picked so, and so it is told
+-- a run has these options, what fires in it is picked so, and so it is reported
 abbrev pub IsAskedBy : Options → Pick → Telling → Job → Type 0
 IsAskedBy options pick telling job =
     (job.options ≡ options) × (job.pick ≡ pick) × (job.telling ≡ telling)

@@ -24,7 +24,7 @@ OneAnswerToRecord = (format : ℕ) (system : System) (options : Options) (bytes 
     RecordTo format system options bytes b → a ≡ b
 
 -- Whatever `moves` comes to, `replay` comes to an answer with the same status and line. So the moves
--- of a record are told exactly where `replay` accepts it, unless memory runs out.
+-- of a record are listed exactly where `replay` accepts it, unless memory runs out.
 abbrev pub MovesGoWithReplay : Type 0
 MovesGoWithReplay = (options : Options) (bytes : List ℕ) (a : Answer) →
     MovesComeTo options bytes a →

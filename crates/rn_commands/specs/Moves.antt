@@ -14,7 +14,7 @@ use Rattle.rn_commands.specs.Parts.{HasParts}
 use Rattle.rn_commands.specs.Replaying.{IsNoRunBy, IsRecordOfRun}
 
 -- What `moves` comes to on a record: it isn't the text of a run, and is refused by the line by which
--- `replay` refuses it; or it is, and the text tells the moves of that run's log.
+-- `replay` refuses it; or it is, and the text lists the moves of that run's log.
 pub data RecordMovesTo (format : ℕ) (system : System) (options : Options) (bytes : List ℕ)
     : Answer → Type 0 where
   refused : (line : List ℕ) → IsNoRunBy format system options bytes line →

@@ -1,4 +1,4 @@
--- What `gen` tells of a run of the workload text.
+-- What `gen` reports of a run of the workload text.
 use Rattle.std.specs.Prelude.{ℕ, suc, ◌≡◌, ◌-◌, ◌↔◌, List, ◌++◌, Some, All, Contains, length, codes}
 use Rattle.std.specs.List.Sorted.{IsStrictlyIncreasing}
 use Rattle.rn_value.specs.Text.{numeral}
@@ -32,7 +32,7 @@ pub record CountsLive (system : System) (m : Marking) (count : ℕ) : Type 0 whe
   pub just : (n : ℕ) → Contains numbers n ↔ IsLive system m n
   pub counted : length numbers ≡ count
 
--- What `gen` comes to: it tells a run of the workload text of so many workers.
+-- What `gen` comes to: it reports a run of the workload text of so many workers.
 pub record GensTo (copies : ℕ) (options : Options) (a : Answer) : Type 0 where
   pub system : System
   pub accepted : Accepted (workload copies) system
@@ -55,6 +55,6 @@ IsTallyOf s text = (reason : Reason) × (live : ℕ) × (s.ended ≡ Some reason
     × CountsLive s.setup.system (end_marking s) live
     × (text ≡ tally_text (length s.fired) ((end_marking s).next - 1) live reason)
 
--- the answer of a run that is told in four lines
+-- the answer of a run that is reported in four lines
 abbrev pub IsTalliedBy : State → Answer → Type 0
 IsTalliedBy s a = IsTallyOf s a.text × IsClosedBy s a.status a.line

@@ -29,7 +29,7 @@ pub enum Pick {
     Least,
 }
 
-/// What is told of a run.
+/// What is reported of a run.
 #[derive(Clone, Copy, Debug, PartialEq, Eq)]
 pub enum Telling {
     /// Its record.
@@ -89,8 +89,8 @@ pub fn workload_job(
     })
 }
 
-/// Does a run that is due, and tells it. This may wait for the threads of its workers; all that comes
-/// before it doesn't wait.
+/// Does a run that is due, and reports it. This may wait for the threads of its workers; all that
+/// comes before it doesn't wait.
 pub fn run_job<R: Threads + Wait + Sync, G: Gate + Sync>(
     rt: &R,
     alloc: Global,

@@ -1,4 +1,4 @@
-//! The command `gen`: a run of the workload text, told in four lines.
+//! The command `gen`: a run of the workload text, reported in four lines.
 ghost use Rattle.std.specs.Prelude.{◌≡◌, ◌≢◌, ◌≤◌, ◌++◌, None, IfOk, IfSome, OnOk};
 ghost use Rattle.rn_items.specs.Memory.{no_memory};
 ghost use Rattle.rn_model.specs.Good.{Good, IsInLimits};

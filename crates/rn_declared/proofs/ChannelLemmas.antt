@@ -61,7 +61,7 @@ channel_more channels i x found more h is old step name count =
     ∙ sym (push 0 before x name count ∙ ap (or_number (channel_from 0 before name count) (same_channel x name count)) (zero-add (length before)))
     ∙ ap (λ cs. channel_from 0 cs name count) (sym all)
 
--- what is told of the next channel, and of those that are left
+-- what is reported of the next channel, and of those that are left
 pub channels_told_more : (channels : List PChannel) (i : ℕ) (x : PChannel) (found : List ℕ → ℕ → Option ℕ)
     (known : Option Fault) → i < length channels → x ≡ get_or channels i x →
     ((name : List ℕ) (count : ℕ) → found name count ≡ channel_from 0 (take i channels) name count) →

@@ -160,7 +160,7 @@ stays known (x ∷ xs) = go (counts_before x known) (stays x xs) (stays known xs
     go true one other = one
     go false one other = other
 
--- none was told exactly where there is none
+-- none was reported exactly where there is none
 pub none_iff : (faults : List Fault) → (first_from None faults ≡ None) ↔ (faults ≡ [])
 none_iff [] = ((λ e. refl), (λ e. refl))
 none_iff (x ∷ xs) = (
@@ -205,7 +205,7 @@ again_itself x xs =
     let all : IsFirstOf (x ∷ xs) some.0 = first_is (x ∷ xs) some.0 some.1 in
     ap (λ k. first_from k (x ∷ xs)) some.1 ∙ settled some.0 (x ∷ xs) all.first ∙ sym some.1
 
--- what was told once adds nothing when it is told again
+-- what was reported once adds nothing when it is reported again
 pub told_again : (known : Option Fault) (faults : List Fault) →
     first_from (first_from known faults) faults ≡ first_from known faults
 told_again None [] = refl

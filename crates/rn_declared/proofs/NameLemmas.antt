@@ -64,7 +64,7 @@ found_more names i x found more h is old step name =
     ∙ sym (push 0 before x.text name ∙ ap (or_number (number_among before name) (same_name x.text name)) (zero-add (length before)))
     ∙ ap (λ ns. number_among ns name) (sym all)
 
--- what is told of the next name, and of those that are left
+-- what is reported of the next name, and of those that are left
 pub names_told_more : (names : List PName) (i : ℕ) (x : PName) (found : List ℕ → Option ℕ)
     (known : Option Fault) → i < length names → x ≡ get_or names i x →
     ((name : List ℕ) → found name ≡ number_among (texts (take i names)) name) →

@@ -1,4 +1,4 @@
--- What is declared with a kind, and what is told of places.
+-- What is declared with a kind, and what is reported of places.
 use Rattle.std.proofs.Common.{◌≡◌, ℕ, ◌+◌, ◌-◌, length-append, List, [], ◌∷◌, ◌++◌, length, map, refl, sym, ap, ◌∙◌, arith, Option, Some}
 use Rattle.std.specs.Prelude.{flat_map, slice_get, not, Bool, false, is_some, unwrap_or}
 use Rattle.std.specs.Option.{option_and_then}
@@ -51,7 +51,7 @@ capacity_found places capped found are finds name =
     ap (λ o. unwrap_or o false)
     (kept_found (λ (p : PPlace). p.name) (λ (p : PPlace). is_some p.max) places capped found are finds name)
 
--- what is told of an initial token
+-- what is reported of an initial token
 pub token_told : (token : PConst) (pattern : Pattern) (spot : Spot) (known : Option Fault) →
     spot ≡ token.spot →
     first_from (first_from known (const_part token).faults)
@@ -72,7 +72,7 @@ token_spots (token ∷ tokens) =
     ap (λ s. s ∷ map (λ t. t.spot) tokens) (sym (const_spot token))
     ∙ ap (λ ss. (const_part token).spot ∷ ss) (token_spots tokens)
 
--- what is told of a place
+-- what is reported of a place
 pub place_told : (place : PPlace) (pattern : Pattern) (known : Option Fault) →
     pattern ≡ pattern_of place.kind →
     first_from

@@ -1,4 +1,4 @@
--- What is told of the elements of a list, one after another.
+-- What is reported of the elements of a list, one after another.
 use Rattle.std.proofs.Common.{◌≡◌, ℕ, ◌+◌, ◌<◌, List, [], ◌∷◌, ◌++◌, length, map, take, get_or, sym, ap, ◌∙◌, Option}
 use Rattle.std.proofs.Common.{append-nil, refl}
 use Rattle.std.proofs.lemmas.List.{take_more}
@@ -25,7 +25,7 @@ pub told_of_three : (a b c : List Fault) (known : Option Fault) →
 told_of_three a b c known =
     sym (first_from-append (a ++ b) c known ∙ ap (λ k. first_from k c) (first_from-append a b known))
 
--- what is told of one more
+-- what is reported of one more
 pub told_more : {X : Type 0} (faults : X → List Fault) (xs : List X) (i : ℕ) (x : X)
     (known : Option Fault) → i < length xs → x ≡ get_or xs i x →
     first_from (first_from known (flat_map faults (take i xs))) (faults x)
@@ -38,7 +38,7 @@ told_more faults xs i x known h is =
     ∙ ap (λ more. first_from known (flat_map faults (take i xs) ++ more)) (append-nil (faults x))
     ∙ first_from-append (flat_map faults (take i xs)) (faults x) known)
 
--- what is told of the parts of a tuple, which stand at these spots
+-- what is reported of the parts of a tuple, which stand at these spots
 pub parts_told : {X : Type 0} (part : X → Part) (spot : X → Spot) → ((x : X) → (part x).spot ≡ spot x) →
     (xs : List X) (known : Option Fault) →
     first_from (first_from known (flat_map (λ x. (part x).faults) xs)) (past_limit most_parts (map spot xs))

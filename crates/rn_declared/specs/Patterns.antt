@@ -24,8 +24,8 @@ gives_step _ _ = false
 abbrev pub gives_kind : Pattern → Kind → Bool
 gives_kind = fold-Pattern (Kind → Bool) (λ p kind. gives_step p (out-Kind kind))
 
-abbrev pub Gives : Pattern → Kind → Type 0
-Gives pattern kind = IsTrue (gives_kind pattern kind)
+abbrev pub IsKindBy : Pattern → Kind → Type 0
+IsKindBy pattern kind = IsTrue (gives_kind pattern kind)
 
 -- each test at the pattern at its index, where there are as many of both
 abbrev pub all_share : List (Pattern → Bool) → List Pattern → Bool

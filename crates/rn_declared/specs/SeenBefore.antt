@@ -8,8 +8,8 @@ use Rattle.rn_declared.specs.Faults.{first_from}
 use Rattle.rn_declared.specs.Patterns.{pattern_of}
 use Rattle.rn_declared.specs.Declarations.{kind_faults}
 
--- What is broken in its kind was told, so that it adds nothing, and the last of these patterns is
--- that of its kind.
+-- What is broken in its kind was reported, so that it adds nothing, and the last of these patterns
+-- is that of its kind.
 pub record WasSeen (known : Option Fault) (patterns : List Pattern) (var : PVar) : Type 0 where
   pub told : first_from known (kind_faults var.kind) ≡ known
   pub pattern : slice_get patterns (length patterns - 1) ≡ Some (pattern_of var.kind)

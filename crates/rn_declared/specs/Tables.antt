@@ -12,15 +12,15 @@ use Rattle.std.specs.Ordering.{nat_cmp}
 use Rattle.std.specs.Cmp.Lexicographic.{slice_cmp}
 use Rattle.std.specs.BTreeMap.{BTreeMap, get}
 use Rattle.rn_declared.specs.declared.pattern.Pattern.{Pattern}
-use Rattle.rn_declared.specs.declared.table.Table.{Table}
+use Rattle.rn_declared.specs.declared.table.NameTable.{NameTable}
 use Rattle.rn_declared.specs.declared.table.Declared.{Declared}
 use Rattle.rn_declared.specs.declared.table.DeclaredPlaces.{DeclaredPlaces}
-use Rattle.rn_declared.specs.declared.channels.Channels.{Channels}
+use Rattle.rn_declared.specs.declared.channels.DeclaredChannels.{DeclaredChannels}
 use Rattle.rn_declared.specs.Declarations.{kind_part, parts_faults}
 use Rattle.rn_declared.specs.Names.{same_name}
 
 -- the number that a table finds for a name
-abbrev pub found_in : Table → List ℕ → Option ℕ
+abbrev pub found_in : NameTable → List ℕ → Option ℕ
 found_in table name = get (slice_cmp nat_cmp) table.numbers name
 
 -- a number that was found, or else another where it is the same name
@@ -32,7 +32,7 @@ or_number None same number = if same then Some number else None
 abbrev pub with_name : (List ℕ → Option ℕ) → List ℕ → ℕ → List ℕ → Option ℕ
 with_name found name number other = or_number (found other) (same_name name other) number
 
--- what is told where a name is declared that was declared before or not
+-- what is reported where a name is declared that was declared before or not
 abbrev pub name_told : Bool → PName → List Fault
 name_told again name =
     broken_if (not (nat_le (length name.text) longest_name)) Rule.Limit name.spot
@@ -51,11 +51,11 @@ abbrev pub capped_in : DeclaredPlaces → List ℕ → Bool
 capped_in places name = capped_by places.capped (found_in places.declared.table name)
 
 -- the number that the tables find for a channel of a name with so many arguments
-abbrev pub number_in_tables : BTreeMap ℕ Table → List ℕ → ℕ → Option ℕ
+abbrev pub number_in_tables : BTreeMap ℕ NameTable → List ℕ → ℕ → Option ℕ
 number_in_tables tables name count =
     option_and_then (λ table. found_in table name) (get nat_cmp tables count)
 
--- what is told where a channel is declared that was declared before or not
+-- what is reported where a channel is declared that was declared before or not
 abbrev pub channel_told : Bool → PChannel → List Fault
 channel_told again channel =
     broken_if (not (nat_le (length channel.name.text) longest_name)) Rule.Limit channel.name.spot
@@ -63,7 +63,7 @@ channel_told again channel =
     ++ parts_faults (map kind_part channel.kinds)
 
 -- the patterns of the arguments of the channel that is found for a name and a number of arguments
-abbrev pub channel_in : Channels → List ℕ → ℕ → Option (List Pattern)
+abbrev pub channel_in : DeclaredChannels → List ℕ → ℕ → Option (List Pattern)
 channel_in channels name count =
     option_and_then (slice_get channels.patterns)
     (number_in_tables channels.tables name count)

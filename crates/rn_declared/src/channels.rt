@@ -1,4 +1,4 @@
-//! Declarations of channels: what is broken in them is told, and each gets its number.
+//! Declarations of channels: what is broken in them is reported, and each gets its number.
 ghost use Rattle.std.specs.Prelude.{◌≡◌, ◌++◌, ◌&&◌, ℕ, [], List, OnOk, IfOk, nat_eq, map, is_some, is_none, length, slice_get, option_copied};
 ghost use Rattle.std.specs.Option.{option_and_then};
 ghost use Rattle.rn_declared.specs.Faults.{first_from, past_limit};
@@ -14,7 +14,7 @@ use crate::first::First;
 use crate::kinds::see_kinds;
 use crate::located::tell_past;
 use crate::pattern::{Pattern, Patterns, patterns_of};
-use crate::table::Table;
+use crate::table::NameTable;
 use rn_items::Items;
 use rn_model::limits::{LONGEST_NAME, MOST_CHANNELS};
 use rn_net::PChannel;
@@ -24,12 +24,12 @@ use std::collections::BTreeMap;
 
 /// The channels, by their number of arguments and their name, with the patterns of the arguments.
 #[derive(Drop)]
-pub struct Channels {
-    pub tables: BTreeMap<usize, Table>,
+pub struct DeclaredChannels {
+    pub tables: BTreeMap<usize, NameTable>,
     pub patterns: Items<Patterns>,
 }
 
-impl Channels {
+impl DeclaredChannels {
     /// The patterns of the arguments of a channel.
     pub fn patterns(&self, name: &Str, count: usize) -> Option<&[Pattern]>
         ensures { option_copied result ≡ channel_in self.now name.now count }
@@ -53,7 +53,7 @@ fn declare_in(
     name: &Str,
     count: usize,
     number: usize,
-    tables: &mut BTreeMap<usize, Table>,
+    tables: &mut BTreeMap<usize, NameTable>,
 ) -> Result<bool, NoMemory>
     ensures new { IfOk result (λ new. new ≡ is_none (number_in_tables tables.old name.now count)) }
     ensures found { OnOk result ((other : List ℕ) (args : ℕ) →
@@ -62,7 +62,7 @@ fn declare_in(
 {
     let mut table = match tables.remove(&count) {
         Some(table) => table,
-        None => Table::new(alloc),
+        None => NameTable::new(alloc),
     };
     let new = table.declare(alloc, name, number)?;
     tables.insert(count, table)?;
@@ -74,7 +74,7 @@ fn declare(
     alloc: Global,
     channel: &PChannel,
     number: usize,
-    tables: &mut BTreeMap<usize, Table>,
+    tables: &mut BTreeMap<usize, NameTable>,
     first: &mut First,
 ) -> Result<(), NoMemory>
     ensures told { OnOk result (first.new.fault ≡ first_from first.old.fault
@@ -94,12 +94,12 @@ fn declare(
 }
 
 /// The channels that are declared here, each with the number of its first declaration. What is
-/// broken in the declarations is told.
+/// broken in the declarations is reported.
 pub fn declare_channels(
     alloc: Global,
     channels: &[PChannel],
     first: &mut First,
-) -> Result<Channels, NoMemory>
+) -> Result<DeclaredChannels, NoMemory>
     ensures told { OnOk result (first.new.fault ≡ first_from first.old.fault
         (channels_faults [] channels.now
         ++ past_limit most_channels (map (λ c. c.name.spot) channels.now))) }
@@ -115,5 +115,5 @@ pub fn declare_channels(
         patterns.push(patterns_of(alloc, channel.kinds.as_slice())?)?;
     }
     tell_past(channels, MOST_CHANNELS, first);
-    Ok(Channels { tables, patterns })
+    Ok(DeclaredChannels { tables, patterns })
 }

@@ -1,4 +1,4 @@
-//! The first of the faults that were told so far.
+//! The first of the faults that were reported so far.
 ghost use Rattle.std.specs.Prelude.{◌≡◌, None};
 ghost use Rattle.rn_declared.specs.Faults.{number_of, counts_before, first_with, first_from, broken};
 ghost use Rattle.rn_declared.specs.Faults.{broken_if, report_of};
@@ -66,15 +66,15 @@ impl Fault {
     }
 }
 
-/// The first of the faults that were told.
+/// The first of the faults that were reported.
 #[derive(Clone, Copy, Debug)]
 pub struct First {
-    /// The one that counts first, if any was told.
+    /// The one that counts first, if any was reported.
     pub fault: Option<Fault>,
 }
 
 impl First {
-    /// Tells that a rule is broken at a spot.
+    /// Reports that a rule is broken at a spot.
     pub fn tell(&mut self, rule: Rule, spot: Spot)
         ensures { self.new.fault ≡ first_with self.old.fault (broken rule spot) }
     {
@@ -88,7 +88,7 @@ impl First {
         }
     }
 
-    /// Tells the same where it is so.
+    /// Reports the same where it is so.
     pub fn tell_if(&mut self, is_broken: bool, rule: Rule, spot: Spot)
         ensures { self.new.fault ≡ first_from self.old.fault (broken_if is_broken rule spot) }
     {

@@ -1,4 +1,4 @@
-//! Kinds and constants: what is broken in them is told.
+//! Kinds and constants: what is broken in them is reported.
 ghost use Rattle.std.specs.Prelude.{◌≡◌, IsTrue, map, flat_map};
 ghost use Rattle.std.specs.List.{list_all};
 ghost use Rattle.rn_declared.specs.Faults.{first_from};
@@ -10,7 +10,7 @@ use crate::pattern::Pattern;
 use rn_model::limits::MOST_PARTS;
 use rn_net::{PConst, PConstForm, PKind, PKindForm};
 
-/// Tells what is broken in a kind.
+/// Reports what is broken in a kind.
 #[cycle(kind)]
 pub(crate) fn see_kind(kind: &PKind, first: &mut First)
     ensures { first.new.fault ≡ first_from first.old.fault (kind_part kind.now).faults }
@@ -22,7 +22,7 @@ pub(crate) fn see_kind(kind: &PKind, first: &mut First)
     }
 }
 
-/// Tells what is broken in the parts of a tuple kind or the arguments of a channel.
+/// Reports what is broken in the parts of a tuple kind or the arguments of a channel.
 #[cycle(kind)]
 pub(crate) fn see_kinds(kinds: &[PKind], first: &mut First)
     ensures { first.new.fault ≡ first_from first.old.fault (parts_faults (map kind_part kinds.now)) }
@@ -71,7 +71,7 @@ fn all_same(parts: &[PKind], others: &[PKind]) -> bool
     true
 }
 
-/// Tells what is broken in a constant.
+/// Reports what is broken in a constant.
 #[cycle(constant)]
 pub(crate) fn see_const(constant: &PConst, first: &mut First)
     ensures { first.new.fault ≡ first_from first.old.fault (const_part constant.now).faults }

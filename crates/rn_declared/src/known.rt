@@ -13,7 +13,7 @@ use std::collections::BTreeMap;
 
 /// What a pattern is made of, with the numbers of its parts.
 #[derive(Debug, PartialEq, Eq, PartialOrd, Ord, Drop)]
-enum Node {
+enum PatternNode {
     Any,
     Int,
     Text,
@@ -24,15 +24,15 @@ enum Node {
 
 /// Patterns and their parts, each once, with their indices as numbers.
 #[derive(Drop)]
-pub struct Kinds {
+pub struct KindTable {
     pub patterns: Patterns,
-    numbers: BTreeMap<Node, usize>,
+    numbers: BTreeMap<PatternNode, usize>,
 }
 
-impl Kinds {
+impl KindTable {
     /// No pattern.
-    pub fn new(alloc: Global) -> Kinds {
-        Kinds {
+    pub fn new(alloc: Global) -> KindTable {
+        KindTable {
             patterns: Items::new(alloc),
             numbers: BTreeMap::new(alloc),
         }
@@ -40,7 +40,11 @@ impl Kinds {
 }
 
 /// The number of a pattern that is made of this, which is put in where it is new.
-fn number_of(kinds: &mut Kinds, node: Node, pattern: &Pattern) -> Result<usize, NoMemory> {
+fn number_of(
+    kinds: &mut KindTable,
+    node: PatternNode,
+    pattern: &Pattern,
+) -> Result<usize, NoMemory> {
     if let Some(number) = kinds.numbers.get(&node) {
         return Ok(*number);
     }
@@ -52,14 +56,14 @@ fn number_of(kinds: &mut Kinds, node: Node, pattern: &Pattern) -> Result<usize, 
 
 /// Puts a pattern and its parts in, and gives its number.
 #[cycle(add)]
-fn add(alloc: Global, pattern: &Pattern, kinds: &mut Kinds) -> Result<usize, NoMemory> {
+fn add(alloc: Global, pattern: &Pattern, kinds: &mut KindTable) -> Result<usize, NoMemory> {
     let node = match pattern {
-        Pattern::Any => Node::Any,
-        Pattern::Int => Node::Int,
-        Pattern::Text => Node::Text,
-        Pattern::Tuple(parts) => Node::Tuple(add_all(alloc, parts.as_slice(), kinds)?),
-        Pattern::List(part) => Node::List(add(alloc, part.get(), kinds)?),
-        Pattern::Net => Node::Net,
+        Pattern::Any => PatternNode::Any,
+        Pattern::Int => PatternNode::Int,
+        Pattern::Text => PatternNode::Text,
+        Pattern::Tuple(parts) => PatternNode::Tuple(add_all(alloc, parts.as_slice(), kinds)?),
+        Pattern::List(part) => PatternNode::List(add(alloc, part.get(), kinds)?),
+        Pattern::Net => PatternNode::Net,
     };
     Ok(number_of(kinds, node, pattern)?)
 }
@@ -68,7 +72,7 @@ fn add(alloc: Global, pattern: &Pattern, kinds: &mut Kinds) -> Result<usize, NoM
 fn add_all(
     alloc: Global,
     patterns: &[Pattern],
-    kinds: &mut Kinds,
+    kinds: &mut KindTable,
 ) -> Result<Items<usize>, NoMemory> {
     let mut numbers = Vec::with_capacity(alloc, patterns.len())?;
     for pattern in patterns {
@@ -78,7 +82,11 @@ fn add_all(
 }
 
 /// A pattern with the number of what it is made of, where it is known.
-fn with_number_of<N: Numbers>(pattern: Numbered<N>, node: Node, kinds: &Kinds) -> Numbered<N>
+fn with_number_of<N: Numbers>(
+    pattern: Numbered<N>,
+    node: PatternNode,
+    kinds: &KindTable,
+) -> Numbered<N>
     requires { kinds.now.patterns ≡ N.patterns }
     ensures { result ≡ pattern }
 {
@@ -127,22 +135,22 @@ fn last_again<N: Numbers>(
 pub fn number_pattern<N: Numbers>(
     alloc: Global,
     pattern: &Pattern,
-    kinds: &Kinds,
+    kinds: &KindTable,
 ) -> Result<Numbered<N>, NoMemory>
     requires { kinds.now.patterns ≡ N.patterns }
     ensures { IfOk result (λ p. p ≡ pattern.now) }
 {
     match pattern {
         Pattern::Any => Ok(Numbered::any()),
-        Pattern::Int => Ok(with_number_of(Numbered::int(), Node::Int, kinds)),
-        Pattern::Text => Ok(with_number_of(Numbered::text(), Node::Text, kinds)),
-        Pattern::Net => Ok(with_number_of(Numbered::net(), Node::Net, kinds)),
+        Pattern::Int => Ok(with_number_of(Numbered::int(), PatternNode::Int, kinds)),
+        Pattern::Text => Ok(with_number_of(Numbered::text(), PatternNode::Text, kinds)),
+        Pattern::Net => Ok(with_number_of(Numbered::net(), PatternNode::Net, kinds)),
         Pattern::Tuple(parts) => {
             let numbered = number_all(alloc, parts.as_slice(), kinds)?;
             let numbers = numbers_of(alloc, numbered.as_slice())?;
             let tuple = Numbered::tuple(Shared::new(alloc, numbered)?);
             match numbers {
-                Some(numbers) => Ok(with_number_of(tuple, Node::Tuple(numbers), kinds)),
+                Some(numbers) => Ok(with_number_of(tuple, PatternNode::Tuple(numbers), kinds)),
                 None => Ok(tuple),
             }
         }
@@ -151,7 +159,7 @@ pub fn number_pattern<N: Numbers>(
             let number = numbered.number();
             let list = Numbered::list(Shared::new(alloc, numbered)?);
             match number {
-                Some(number) => Ok(with_number_of(list, Node::List(number), kinds)),
+                Some(number) => Ok(with_number_of(list, PatternNode::List(number), kinds)),
                 None => Ok(list),
             }
         }
@@ -163,7 +171,7 @@ pub fn number_pattern<N: Numbers>(
 pub fn number_all<N: Numbers>(
     alloc: Global,
     patterns: &[Pattern],
-    kinds: &Kinds,
+    kinds: &KindTable,
 ) -> Result<Items<Numbered<N>>, NoMemory>
     requires { kinds.now.patterns ≡ N.patterns }
     ensures { IfOk result (λ ps. ps ≡ patterns.now) }
@@ -180,14 +188,14 @@ pub fn number_all<N: Numbers>(
 }
 
 /// Puts the pattern of a kind in.
-fn add_kind(alloc: Global, kind: &PKind, kinds: &mut Kinds) -> Result<(), NoMemory> {
+fn add_kind(alloc: Global, kind: &PKind, kinds: &mut KindTable) -> Result<(), NoMemory> {
     let pattern = pattern_of(alloc, kind)?;
     add(alloc, &pattern, kinds)?;
     Ok(())
 }
 
 /// Puts the kinds of variables in.
-fn add_vars(alloc: Global, vars: &[PVar], kinds: &mut Kinds) -> Result<(), NoMemory> {
+fn add_vars(alloc: Global, vars: &[PVar], kinds: &mut KindTable) -> Result<(), NoMemory> {
     let mut before: Option<&PVar> = None;
     for var in vars {
         let again = match before {
@@ -203,7 +211,7 @@ fn add_vars(alloc: Global, vars: &[PVar], kinds: &mut Kinds) -> Result<(), NoMem
 }
 
 /// Puts the kinds of places in.
-fn add_places(alloc: Global, places: &[PPlace], kinds: &mut Kinds) -> Result<(), NoMemory> {
+fn add_places(alloc: Global, places: &[PPlace], kinds: &mut KindTable) -> Result<(), NoMemory> {
     for place in places {
         add_kind(alloc, &place.kind, kinds)?;
     }
@@ -211,7 +219,7 @@ fn add_places(alloc: Global, places: &[PPlace], kinds: &mut Kinds) -> Result<(),
 }
 
 /// Puts the kinds of the variables and places of nets in.
-fn add_nets(alloc: Global, nets: &[PNet], kinds: &mut Kinds) -> Result<(), NoMemory> {
+fn add_nets(alloc: Global, nets: &[PNet], kinds: &mut KindTable) -> Result<(), NoMemory> {
     for net in nets {
         add_vars(alloc, net.vars.as_slice(), kinds)?;
         add_places(alloc, net.places.as_slice(), kinds)?;
@@ -220,7 +228,7 @@ fn add_nets(alloc: Global, nets: &[PNet], kinds: &mut Kinds) -> Result<(), NoMem
 }
 
 /// Puts the kinds of the arguments of a channel in.
-fn add_channel(alloc: Global, channel: &PChannel, kinds: &mut Kinds) -> Result<(), NoMemory> {
+fn add_channel(alloc: Global, channel: &PChannel, kinds: &mut KindTable) -> Result<(), NoMemory> {
     for kind in channel.kinds.as_slice() {
         add_kind(alloc, kind, kinds)?;
     }
@@ -228,8 +236,8 @@ fn add_channel(alloc: Global, channel: &PChannel, kinds: &mut Kinds) -> Result<(
 }
 
 /// The patterns of all kinds that are declared in a net text.
-pub fn kinds_of(alloc: Global, plain: &Plain) -> Result<Kinds, NoMemory> {
-    let mut kinds = Kinds::new(alloc);
+pub fn kinds_of(alloc: Global, plain: &Plain) -> Result<KindTable, NoMemory> {
+    let mut kinds = KindTable::new(alloc);
     for channel in plain.channels.as_slice() {
         add_channel(alloc, channel, &mut kinds)?;
     }

@@ -15,13 +15,13 @@ pub mod pattern;
 mod places;
 mod table;
 
-pub use channels::{Channels, declare_channels};
+pub use channels::{DeclaredChannels, declare_channels};
 pub use fault::{CheckFault, Fault, Rule};
 pub use first::First;
-pub use known::{Kinds, kinds_of, number_all, number_pattern};
+pub use known::{KindTable, kinds_of, number_all, number_pattern};
 pub use located::{Located, tell_past};
 pub use names::{Named, declare_all};
 pub use numbered::{Numbered, Numbers};
 pub use pattern::{Pattern, Patterns};
 pub use places::{declare_places, declare_vars};
-pub use table::{Declared, DeclaredPlaces, Table};
+pub use table::{Declared, DeclaredPlaces, NameTable};

@@ -50,7 +50,7 @@ impl Located for PInscription {
     }
 }
 
-/// Tells that a rule is broken at the first one past so many, where there are more.
+/// Reports that a rule is broken at the first one past so many, where there are more.
 pub(crate) fn tell_past_by<T: Located>(rule: Rule, items: &[T], most: usize, first: &mut First)
     ensures { first.new.fault ≡ first_from first.old.fault
         (past rule most (map T.spot_of items.now)) }
@@ -60,7 +60,7 @@ pub(crate) fn tell_past_by<T: Located>(rule: Rule, items: &[T], most: usize, fir
     }
 }
 
-/// Tells the first one past a limit, where there are more.
+/// Reports the first one past a limit, where there are more.
 pub fn tell_past<T: Located>(items: &[T], most: usize, first: &mut First)
     ensures { first.new.fault ≡ first_from first.old.fault (past_limit most (map T.spot_of items.now)) }
 {

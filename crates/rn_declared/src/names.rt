@@ -1,4 +1,4 @@
-//! Declarations of names: what is broken in them is told, and each gets its number.
+//! Declarations of names: what is broken in them is reported, and each gets its number.
 ghost use Rattle.std.specs.Prelude.{◌≡◌, ℕ, List, OnOk, IfOk, map, is_some, length};
 ghost use Rattle.rn_declared.specs.Faults.{first_from, past_limit};
 ghost use Rattle.rn_declared.specs.Names.{number_among, declared_faults};
@@ -6,7 +6,7 @@ ghost use Rattle.rn_declared.specs.Tables.{found_in, with_name, name_told};
 
 use crate::fault::Rule;
 use crate::first::First;
-use crate::table::Table;
+use crate::table::NameTable;
 use rn_inscript::PName;
 use rn_model::limits::LONGEST_NAME;
 use rn_net::{PNet, PPlace, PTransition, PVar};
@@ -60,7 +60,7 @@ fn declare(
     alloc: Global,
     name: &PName,
     number: usize,
-    table: &mut Table,
+    table: &mut NameTable,
     first: &mut First,
 ) -> Result<(), NoMemory>
     ensures told { OnOk result (first.new.fault ≡ first_from first.old.fault
@@ -75,7 +75,7 @@ fn declare(
     Ok(())
 }
 
-/// Tells the first name past a limit, where there are more.
+/// Reports the first name past a limit, where there are more.
 fn tell_past_name<T: Named>(items: &[T], most: usize, first: &mut First)
     ensures { first.new.fault ≡ first_from first.old.fault
         (past_limit most (map (λ name. name.spot) (map T.name_of items.now))) }
@@ -86,19 +86,19 @@ fn tell_past_name<T: Named>(items: &[T], most: usize, first: &mut First)
 }
 
 /// The table of the names that are declared here, each with the number of its first declaration.
-/// What is broken in the declarations is told.
+/// What is broken in the declarations is reported.
 pub fn declare_all<T: Named>(
     alloc: Global,
     items: &[T],
     most: usize,
     first: &mut First,
-) -> Result<Table, NoMemory>
+) -> Result<NameTable, NoMemory>
     ensures told { OnOk result (first.new.fault ≡ first_from first.old.fault
         (declared_faults most (map T.name_of items.now))) }
     ensures found { IfOk result (λ table. (name : List ℕ) → found_in table name
         ≡ number_among (map (λ n. n.text) (map T.name_of items.now)) name) }
 {
-    let mut table = Table::new(alloc);
+    let mut table = NameTable::new(alloc);
     for i in 0..items.len() {
         declare(alloc, items[i].name(), i, &mut table, first)?;
     }

@@ -1,4 +1,4 @@
-//! Variables and places: what is broken in their declarations is told.
+//! Variables and places: what is broken in their declarations is reported.
 ghost use Rattle.std.specs.Prelude.{◌≡◌, ◌-◌, ◌++◌, ℕ, List, Some, OnOk, IfOk, IfSome, map, flat_map};
 ghost use Rattle.std.specs.Option.{option_and_then};
 ghost use Rattle.std.specs.Prelude.{slice_get, length, option_copied, option_map, is_some};
@@ -59,8 +59,8 @@ fn pattern_again(
     }
 }
 
-/// Tells what is broken in the kind of a variable, and gives its pattern. Where that is the kind of
-/// the variable before it, all was told, and its pattern is there.
+/// Reports what is broken in the kind of a variable, and gives its pattern. Where that is the kind
+/// of the variable before it, all was reported, and its pattern is there.
 fn see_var(
     alloc: Global,
     var: &PVar,
@@ -81,7 +81,7 @@ fn see_var(
 }
 
 /// The variables of a net by their names, with the patterns of their kinds. What is broken in their
-/// declarations is told.
+/// declarations is reported.
 pub fn declare_vars(alloc: Global, vars: &[PVar], first: &mut First) -> Result<Declared, NoMemory>
     ensures told { OnOk result (first.new.fault ≡ first_from first.old.fault
         (declared_faults most_vars (map (λ v. v.name) vars.now)
@@ -104,7 +104,7 @@ pub fn declare_vars(alloc: Global, vars: &[PVar], first: &mut First) -> Result<D
     })
 }
 
-/// Tells what is broken in an initial token of a place with a kind of this pattern.
+/// Reports what is broken in an initial token of a place with a kind of this pattern.
 fn see_token(token: &PConst, pattern: &Pattern, first: &mut First)
     ensures { first.new.fault ≡ first_from first.old.fault (token_faults pattern.now token.now) }
 {
@@ -112,7 +112,7 @@ fn see_token(token: &PConst, pattern: &Pattern, first: &mut First)
     first.tell_if(!fits(token, pattern), Rule::Kinds, token.spot());
 }
 
-/// Tells what is broken in the initial tokens of a place with a kind of this pattern.
+/// Reports what is broken in the initial tokens of a place with a kind of this pattern.
 fn see_tokens(tokens: &[PConst], pattern: &Pattern, first: &mut First)
     ensures { first.new.fault ≡ first_from first.old.fault
         (flat_map (token_faults pattern.now) tokens.now
@@ -131,7 +131,7 @@ fn most_of(max: &PMax) -> usize
     max.number.unsigned_abs() as usize
 }
 
-/// Tells a capacity that is too great.
+/// Reports a capacity that is too great.
 fn tell_great(max: &PMax, first: &mut First)
     ensures { first.new.fault ≡ first_from first.old.fault
         (broken_if (not (nat_le (nat_abs max.now.number) greatest_capacity)) Rules.Limit max.now.spot) }
@@ -140,7 +140,7 @@ fn tell_great(max: &PMax, first: &mut First)
     first.tell_if(most > GREATEST_CAPACITY as usize, Rule::Limit, max.spot);
 }
 
-/// Tells the first token past a capacity, where there are more.
+/// Reports the first token past a capacity, where there are more.
 fn tell_more(max: &PMax, tokens: &[PConst], first: &mut First)
     ensures { first.new.fault ≡ first_from first.old.fault
         (past Rules.Capacity (nat_abs max.now.number)
@@ -150,7 +150,7 @@ fn tell_more(max: &PMax, tokens: &[PConst], first: &mut First)
     tell_past_by(Rule::Capacity, tokens, most, first);
 }
 
-/// Tells what is broken in the capacity of a place that begins with these tokens.
+/// Reports what is broken in the capacity of a place that begins with these tokens.
 fn see_capacity(place: &PPlace, tokens: &[PConst], first: &mut First)
     ensures { first.new.fault ≡ first_from first.old.fault
         (capacity_faults place.now.max (map (λ token. (const_part token).spot) tokens.now)) }
@@ -164,8 +164,8 @@ fn see_capacity(place: &PPlace, tokens: &[PConst], first: &mut First)
     }
 }
 
-/// Tells what is broken in the kind, which has this pattern, the initial tokens and the capacity of
-/// a place.
+/// Reports what is broken in the kind, which has this pattern, the initial tokens and the capacity
+/// of a place.
 fn see_place(place: &PPlace, pattern: &Pattern, first: &mut First)
     ensures { pattern.now ≡ pattern_of place.now.kind →
         first.new.fault ≡ first_from first.old.fault (place_faults place.now) }
@@ -177,7 +177,7 @@ fn see_place(place: &PPlace, pattern: &Pattern, first: &mut First)
 }
 
 /// The places of a net by their names, with the patterns of their kinds and whether they have a
-/// capacity. What is broken in their declarations is told.
+/// capacity. What is broken in their declarations is reported.
 pub fn declare_places(
     alloc: Global,
     places: &[PPlace],

@@ -10,16 +10,16 @@ use std::collections::BTreeMap;
 
 /// The numbers of names, each that of the first declaration of the name.
 #[derive(Drop)]
-pub struct Table {
+pub struct NameTable {
     pub numbers: BTreeMap<Str, usize>,
 }
 
-impl Table {
+impl NameTable {
     /// A table in which no name is declared.
-    pub fn new(alloc: Global) -> Table
+    pub fn new(alloc: Global) -> NameTable
         ensures { (name : List ℕ) → found_in result name ≡ None }
     {
-        Table {
+        NameTable {
             numbers: BTreeMap::new(alloc),
         }
     }
@@ -48,7 +48,7 @@ impl Table {
 /// Names that were declared with a kind, as variables and places are.
 #[derive(Drop)]
 pub struct Declared {
-    pub table: Table,
+    pub table: NameTable,
     pub patterns: Patterns,
 }
 

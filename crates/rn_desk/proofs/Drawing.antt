@@ -6,8 +6,8 @@ use native.Mathlib.Decide.{ℕ_discrete}
 use lib.ListN.{get_elem?}
 use Rattle.atomic_table.specs.Table.{Me, step, keeps, Allows}
 use Rattle.atomic_table.proofs.Lists.{set_here}
-use Rattle.rn_desk.specs.declared.view.Role.TheVariants.{Idle, Waits, Holds}
-use Rattle.rn_desk.specs.declared.view.View.{View}
+use Rattle.rn_desk.specs.declared.view.SeatRole.TheVariants.{Idle, Waits, Holds}
+use Rattle.rn_desk.specs.declared.view.SeatView.{SeatView}
 use Rattle.rn_desk.specs.Turns.{total, wrapped, tickets, tickets_in, ticket_of, is_number, HasTicket, Turns}
 use Rattle.rn_desk.specs.Steps.{in_role, Draws}
 use Rattle.rn_desk.proofs.Setting.{BoardState}
@@ -21,7 +21,7 @@ module _ {S I F : Type 0} (entries : S → List I) (author : I → ℕ) (fixed :
   Rule = Turns entries author fixed seats start
 
   -- the new ticket is out, and so are those from before
-  queue_drawn : (s : BoardState S I F) (r : Rule s) (id : ℕ) (v w : View I F) → get_elem? s.views id ≡ some v → v.role ≡ Idle → w.role ≡ Waits r.drawn
+  queue_drawn : (s : BoardState S I F) (r : Rule s) (id : ℕ) (v w : SeatView I F) → get_elem? s.views id ≡ some v → v.role ≡ Idle → w.role ≡ Waits r.drawn
       → (t : ℕ) → r.served ≤ t → t < r.drawn + 1 → HasTicket (set s.views id w) (put r.seat_of r.drawn id t) t
   queue_drawn s r id v w at is now t from below = dite (ℕ_discrete t r.drawn)
       (λ new. let seat : put r.seat_of r.drawn id t ≡ id = ap (put r.seat_of r.drawn id) new ∙ put_here r.seat_of r.drawn id in
@@ -29,8 +29,8 @@ module _ {S I F : Type 0} (entries : S → List I) (author : I → ℕ) (fixed :
       (λ old. subst (λ (seat : ℕ). HasTicket (set s.views id w) seat t) (sym (put_else r.seat_of r.drawn id t old))
       (ticket_stays s.views id v w at (r.seat_of t) t (λ has. absurd (let e : ticket_of v.role ≡ None = ap ticket_of is in cc)) (r.queue t from (omega arith))))
 
-  pub draw_allowed : (slots id : ℕ) (me : Me (Option S) (View I F)) → me.0.role ≡ Idle → Allows Rule slots id me 0 (λ x. (x + 1) % 18446744073709551616) (Draws entries author fixed (step slots 0 1 0 none) me)
-  draw_allowed slots id me is s r deep at small = let v : View I F = me.0 in let t : ℕ = r.drawn in let w : View I F = in_role (Waits t) v in let x : ℕ = get_or s.words 0 0 in let y : ℕ = (x + 1) % 18446744073709551616 in
+  pub draw_allowed : (slots id : ℕ) (me : Me (Option S) (SeatView I F)) → me.0.role ≡ Idle → Allows Rule slots id me 0 (λ x. (x + 1) % 18446744073709551616) (Draws entries author fixed (step slots 0 1 0 none) me)
+  draw_allowed slots id me is s r deep at small = let v : SeatView I F = me.0 in let t : ℕ = r.drawn in let w : SeatView I F = in_role (Waits t) v in let x : ℕ = get_or s.words 0 0 in let y : ℕ = (x + 1) % 18446744073709551616 in
       let found : x ≡ wrapped r.drawn = ap (λ ws. get_or ws 0 0) r.words in let next : y ≡ wrapped (r.drawn + 1) = omega arith in
       let q = r.waiting in let sums = total-set tickets_in s.views id v w at in let none_out : tickets_in v ≡ 0 = ap tickets is in (
         w,
@@ -48,7 +48,7 @@ module _ {S I F : Type 0} (entries : S → List I) (author : I → ℕ) (fixed :
             (⊎_elim inl (λ a. inr (
               a.0,
               let h = knows entries author fixed seats start s r (r.seat_of r.served) a.1.0 (Holds r.served) a.1.1 a.1.2 in let before : r.served < r.drawn = h.1 in
-                  subst (λ (z : ℕ). (d : View I F) × (get_elem? (set s.views id w) z ≡ some d) × (d.role ≡ Holds r.served)) (sym (put_else r.seat_of t id r.served (λ e. omega arith)))
+                  subst (λ (z : ℕ). (d : SeatView I F) × (get_elem? (set s.views id w) z ≡ some d) × (d.role ≡ Holds r.served)) (sym (put_else r.seat_of t id r.served (λ e. omega arith)))
                   (turn_stays s.views id v w at (r.seat_of r.served) r.served (λ h. holds_not_idle v.role r.served h is) a.1),
             )) r.slot),
         λ _. (t, sym found, refl),

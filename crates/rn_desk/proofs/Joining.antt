@@ -4,10 +4,10 @@ use mathlib.Core.Option.{none, some}
 use lib.ListN.{get_elem?}
 use Rattle.atomic_table.specs.Table.{Joins}
 use Rattle.atomic_table.proofs.Lists.{set_else}
-use Rattle.rn_desk.specs.declared.view.Role.{Role}
-use Rattle.rn_desk.specs.declared.view.Role.TheVariants.{Idle}
+use Rattle.rn_desk.specs.declared.view.SeatRole.{SeatRole}
+use Rattle.rn_desk.specs.declared.view.SeatRole.TheVariants.{Idle}
 use Rattle.rn_desk.specs.declared.view.Part.{Part}
-use Rattle.rn_desk.specs.declared.view.View.{View}
+use Rattle.rn_desk.specs.declared.view.SeatView.{SeatView}
 use Rattle.rn_desk.specs.Turns.{total, Every, tickets, tickets_in, ticket_of, is_spent, is_number, parts, PartFits, parts_of, parts_count, number_count, RoleFits, Turns}
 use Rattle.rn_desk.specs.Steps.{joined, spent}
 use Rattle.rn_desk.proofs.Setting.{BoardState}
@@ -26,12 +26,12 @@ module _ {S I F : Type 0} (entries : S → List I) (author : I → ℕ) (fixed :
   abbrev Rule : BoardState S I F → Type 0
   Rule = Turns entries author fixed seats start
 
-  module _ (s : BoardState S I F) (r : Rule s) (id : ℕ) (v : View I F) (other : ℕ) (w : View I F) (at : get_elem? s.views id ≡ some v) (there : get_elem? (set s.views id (joined v w)) other ≡ some w) (is : v.role ≡ Idle) (is' : w.role ≡ Idle) where
-    abbrev after : List (View I F)
+  module _ (s : BoardState S I F) (r : Rule s) (id : ℕ) (v : SeatView I F) (other : ℕ) (w : SeatView I F) (at : get_elem? s.views id ≡ some v) (there : get_elem? (set s.views id (joined v w)) other ≡ some w) (is : v.role ≡ Idle) (is' : w.role ≡ Idle) where
+    abbrev after : List (SeatView I F)
     after = set (set s.views id (joined v w)) other spent
 
     both : parts_of (joined v w) ≡ v.own ∷ (v.others ++ w.own ∷ w.others)
-    both = ap (λ (z : Role). parts z v.own (v.others ++ w.own ∷ w.others)) is
+    both = ap (λ (z : SeatRole). parts z v.own (v.others ++ w.own ∷ w.others)) is
 
     sum : (f : Part I → ℕ) → total f (parts_of (joined v w)) ≡ total f (parts_of v) + total f (parts_of w)
     sum f = let x = ap (total f) both in let y = ap (total f) (parts_in v Idle is) in let z = ap (total f) (parts_in w Idle is') in let q = total-append f v.others (w.own ∷ w.others) in omega arith
@@ -47,12 +47,12 @@ module _ {S I F : Type 0} (entries : S → List I) (author : I → ℕ) (fixed :
     outs = total-joined tickets_in s.views id other v w (joined v w) spent at there (let x : tickets v.role ≡ 0 = ap tickets is in let y : tickets w.role ≡ 0 = ap tickets is' in omega arith) refl
 
     -- what holds of each view after holds of the seat that joined, of the spent one and of the others
-    each : (K : ℕ → View I F → Type 0) → K id (joined v w) → K other spent → ((j : ℕ) (d : View I F) → get_elem? s.views j ≡ some d → K j d)
-        → (j : ℕ) (d : View I F) → get_elem? after j ≡ some d → K j d
+    each : (K : ℕ → SeatView I F → Type 0) → K id (joined v w) → K other spent → ((j : ℕ) (d : SeatView I F) → get_elem? s.views j ≡ some d → K j d)
+        → (j : ℕ) (d : SeatView I F) → get_elem? after j ≡ some d → K j d
     each K mine nothing others = each_after K (set s.views id (joined v w)) other spent nothing (λ j d _. each_after K s.views id (joined v w) mine (λ i x _. others i x) j d)
 
-  pub join_allowed : (id : ℕ) (v : View I F) (other : ℕ) (w : View I F) → v.role ≡ Idle → w.role ≡ Idle → Joins Rule id v other w (joined v w) spent
-  join_allowed id v other w is is' s r at apart there = let b : View I F = joined v w in let vs : List (View I F) = set s.views id b in
+  pub join_allowed : (id : ℕ) (v : SeatView I F) (other : ℕ) (w : SeatView I F) → v.role ≡ Idle → w.role ≡ Idle → Joins Rule id v other w (joined v w) spent
+  join_allowed id v other w is is' s r at apart there = let b : SeatView I F = joined v w in let vs : List (SeatView I F) = set s.views id b in
       let there' : get_elem? s.views other ≡ some w = sym (set_else s.views id other b apart) ∙ there in
       let fit = fits_in entries author fixed seats start s r id v Idle at is in let fit' = fits_in entries author fixed seats start s r other w Idle there' is' in
       let sums = numbers s r id v other w at there is is' in record {

@@ -1,8 +1,8 @@
 -- What stays true of a seat while another one steps.
 use Rattle.std.proofs.Common.{◌≡◌, ◌≢◌, ℕ, ◌+◌, ◌<◌, ◌≤◌, List, length, sym, refl, ap, ◌∙◌, subst, arith}
 use native.Mathlib.Decide.{ℕ_discrete}
-use Rattle.rn_desk.specs.declared.view.Role.{Role}
-use Rattle.rn_desk.specs.declared.view.Role.TheVariants.{Spent, Maker, Idle, Waits, Holds}
+use Rattle.rn_desk.specs.declared.view.SeatRole.{SeatRole}
+use Rattle.rn_desk.specs.declared.view.SeatRole.TheVariants.{Spent, Maker, Idle, Waits, Holds}
 use Rattle.rn_desk.specs.declared.view.Part.{Part}
 use Rattle.rn_desk.specs.Turns.{parts, tickets, RoleFits}
 
@@ -32,7 +32,7 @@ put_else f i c j other = go (ℕ_discrete j i)
 
 module _ {I : Type 0} (log : List I) (made drawn served : ℕ) (seat_of : ℕ → ℕ) (id j : ℕ) (own : Part I) where
   -- a ticket more is drawn
-  pub drawn_more : (out : Type 0) (role : Role) → RoleFits out log made drawn served seat_of j own role → RoleFits out log made (drawn + 1) served (put seat_of drawn id) j own role
+  pub drawn_more : (out : Type 0) (role : SeatRole) → RoleFits out log made drawn served seat_of j own role → RoleFits out log made (drawn + 1) served (put seat_of drawn id) j own role
   drawn_more out Spent k = tt
   drawn_more out (Maker n) k = k
   drawn_more out Idle k = tt
@@ -40,7 +40,7 @@ module _ {I : Type 0} (log : List I) (made drawn served : ℕ) (seat_of : ℕ �
   drawn_more out (Holds t) k = let a : t < drawn = k.1 in (k.0, omega arith, put_else seat_of drawn id t (λ e. omega arith) ∙ k.2, k.3, k.4)
 
   -- the seat whose ticket is served, another one, changes the slot and the history
-  pub turn_elsewhere : (out out' : Type 0) (log' : List I) (role : Role) → seat_of served ≡ id → j ≢ id
+  pub turn_elsewhere : (out out' : Type 0) (log' : List I) (role : SeatRole) → seat_of served ≡ id → j ≢ id
       → RoleFits out log made drawn served seat_of j own role → RoleFits out' log' made drawn served seat_of j own role
   turn_elsewhere out out' log' Spent at other k = tt
   turn_elsewhere out out' log' (Maker n) at other k = k
@@ -49,7 +49,7 @@ module _ {I : Type 0} (log : List I) (made drawn served : ℕ) (seat_of : ℕ �
   turn_elsewhere out out' log' (Holds t) at other k = absurd (other (sym k.2 ∙ (ap seat_of k.0 ∙ at)))
 
   -- that seat passes the turn on
-  pub turn_passed : (out out' : Type 0) (role : Role) → seat_of served ≡ id → j ≢ id
+  pub turn_passed : (out out' : Type 0) (role : SeatRole) → seat_of served ≡ id → j ≢ id
       → RoleFits out log made drawn served seat_of j own role → RoleFits out' log made drawn (served + 1) seat_of j own role
   turn_passed out out' Spent at other k = tt
   turn_passed out out' (Maker n) at other k = k
@@ -59,7 +59,7 @@ module _ {I : Type 0} (log : List I) (made drawn served : ℕ) (seat_of : ℕ �
   turn_passed out out' (Holds t) at other k = absurd (other (sym k.2 ∙ (ap seat_of k.0 ∙ at)))
 
   -- the maker makes a seat more
-  pub made_more : (out : Type 0) (role : Role) → id ≡ 0 → j ≢ id → RoleFits out log made drawn served seat_of j own role → RoleFits out log (made + 1) drawn served seat_of j own role
+  pub made_more : (out : Type 0) (role : SeatRole) → id ≡ 0 → j ≢ id → RoleFits out log made drawn served seat_of j own role → RoleFits out log (made + 1) drawn served seat_of j own role
   made_more out Spent at other k = tt
   made_more out (Maker n) at other k = absurd (other (k.1 ∙ sym at))
   made_more out Idle at other k = tt
@@ -68,22 +68,22 @@ module _ {I : Type 0} (log : List I) (made drawn served : ℕ) (seat_of : ℕ �
 
 module _ {I : Type 0} where
   -- who has a ticket has a part
-  pub tickets_few : (role : Role) (own : Part I) (others : List (Part I)) → tickets role ≤ length (parts role own others)
+  pub tickets_few : (role : SeatRole) (own : Part I) (others : List (Part I)) → tickets role ≤ length (parts role own others)
   tickets_few Spent own others = omega arith
   tickets_few (Maker n) own others = omega arith
   tickets_few Idle own others = omega arith
   tickets_few (Waits t) own others = omega arith
   tickets_few (Holds t) own others = omega arith
 
-  pub holds_part : (role : Role) (t : ℕ) (own : Part I) (others : List (Part I)) → role ≡ Holds t → 1 ≤ length (parts role own others)
+  pub holds_part : (role : SeatRole) (t : ℕ) (own : Part I) (others : List (Part I)) → role ≡ Holds t → 1 ≤ length (parts role own others)
   holds_part role t own others e = subst (λ r. 1 ≤ length (parts r own others)) (sym e) (omega arith)
 
 -- a seat has one role
-pub holds_not_waits : (a : Role) (t u : ℕ) → a ≡ Holds t → a ≡ Waits u → ⊥
+pub holds_not_waits : (a : SeatRole) (t u : ℕ) → a ≡ Holds t → a ≡ Waits u → ⊥
 holds_not_waits a t u e f = cc
 
-pub holds_not_idle : (a : Role) (t : ℕ) → a ≡ Holds t → a ≡ Idle → ⊥
+pub holds_not_idle : (a : SeatRole) (t : ℕ) → a ≡ Holds t → a ≡ Idle → ⊥
 holds_not_idle a t e f = cc
 
-pub holds_not_maker : (a : Role) (t n : ℕ) → a ≡ Holds t → a ≡ Maker n → ⊥
+pub holds_not_maker : (a : SeatRole) (t n : ℕ) → a ≡ Holds t → a ≡ Maker n → ⊥
 holds_not_maker a t n e f = cc

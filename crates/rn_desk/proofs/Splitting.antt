@@ -6,10 +6,10 @@ use native.Mathlib.Decide.{ℕ_discrete}
 use lib.ListN.{get_elem?}
 use Rattle.atomic_table.specs.Table.{Splits}
 use Rattle.atomic_table.proofs.Lists.{at_snoc}
-use Rattle.rn_desk.specs.declared.view.Role.{Role}
-use Rattle.rn_desk.specs.declared.view.Role.TheVariants.{Maker}
+use Rattle.rn_desk.specs.declared.view.SeatRole.{SeatRole}
+use Rattle.rn_desk.specs.declared.view.SeatRole.TheVariants.{Maker}
 use Rattle.rn_desk.specs.declared.view.Part.{Part}
-use Rattle.rn_desk.specs.declared.view.View.{View}
+use Rattle.rn_desk.specs.declared.view.SeatView.{SeatView}
 use Rattle.rn_desk.specs.Turns.{total, Every, tickets, tickets_in, ticket_of, is_spent, is_number, parts, PartFits, parts_of, parts_count, number_count, RoleFits, Turns}
 use Rattle.rn_desk.specs.Steps.{new_part, one_more, next_number, maker_after, made_seat}
 use Rattle.rn_desk.proofs.Setting.{BoardState}
@@ -23,12 +23,12 @@ module _ {S I F : Type 0} (entries : S → List I) (author : I → ℕ) (fixed :
   abbrev Rule : BoardState S I F → Type 0
   Rule = Turns entries author fixed seats start
 
-  module _ (s : BoardState S I F) (r : Rule s) (id : ℕ) (v : View I F) (n : ℕ) (at : get_elem? s.views id ≡ some v) (is : v.role ≡ Maker n) where
+  module _ (s : BoardState S I F) (r : Rule s) (id : ℕ) (v : SeatView I F) (n : ℕ) (at : get_elem? s.views id ≡ some v) (is : v.role ≡ Maker n) where
     none_before : parts_of v ≡ []
     none_before = parts_in v (Maker n) is
 
     none_after : parts_of (maker_after v) ≡ []
-    none_after = ap (λ (z : Role). parts z v.own v.others) (ap one_more is)
+    none_after = ap (λ (z : SeatRole). parts z v.own v.others) (ap one_more is)
 
     count : total parts_count (set s.views id (maker_after v) ++ made_seat v ∷ []) ≡ r.made + 1
     count = total_push parts_count (set s.views id (maker_after v)) (made_seat v)
@@ -43,14 +43,14 @@ module _ {S I F : Type 0} (entries : S → List I) (author : I → ℕ) (fixed :
         let b = total-set_same tickets_in s.views id v (maker_after v) at (ap tickets (ap one_more is) ∙ sym (ap tickets is)) in omega arith
 
     -- what holds of each view after holds of the maker, of the others and of the new seat
-    each : (K : ℕ → View I F → Type 0) → K id (maker_after v) → ((j : ℕ) (d : View I F) → j ≢ id → get_elem? s.views j ≡ some d → K j d) → ((j : ℕ) → K j (made_seat v))
-        → (j : ℕ) (d : View I F) → get_elem? (set s.views id (maker_after v) ++ made_seat v ∷ []) j ≡ some d → K j d
+    each : (K : ℕ → SeatView I F → Type 0) → K id (maker_after v) → ((j : ℕ) (d : SeatView I F) → j ≢ id → get_elem? s.views j ≡ some d → K j d) → ((j : ℕ) → K j (made_seat v))
+        → (j : ℕ) (d : SeatView I F) → get_elem? (set s.views id (maker_after v) ++ made_seat v ∷ []) j ≡ some d → K j d
     each K mine others new j d e = ⊎_elim (each_after K s.views id (maker_after v) mine others j d)
         (λ (t : made_seat v ≡ d). subst (K j) t (new j)) (at_snoc (set s.views id (maker_after v)) (made_seat v) d j e)
 
-  pub split_allowed : (id : ℕ) (v : View I F) (n : ℕ) → v.role ≡ Maker n → n < seats → Splits Rule id v (maker_after v) (made_seat v)
-  split_allowed id v n is room s r at = let w : View I F = maker_after v in let u : View I F = made_seat v in let p : Part I = new_part (next_number v.role) in let k = knows entries author fixed seats start s r id v (Maker n) at is in
-      let made : n ≡ r.made = k.0 in let number : p.number ≡ n + 1 = ap next_number is in let vs : List (View I F) = set s.views id w in
+  pub split_allowed : (id : ℕ) (v : SeatView I F) (n : ℕ) → v.role ≡ Maker n → n < seats → Splits Rule id v (maker_after v) (made_seat v)
+  split_allowed id v n is room s r at = let w : SeatView I F = maker_after v in let u : SeatView I F = made_seat v in let p : Part I = new_part (next_number v.role) in let k = knows entries author fixed seats start s r id v (Maker n) at is in
+      let made : n ≡ r.made = k.0 in let number : p.number ≡ n + 1 = ap next_number is in let vs : List (SeatView I F) = set s.views id w in
       let sum = numbers s r id v n at is in let few = r.few.0 in let fix : v.fixed ≡ Some (fixed start) = r.same id v at (ap is_spent is) in record {
         log = r.log;
         made = r.made + 1;

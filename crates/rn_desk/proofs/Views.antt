@@ -5,8 +5,8 @@ use mathlib.Core.Option.{some, some-injective, some-ne-none}
 use native.Mathlib.Decide.{ℕ_discrete}
 use lib.ListN.{get_elem?}
 use Rattle.atomic_table.proofs.Lists.{at_set, set_here, set_else, at_longer}
-use Rattle.rn_desk.specs.declared.view.Role.TheVariants.{Holds}
-use Rattle.rn_desk.specs.declared.view.View.{View}
+use Rattle.rn_desk.specs.declared.view.SeatRole.TheVariants.{Holds}
+use Rattle.rn_desk.specs.declared.view.SeatView.{SeatView}
 use Rattle.rn_desk.specs.Turns.{ticket_of, HasTicket, HasTurn}
 
 module _ {A : Type 0} where
@@ -34,16 +34,16 @@ module _ {A : Type 0} where
   only_one x (suc j) d e = absurd (some-ne-none d (sym e))
 
 module _ {I F : Type 0} where
-  pub ticket_stays : (vs : List (View I F)) (id : ℕ) (v w : View I F) → get_elem? vs id ≡ some v → (j t : ℕ) → (ticket_of v.role ≡ Some t → ticket_of w.role ≡ Some t)
+  pub ticket_stays : (vs : List (SeatView I F)) (id : ℕ) (v w : SeatView I F) → get_elem? vs id ≡ some v → (j t : ℕ) → (ticket_of v.role ≡ Some t → ticket_of w.role ≡ Some t)
       → HasTicket vs j t → HasTicket (set vs id w) j t
-  ticket_stays vs id v w at j t keep h = one_stays (λ (d : View I F). ticket_of d.role ≡ Some t) vs id v w at keep j h
+  ticket_stays vs id v w at j t keep h = one_stays (λ (d : SeatView I F). ticket_of d.role ≡ Some t) vs id v w at keep j h
 
   -- the seat that has the turn stays where it is while another, that hasn't, steps
-  pub turn_stays : (vs : List (View I F)) (id : ℕ) (v w : View I F) → get_elem? vs id ≡ some v → (j t : ℕ) → (v.role ≡ Holds t → ⊥) → HasTurn vs j t → HasTurn (set vs id w) j t
-  turn_stays vs id v w at j t not h = one_stays (λ (d : View I F). d.role ≡ Holds t) vs id v w at (λ is. absurd (not is)) j h
+  pub turn_stays : (vs : List (SeatView I F)) (id : ℕ) (v w : SeatView I F) → get_elem? vs id ≡ some v → (j t : ℕ) → (v.role ≡ Holds t → ⊥) → HasTurn vs j t → HasTurn (set vs id w) j t
+  turn_stays vs id v w at j t not h = one_stays (λ (d : SeatView I F). d.role ≡ Holds t) vs id v w at (λ is. absurd (not is)) j h
 
-  pub ticket_longer : (vs more : List (View I F)) (j t : ℕ) → HasTicket vs j t → HasTicket (vs ++ more) j t
+  pub ticket_longer : (vs more : List (SeatView I F)) (j t : ℕ) → HasTicket vs j t → HasTicket (vs ++ more) j t
   ticket_longer vs more j t h = (h.0, at_longer vs more j h.0 h.1, h.2)
 
-  pub turn_longer : (vs more : List (View I F)) (j t : ℕ) → HasTurn vs j t → HasTurn (vs ++ more) j t
+  pub turn_longer : (vs more : List (SeatView I F)) (j t : ℕ) → HasTurn vs j t → HasTurn (vs ++ more) j t
   turn_longer vs more j t h = (h.0, at_longer vs more j h.0 h.1, h.2)

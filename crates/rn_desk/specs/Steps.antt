@@ -4,10 +4,10 @@
 use Rattle.std.specs.Prelude.{◌≡◌, ◌≢◌, ℕ, ◌+◌, drop, List, [], ◌∷◌, ◌++◌, length, Option, Some, None}
 use mathlib.Core.Option as maybe
 use Rattle.atomic_table.specs.Table.{Me, Step}
-use Rattle.rn_desk.specs.declared.view.Role.{Role}
-use Rattle.rn_desk.specs.declared.view.Role.TheVariants.{Spent, Maker, Idle, Waits, Holds}
+use Rattle.rn_desk.specs.declared.view.SeatRole.{SeatRole}
+use Rattle.rn_desk.specs.declared.view.SeatRole.TheVariants.{Spent, Maker, Idle, Waits, Holds}
 use Rattle.rn_desk.specs.declared.view.Part.{Part}
-use Rattle.rn_desk.specs.declared.view.View.{View}
+use Rattle.rn_desk.specs.declared.view.SeatView.{SeatView}
 use Rattle.rn_desk.specs.Entries.{StartsWith, authored, AddsAtMostOne}
 use Rattle.rn_desk.specs.Turns.{wrapped}
 
@@ -26,14 +26,14 @@ module _ {I : Type 0} where
 
 module _ {I F : Type 0} where
   -- the seat that makes the others, when it has made so many
-  abbrev pub maker : ℕ → F → View I F
+  abbrev pub maker : ℕ → F → SeatView I F
   maker made f = record { role = Maker made; own = new_part 0; others = []; fixed = Some f }
 
-  abbrev pub in_role : Role → View I F → View I F
+  abbrev pub in_role : SeatRole → SeatView I F → SeatView I F
   in_role role v = record { role = role; own = v.own; others = v.others; fixed = v.fixed }
 
   -- the seat has the turn by this ticket, with these entries in hand
-  abbrev pub with_turn : ℕ → List I → View I F → View I F
+  abbrev pub with_turn : ℕ → List I → SeatView I F → SeatView I F
   with_turn t all v = record {
     role = Holds t;
     own = record { number = v.own.number; seen = all; mine = v.own.mine };
@@ -42,12 +42,12 @@ module _ {I F : Type 0} where
   }
 
   -- the seat has these entries in hand, and its own among them
-  abbrev pub with_entries : (I → ℕ) → List I → View I F → View I F
+  abbrev pub with_entries : (I → ℕ) → List I → SeatView I F → SeatView I F
   with_entries author all v = record { role = v.role; own = grown author v.own all; others = v.others; fixed = v.fixed }
 
 module _ {S I F : Type 0} (entries : S → List I) (author : I → ℕ) (fixed : S → F) where
   abbrev Sat : Type 0
-  Sat = Me (Option S) (View I F)
+  Sat = Me (Option S) (SeatView I F)
 
   -- draw a ticket: the seat waits with the number that was found, counted on past 2^64
   abbrev pub Draws : Step (Option S) → Sat → ℕ → Sat → Type 0
@@ -84,25 +84,25 @@ module _ {S I F : Type 0} (entries : S → List I) (author : I → ℕ) (fixed :
   abbrev pub MayPassOn : Sat → Type 0
   MayPassOn m = (y : S) × HasTurnWith (Some y) m × (entries y ≡ m.0.own.seen) × (m.0.fixed ≡ Some (fixed y))
 
-abbrev pub one_more : Role → Role
+abbrev pub one_more : SeatRole → SeatRole
 one_more (Maker n) = Maker (n + 1)
 one_more r = r
 
-abbrev pub next_number : Role → ℕ
+abbrev pub next_number : SeatRole → ℕ
 next_number (Maker n) = n + 1
 next_number r = 0
 
 module _ {I F : Type 0} where
   -- split a seat: the maker has made one more, which has the next number
-  abbrev pub maker_after : View I F → View I F
+  abbrev pub maker_after : SeatView I F → SeatView I F
   maker_after v = in_role (one_more v.role) v
 
-  abbrev pub made_seat : View I F → View I F
+  abbrev pub made_seat : SeatView I F → SeatView I F
   made_seat v = record { role = Idle; own = new_part (next_number v.role); others = []; fixed = v.fixed }
 
   -- join a seat: the one has the parts of both, and the other has none
-  abbrev pub joined : View I F → View I F → View I F
+  abbrev pub joined : SeatView I F → SeatView I F → SeatView I F
   joined v w = record { role = v.role; own = v.own; others = v.others ++ w.own ∷ w.others; fixed = v.fixed }
 
-  abbrev pub spent : View I F
+  abbrev pub spent : SeatView I F
   spent = record { role = Spent; own = new_part 0; others = []; fixed = None }

@@ -5,10 +5,10 @@ use mathlib.Core.Option as maybe
 use lib.ListN.{get_elem?}
 use Rattle.atomic_table.specs.Table.{State}
 use Rattle.rn_desk.specs.declared.rule.TheConstants.{MOST_SEATS}
-use Rattle.rn_desk.specs.declared.view.Role.{Role}
-use Rattle.rn_desk.specs.declared.view.Role.TheVariants.{Spent, Maker, Idle, Waits, Holds}
+use Rattle.rn_desk.specs.declared.view.SeatRole.{SeatRole}
+use Rattle.rn_desk.specs.declared.view.SeatRole.TheVariants.{Spent, Maker, Idle, Waits, Holds}
 use Rattle.rn_desk.specs.declared.view.Part.{Part}
-use Rattle.rn_desk.specs.declared.view.View.{View}
+use Rattle.rn_desk.specs.declared.view.SeatView.{SeatView}
 use Rattle.rn_desk.specs.Entries.{StartsWith, authored}
 
 -- f of each element, added up
@@ -26,7 +26,7 @@ abbrev pub wrapped : ℕ → ℕ
 wrapped n = n % 2 ^ 64
 
 -- the ticket that a seat in this role has
-abbrev pub ticket_of : Role → Option ℕ
+abbrev pub ticket_of : SeatRole → Option ℕ
 ticket_of Spent = None
 ticket_of (Maker n) = None
 ticket_of Idle = None
@@ -34,7 +34,7 @@ ticket_of (Waits t) = Some t
 ticket_of (Holds t) = Some t
 
 -- how many tickets it has
-abbrev pub tickets : Role → ℕ
+abbrev pub tickets : SeatRole → ℕ
 tickets Spent = 0
 tickets (Maker n) = 0
 tickets Idle = 0
@@ -42,7 +42,7 @@ tickets (Waits t) = 1
 tickets (Holds t) = 1
 
 -- whether the seat was joined into another
-abbrev pub is_spent : Role → Bool
+abbrev pub is_spent : SeatRole → Bool
 is_spent Spent = true
 is_spent (Maker n) = false
 is_spent Idle = false
@@ -51,7 +51,7 @@ is_spent (Holds t) = false
 
 module _ {I : Type 0} where
   -- the parts of a seat in this role: a spent one and the maker have none
-  abbrev pub parts : Role → Part I → List (Part I) → List (Part I)
+  abbrev pub parts : SeatRole → Part I → List (Part I) → List (Part I)
   parts Spent own others = []
   parts (Maker n) own others = []
   parts Idle own others = own ∷ others
@@ -67,34 +67,34 @@ module _ {I : Type 0} where
   PartFits author log p = StartsWith log p.seen × (authored author p.number log ≡ p.mine)
 
 module _ {I F : Type 0} where
-  abbrev pub parts_of : View I F → List (Part I)
+  abbrev pub parts_of : SeatView I F → List (Part I)
   parts_of v = parts v.role v.own v.others
 
-  abbrev pub parts_count : View I F → ℕ
+  abbrev pub parts_count : SeatView I F → ℕ
   parts_count v = length (parts_of v)
 
   -- how many of its parts have this number
-  abbrev pub number_count : ℕ → View I F → ℕ
+  abbrev pub number_count : ℕ → SeatView I F → ℕ
   number_count n v = total (is_number n) (parts_of v)
 
-  abbrev pub tickets_in : View I F → ℕ
+  abbrev pub tickets_in : SeatView I F → ℕ
   tickets_in v = tickets v.role
 
   -- this seat has this ticket
-  abbrev pub HasTicket : List (View I F) → ℕ → ℕ → Type 0
-  HasTicket views seat t = (v : View I F) × (get_elem? views seat ≡ maybe.some v)
+  abbrev pub HasTicket : List (SeatView I F) → ℕ → ℕ → Type 0
+  HasTicket views seat t = (v : SeatView I F) × (get_elem? views seat ≡ maybe.some v)
       × (ticket_of v.role ≡ Some t)
 
   -- this seat has the turn, by this ticket
-  abbrev pub HasTurn : List (View I F) → ℕ → ℕ → Type 0
-  HasTurn views seat t = (v : View I F) × (get_elem? views seat ≡ maybe.some v) × (v.role ≡ Holds t)
+  abbrev pub HasTurn : List (SeatView I F) → ℕ → ℕ → Type 0
+  HasTurn views seat t = (v : SeatView I F) × (get_elem? views seat ≡ maybe.some v) × (v.role ≡ Holds t)
 
 module _ {I : Type 0} (out : Type 0) (log : List I) (made drawn served : ℕ) (seat_of : ℕ → ℕ) (seat : ℕ) (own : Part I) where
   -- What holds of a seat in this role, where `out` says that the slot is out.
   -- A ticket is from `served` up to but not `drawn`, and no two seats have one, as `seat_of` names
   -- its seat. Who has the turn has the ticket `served`, so one seat at most has it; its list in hand
   -- is the history.
-  abbrev pub RoleFits : Role → Type 0
+  abbrev pub RoleFits : SeatRole → Type 0
   RoleFits Spent = Unit {0}
   RoleFits (Maker n) = (n ≡ made) × (seat ≡ 0)
   RoleFits Idle = Unit {0}
@@ -107,10 +107,10 @@ module _ {S I F : Type 0} (entries : S → List I) (author : I → ℕ) (fixed :
   AtHome log homes = (y : S) × (homes ≡ maybe.some (Some y) ∷ []) × (entries y ≡ log) × (fixed y ≡ fixed start)
 
   -- the slot is out, and this seat has the turn
-  abbrev pub Away : ℕ → ℕ → List (View I F) → List (maybe.Option (Option S)) → Type 0
+  abbrev pub Away : ℕ → ℕ → List (SeatView I F) → List (maybe.Option (Option S)) → Type 0
   Away served seat views homes = (homes ≡ maybe.none ∷ []) × HasTurn views seat served
 
-  pub record Turns (s : State (Option S) (View I F)) : Type 0 where
+  pub record Turns (s : State (Option S) (SeatView I F)) : Type 0 where
     -- the history, the numbers made, the tickets drawn and served, and which seat drew each ticket
     pub log : List I
     pub made : ℕ
@@ -120,7 +120,7 @@ module _ {S I F : Type 0} (entries : S → List I) (author : I → ℕ) (fixed :
     -- what the words say, modulo 2^64
     pub words : s.words ≡ wrapped drawn ∷ wrapped served ∷ wrapped (length log) ∷ []
     -- what each seat knows of its ticket, and who has the turn knows of the history and the slot
-    pub roles : (j : ℕ) (v : View I F) → get_elem? s.views j ≡ maybe.some v
+    pub roles : (j : ℕ) (v : SeatView I F) → get_elem? s.views j ≡ maybe.some v
         → RoleFits (s.homes ≡ maybe.none ∷ []) log made drawn served seat_of j v.own v.role
     -- each ticket from `served` up to but not `drawn` is out, and as many seats have one
     pub queue : (t : ℕ) → served ≤ t → t < drawn → HasTicket s.views (seat_of t) t
@@ -128,7 +128,7 @@ module _ {S I F : Type 0} (entries : S → List I) (author : I → ℕ) (fixed :
     -- the slot is at home with the history, or the seat whose ticket is served has it and the turn
     pub slot : AtHome log s.homes ⊎ Away served (seat_of served) s.views s.homes
     -- a view that isn't spent has what the state keeps fixed
-    pub same : (j : ℕ) (v : View I F) → get_elem? s.views j ≡ maybe.some v
+    pub same : (j : ℕ) (v : SeatView I F) → get_elem? s.views j ≡ maybe.some v
         → is_spent v.role ≡ false → v.fixed ≡ Some (fixed start)
     -- each number made stands in just one view, and no other number in any
     pub few : (made ≤ seats) × (seats ≤ MOST_SEATS)
@@ -138,6 +138,6 @@ module _ {S I F : Type 0} (entries : S → List I) (author : I → ℕ) (fixed :
     pub unmade : (n : ℕ) → made < n → total (number_count n) s.views ≡ 0
     -- the history begins with what each view has seen; what a number authored is its own in its
     -- view, also after that seat was joined into another; a number not yet made authored nothing
-    pub fits : (j : ℕ) (v : View I F) → get_elem? s.views j ≡ maybe.some v
+    pub fits : (j : ℕ) (v : SeatView I F) → get_elem? s.views j ≡ maybe.some v
         → Every (PartFits author log) (parts_of v)
     pub unwritten : (n : ℕ) → made < n → authored author n log ≡ []

@@ -2,7 +2,7 @@
 //! whole of them. So no worker has a turn any more, the state is in its slot, and its entries are
 //! the history that each pass has seen a beginning of.
 ghost use Rattle.std.specs.Prelude.{◌≡◌, ℕ, ◌<◌, ◌≤◌, [], vec_len};
-ghost use Rattle.rn_desk.specs.declared.view.Role.TheVariants.{Idle};
+ghost use Rattle.rn_desk.specs.declared.view.SeatRole.TheVariants.{Idle};
 ghost use Rattle.rn_desk.specs.Entries.{authored};
 ghost use Rattle.rn_desk.specs.Numbered.{EachAt};
 ghost use Rattle.rn_desk.specs.Turns.{Every, PartFits, parts_of, parts_count};

@@ -3,7 +3,7 @@
 //! between any two atomic steps, so it holds in every schedule (`specs/Turns`; `docs/WORKERS.md`,
 //! 'Turns').
 use crate::kept::Kept;
-use crate::view::{About, View};
+use crate::view::{About, SeatView};
 use atomic_table::{Seat, Table, TableRule};
 use std::alloc::Global;
 use std::marker::PhantomData;
@@ -13,7 +13,7 @@ pub(crate) struct InTurns<S> {
     of: PhantomData<S>,
 }
 
-impl<S: Kept> TableRule<Option<S>, View<S::Item, S::Fixed>, About<S>> for InTurns<S> {
+impl<S: Kept> TableRule<Option<S>, SeatView<S::Item, S::Fixed>, About<S>> for InTurns<S> {
     ghost use Rattle.rn_desk.specs.Turns.{Turns};
     ghost use Rattle.rn_desk.specs.Steps.{maker};
 
@@ -25,13 +25,13 @@ impl<S: Kept> TableRule<Option<S>, View<S::Item, S::Fixed>, About<S>> for InTurn
 /// Three words and one slot.
 pub(crate) type Board<S> = Table<
     Option<S>,
-    View<<S as Kept>::Item, <S as Kept>::Fixed>,
+    SeatView<<S as Kept>::Item, <S as Kept>::Fixed>,
     About<S>,
     InTurns<S>,
     Global,
 >;
 
-pub(crate) type DeskSeat<S> = Seat<Option<S>, View<<S as Kept>::Item, <S as Kept>::Fixed>>;
+pub(crate) type DeskSeat<S> = Seat<Option<S>, SeatView<<S as Kept>::Item, <S as Kept>::Fixed>>;
 
 /// How many seats a desk has, at most.
 pub const MOST_SEATS: u32 = 64;

@@ -5,7 +5,7 @@ use std::collections::LinkedList;
 use std::snapshot::Snapshot;
 
 /// How far a seat's turn is. Tickets are counted on past 2^64.
-pub(crate) enum Role {
+pub(crate) enum SeatRole {
     /// It was joined into another.
     Spent,
     /// It makes the other seats, and has made so many.
@@ -28,8 +28,8 @@ pub(crate) struct Part<I> {
 }
 
 /// What a seat knows.
-pub(crate) struct View<I, F> {
-    pub role: Role,
+pub(crate) struct SeatView<I, F> {
+    pub role: SeatRole,
     pub own: Part<I>,
     /// The parts of the seats that were joined into this one.
     pub others: LinkedList<Part<I>>,

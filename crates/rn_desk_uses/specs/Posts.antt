@@ -5,7 +5,7 @@ use Rattle.rn_desk.specs.Entries.{authored}
 use Rattle.rn_desk.specs.Passes.{IsBack, mine}
 use Rattle.rn_desk_uses.specs.declared.sheet.Sheet.{Sheet}
 use Rattle.rn_desk_uses.specs.declared.sheet.Line.{Line}
-use Rattle.rn_desk_uses.specs.declared.post.Tally.{Tally}
+use Rattle.rn_desk_uses.specs.declared.post.RoundTally.{RoundTally}
 use Rattle.rn_desk_uses.specs.declared.post.Post.{Post}
 
 -- the worker has this number, and has neither a turn nor lines of its own
@@ -19,7 +19,7 @@ IsDone d rounds n p = IsBack (λ s. s.title) d n p.pass × (p.tally.worker ≡ n
     × (p.tally.fired ≡ length (mine p.pass)) × (p.tally.fired + p.tally.refused ≡ rounds)
 
 -- the tally is of this worker, and counts the lines with its number, and the rounds
-abbrev pub FiredBy : List Line → ℕ → ℕ → Tally → Type 0
+abbrev pub FiredBy : List Line → ℕ → ℕ → RoundTally → Type 0
 FiredBy lines rounds n t = (t.worker ≡ n) × (t.fired ≡ length (authored (λ l. l.worker) n lines))
     × (t.fired + t.refused ≡ rounds)
 

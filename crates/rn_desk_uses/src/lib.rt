@@ -6,7 +6,7 @@ mod sheet;
 mod turns;
 mod worker;
 
-pub use post::Tally;
+pub use post::RoundTally;
 pub use sheet::{Line, Sheet};
-pub use turns::{Sight, look, look_all, write_note};
+pub use turns::{PassSight, look, look_all, write_note};
 pub use worker::{work, write_sheet};

@@ -11,7 +11,7 @@ use std::alloc::Global;
 
 /// In how many rounds a worker wrote, and in how many it found no memory.
 #[derive(Drop)]
-pub struct Tally {
+pub struct RoundTally {
     pub worker: u32,
     pub fired: u64,
     pub refused: u64,
@@ -20,7 +20,7 @@ pub struct Tally {
 #[derive(Drop)]
 pub(crate) struct Post {
     pub pass: Pass<Sheet>,
-    pub tally: Tally,
+    pub tally: RoundTally,
 }
 
 /// Each pass with a tally of nothing.
@@ -41,7 +41,7 @@ pub(crate) fn posts_of(
         worker += 1;
         posts.push_reserved(Post {
             pass,
-            tally: Tally {
+            tally: RoundTally {
                 worker,
                 fired: 0,
                 refused: 0,
@@ -55,7 +55,7 @@ pub(crate) fn posts_of(
 pub(crate) fn parted(
     alloc: Global,
     posts: Vec<Post>,
-) -> Result<(Vec<Pass<Sheet>>, Vec<Tally>), NoMemory>
+) -> Result<(Vec<Pass<Sheet>>, Vec<RoundTally>), NoMemory>
     ensures passes { IfOk result (λ r. r.0.items ≡ map (λ p. p.pass) posts.items) }
     ensures tallies { IfOk result (λ r. r.1.items ≡ map (λ p. p.tally) posts.items) }
 {

@@ -15,7 +15,7 @@ use std::thread::Threads;
 
 /// A pass, and how many entries it saw when it last looked.
 #[derive(Drop)]
-pub struct Sight<S: Kept> {
+pub struct PassSight<S: Kept> {
     pub pass: Pass<S>,
     pub entries: u64,
 }
@@ -35,7 +35,7 @@ pub fn look<S: Kept, R: Wait>(rt: &R, desk: &Desk<S>, pass: &mut Pass<S>) -> u64
 pub fn look_all<S: Kept + Send, R: Threads + Wait + Sync>(
     rt: &R,
     desk: &Desk<S>,
-    sights: &mut [Sight<S>],
+    sights: &mut [PassSight<S>],
 )
     requires some { 0 < length sights.old }
     requires ready { EachAt (IsToLook S.fixed desk.now) sights.old }
@@ -46,7 +46,7 @@ pub fn look_all<S: Kept + Send, R: Threads + Wait + Sync>(
         rt,
         sights,
         threads,
-        &|i: usize, sight: &mut Sight<S>|
+        &|i: usize, sight: &mut PassSight<S>|
             requires { IsToLook S.fixed desk.now (i + 1) sight.old }
             ensures { IsShown S.fixed desk.entry.now (i + 1) sight.new }
         { sight.entries = look(rt, desk, &mut sight.pass) },

@@ -5,7 +5,7 @@ ghost use Rattle.rn_desk.specs.Numbered.{EachAt};
 ghost use Rattle.rn_desk.specs.Passes.{number, mine, IsOf, HasNoTurn};
 ghost use Rattle.rn_desk_uses.specs.Posts.{IsAtWork, IsDone, FiredBy};
 
-use crate::post::{Post, Tally, parted, posts_of};
+use crate::post::{Post, RoundTally, parted, posts_of};
 use crate::sheet::{Line, Sheet};
 use rn_desk::{Closed, Desk, Kept, MOST_SEATS, Pass, close, open_desk};
 use rn_items::NoMemory;
@@ -20,7 +20,7 @@ pub fn write_sheet<R: Threads + Wait + Sync>(
     alloc: Global,
     workers: u32,
     rounds: u32,
-) -> Result<(Sheet, Vec<Tally>), NoMemory>
+) -> Result<(Sheet, Vec<RoundTally>), NoMemory>
     requires { (1 ≤ workers) × (workers ≤ MOST_SEATS) }
     ensures title { IfOk result (λ r. r.0.title ≡ 7) }
     ensures count { IfOk result (λ r. vec_len r.1 ≡ workers) }
@@ -58,7 +58,7 @@ pub fn work<R: Wait>(
     rt: &R,
     desk: &Desk<Sheet>,
     pass: &mut Pass<Sheet>,
-    tally: &mut Tally,
+    tally: &mut RoundTally,
     rounds: u32,
 )
     requires here { IsOf ⟦<Sheet as Kept>⟧.fixed desk.now pass.old }

@@ -18,7 +18,7 @@ ghost use Rattle.rn_firsts.specs.Known.{ComesAfter, HasFewPlaces, IsKnown};
 
 use crate::following::{hold_changes, mark_all};
 use crate::looking::{first_again, first_from};
-use crate::pace::{Pace, weight_within};
+use crate::pace::{LookPace, weight_within};
 use rn_binding::Candidate;
 use rn_channel::Uplinks;
 use rn_found::Room;
@@ -41,7 +41,7 @@ pub struct Firsts {
     again: BTreeSet<u32>,
     holders: Vec<Nums>,
     held: bool,
-    pace: Pace,
+    pace: LookPace,
     room: Room,
 }
 
@@ -71,7 +71,7 @@ impl Firsts {
             again: BTreeSet::new(alloc),
             holders: Vec::new(alloc),
             held: false,
-            pace: Pace::new(),
+            pace: LookPace::new(),
             room: Room::new(alloc),
         }
     }

@@ -15,7 +15,7 @@ ghost use Rattle.rn_firsts.specs.Known.{ComesAfter, HasFewPlaces};
 ghost use Rattle.rn_firsts.specs.Resting.{KnowsIdle};
 
 use crate::following::hold_changes;
-use crate::pace::{Credit, FEW, Pace, weight_within};
+use crate::pace::{Credit, FEW, LookPace, weight_within};
 use rn_binding::Candidate;
 use rn_channel::Uplinks;
 use rn_choices::Asked;
@@ -34,7 +34,7 @@ pub struct KnownIdle {
     idle: Idle,
     holders: Vec<Nums>,
     held: bool,
-    pace: Pace,
+    pace: LookPace,
     credit: Credit,
 }
 
@@ -71,7 +71,7 @@ impl KnownIdle {
             idle: Idle::new(alloc),
             holders: Vec::new(alloc),
             held: false,
-            pace: Pace::new(),
+            pace: LookPace::new(),
             credit: Credit::new(),
         }
     }

@@ -7,7 +7,7 @@ ghost use Rattle.rn_found.specs.First.{IsFirstOf};
 ghost use Rattle.rn_found.specs.Starting.{IsSearchable};
 ghost use Rattle.rn_firsts.specs.Known.{IsLookedAt};
 
-use crate::pace::Pace;
+use crate::pace::LookPace;
 use rn_binding::Candidate;
 use rn_channel::Uplinks;
 use rn_found::{Room, least_of};
@@ -55,7 +55,7 @@ pub(crate) fn first_from(
     table: &Table,
     depth: u32,
     until: &mut u32,
-    pace: &mut Pace,
+    pace: &mut LookPace,
     room: &mut Room,
 ) -> Result<Option<Candidate>, NoMemory>
     requires searched { IsSearchable system.now uplinks.now table.now }

@@ -22,15 +22,15 @@ const LEAST: u64 = 16;
 /// How many instances are known, and for how many looks nothing is to be known: twice as many and one
 /// each time that a change reached half of what was known.
 #[derive(Clone, Copy)]
-pub(crate) struct Pace {
+pub(crate) struct LookPace {
     known: u32,
     pause: u32,
     rest: u32,
 }
 
-impl Pace {
-    pub(crate) fn new() -> Pace {
-        Pace {
+impl LookPace {
+    pub(crate) fn new() -> LookPace {
+        LookPace {
             known: 0,
             pause: 0,
             rest: 0,

@@ -85,7 +85,7 @@ begins system m depth b start enabled (node, at, is) root = (
   is,
 )
 
--- which of two is less is told by their first nodes, where these differ
+-- which of two is less is decided by their first nodes, where these differ
 pub by_first : (b c : Binding) (x y : Node) (xs ys : List Node) → b.nodes ≡ x ∷ xs →
     c.nodes ≡ y ∷ ys → binding_cmp b c ≡ ordering_then (node_cmp x y) (slice_cmp node_cmp xs ys)
 by_first b c x y xs ys first second = rw (first, second) refl
@@ -144,7 +144,7 @@ less_by_transition system m depth b c number net t u enabled other starts ends l
       less_number t u less,
     ) refl)
 
--- nodes of one start are told by their values
+-- nodes of one start are ordered by their values
 pub by_values : (x y : Node) (number net t : ℕ) → head_of x ≡ start_of number net t →
     head_of y ≡ start_of number net t → node_cmp x y ≡ slice_cmp value_cmp x.values y.values
 by_values x y number net t one two = rw (

@@ -234,7 +234,7 @@ dead_where_none system uplinks table depth searched none b enabled =
     none starts.0 (is_among system uplinks table starts.0 at.0 at.1 searched start) at.0 at.1 b
     enabled at.2
 
--- what is found tells whether there is any
+-- what is found says whether there is any
 pub found_or_dead : (system : System) (m : Marking) (depth : ℕ) (found : Option Binding) →
     IfSome found (λ b. Enabled system m b depth) → IfNone found (DeadAt system m depth) →
     IsNone found ↔ DeadAt system m depth

@@ -64,7 +64,7 @@ overfills system i t x =
 abbrev pub lacks_room : System → Instance → Transition → Bool
 lacks_room system i t = nat_eq (length t.downlinks) 0 && list_any (overfills system i t) t.arcs
 
--- a firing may start by a transition of an instance, as far as the instance alone tells
+-- a firing may start by a transition of an instance, as far as the instance alone says
 abbrev pub MayStartBy : System → Instance → ℕ → Type 0
 MayStartBy system i t =
     ((transition_at system i.net t).uplink ≡ None)

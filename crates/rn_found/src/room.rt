@@ -16,7 +16,7 @@ use std::mem;
 #[derive(Drop)]
 pub struct Room {
     pub(crate) choices: Choices<Point>,
-    pub(crate) branch: rn_branch::Room,
+    pub(crate) branch: rn_branch::BranchRoom,
 
     /// How many starts were passed by.
     pub(crate) passed: u64,
@@ -27,7 +27,7 @@ impl Room {
     pub fn new(alloc: Global) -> Room {
         Room {
             choices: Choices::new(alloc),
-            branch: rn_branch::Room::new(alloc),
+            branch: rn_branch::BranchRoom::new(alloc),
             passed: 0,
         }
     }
@@ -49,7 +49,7 @@ impl Room {
         requires { HasFewCreations system.now }
         ensures { result ≡ record { system = system.now; decisions = [] } }
     {
-        let room = mem::replace(&mut self.branch, rn_branch::Room::new(alloc));
+        let room = mem::replace(&mut self.branch, rn_branch::BranchRoom::new(alloc));
         Branch::open_in(alloc, room, system, first)
     }
 

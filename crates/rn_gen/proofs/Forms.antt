@@ -33,7 +33,7 @@ use Rattle.rn_net.specs.declared.plain.PTransition.{PTransition}
 use Rattle.rn_net.specs.declared.plain.PNet.{PNet}
 use Rattle.rn_net.specs.Kinds.{kind_at}
 use Rattle.rn_net.specs.Constants.{constant_at}
-use Rattle.rn_net.specs.Nets.{channel_of, var_of, place_of, transition_of, net_of, plain_of}
+use Rattle.rn_net.specs.Nets.{channel_of, var_of, place_of, transition_of, plain_net_of, plain_of}
 use Rattle.rn_net.specs.Words.{semicolon, net_word, place_word, trans_word, channel_word, var_word, int_word}
 use Rattle.rn_gen.proofs.Streams.{past}
 
@@ -214,7 +214,7 @@ main_kinds z more =
     make_kinds (step_kinds (finish_kinds (close_brace ∷ more))))))))
 
 unfoldable pub main : ℤ → Stream → PNet
-main z at = net_of (named_at (at 1) (codes "main"))
+main z at = plain_net_of (named_at (at 1) (codes "main"))
     (int_var (codes "n") (past 3 at) ∷ int_var (codes "k") (past 8 at)
     ∷ net_var (codes "w") (past 13 at) ∷ [])
     (int_place (codes "c") z (past 18 at) ∷ net_place (codes "busy") (past 25 at) ∷ [])
@@ -228,7 +228,7 @@ worker_kinds more =
     go_on_kinds (be_done_kinds (close_brace ∷ more))))
 
 unfoldable pub worker : Stream → PNet
-worker at = net_of (named_at (at 1) (codes "worker"))
+worker at = plain_net_of (named_at (at 1) (codes "worker"))
     (int_var (codes "k") (past 3 at) ∷ [])
     (int_place (codes "s") (pos 0) (past 8 at) ∷ [])
     (go_on (past 15 at) ∷ be_done (past 42 at) ∷ [])

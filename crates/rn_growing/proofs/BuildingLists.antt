@@ -15,7 +15,7 @@ use Rattle.rn_model.specs.Derivation.{Assignment}
 use Rattle.rn_model.proofs.EvaluationLemmas.{list_of-List}
 use Rattle.rn_growing.specs.Building.{BuildsAll, BuildsOr, IsPutBefore, PutsBefore}
 use Rattle.rn_growing.specs.Layouts.{id_of, IsLaidIn, IsReadAs}
-use Rattle.rn_growing.specs.Laid.{LaidState, Gives, Grows, Builds, NeverHas}
+use Rattle.rn_growing.specs.Laid.{LaidState, GivesAssignment, Grows, Builds, NeverHas}
 use Rattle.rn_growing.proofs.BuildingSteps.{values_kept}
 use Rattle.rn_growing.proofs.LaidSteps.{reads_before, read_later}
 
@@ -76,7 +76,7 @@ module _ (old mid late new : LaidState) (terms : Assignment → Option (List Val
     (is : (a : Assignment) → option_and_then (λ vs. option_and_then (list_onto vs) (rest a))
     (terms a) ≡ whole a)
     (builds : BuildsAll old terms mid ids) (more : Grows old mid) where
-  never_some : ((a : Assignment) → Gives old a → Unconsed (terms a) (rest a) → ⊥) →
+  never_some : ((a : Assignment) → GivesAssignment old a → Unconsed (terms a) (rest a) → ⊥) →
       NeverHas old whole
   never_some never a given = elim (whole a) as (λ o. whole a ≡ o → o ≡ None) [
     | None ↦ λ e. refl
@@ -91,7 +91,7 @@ module _ (old mid late new : LaidState) (terms : Assignment → Option (List Val
       let no : ⊥ = cc in no)
 
   module _ (then_builds : Builds mid rest late tail) (still : Grows mid late) where
-    is_late : (a : Assignment) → Gives old a → (un : Unconsed (terms a) (rest a)) → Gives late a
+    is_late : (a : Assignment) → GivesAssignment old a → (un : Unconsed (terms a) (rest a)) → GivesAssignment late a
     is_late a given un =
         (then_builds.adds.exact a).1 (
           (builds.adds.exact a).1 (given, (un.first, un.first_is)),
@@ -173,11 +173,11 @@ module _ (old mid late new : LaidState) (terms : Assignment → Option (List Val
 pub no_front : (old : LaidState) (terms : Assignment → Option (List Value))
     (rest whole : Assignment → Option Value) →
     ((a : Assignment) → option_and_then (λ vs. option_and_then (list_onto vs) (rest a)) (terms a) ≡
-    whole a) → ((a : Assignment) → Gives old a → terms a ≡ None) → NeverHas old whole
+    whole a) → ((a : Assignment) → GivesAssignment old a → terms a ≡ None) → NeverHas old whole
 no_front old terms rest whole is none a given = sym (is a)
     ∙ ap (λ t. option_and_then (λ vs. option_and_then (list_onto vs) (rest a)) t) (none a given)
 
--- nothing before a tail: a list of another value before it tells whether the tail is a list
+-- nothing before a tail: a list of another value before it says whether the tail is a list
 module _ (old mid new : LaidState) (w : Value) (other tail : ℕ)
     (laid : IsLaidIn (id_of old.slots) old.store) (builds : Builds old (λ a. Some w) mid other)
     (more : Grows old mid) (last : Grows mid new) (tail_in : tail < length old.store.terms) where

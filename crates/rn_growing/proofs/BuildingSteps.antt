@@ -26,7 +26,7 @@ use Rattle.rn_model.proofs.DerivationLemmas.{term_value-Cons, term_value-Neg, te
 use Rattle.rn_growing.specs.declared.decision.Head.{Head}
 use Rattle.rn_growing.specs.Building.{along, unknowns_at, part_at, parts_at, BuildsAll, IsMade}
 use Rattle.rn_growing.specs.Layouts.{id_of, AreRead}
-use Rattle.rn_growing.specs.Laid.{LaidState, Gives, Grows, Builds, NeverHas}
+use Rattle.rn_growing.specs.Laid.{LaidState, GivesAssignment, Grows, Builds, NeverHas}
 use Rattle.rn_growing.proofs.LaidSteps.{reads_before}
 
 -- a term that always has the value of another
@@ -270,17 +270,17 @@ module _ (head : Head) (site : D.Site) (way : List ℕ) (exprs : List Expr) (i :
   module _ (start mid new : LaidState) (ids : List ℕ)
       (builds : BuildsAll start (λ a. parts_at a head site way 0 (take i exprs)) mid ids)
       (more : Grows start mid) where
-    either : (a : Assignment) → Gives start a →
+    either : (a : Assignment) → GivesAssignment start a →
         NeverHas mid (λ a. part_at a head site (way ++ i ∷ []) e) → (o : Option (List Value)) →
         parts_at a head site way 0 (take i exprs) ≡ o →
         joined o (part_at a head site (way ++ i ∷ []) e) ≡ None
     either a given never None has = joined_nothing (part_at a head site (way ++ i ∷ []) e)
     either a given never (Some ts) has =
-        let there : Gives mid a = (builds.adds.exact a).1 (given, (ts, has)) in
+        let there : GivesAssignment mid a = (builds.adds.exact a).1 (given, (ts, has)) in
         ap (joined (Some ts)) (never a there) ∙ joined_none (Some ts)
 
     pub none_built : NeverHas mid (λ a. part_at a head site (way ++ i ∷ []) e) → (a : Assignment) →
-        Gives start a → parts_at a head site way 0 exprs ≡ None
+        GivesAssignment start a → parts_at a head site way 0 exprs ≡ None
     none_built never a given =
         let front : parts_at a head site way 0 (take (i + 1) exprs) ≡ None = sym (parts_step a)
         ∙ either a given never (parts_at a head site way 0 (take i exprs)) refl in

@@ -19,7 +19,7 @@ use Rattle.rn_growing.specs.declared.slot.Frame.{Frame}
 use Rattle.rn_growing.specs.Equations.{Brings, Solves, IsSolvable}
 use Rattle.rn_growing.specs.Turns.{AreInTurn, MayCome, SameThing}
 use Rattle.rn_growing.specs.Layouts.{id_of, IsLaidIn}
-use Rattle.rn_growing.specs.Laid.{LaidState, Gives, Grows, Adds}
+use Rattle.rn_growing.specs.Laid.{LaidState, GivesAssignment, Grows, Adds}
 use Rattle.rn_growing.proofs.Telling.{assigned, assigned_reads}
 use Rattle.rn_growing.specs.Grown.{Grown, IsNew, Says, laid_at, IsEarlier}
 use Rattle.rn_growing.specs.Grown.{KeepsGrowing, Tries, TriesIn}
@@ -292,7 +292,7 @@ solvable system laid ds says =
     )
 
 pub not_solvable : (system : System) (laid : LaidState) (ds : List Decision) (d : Decision) →
-    Says system laid ds → ((a : Assignment) → Gives laid a → ¬ Brings system a d) →
+    Says system laid ds → ((a : Assignment) → GivesAssignment laid a → ¬ Brings system a d) →
     ¬ IsSolvable system (ds ++ d ∷ [])
 not_solvable system laid ds d says never (a, all) =
     let both = (solves_more system ds d a).0 all in
@@ -310,7 +310,7 @@ tries_yes now system laid ds after d seen is says =
 
 pub tries_no : (now : Grown) (system : System) (laid : LaidState) (ds : List Decision)
     (d : Decision) → (record { system = system; decisions = ds }) ≡ now → Says system laid ds →
-    ((a : Assignment) → Gives laid a → ¬ Brings system a d) → Tries now d now false
+    ((a : Assignment) → GivesAssignment laid a → ¬ Brings system a d) → Tries now d now false
 tries_no now system laid ds d seen says never =
     subst (λ g. Tries g d g false) seen (refl, not_solvable system laid ds d says never)
 
@@ -331,7 +331,7 @@ decided_now now system old new ds after frames framed frame d seen keeps grows a
     (subst (λ g. MayCome g.system g.decisions d) (sym seen) may)
     (subst (λ g. IsNew g.decisions d) (sym seen) fresh)))
 
--- the answer tells whether some assignment satisfies the decisions
+-- the answer says whether some assignment satisfies the decisions
 pub tries_tells : (yes : Bool) (old new : Grown) (d : Decision) → Tries old d new yes →
     IsTrue yes ↔ IsSolvable old.system (old.decisions ++ d ∷ [])
 tries_tells true old new d tried = (λ e. tried.1, λ s. refl)

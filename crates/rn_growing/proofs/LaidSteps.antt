@@ -31,7 +31,7 @@ use Rattle.std.proofs.lemmas.Option.{same_Some}
 use Rattle.rn_growing.proofs.SameUnknowns.{unknown_itself}
 use Rattle.rn_growing.proofs.SameUnknowns.{unknown_is}
 use Rattle.rn_growing.specs.Grown.{BringsIn}
-use Rattle.rn_growing.specs.Laid.{LaidState, Gives, Grows, GoesBack, Builds, Equates}
+use Rattle.rn_growing.specs.Laid.{LaidState, GivesAssignment, Grows, GoesBack, Builds, Equates}
 use Rattle.rn_items.proofs.Numbers.{same_numbers, numbers_themselves}
 use Rattle.rn_items.proofs.Bools.{both_true}
 
@@ -437,14 +437,14 @@ module _ (start first second end : LaidState) (one other : Assignment → Option
                   (early.0, late.1),
               λ both.
                   let has = both.1 in
-                  let mid : Gives first a = (builds.adds.exact a).1 (both.0, (has.0, has.1)) in
-                  let late : Gives second a = (then_builds.adds.exact a).1 (mid, (has.0, has.2)) in
+                  let mid : GivesAssignment first a = (builds.adds.exact a).1 (both.0, (has.0, has.1)) in
+                  let late : GivesAssignment second a = (then_builds.adds.exact a).1 (mid, (has.0, has.2)) in
                   (adds.exact a).1 (late, has),
             );
           }
       two_terms false equates = λ a given has.
-          let mid : Gives first a = (builds.adds.exact a).1 (given, (has.0, has.1)) in
-          let late : Gives second a = (then_builds.adds.exact a).1 (mid, (has.0, has.2)) in
+          let mid : GivesAssignment first a = (builds.adds.exact a).1 (given, (has.0, has.1)) in
+          let late : GivesAssignment second a = (then_builds.adds.exact a).1 (mid, (has.0, has.2)) in
           equates one other read_one then_builds.reads a late has
 
 -- equations that say the same

@@ -1,4 +1,4 @@
--- What is told of a variable.
+-- What is returned of a variable.
 use Rattle.std.specs.Prelude.{Bool, true, false, IsTrue, is_some}
 use Rattle.std.proofs.Common.{◌<◌, length}
 use Rattle.std.proofs.Common.{◌≡◌, ℕ, List, [], refl, sym, ap, ◌∙◌, subst, pos}

@@ -12,7 +12,7 @@ use Rattle.rn_model.specs.Derivation as D
 use Rattle.rn_growing.specs.declared.decision.Head.{Head}
 use Rattle.rn_growing.specs.Layouts.{id_of, IsLaidIn, AreRead, IsReadAs}
 use Rattle.rn_growing.specs.Grown.{BringsIn}
-use Rattle.rn_growing.specs.Laid.{LaidState, Gives, Adds, GoesBack, Builds, NeverHas}
+use Rattle.rn_growing.specs.Laid.{LaidState, GivesAssignment, Adds, GoesBack, Builds, NeverHas}
 
 -- the unknowns, seen from the part at the end of a way
 abbrev pub along : List ℕ → Unknowns → Unknowns
@@ -49,7 +49,7 @@ pub record BuildsAll (old : LaidState) (terms : Assignment → Option (List Valu
 abbrev pub BuildsAllOr :
     LaidState → (Assignment → Option (List Value)) → LaidState → Option (List ℕ) → Type 0
 BuildsAllOr old terms new (Some ids) = BuildsAll old terms new ids
-BuildsAllOr old terms new None = (a : Assignment) → Gives old a → terms a ≡ None
+BuildsAllOr old terms new None = (a : Assignment) → GivesAssignment old a → terms a ≡ None
 
 -- One value was made of others, under each assignment.
 pub record IsMade (old : LaidState) (make : List Value → Value) (ids : List ℕ) (new : LaidState)
@@ -71,13 +71,13 @@ pub record IsPutBefore (old : LaidState) (ids : List ℕ) (tail : ℕ) (new : La
   pub back : GoesBack old new
   pub exact : (a : Assignment) (rest : Assignment → Option Value) →
       IsReadAs old.store (id_of old.slots) rest tail →
-      Gives new a ↔ (Gives old a × ((others : List Value) × (rest a ≡ Some (Value.List others))))
+      GivesAssignment new a ↔ (GivesAssignment old a × ((others : List Value) × (rest a ≡ Some (Value.List others))))
 
 -- the answer: a list was made, or no assignment given gives the tail a list
 abbrev pub PutsBefore : LaidState → List ℕ → ℕ → LaidState → Option ℕ → Type 0
 PutsBefore old ids tail new (Some id) = IsPutBefore old ids tail new id
 PutsBefore old ids tail new None = (a : Assignment) (rest : Assignment → Option Value) →
-    IsReadAs old.store (id_of old.slots) rest tail → Gives old a →
+    IsReadAs old.store (id_of old.slots) rest tail → GivesAssignment old a →
     (others : List Value) → rest a ≢ Some (Value.List others)
 
 -- the answer to an id that gets a value: each term that is read there has it, or never does

@@ -9,7 +9,7 @@ use Rattle.rn_growing.specs.declared.decision.Decision.{Decision}
 use Rattle.rn_growing.specs.declared.slot.Frame.{Frame}
 use Rattle.rn_growing.specs.Equations.{Solves, IsSolvable}
 use Rattle.rn_growing.specs.Turns.{AreInTurn, SameThing}
-use Rattle.rn_growing.specs.Laid.{LaidState, Gives, Adds}
+use Rattle.rn_growing.specs.Laid.{LaidState, GivesAssignment, Adds}
 use Rattle.rn_growing.specs.Layouts.{id_of, IsLaidIn}
 
 -- A binding that grows is seen as its system and what was decided of it.
@@ -43,7 +43,7 @@ HasFewCreations system =
 pub record Says (system : System) (laid : LaidState) (decisions : List Decision) : Type 0 where
   pub keeps : Keeps laid.store
   pub laid_in : IsLaidIn (id_of laid.slots) laid.store
-  pub exact : (a : Assignment) → Solves system decisions a ↔ Gives laid a
+  pub exact : (a : Assignment) → Solves system decisions a ↔ GivesAssignment laid a
 
 -- what was laid at a frame
 abbrev pub laid_at : LaidState → Frame → LaidState
@@ -71,12 +71,12 @@ pub record KeepsGrowing (system : System) (laid : LaidState) (decisions : List D
 -- The answer to what a decision brings: the store got it, or no assignment given satisfies it.
 abbrev pub BringsIn : LaidState → (Assignment → Type 0) → LaidState → Bool → Type 0
 BringsIn old equation new true = Adds old equation new
-BringsIn old equation new false = (a : Assignment) → Gives old a → ¬ equation a
+BringsIn old equation new false = (a : Assignment) → GivesAssignment old a → ¬ equation a
 
 -- The same, where all is as before unless the store got it.
 abbrev pub TriesIn : LaidState → (Assignment → Type 0) → LaidState → Bool → Type 0
 TriesIn old equation new true = Adds old equation new
-TriesIn old equation new false = (new ≡ old) × ((a : Assignment) → Gives old a → ¬ equation a)
+TriesIn old equation new false = (new ≡ old) × ((a : Assignment) → GivesAssignment old a → ¬ equation a)
 
 -- The answer to a decision that is tried: it is taken where some assignment satisfies it with
 -- those before, and else all is as before.

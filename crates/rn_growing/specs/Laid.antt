@@ -12,14 +12,14 @@ use Rattle.rn_growing.specs.declared.slot.Slot.{Slot}
 use Rattle.rn_growing.specs.declared.slot.Unknown.{Unknown}
 use Rattle.rn_growing.specs.Layouts.{id_of, asked, IsLaidIn, GivenBy, IsReadAs}
 
--- a store, and slots that tell its ids of unknowns
+-- a store, and slots that give its ids of unknowns
 pub record LaidState : Type 0 where
   pub store : State
   pub slots : List Slot
 
 -- the assignments that it gives
-abbrev pub Gives : LaidState → Assignment → Type 0
-Gives laid a = GivenBy laid.store (id_of laid.slots) a
+abbrev pub GivesAssignment : LaidState → Assignment → Type 0
+GivesAssignment laid a = GivenBy laid.store (id_of laid.slots) a
 
 -- it grew: what it was at earlier marks is left as it was
 pub record Grows (old new : LaidState) : Type 0 where
@@ -34,7 +34,7 @@ GoesBack old new = (vs : List Value) → Satisfies new.store vs →
 -- after an equation came in, the assignments given are those from before that satisfy it
 pub record Adds (old : LaidState) (equation : Assignment → Type 0) (new : LaidState) : Type 0 where
   pub back : GoesBack old new
-  pub exact : (a : Assignment) → Gives new a ↔ (Gives old a × equation a)
+  pub exact : (a : Assignment) → GivesAssignment new a ↔ (GivesAssignment old a × equation a)
 
 -- A term was built: it is read at an id, and the assignments given are those from before under
 -- which it has a value.
@@ -47,7 +47,7 @@ pub record Builds (old : LaidState) (term : Assignment → Option Value) (new : 
 
 -- no assignment given gives the term a value
 abbrev pub NeverHas : LaidState → (Assignment → Option Value) → Type 0
-NeverHas laid term = (a : Assignment) → Gives laid a → term a ≡ None
+NeverHas laid term = (a : Assignment) → GivesAssignment laid a → term a ≡ None
 
 -- The answer to an equation of two ids: it came in, or no assignment given satisfies it.
 abbrev pub Equates : LaidState → ℕ → ℕ → LaidState → Bool → Type 0
@@ -58,8 +58,8 @@ Equates old p q new true = (first second : Assignment → Option Value) →
 Equates old p q new false = (first second : Assignment → Option Value) →
     IsReadAs old.store (id_of old.slots) first p →
     IsReadAs old.store (id_of old.slots) second q →
-    (a : Assignment) → Gives old a → ¬ HaveOneValue (first a) (second a)
+    (a : Assignment) → GivesAssignment old a → ¬ HaveOneValue (first a) (second a)
 
 -- all assignments given give an unknown this value
 abbrev pub IsGiven : LaidState → List ℕ → Unknown → Value → Type 0
-IsGiven laid path u v = (a : Assignment) → Gives laid a → asked a path u ≡ v
+IsGiven laid path u v = (a : Assignment) → GivesAssignment laid a → asked a path u ≡ v

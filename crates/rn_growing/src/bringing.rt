@@ -59,7 +59,7 @@ pub(crate) fn try_bring(
     }
 }
 
-/// Brings in what a decision brings, or tells that no assignment given satisfies it.
+/// Brings in what a decision brings, or says that no assignment given satisfies it.
 fn bring(
     alloc: Global,
     system: &System,

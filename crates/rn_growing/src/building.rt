@@ -16,7 +16,7 @@ use rn_term::Ids;
 use rn_value::{NoMemory, Value, copy_inst, copy_text};
 use std::alloc::Global;
 
-/// Builds an expression that stands at a site of a node, or tells that it has no value under any
+/// Builds an expression that stands at a site of a node, or says that it has no value under any
 /// assignment given. `way` leads to it, and is as it was afterwards.
 ///
 /// A list before a tail makes the tail a list, for whoever uses it. So an expression is built no

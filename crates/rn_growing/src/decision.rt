@@ -1,5 +1,5 @@
 //! What is decided of a binding. Each decision carries its node and its value, so what one brings
-//! in doesn't depend on the others. A node is told by its path, which copies of its head share
+//! in doesn't depend on the others. A node is given by its path, which copies of its head share
 //! (`docs/SEARCH.md`, 'A binding grows by decisions').
 ghost use Rattle.std.specs.Prelude.{◌≡◌, IfOk};
 

@@ -20,7 +20,7 @@ ghost use Rattle.rn_growing.specs.declared.decision.Decision.TheVariants as D;
 use crate::bringing::try_bring;
 use crate::decision::{Caller, Decision, Head, Site, Way};
 use crate::laid::Laid;
-use crate::room::Room;
+use crate::room::GrowingRoom;
 use crate::slot::{Frame, Unknown};
 use crate::thing::{Thing, is_decided, key_of};
 use rn_chains::Chains;
@@ -73,15 +73,15 @@ impl<'a> Growing<'a> {
         requires { HasFewCreations system.now }
         ensures { result ≡ record { system = system.now; decisions = [] } }
     {
-        Growing::open_in(Room::new(alloc), system)
+        Growing::open_in(GrowingRoom::new(alloc), system)
     }
 
     /// The same, in the room of another binding.
-    pub fn open_in(room: Room, system: &'a System) -> Growing<'a>
+    pub fn open_in(room: GrowingRoom, system: &'a System) -> Growing<'a>
         requires { HasFewCreations system.now }
         ensures { result ≡ record { system = system.now; decisions = [] } }
     {
-        let Room {
+        let GrowingRoom {
             laid,
             decisions,
             frames,
@@ -99,7 +99,7 @@ impl<'a> Growing<'a> {
     }
 
     /// Its room, for another binding.
-    pub fn into_room(self) -> Room {
+    pub fn into_room(self) -> GrowingRoom {
         let Growing {
             mut laid,
             mut decisions,
@@ -111,7 +111,7 @@ impl<'a> Growing<'a> {
         decisions.clear();
         frames.clear();
         keys.truncate(0);
-        Room {
+        GrowingRoom {
             laid,
             decisions,
             frames,
@@ -183,7 +183,7 @@ impl<'a> Growing<'a> {
         self.decide(alloc, Decision::Found(head, arc, value))
     }
 
-    /// An outermost operator application of a node has a value. It is told by its site and the way
+    /// An outermost operator application of a node has a value. It is given by its site and the way
     /// to it.
     pub fn compute(
         &mut self,

@@ -253,7 +253,7 @@ impl Laid {
         Ok(Some(id))
     }
 
-    /// Makes two ids one, or tells that no assignment given does.
+    /// Makes two ids one, or says that no assignment given does.
     pub(crate) fn equal(&mut self, alloc: Global, p: usize, q: usize) -> Result<bool, NoMemory>
         requires p_within { p < length self.old.store.terms }
         requires q_within { q < length self.old.store.terms }

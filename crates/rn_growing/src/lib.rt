@@ -20,4 +20,4 @@ pub use bringing::transition_in;
 pub use decision::{Caller, Decision, Decisions, Head, Site, Way, copy_head};
 pub use growing::Growing;
 pub use laws::{followers_are_decided, good_systems_open, more_decisions, new_is_undecided};
-pub use room::Room;
+pub use room::GrowingRoom;

@@ -11,14 +11,14 @@ use std::marker::Model;
 
 /// The vectors of a binding that grew, empty, for the next one.
 #[derive(Drop)]
-pub struct Room {
+pub struct GrowingRoom {
     pub(crate) laid: Laid,
     pub(crate) decisions: Vec<Decision>,
     pub(crate) frames: Vec<Frame>,
     pub(crate) keys: Chains,
 }
 
-impl Model for Room {
+impl Model for GrowingRoom {
     ghost use Rattle.std.specs.Prelude.{◌≡◌, [], ⊤};
 
     ghost Value = { ⊤ };
@@ -29,10 +29,10 @@ impl Model for Room {
         × (r.frames.items ≡ []) × (r.keys ≡ []) };
 }
 
-impl Room {
+impl GrowingRoom {
     /// It takes no memory.
-    pub fn new(alloc: Global) -> Room {
-        Room {
+    pub fn new(alloc: Global) -> GrowingRoom {
+        GrowingRoom {
             laid: Laid::new(alloc),
             decisions: Vec::new(alloc),
             frames: Vec::new(alloc),
@@ -41,11 +41,11 @@ impl Room {
     }
 
     /// It has room for so many decisions from the start.
-    pub fn with_room(alloc: Global, decisions: usize) -> Result<Room, NoMemory> {
+    pub fn with_room(alloc: Global, decisions: usize) -> Result<GrowingRoom, NoMemory> {
         let frames = Vec::with_capacity(alloc, decisions)?;
         let keys = Chains::with_room(alloc, decisions)?;
         let laid = Laid::with_room(alloc, decisions)?;
-        Ok(Room {
+        Ok(GrowingRoom {
             laid,
             decisions: Vec::with_capacity(alloc, decisions)?,
             frames,

@@ -54,7 +54,7 @@ none_mentions tokens n none = by_test (any_mentions n tokens) refl
         absurd no
     by_test false e = refl
 
--- the places before a far one tell all that an instance holds
+-- the places before a far one list all that an instance holds
 pub near_tell : (m : Marking) (number place n : ℕ) → MentionNear m → 2 ^ 32 ≤ place + 1 →
     list_any (any_mentions n) (take place (places_of m number)) ≡ holds m number n
 near_tell m number place n near far =

@@ -21,6 +21,6 @@ Advances old true new = (f : Firing) × HasFired old f new
 Advances old false new = (reason : Reason) × (reason ≢ Memory) × (new ≡ with_end reason old)
 
 -- the same, and after a firing the lists are those of the new end
-abbrev pub Steps : State → Bool → State → Listed → Type 0
-Steps old true new lists = (f : Firing) × HasFired old f new × IsFollowed new lists
-Steps old false new lists = Advances old false new
+abbrev pub AdvancesListed : State → Bool → State → Listed → Type 0
+AdvancesListed old true new lists = (f : Firing) × HasFired old f new × IsFollowed new lists
+AdvancesListed old false new lists = Advances old false new

@@ -18,13 +18,13 @@ use std::marker::Model;
 /// A list for each number. How many bindings all have is kept with them, and which of them aren't
 /// empty.
 #[derive(Drop)]
-pub(crate) struct Kept {
+pub(crate) struct KeptLists {
     lists: Vec<Cands>,
     total: u128,
     busy: BTreeSet<usize>,
 }
 
-impl Model for Kept {
+impl Model for KeptLists {
     ghost use Rattle.std.specs.Prelude.{List};
     ghost use Rattle.std.specs.Coded.{codes};
     ghost use Rattle.rn_value.specs.contracts.value.Value as value;
@@ -40,14 +40,14 @@ impl Model for Kept {
     ghost invariant = { λ k. IsSum k.lists.items k.total × AreBusy k.lists.items k.busy };
 }
 
-impl Kept {
+impl KeptLists {
     /// These lists.
-    pub(crate) fn open(alloc: Global, lists: Vec<Cands>) -> Result<Kept, NoMemory>
+    pub(crate) fn open(alloc: Global, lists: Vec<Cands>) -> Result<KeptLists, NoMemory>
         ensures { IfOk result (λ kept. kept ≡ lists.items) }
     {
         let total = count_of(lists.as_slice());
         let busy = busy_of(alloc, lists.as_slice())?;
-        Ok(Kept { lists, total, busy })
+        Ok(KeptLists { lists, total, busy })
     }
 
     /// How many bindings all lists have.

@@ -7,7 +7,7 @@ ghost use Rattle.rn_table.specs.Tables.{IsTableOf};
 ghost use Rattle.rn_incr.specs.Lists.{AreListsOf, IsListOf};
 
 use crate::held::holders_at;
-use crate::kept::Kept;
+use crate::kept::KeptLists;
 use rn_binding::Candidate;
 use rn_channel::Uplinks;
 use rn_found::bindings_of;
@@ -28,7 +28,7 @@ pub type Cands = Items<Candidate>;
 pub struct Lists {
     pub(crate) depth: u32,
     pub(crate) table: Table,
-    pub(crate) kept: Kept,
+    pub(crate) kept: KeptLists,
     pub(crate) holders: Vec<Nums>,
 }
 
@@ -92,7 +92,7 @@ pub fn open_lists(
     ensures lists { IfOk result (λ lists. AreListsOf system.now lists) }
 {
     let lists = lists_at(alloc, system, uplinks, table, depth)?;
-    let kept = Kept::open(alloc, lists)?;
+    let kept = KeptLists::open(alloc, lists)?;
     let holders = holders_at(alloc, system, table)?;
     let table = table.snapshot()?;
     Ok(Lists {

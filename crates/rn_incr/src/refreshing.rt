@@ -10,7 +10,7 @@ ghost use Rattle.rn_holders.specs.Holders.{HaveHolders};
 ghost use Rattle.rn_incr.specs.Lists.{AreListsOf, IsListOf, IsNumberOf, IsTouched};
 
 use crate::fresh::fresh_lists;
-use crate::kept::Kept;
+use crate::kept::KeptLists;
 use crate::lists::Lists;
 use crate::touched::count_starting;
 use rn_channel::Uplinks;
@@ -30,7 +30,7 @@ fn remake(
     depth: u32,
     holders: &[Nums],
     changed: &[u32],
-    kept: &mut Kept,
+    kept: &mut KeptLists,
 ) -> Result<u64, NoMemory>
     requires good { Good system.now }
     requires own { AreUplinksOf system.now uplinks.now }

@@ -6,7 +6,7 @@ ghost use Rattle.rn_model.specs.Good.{Good, IsInLimits};
 ghost use Rattle.rn_model.specs.Runs.{end_of};
 ghost use Rattle.rn_fire.specs.States.{end_marking};
 ghost use Rattle.rn_incr.specs.Counts.{AreCounts, IsCounted};
-ghost use Rattle.rn_incr.specs.Following.{Advances, IsFollowed, Steps};
+ghost use Rattle.rn_incr.specs.Following.{Advances, IsFollowed, AdvancesListed};
 ghost use Rattle.rn_incr.specs.Lists.{AreListsOf};
 
 use crate::lists::{Lists, open_lists};
@@ -91,7 +91,7 @@ fn step(
     requires going { state.old.ended ≡ None }
     requires below { length state.old.fired < state.old.setup.options.steps }
     requires followed { IsFollowed state.old lists.old }
-    ensures { IfOk result (λ fired. Steps state.old fired state.new lists.new) }
+    ensures { IfOk result (λ fired. AdvancesListed state.old fired state.new lists.new) }
 {
     let base = state.base();
     let seen = base.length();

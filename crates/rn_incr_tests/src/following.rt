@@ -4,7 +4,7 @@ ghost use Rattle.std.specs.Prelude.{length, take};
 ghost use Rattle.rn_channel.specs.Uplinks.{AreUplinksOf};
 ghost use Rattle.rn_model.specs.Runs.{end_of};
 ghost use Rattle.rn_fire.specs.States.{end_marking};
-ghost use Rattle.rn_incr.specs.Following.{Advances, IsFollowed, Steps};
+ghost use Rattle.rn_incr.specs.Following.{Advances, IsFollowed, AdvancesListed};
 ghost use Rattle.rn_incr.specs.Lists.{AreListsOf};
 
 use crate::nets::{options_of, system_of};
@@ -115,7 +115,7 @@ fn step(
     requires going { state.old.ended ≡ None }
     requires below { length state.old.fired < state.old.setup.options.steps }
     requires followed { IsFollowed state.old lists.old }
-    ensures { IfOk result (λ yes. IsTrue yes → Steps state.old true state.new lists.new) }
+    ensures { IfOk result (λ yes. IsTrue yes → AdvancesListed state.old true state.new lists.new) }
 {
     let base = state.base();
     let seen = base.length();

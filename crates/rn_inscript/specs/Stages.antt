@@ -186,9 +186,9 @@ ReadsFrom n X tokens before first around (Err e) =
 abbrev pub HasMoved : List Token → Seen → Seen → Type 0
 HasMoved tokens before now = (before.at ≤ now.at) × (now.at ≤ length tokens)
 
-abbrev pub Moves : {A : Type 0} → List Token → Seen → Result (A × Seen) InscriptFault → Type 0
-Moves tokens before (Ok (a, after)) = HasMoved tokens before after
-Moves tokens before (Err e) = Unit {0}
+abbrev pub MovesOn : {A : Type 0} → List Token → Seen → Result (A × Seen) InscriptFault → Type 0
+MovesOn tokens before (Ok (a, after)) = HasMoved tokens before after
+MovesOn tokens before (Err e) = Unit {0}
 
 -- what a reader of a phrase returns that begins where an operand has to
 abbrev pub Reads : {A : Type 0} → ℕ → Phrases A → List Token → Seen → List Level →

@@ -4,7 +4,7 @@ ghost use Rattle.rn_notation.specs.declared.sign.TheConstants as sign;
 ghost use Rattle.rn_inscript.specs.Conditions.{IsCond, IsAlternatives, IsBoth, IsSimple};
 ghost use Rattle.rn_inscript.specs.Levels.{Level, without_minuses};
 ghost use Rattle.rn_inscript.specs.Signs.{compare_of};
-ghost use Rattle.rn_inscript.specs.Stages.{Reads, Moves, IsNextOf, IsNoneOf, IsNextSign};
+ghost use Rattle.rn_inscript.specs.Stages.{Reads, MovesOn, IsNextOf, IsNoneOf, IsNextSign};
 ghost use Rattle.rn_inscript.specs.Stages.{IsNotNextSign, or_strength, and_strength, comparing_strength};
 
 use crate::conds::{PAlts, PCond, PSimple, PSimples};
@@ -49,7 +49,7 @@ pub(crate) fn cond(
     levels: u32,
 ) -> Result<(PCond, Seen), InscriptFault>
     requires { seen.at ≤ length tokens.now }
-    ensures moved { Moves tokens.now seen result }
+    ensures moved { MovesOn tokens.now seen result }
     ensures reads { (around : List Level) → without_minuses around ≡ around →
         levels + length around ≡ MOST_NESTED → Reads or_strength IsCond tokens.now seen around result }
 {
@@ -65,7 +65,7 @@ fn alternatives(
     levels: u32,
 ) -> Result<(PAlts, Seen), InscriptFault>
     requires { seen.at ≤ length tokens.now }
-    ensures moved { Moves tokens.now seen result }
+    ensures moved { MovesOn tokens.now seen result }
     ensures reads { (around : List Level) → without_minuses around ≡ around →
         levels + length around ≡ MOST_NESTED → Reads or_strength IsAlternatives tokens.now seen around result }
 {
@@ -91,7 +91,7 @@ fn both(
     levels: u32,
 ) -> Result<(PSimples, Seen), InscriptFault>
     requires { seen.at ≤ length tokens.now }
-    ensures moved { Moves tokens.now seen result }
+    ensures moved { MovesOn tokens.now seen result }
     ensures reads { (around : List Level) → without_minuses around ≡ around →
         levels + length around ≡ MOST_NESTED → Reads and_strength IsBoth tokens.now seen around result }
 {
@@ -117,7 +117,7 @@ fn simple(
     levels: u32,
 ) -> Result<(PSimple, Seen), InscriptFault>
     requires { seen.at ≤ length tokens.now }
-    ensures moved { Moves tokens.now seen result }
+    ensures moved { MovesOn tokens.now seen result }
     ensures reads { (around : List Level) → without_minuses around ≡ around →
         levels + length around ≡ MOST_NESTED → Reads comparing_strength IsSimple tokens.now seen around result }
 {
@@ -135,7 +135,7 @@ fn negation(
     levels: u32,
 ) -> Result<(PSimple, Seen), InscriptFault>
     requires { IsNextSign tokens.now seen.at sign.NOT }
-    ensures moved { Moves tokens.now seen result }
+    ensures moved { MovesOn tokens.now seen result }
     ensures reads { (around : List Level) → without_minuses around ≡ around →
         levels + length around ≡ MOST_NESTED → Reads comparing_strength IsSimple tokens.now seen around result }
 {
@@ -155,7 +155,7 @@ fn comparison(
 ) -> Result<(PSimple, Seen), InscriptFault>
     requires inside { seen.at ≤ length tokens.now }
     requires other { IsNotNextSign tokens.now seen.at sign.NOT }
-    ensures moved { Moves tokens.now seen result }
+    ensures moved { MovesOn tokens.now seen result }
     ensures reads { (around : List Level) → without_minuses around ≡ around →
         levels + length around ≡ MOST_NESTED → Reads comparing_strength IsSimple tokens.now seen around result }
 {

@@ -10,7 +10,7 @@ ghost use Rattle.rn_inscript.specs.Expressions.{IsExprs, joined, at_spot};
 ghost use Rattle.rn_inscript.specs.Signs.{open_brace, open_bracket, open_paren, minus, plus_of};
 ghost use Rattle.rn_inscript.specs.Signs.{times_of};
 ghost use Rattle.rn_inscript.specs.Levels.{Level, bracket, without_minuses};
-ghost use Rattle.rn_inscript.specs.Stages.{Reads, ReadsFrom, Moves, IsNext, IsNextOf, IsNoneOf};
+ghost use Rattle.rn_inscript.specs.Stages.{Reads, ReadsFrom, MovesOn, IsNext, IsNextOf, IsNoneOf};
 ghost use Rattle.rn_inscript.specs.Stages.{IsClose, IsNotNextSign, ready, comparing_strength};
 ghost use Rattle.rn_inscript.specs.Stages.{sum_strength, product_strength, call_strength};
 
@@ -138,7 +138,7 @@ fn named(
 ) -> Result<(PExpr, Seen), InscriptFault>
     requires next { IsNext tokens.now seen.at (lent token) }
     requires name { token.kind.now ≡ Kind.Name name.now }
-    ensures moved { Moves tokens.now seen result }
+    ensures moved { MovesOn tokens.now seen result }
     ensures reads { (around : List Level) → levels + length around ≡ MOST_NESTED →
         Reads call_strength IsPrimary tokens.now seen around result }
 {
@@ -175,7 +175,7 @@ fn this(
 ) -> Result<(PExpr, Seen), InscriptFault>
     requires next { IsNext tokens.now seen.at (lent token) }
     requires kind { token.kind.now ≡ Kind.Word number }
-    ensures moved { Moves tokens.now seen result }
+    ensures moved { MovesOn tokens.now seen result }
     ensures reads { (around : List Level) → Reads call_strength IsPrimary tokens.now seen around result }
 {
     if number != word::THIS {
@@ -198,7 +198,7 @@ fn primary(
     levels: u32,
 ) -> Result<(PExpr, Seen), InscriptFault>
     requires { seen.at ≤ length tokens.now }
-    ensures moved { Moves tokens.now seen result }
+    ensures moved { MovesOn tokens.now seen result }
     ensures reads { (around : List Level) → levels + length around ≡ MOST_NESTED →
         Reads call_strength IsPrimary tokens.now seen around result }
 {
@@ -238,7 +238,7 @@ fn bracketed(
 ) -> Result<(PExpr, Seen), InscriptFault>
     requires next { IsNext tokens.now seen.at (lent token) }
     requires kind { token.kind.now ≡ Kind.Sign opening }
-    ensures moved { Moves tokens.now seen result }
+    ensures moved { MovesOn tokens.now seen result }
     ensures reads { (around : List Level) → levels + length around ≡ MOST_NESTED →
         Reads call_strength IsPrimary tokens.now seen around result }
 {
@@ -263,7 +263,7 @@ fn parenthesised(
 ) -> Result<(PExpr, Seen), InscriptFault>
     requires next { IsNext tokens.now seen.at (lent token) }
     requires kind { token.kind.now ≡ open_paren }
-    ensures moved { Moves tokens.now seen result }
+    ensures moved { MovesOn tokens.now seen result }
     ensures reads { (around : List Level) → levels + length around ≡ MOST_NESTED →
         Reads call_strength IsPrimary tokens.now seen around result }
 {
@@ -283,7 +283,7 @@ fn tuple(
 ) -> Result<(PExpr, Seen), InscriptFault>
     requires next { IsNext tokens.now seen.at (lent token) }
     requires kind { token.kind.now ≡ open_bracket }
-    ensures moved { Moves tokens.now seen result }
+    ensures moved { MovesOn tokens.now seen result }
     ensures reads { (around : List Level) → levels + length around ≡ MOST_NESTED →
         Reads call_strength IsPrimary tokens.now seen around result }
 {
@@ -308,7 +308,7 @@ fn list(
 ) -> Result<(PExpr, Seen), InscriptFault>
     requires next { IsNext tokens.now seen.at (lent token) }
     requires kind { token.kind.now ≡ open_brace }
-    ensures moved { Moves tokens.now seen result }
+    ensures moved { MovesOn tokens.now seen result }
     ensures reads { (around : List Level) → levels + length around ≡ MOST_NESTED →
         Reads call_strength IsPrimary tokens.now seen around result }
 {
@@ -337,7 +337,7 @@ pub(crate) fn listed(
 ) -> Result<(PExprs, Seen), InscriptFault>
     requires inside { seen.at ≤ length tokens.now }
     requires close { IsClose close }
-    ensures moved { Moves tokens.now seen result }
+    ensures moved { MovesOn tokens.now seen result }
     ensures reads { (around : List Level) → levels + length (bracket ∷ around) ≡ MOST_NESTED →
         ReadsFrom call_strength (IsListed (Kind.Sign close)) tokens.now seen
         (ready (bracket ∷ around) seen.operators) around result }
@@ -358,7 +358,7 @@ fn exprs(
     levels: u32,
 ) -> Result<(PExprs, Seen), InscriptFault>
     requires { seen.at ≤ length tokens.now }
-    ensures moved { Moves tokens.now seen result }
+    ensures moved { MovesOn tokens.now seen result }
     ensures reads { (around : List Level) → without_minuses around ≡ around → levels + length around ≡ MOST_NESTED →
         Reads comparing_strength IsExprs tokens.now seen around result }
 {
@@ -385,7 +385,7 @@ fn negative(
 ) -> Result<(PExpr, Seen), InscriptFault>
     requires next { IsNext tokens.now seen.at (lent token) }
     requires kind { token.kind.now ≡ minus }
-    ensures moved { Moves tokens.now seen result }
+    ensures moved { MovesOn tokens.now seen result }
     ensures reads { (around : List Level) → levels + length around ≡ MOST_NESTED →
         Reads call_strength IsUnary tokens.now seen around result }
 {
@@ -402,7 +402,7 @@ fn unary(
     levels: u32,
 ) -> Result<(PExpr, Seen), InscriptFault>
     requires { seen.at ≤ length tokens.now }
-    ensures moved { Moves tokens.now seen result }
+    ensures moved { MovesOn tokens.now seen result }
     ensures reads { (around : List Level) → levels + length around ≡ MOST_NESTED →
         Reads call_strength IsUnary tokens.now seen around result }
 {
@@ -420,7 +420,7 @@ fn product(
     levels: u32,
 ) -> Result<(PExpr, Seen), InscriptFault>
     requires { seen.at ≤ length tokens.now }
-    ensures moved { Moves tokens.now seen result }
+    ensures moved { MovesOn tokens.now seen result }
     ensures reads { (around : List Level) → without_minuses around ≡ around → levels + length around ≡ MOST_NESTED →
         Reads product_strength IsProduct tokens.now seen around result }
 {
@@ -444,7 +444,7 @@ pub(crate) fn expr(
     levels: u32,
 ) -> Result<(PExpr, Seen), InscriptFault>
     requires { seen.at ≤ length tokens.now }
-    ensures moved { Moves tokens.now seen result }
+    ensures moved { MovesOn tokens.now seen result }
     ensures reads { (around : List Level) → without_minuses around ≡ around → levels + length around ≡ MOST_NESTED →
         Reads sum_strength IsExpr tokens.now seen around result }
 {

@@ -7,7 +7,7 @@ ghost use Rattle.rn_inscript.specs.Signs.{arc_of, target_of, guard_word, action_
 ghost use Rattle.rn_inscript.specs.Signs.{this_word};
 ghost use Rattle.rn_inscript.specs.NextNames.{IsNotNextKind, IsNextName, IsNoName, IsEquality};
 ghost use Rattle.rn_inscript.specs.NextNames.{IsNoCreation};
-ghost use Rattle.rn_inscript.specs.Stages.{Reads, Moves, or_strength, IsNext, IsNextKind, past};
+ghost use Rattle.rn_inscript.specs.Stages.{Reads, MovesOn, or_strength, IsNext, IsNextKind, past};
 
 use crate::conditions::cond;
 use crate::cursor::{Seen, expect_sign, next, past_sign};
@@ -106,7 +106,7 @@ fn arc(
 ) -> Result<(PInscribed, Seen), InscriptFault>
     requires next { IsNext tokens.now seen.at (lent token) }
     requires kind { arc_of token.kind.now ≡ Some kind }
-    ensures moved { Moves tokens.now seen result }
+    ensures moved { MovesOn tokens.now seen result }
     ensures reads { Reads 0 IsInscribed tokens.now seen [] result }
 {
     let (place, after) = expect_name(alloc, tokens, seen.past(tokens))?;
@@ -145,7 +145,7 @@ fn guard(
 ) -> Result<(PInscribed, Seen), InscriptFault>
     requires next { IsNext tokens.now seen.at (lent token) }
     requires kind { token.kind.now ≡ guard_word }
-    ensures moved { Moves tokens.now seen result }
+    ensures moved { MovesOn tokens.now seen result }
     ensures reads { Reads 0 IsInscribed tokens.now seen [] result }
 {
     let (condition, end) = cond(alloc, tokens, seen.past(tokens), MOST_NESTED)?;
@@ -161,7 +161,7 @@ fn action(
 ) -> Result<(PInscribed, Seen), InscriptFault>
     requires next { IsNext tokens.now seen.at (lent token) }
     requires kind { token.kind.now ≡ action_word }
-    ensures moved { Moves tokens.now seen result }
+    ensures moved { MovesOn tokens.now seen result }
     ensures reads { Reads 0 IsInscribed tokens.now seen [] result }
 {
     let after = seen.past(tokens);
@@ -182,7 +182,7 @@ fn call(
     seen: Seen,
 ) -> Result<((PName, PExprs), Seen), InscriptFault>
     requires { seen.at ≤ length tokens.now }
-    ensures moved { Moves tokens.now seen result }
+    ensures moved { MovesOn tokens.now seen result }
     ensures reads { Reads or_strength IsCall tokens.now seen [] result }
 {
     let (channel, after) = expect_name(alloc, tokens, seen)?;
@@ -200,7 +200,7 @@ fn uplink(
 ) -> Result<(PInscribed, Seen), InscriptFault>
     requires next { IsNext tokens.now seen.at (lent token) }
     requires kind { token.kind.now ≡ colon }
-    ensures moved { Moves tokens.now seen result }
+    ensures moved { MovesOn tokens.now seen result }
     ensures reads { Reads 0 IsInscribed tokens.now seen [] result }
 {
     let ((channel, args), end) = call(alloc, tokens, seen.past(tokens))?;
@@ -219,7 +219,7 @@ fn creation(
     requires kind { token.kind.now ≡ Kind.Name name.now }
     requires follows { IsNextKind tokens.now (seen.at + 1) colon }
     requires new { IsNextKind tokens.now (seen.at + 1 + 1) new_word }
-    ensures moved { Moves tokens.now seen result }
+    ensures moved { MovesOn tokens.now seen result }
     ensures reads { Reads 0 IsInscribed tokens.now seen [] result }
 {
     let (net, end) = expect_name(alloc, tokens, seen.past(tokens).past(tokens).past(tokens))?;
@@ -243,7 +243,7 @@ fn downlink(
     requires kind { target_of token.kind.now ≡ Some form }
     requires follows { IsNextKind tokens.now (seen.at + 1) colon }
     requires other { IsNoCreation tokens.now (seen.at + 1 + 1) (lent token) }
-    ensures moved { Moves tokens.now seen result }
+    ensures moved { MovesOn tokens.now seen result }
     ensures reads { Reads 0 IsInscribed tokens.now seen [] result }
 {
     let ((channel, args), end) = call(alloc, tokens, seen.past(tokens).past(tokens))?;
@@ -264,7 +264,7 @@ fn downlink(
 /// `e1 = e2`
 fn equality(alloc: Global, tokens: &Tokens, seen: Seen) -> Result<(PInscribed, Seen), InscriptFault>
     requires { seen.at ≤ length tokens.now }
-    ensures moved { Moves tokens.now seen result }
+    ensures moved { MovesOn tokens.now seen result }
     ensures reads { Reads 0 IsEquality tokens.now seen [] result }
 {
     let (left, after) = expr(alloc, tokens, seen, MOST_NESTED)?;
@@ -283,7 +283,7 @@ fn by_name(
 ) -> Result<(PInscribed, Seen), InscriptFault>
     requires next { IsNext tokens.now seen.at (lent token) }
     requires kind { token.kind.now ≡ Kind.Name name.now }
-    ensures moved { Moves tokens.now seen result }
+    ensures moved { MovesOn tokens.now seen result }
     ensures reads { Reads 0 IsInscribed tokens.now seen [] result }
 {
     match past_sign(tokens, seen.past(tokens), sign::COLON) {
@@ -305,7 +305,7 @@ fn by_link(
     requires kind { token.kind.now ≡ Kind.Name name.now }
     requires follows { IsNextKind tokens.now (seen.at + 1) colon }
     requires after { after ≡ past (past seen) }
-    ensures moved { Moves tokens.now seen result }
+    ensures moved { MovesOn tokens.now seen result }
     ensures reads { Reads 0 IsInscribed tokens.now seen [] result }
 {
     match past_word(tokens, after, word::NEW) {
@@ -326,7 +326,7 @@ fn by_this(
 ) -> Result<(PInscribed, Seen), InscriptFault>
     requires next { IsNext tokens.now seen.at (lent token) }
     requires kind { token.kind.now ≡ this_word }
-    ensures moved { Moves tokens.now seen result }
+    ensures moved { MovesOn tokens.now seen result }
     ensures reads { Reads 0 IsInscribed tokens.now seen [] result }
 {
     match past_sign(tokens, seen.past(tokens), sign::COLON) {
@@ -345,7 +345,7 @@ fn by_word(
 ) -> Result<(PInscribed, Seen), InscriptFault>
     requires next { IsNext tokens.now seen.at (lent token) }
     requires kind { token.kind.now ≡ Kind.Word number }
-    ensures moved { Moves tokens.now seen result }
+    ensures moved { MovesOn tokens.now seen result }
     ensures reads { Reads 0 IsInscribed tokens.now seen [] result }
 {
     if let Some(kind) = arc_of(token.kind) {
@@ -371,7 +371,7 @@ fn by_sign(
 ) -> Result<(PInscribed, Seen), InscriptFault>
     requires next { IsNext tokens.now seen.at (lent token) }
     requires kind { token.kind.now ≡ Kind.Sign number }
-    ensures moved { Moves tokens.now seen result }
+    ensures moved { MovesOn tokens.now seen result }
     ensures reads { Reads 0 IsInscribed tokens.now seen [] result }
 {
     if number == sign::COLON {
@@ -388,7 +388,7 @@ pub(crate) fn inscribed(
     seen: Seen,
 ) -> Result<(PInscribed, Seen), InscriptFault>
     requires { seen.at ≤ length tokens.now }
-    ensures moved { Moves tokens.now seen result }
+    ensures moved { MovesOn tokens.now seen result }
     ensures reads { Reads 0 IsInscribed tokens.now seen [] result }
 {
     match next(tokens, seen.at) {

@@ -31,7 +31,7 @@ pub enum CommitAt {
     NoMemory(NoMemory),
 }
 
-// What the commit of a state tells.
+// What the commit of a state returns.
 fn answer_at(answer: Commit) -> CommitAt
     ensures { result ≡ answer_at answer }
 {

@@ -19,7 +19,7 @@ use Rattle.rn_desk.specs.Entries.{StartsWith}
 use Rattle.rn_fire.specs.declared.setup.Setup.{Setup}
 use Rattle.rn_fire.specs.States.{State, IsState, firings_in, logged}
 use Rattle.rn_worker.specs.declared.looking.Sight.{Sight}
-use Rattle.rn_worker.specs.Seen.{GoesOn, KeepsLog, Shows, marking_after}
+use Rattle.rn_worker.specs.Seen.{IsUnended, KeepsLog, Shows, marking_after}
 use Rattle.rn_worker.proofs.SeenEntries.{had_seen, taken}
 use Rattle.rn_worker.specs.Plans.{IsFoundAt, WasFound as PlanFound}
 use Rattle.rn_worker.proofs.SeenStates.{knows as plan_known, fits_in as plan_fits}
@@ -27,7 +27,7 @@ use Rattle.rn_least_state.specs.LeastStates.{HasLeastLog}
 use Rattle.rn_least_workers.specs.declared.considering.LeastPlan.{LeastPlan}
 use Rattle.rn_least_workers.specs.LeastPlans.{FitsIn, IsLeastAt, IsPlanAt, Knows, WasFound}
 
--- what the search for the least binding tells
+-- what the search for the least binding says
 least_at : (system : System) (depth : ℕ) (m : Marking) (found : Option Binding) →
     IfSome found (λ b. Enabled system m b depth
     × ((c : Binding) → Enabled system m c depth → binding_cmp b c ≢ Greater)) →
@@ -98,7 +98,7 @@ module _ (setup : Setup) (system : System) (options : Options)
 
 -- A later state.
 module _ (t : State) (is : IsState t) (es : List Entry) (begins : StartsWith (logged t) es)
-    (going : GoesOn es) where
+    (going : IsUnended es) where
   still_least : (b : Binding) →
       IsLeast t.setup.system (marking_after t.setup es) t.setup.options.depth b →
       WasFound t (length es) (Some b)

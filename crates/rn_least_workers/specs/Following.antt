@@ -12,5 +12,5 @@ abbrev pub FollowsIn : System → ℕ → Known → View → Type 0
 FollowsIn system depth k v = FollowsOne system (λ m. IsKnown system m depth k) v
 
 -- the same of a system and its options
-abbrev pub Follows : Setup → Known → View → Type 0
-Follows setup k v = FollowsIn setup.system setup.options.depth k v
+abbrev pub FollowsKnown : Setup → Known → View → Type 0
+FollowsKnown setup k v = FollowsIn setup.system setup.options.depth k v

@@ -4,7 +4,7 @@ ghost use Rattle.rn_model.specs.Limits.{most_workers};
 ghost use Rattle.rn_desk.specs.Passes.{fixed_of, number, seen, mine, IsOf, HasNoTurn};
 ghost use Rattle.rn_fire.specs.Ends.{MayGoOn};
 ghost use Rattle.rn_fire.specs.States.{logged};
-ghost use Rattle.rn_worker.specs.Seen.{KeepsLog, GoesOn, marking_after};
+ghost use Rattle.rn_worker.specs.Seen.{KeepsLog, IsUnended, marking_after};
 ghost use Rattle.rn_worker.specs.Plans.{AddsOwn, GrowsBy, HasNoneLive};
 ghost use Rattle.rn_desk.specs.Entries.{StartsWith};
 ghost use Rattle.rn_least_workers.specs.LeastPlans.{DropsNone, FitsIn, Knows, WasFound};
@@ -20,7 +20,7 @@ use std::sync::Wait;
 
 /// What came of a turn: what the worker did, and what it saw then, where it looked.
 #[derive(Drop)]
-pub(crate) struct Acted {
+pub(crate) struct TurnOutcome {
     pub done: Done,
     pub view: Option<View>,
 }
@@ -117,12 +117,12 @@ pub(crate) fn act<R: Wait>(
     next: u32,
     steps: u32,
     plan: &Result<LeastPlan, NoMemory>,
-) -> Acted
+) -> TurnOutcome
     requires here { IsOf ⟦<LeastState as Kept>⟧.fixed desk.now pass.old }
     requires free { HasNoTurn pass.old }
     requires worker { (1 ≤ worker) × (worker ≤ most_workers) }
     requires number { number pass.old ≡ worker }
-    requires going { GoesOn (seen pass.old) }
+    requires going { IsUnended (seen pass.old) }
     requires looked { looked ≡ length (seen pass.old) }
     requires next { next ≡ (marking_after (fixed_of ⟦<LeastState as Kept>⟧.fixed desk.now)
         (seen pass.old)).next }
@@ -154,5 +154,5 @@ pub(crate) fn act<R: Wait>(
     let done = act_on(alloc, state, worker, looked, plan);
     let view = view_below(alloc, state.base(), steps, looked, next);
     desk.give(pass, turn);
-    Acted { done, view }
+    TurnOutcome { done, view }
 }

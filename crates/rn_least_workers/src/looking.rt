@@ -5,7 +5,7 @@ ghost use Rattle.rn_desk.specs.Passes.{fixed_of, number, seen, mine, IsOf, HasNo
 ghost use Rattle.rn_worker.specs.Seen.{HasEnded, IsSightOf, StaysOrEnds};
 ghost use Rattle.rn_firsts.specs.Known.{Known};
 ghost use Rattle.rn_worker.specs.Views.{ShowsView};
-ghost use Rattle.rn_least_workers.specs.Following.{Follows};
+ghost use Rattle.rn_least_workers.specs.Following.{FollowsKnown};
 
 use rn_desk::{Desk, Kept, Pass};
 use rn_least_state::LeastState;
@@ -52,7 +52,7 @@ pub(crate) fn look<R: Wait>(
         (seen pass.new)) }
     ensures none { IfNone result (HasEnded (seen pass.new)) }
     ensures follows { (k : Known) → IfSome result
-        (Follows (fixed_of ⟦<LeastState as Kept>⟧.fixed desk.now) k) }
+        (FollowsKnown (fixed_of ⟦<LeastState as Kept>⟧.fixed desk.now) k) }
 {
     let mut turn = desk.take(rt, pass);
     let sight = sight_of(turn.state());
@@ -88,8 +88,8 @@ pub(crate) fn look_on<R: Wait>(
         (seen pass.new)) }
     ensures none { IfNone result (HasEnded (seen pass.new)) }
     ensures follows { (k : Known) →
-        IfSome left (Follows (fixed_of ⟦<LeastState as Kept>⟧.fixed desk.now) k) →
-        IfSome result (Follows (fixed_of ⟦<LeastState as Kept>⟧.fixed desk.now) k) }
+        IfSome left (FollowsKnown (fixed_of ⟦<LeastState as Kept>⟧.fixed desk.now) k) →
+        IfSome result (FollowsKnown (fixed_of ⟦<LeastState as Kept>⟧.fixed desk.now) k) }
 {
     match left {
         Some(view) => Some(view),

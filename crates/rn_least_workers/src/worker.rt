@@ -5,7 +5,7 @@ ghost use Rattle.rn_channel.specs.Uplinks.{AreUplinksOf};
 ghost use Rattle.rn_desk.specs.Passes.{fixed_of, number, seen, mine, IsOf, HasNoTurn};
 ghost use Rattle.rn_worker.specs.Seen.{HasEnded};
 
-use crate::acting::{Acted, act};
+use crate::acting::{TurnOutcome, act};
 use crate::considering::{live_then, plan_at};
 use crate::looking::{look, look_on};
 use rn_channel::Uplinks;
@@ -64,7 +64,7 @@ pub(crate) fn work_least<R: Wait, G: Gate + Sync>(
         let due = pace.is_due(options.sweep_every, next);
         let plan = plan_at(alloc, system, uplinks, options.depth, &mut firsts, now, due);
         gate.between(worker, seen);
-        let Acted { done, view: left } = act(
+        let TurnOutcome { done, view: left } = act(
             rt,
             alloc,
             desk,

@@ -10,7 +10,7 @@ use Rattle.rn_value.specs.Characters.{is_digit}
 use Rattle.rn_lines.specs.ValueText.{Said, Seen, IsValue, Begins, most_brackets}
 use Rattle.rn_lines.specs.declared.unread.Unread.{Unread}
 use Rattle.rn_lines.specs.declared.unread.Unread.TheVariants as unread
-use Rattle.rn_lines.specs.Reading.{◌>>=◌, Misses, Gives, after, value_at, front_at, is_delimited, seen_at}
+use Rattle.rn_lines.specs.Reading.{◌>>=◌, Misses, ReturnsRead, after, value_at, front_at, is_delimited, seen_at}
 use Rattle.rn_lines.proofs.NumeralReading.{bind_some}
 use Rattle.rn_lines.proofs.ValueReading.{Read, ValueAt, value_reads, value_read}
 
@@ -92,9 +92,9 @@ front_found said bytes x none e =
     ap (λ o. o >>= started) (sym (after_nothing (value_at most_brackets bytes)) ∙ ap (λ said. after said (value_at most_brackets bytes)) (sym none) ∙ e)
 
 -- The two clauses of a reader, by its exact answer.
-pub what_is_found : {X Y : Type 0} (view : X → Y) (r : Result X Unread) (read : Option Y) (P : Y → Type 0) → Gives view r read → ((y : Y) → read ≡ Some y → P y) → IfOk r (λ x. P (view x))
+pub what_is_found : {X Y : Type 0} (view : X → Y) (r : Result X Unread) (read : Option Y) (P : Y → Type 0) → ReturnsRead view r read → ((y : Y) → read ≡ Some y → P y) → IfOk r (λ x. P (view x))
 what_is_found view (Ok x) read P gives sound = sound (view x) gives
 what_is_found view (Err e) read P gives sound = tt
 
-pub what_is_there : {X Y : Type 0} (view : X → Y) (r : Result X Unread) (read : Option Y) (y : Y) → Gives view r read → read ≡ Some y → Gives view r (Some y)
-what_is_there view r read y gives e = subst (Gives view r) e gives
+pub what_is_there : {X Y : Type 0} (view : X → Y) (r : Result X Unread) (read : Option Y) (y : Y) → ReturnsRead view r read → read ≡ Some y → ReturnsRead view r (Some y)
+what_is_there view r read y gives e = subst (ReturnsRead view r) e gives

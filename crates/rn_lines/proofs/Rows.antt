@@ -7,7 +7,7 @@ use Rattle.rn_value.specs.declared.value.Value.{Value}
 use Rattle.rn_lines.specs.declared.unread.Unread.{Unread}
 use Rattle.rn_lines.specs.declared.unread.Unread.TheVariants as unread
 use Rattle.rn_lines.specs.ValueText.{Said}
-use Rattle.rn_lines.specs.Reading.{◌>>=◌, Misses, Gives, byte_at, with_front, after, tail_at, row_at, rows_at, value_at}
+use Rattle.rn_lines.specs.Reading.{◌>>=◌, Misses, ReturnsRead, byte_at, with_front, after, tail_at, row_at, rows_at, value_at}
 
 abbrev Row : Type 0
 Row = Option (List Value × List Said × List ℕ)
@@ -80,14 +80,14 @@ module _ (item : List ℕ → Option (Value × List Said × List ℕ)) where
       by false = refl
 
   pub closes : {X : Type 0} (view : X → List ℕ) (r : Result X Unread) (close most i c : ℕ) (rest more : List ℕ) (vs : List Value) (ms : List Said) (whole : Row) → i < most → rest ≡ c ∷ more →
-      nat_eq c 44 ≡ false → Gives view r (byte_at close rest) → with_front vs ms (tail_at item close (most - i) rest) ≡ whole → Gives (λ x. (vs, ms, view x)) r whole
+      nat_eq c 44 ≡ false → ReturnsRead view r (byte_at close rest) → with_front vs ms (tail_at item close (most - i) rest) ≡ whole → ReturnsRead (λ x. (vs, ms, view x)) r whole
   closes view r close most i c rest more vs ms whole low is apart gives so_far =
       let k : most - i ≡ suc (most - (i + 1)) = omega arith in
       let step : tail_at item close (most - i) rest ≡ (byte_at close rest >>= λ rest. Some ([], [], rest)) =
       (λ j. tail_at item close (k j) (is j)) ∙ close_step close (most - (i + 1)) c more apart ∙ ap (λ bytes. byte_at close bytes >>= λ rest. Some ([], [], rest)) (sym is) in
       by r gives (sym so_far ∙ ap (with_front vs ms) step)
     where
-      by : (r : Result _ Unread) → Gives view r (byte_at close rest) → whole ≡ with_front vs ms (byte_at close rest >>= λ rest. Some ([], [], rest)) → Gives (λ x. (vs, ms, view x)) r whole
+      by : (r : Result _ Unread) → ReturnsRead view r (byte_at close rest) → whole ≡ with_front vs ms (byte_at close rest >>= λ rest. Some ([], [], rest)) → ReturnsRead (λ x. (vs, ms, view x)) r whole
       by (Ok x) found e = e ∙ ap (λ o. with_front vs ms (o >>= λ rest. Some ([], [], rest))) found ∙ nothing_before vs ms (view x)
       by (Err unread.NotThere) found e = e ∙ ap (λ o. with_front vs ms (o >>= λ rest. Some ([], [], rest))) found
       by (Err (unread.NoMemory _)) found e = tt

@@ -25,9 +25,9 @@ Misses unread.NotThere read = read ≡ None
 Misses (unread.NoMemory _) read = Unit {0}
 
 -- What a function returned, seen by `view`, is what there is to read, unless memory ran out.
-abbrev pub Gives : {X Y : Type 0} → (X → Y) → Result X Unread → Option Y → Type 0
-Gives view (Ok x) read = read ≡ Some (view x)
-Gives view (Err e) read = Misses e read
+abbrev pub ReturnsRead : {X Y : Type 0} → (X → Y) → Result X Unread → Option Y → Type 0
+ReturnsRead view (Ok x) read = read ≡ Some (view x)
+ReturnsRead view (Err e) read = Misses e read
 
 -- digits that begin with 0 only where it is the one digit
 abbrev pub are_plain : List ℕ → Bool

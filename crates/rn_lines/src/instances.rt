@@ -3,7 +3,7 @@ ghost use Rattle.std.specs.Prelude.{◌≡◌, ◌<◌, option_map};
 ghost use Rattle.std.specs.List.{prefix_len};
 ghost use Rattle.rn_value.specs.Characters.{is_name_byte};
 ghost use Rattle.rn_value.specs.Words.{is_identifier, is_name};
-ghost use Rattle.rn_lines.specs.Reading.{Gives, byte_at, bracketed_at, name_at, inst_at};
+ghost use Rattle.rn_lines.specs.Reading.{ReturnsRead, byte_at, bracketed_at, name_at, inst_at};
 ghost use Rattle.rn_lines.specs.Said.{said};
 
 use crate::numerals::numeral_at;
@@ -69,7 +69,7 @@ pub(crate) fn bytes_after(byte: u8, bytes: &[u8]) -> Option<&[u8]>
 
 /// The same, for a byte that has to be there.
 pub(crate) fn byte_at(byte: u8, bytes: &[u8]) -> Result<&[u8], Unread>
-    ensures { Gives (λ x. x.now) result (byte_at byte bytes.now) }
+    ensures { ReturnsRead (λ x. x.now) result (byte_at byte bytes.now) }
 {
     match bytes_after(byte, bytes) {
         Some(rest) => Ok(rest),
@@ -79,7 +79,7 @@ pub(crate) fn byte_at(byte: u8, bytes: &[u8]) -> Result<&[u8], Unread>
 
 /// The number of an instance, in brackets, and the bytes after it.
 fn bracketed_at(bytes: &[u8]) -> Result<(u32, &[u8]), Unread>
-    ensures { Gives (λ x. (x.0, x.1.now)) result (bracketed_at bytes.now) }
+    ensures { ReturnsRead (λ x. (x.0, x.1.now)) result (bracketed_at bytes.now) }
 {
     let digits = byte_at(b'[', bytes)?;
     let (number, rest) = numeral_at(GREATEST, digits)?;
@@ -92,7 +92,7 @@ fn bracketed_at(bytes: &[u8]) -> Result<(u32, &[u8]), Unread>
 
 /// The name that bytes begin with, and the bytes after it.
 pub(crate) fn name_at(bytes: &[u8]) -> Result<(&[u8], &[u8]), Unread>
-    ensures { Gives (λ x. (x.0.now, x.1.now)) result (name_at bytes.now) }
+    ensures { ReturnsRead (λ x. (x.0.now, x.1.now)) result (name_at bytes.now) }
 {
     let (name, rest) = bytes.split_at(name_length(bytes));
     if is_name(name) {
@@ -104,7 +104,7 @@ pub(crate) fn name_at(bytes: &[u8]) -> Result<(&[u8], &[u8]), Unread>
 
 /// The instance that bytes begin with, and the bytes after it.
 pub(crate) fn inst_at(bytes: &[u8]) -> Result<(Mention<'_>, &[u8]), Unread>
-    ensures { Gives (λ x. (said x.0, x.1.now)) result (inst_at bytes.now) }
+    ensures { ReturnsRead (λ x. (said x.0, x.1.now)) result (inst_at bytes.now) }
 {
     let (name, rest) = name_at(bytes)?;
     let (number, rest) = bracketed_at(rest)?;

@@ -3,7 +3,7 @@ ghost use Rattle.std.specs.Prelude.{◌≡◌, nat_le, if◌then◌else◌, leng
 ghost use Rattle.rn_lines.specs.LineReading.{count_at, item_at, items_at};
 ghost use Rattle.rn_lines.specs.LineText.{times_of};
 ghost use Rattle.rn_lines.specs.LinesSeen.{item};
-ghost use Rattle.rn_lines.specs.Reading.{Gives};
+ghost use Rattle.rn_lines.specs.Reading.{ReturnsRead};
 
 use crate::instances::byte_at;
 use crate::lines::ReadToken;
@@ -36,7 +36,7 @@ impl ReadItem<'_> {
 /// The digits of the count that bytes begin with, and the bytes after them. There are none where no
 /// `*` stands first.
 fn count_at(bytes: &[u8]) -> Result<(&[u8], &[u8]), Unread>
-    ensures { Gives (λ x. (x.0.now, x.1.now)) result (count_at bytes.now) }
+    ensures { ReturnsRead (λ x. (x.0.now, x.1.now)) result (count_at bytes.now) }
 {
     let Some((first, rest)) = bytes.split_first() else {
         return Ok((&[], bytes));
@@ -49,7 +49,7 @@ fn count_at(bytes: &[u8]) -> Result<(&[u8], &[u8]), Unread>
 
 /// An item behind a space, and the bytes after it.
 fn item_at(alloc: Global, bytes: &[u8]) -> Result<(ReadItem<'_>, &[u8]), Unread>
-    ensures { Gives (λ x. (item x.0, x.1.now)) result (item_at bytes.now) }
+    ensures { ReturnsRead (λ x. (item x.0, x.1.now)) result (item_at bytes.now) }
 {
     let read = front_at(alloc, byte_at(b' ', bytes)?)?;
     let (times, rest) = count_at(read.rest)?;
@@ -62,7 +62,7 @@ fn item_at(alloc: Global, bytes: &[u8]) -> Result<(ReadItem<'_>, &[u8]), Unread>
 
 /// Items up to the end of the bytes, each behind a space.
 pub(crate) fn items_at(alloc: Global, bytes: &[u8]) -> Result<Vec<ReadItem<'_>>, Unread>
-    ensures { Gives (λ v. map item v.items) result (items_at (length bytes.now) bytes.now) }
+    ensures { ReturnsRead (λ v. map item v.items) result (items_at (length bytes.now) bytes.now) }
 {
     let mut items = Vec::new(alloc);
     let mut rest = bytes;

@@ -4,7 +4,7 @@ ghost use Rattle.rn_lines.specs.LineReading.{worker_at, lead_at, last_at, mark_a
 ghost use Rattle.rn_lines.specs.LineReading.{firing_at, fault_at, ending_at, line_at};
 ghost use Rattle.rn_lines.specs.LineText.{LineSaid, IsLine};
 ghost use Rattle.rn_lines.specs.LinesSeen.{lead, token, line};
-ghost use Rattle.rn_lines.specs.Reading.{Gives};
+ghost use Rattle.rn_lines.specs.Reading.{ReturnsRead};
 
 use crate::instances::{Mention, byte_at, inst_at, name_at};
 use crate::items::{ReadItem, items_at};
@@ -82,13 +82,13 @@ pub enum Line<'a> {
 /// names is there, is for the caller to find out.
 pub fn read_line(alloc: Global, bytes: &[u8]) -> Result<Line<'_>, Unread>
     ensures found { IfOk result (λ l. IsLine (line l) bytes.now) }
-    ensures only { (x : LineSaid) → IsLine x bytes.now → Gives line result (Some x) }
+    ensures only { (x : LineSaid) → IsLine x bytes.now → ReturnsRead line result (Some x) }
 {
     line_at(alloc, bytes)
 }
 
 fn line_at(alloc: Global, bytes: &[u8]) -> Result<Line<'_>, Unread>
-    ensures { Gives line result (line_at bytes.now) }
+    ensures { ReturnsRead line result (line_at bytes.now) }
 {
     let Some((first, rest)) = bytes.split_first() else {
         return Err(Unread::NotThere);
@@ -108,7 +108,7 @@ fn line_at(alloc: Global, bytes: &[u8]) -> Result<Line<'_>, Unread>
 
 /// The rest of a line of a firing.
 fn firing_at<'a>(alloc: Global, begins: Lead<'a>, bytes: &'a [u8]) -> Result<Line<'a>, Unread>
-    ensures { Gives line result (firing_at (lead begins.entry) bytes.now) }
+    ensures { ReturnsRead line result (firing_at (lead begins.entry) bytes.now) }
 {
     let Some((first, rest)) = bytes.split_first() else {
         return Err(Unread::NotThere);
@@ -126,7 +126,7 @@ fn firing_at<'a>(alloc: Global, begins: Lead<'a>, bytes: &'a [u8]) -> Result<Lin
 
 /// The rest of a line of a firing that is undefined.
 fn fault_at(alloc: Global, bytes: &[u8]) -> Result<Line<'_>, Unread>
-    ensures { Gives line result (fault_at bytes.now) }
+    ensures { ReturnsRead line result (fault_at bytes.now) }
 {
     let Some((first, rest)) = bytes.split_first() else {
         return Err(Unread::NotThere);
@@ -140,7 +140,7 @@ fn fault_at(alloc: Global, bytes: &[u8]) -> Result<Line<'_>, Unread>
 
 /// The number of a worker before a space, and the bytes after it.
 fn worker_at(bytes: &[u8]) -> Result<(u32, &[u8]), Unread>
-    ensures { Gives (λ x. (x.0, x.1.now)) result (worker_at bytes.now) }
+    ensures { ReturnsRead (λ x. (x.0, x.1.now)) result (worker_at bytes.now) }
 {
     let (worker, rest) = numeral_at(MOST_WORKERS, bytes)?;
     if worker == 0 {
@@ -152,7 +152,7 @@ fn worker_at(bytes: &[u8]) -> Result<(u32, &[u8]), Unread>
 
 /// How a line of a firing begins, and the bytes after it.
 fn lead_at(bytes: &[u8]) -> Result<(Lead<'_>, &[u8]), Unread>
-    ensures { Gives (λ x. (lead x.0, x.1.now)) result (lead_at bytes.now) }
+    ensures { ReturnsRead (λ x. (lead x.0, x.1.now)) result (lead_at bytes.now) }
 {
     let (step, rest) = step_at(bytes)?;
     let rest = byte_at(b' ', rest)?;
@@ -163,7 +163,7 @@ fn lead_at(bytes: &[u8]) -> Result<(Lead<'_>, &[u8]), Unread>
 
 /// The value that the bytes are, all of them.
 fn last_at(alloc: Global, bytes: &[u8]) -> Result<ReadToken<'_>, Unread>
-    ensures { Gives token result (last_at bytes.now) }
+    ensures { ReturnsRead token result (last_at bytes.now) }
 {
     let read = seen_at(alloc, bytes)?;
     if !read.rest.is_empty() {
@@ -196,7 +196,7 @@ fn ending_at(bytes: &[u8]) -> Option<Ending>
 
 /// The mark that the bytes are.
 fn mark_at(alloc: Global, bytes: &[u8]) -> Result<Line<'_>, Unread>
-    ensures { Gives line result (mark_at bytes.now) }
+    ensures { ReturnsRead line result (mark_at bytes.now) }
 {
     let (inst, rest) = inst_at(bytes)?;
     let rest = byte_at(b'.', rest)?;

@@ -1,6 +1,6 @@
 //! Nodes, as records have them.
 ghost use Rattle.std.specs.Prelude.{length, map, IfOk, Some};
-ghost use Rattle.rn_lines.specs.Reading.{Gives};
+ghost use Rattle.rn_lines.specs.Reading.{ReturnsRead};
 ghost use Rattle.rn_lines.specs.NodeReading.{given_at, all_given_at, node_at};
 ghost use Rattle.rn_lines.specs.NodeText.{NodeSaid, IsNode};
 ghost use Rattle.rn_lines.specs.NodeSeen.{given, node};
@@ -33,14 +33,14 @@ pub struct ReadNode<'a> {
 /// and whether the values are of their kinds, is for the caller to find out.
 pub fn read_node(alloc: Global, bytes: &[u8]) -> Result<ReadNode<'_>, Unread>
     ensures found { IfOk result (λ n. IsNode (node n) bytes.now) }
-    ensures only { (x : NodeSaid) → IsNode x bytes.now → Gives node result (Some x) }
+    ensures only { (x : NodeSaid) → IsNode x bytes.now → ReturnsRead node result (Some x) }
 {
     node_at(alloc, bytes)
 }
 
 /// The node that the bytes are, all of them.
 pub(crate) fn node_at(alloc: Global, bytes: &[u8]) -> Result<ReadNode<'_>, Unread>
-    ensures { Gives node result (node_at bytes.now) }
+    ensures { ReturnsRead node result (node_at bytes.now) }
 {
     let (inst, rest) = inst_at(bytes)?;
     let rest = byte_at(b'.', rest)?;
@@ -55,7 +55,7 @@ pub(crate) fn node_at(alloc: Global, bytes: &[u8]) -> Result<ReadNode<'_>, Unrea
 
 /// A variable with its value at the start of bytes, and the bytes after it.
 fn given_at(alloc: Global, bytes: &[u8]) -> Result<(ReadGiven<'_>, &[u8]), Unread>
-    ensures { Gives (λ x. (given x.0, x.1.now)) result (given_at bytes.now) }
+    ensures { ReturnsRead (λ x. (given x.0, x.1.now)) result (given_at bytes.now) }
 {
     let rest = byte_at(b' ', bytes)?;
     let (variable, rest) = name_at(rest)?;
@@ -75,7 +75,7 @@ fn given_at(alloc: Global, bytes: &[u8]) -> Result<(ReadGiven<'_>, &[u8]), Unrea
 
 /// Variables with their values, up to the end of the bytes.
 fn all_given_at(alloc: Global, bytes: &[u8]) -> Result<Vec<ReadGiven<'_>>, Unread>
-    ensures { Gives (λ v. map given v.items) result (all_given_at (length bytes.now) bytes.now) }
+    ensures { ReturnsRead (λ v. map given v.items) result (all_given_at (length bytes.now) bytes.now) }
 {
     let mut all = Vec::new(alloc);
     let mut rest = bytes;

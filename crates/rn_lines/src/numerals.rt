@@ -5,7 +5,7 @@ ghost use Rattle.std.specs.List.{prefix_len};
 ghost use Rattle.rn_value.specs.Characters.{is_digit};
 ghost use Rattle.rn_value.specs.Grammar.{IsNumeral};
 ghost use Rattle.rn_lines.specs.LineReading.{step_at, is_several, several_at};
-ghost use Rattle.rn_lines.specs.Reading.{Gives, are_plain, number_after, numeral_at, whole_at};
+ghost use Rattle.rn_lines.specs.Reading.{ReturnsRead, are_plain, number_after, numeral_at, whole_at};
 
 use crate::unread::Unread;
 use rn_value::is_digit;
@@ -71,7 +71,7 @@ pub fn is_numeral(number: u64, bytes: &[u8]) -> bool
 
 /// The numeral at the start of bytes, of a number up to this, and the bytes after it.
 pub(crate) fn numeral_at(most: u64, bytes: &[u8]) -> Result<(u64, &[u8]), Unread>
-    ensures exact { Gives (λ x. (x.0, x.1.now)) result (numeral_at most bytes.now) }
+    ensures exact { ReturnsRead (λ x. (x.0, x.1.now)) result (numeral_at most bytes.now) }
     ensures within { IfOk result (λ x. x.0 ≤ most) }
 {
     let (digits, rest) = bytes.split_at(digits_length(bytes));
@@ -86,7 +86,7 @@ pub(crate) fn numeral_at(most: u64, bytes: &[u8]) -> Result<(u64, &[u8]), Unread
 
 /// The numeral at the start of bytes, of any length, and the bytes after it.
 pub(crate) fn step_at(bytes: &[u8]) -> Result<(&[u8], &[u8]), Unread>
-    ensures { Gives (λ x. (x.0.now, x.1.now)) result (step_at bytes.now) }
+    ensures { ReturnsRead (λ x. (x.0.now, x.1.now)) result (step_at bytes.now) }
 {
     let (digits, rest) = bytes.split_at(digits_length(bytes));
     if are_plain(digits) {
@@ -109,7 +109,7 @@ fn is_several(digits: &[u8]) -> bool
 
 /// The same as `step_at`, of a number from 2 on.
 pub(crate) fn several_at(bytes: &[u8]) -> Result<(&[u8], &[u8]), Unread>
-    ensures { Gives (λ x. (x.0.now, x.1.now)) result (several_at bytes.now) }
+    ensures { ReturnsRead (λ x. (x.0.now, x.1.now)) result (several_at bytes.now) }
 {
     let (digits, rest) = step_at(bytes)?;
     if is_several(digits) {
@@ -130,7 +130,7 @@ fn below_zero(distance: u64) -> i64
 
 /// The whole number at the start of bytes, and the bytes after it.
 pub(crate) fn whole_at(bytes: &[u8]) -> Result<(i64, &[u8]), Unread>
-    ensures { Gives (λ x. (x.0, x.1.now)) result (whole_at bytes.now) }
+    ensures { ReturnsRead (λ x. (x.0, x.1.now)) result (whole_at bytes.now) }
 {
     match bytes {
         [b'-', digits @ ..] => {

@@ -1,6 +1,6 @@
 //! Texts in quotes.
 ghost use Rattle.std.specs.Prelude.{◌≡◌};
-ghost use Rattle.rn_lines.specs.Reading.{Gives, is_plain, meaning, inside_at, text_at};
+ghost use Rattle.rn_lines.specs.Reading.{ReturnsRead, is_plain, meaning, inside_at, text_at};
 
 use crate::unread::Unread;
 use rn_value::Str;
@@ -28,7 +28,7 @@ fn is_plain(byte: u8) -> bool
 
 /// The bytes that what stands before a quote means, and the bytes after that quote.
 fn inside_at(alloc: Global, bytes: &[u8]) -> Result<(Vec<u8>, &[u8]), Unread>
-    ensures { Gives (λ x. (x.0.items, x.1.now)) result (inside_at bytes.now) }
+    ensures { ReturnsRead (λ x. (x.0.items, x.1.now)) result (inside_at bytes.now) }
 {
     let mut meant = Vec::new(alloc);
     let mut rest = bytes;
@@ -58,7 +58,7 @@ fn inside_at(alloc: Global, bytes: &[u8]) -> Result<(Vec<u8>, &[u8]), Unread>
 
 /// The text whose opening quote is read, and the bytes after its closing quote.
 pub(crate) fn text_at(alloc: Global, bytes: &[u8]) -> Result<(Str, &[u8]), Unread>
-    ensures { Gives (λ x. (x.0, x.1.now)) result (text_at bytes.now) }
+    ensures { ReturnsRead (λ x. (x.0, x.1.now)) result (text_at bytes.now) }
 {
     let (meant, rest) = inside_at(alloc, bytes)?;
     match str::from_utf8(meant.as_slice()) {

@@ -1,6 +1,6 @@
 //! Values, as records have them.
 ghost use Rattle.std.specs.Prelude.{◌≡◌, ◌-◌, ◌<◌, [], map, IfOk, Some};
-ghost use Rattle.rn_lines.specs.Reading.{Gives, with_front, after, tail_at, rows_at, value_at};
+ghost use Rattle.rn_lines.specs.Reading.{ReturnsRead, with_front, after, tail_at, rows_at, value_at};
 ghost use Rattle.rn_lines.specs.Reading.{front_at, is_delimited, seen_at};
 ghost use Rattle.rn_lines.specs.Said.{said, seen};
 ghost use Rattle.rn_lines.specs.ValueText.{Seen, Begins, most_brackets};
@@ -30,18 +30,18 @@ pub struct ReadValue<'a> {
 /// A value has one text, as in `[-5,"a",{},worker[2]]`: without spaces, a number without leading
 /// zeros, a text with `\"`, `\\`, `\n` and `\t` for the quote, the backslash, the newline and the
 /// tab. At most 128 brackets of tuples and lists may be open at once. An instance is read by its
-/// number, and what its text calls it is told as a mention: whether there is such an instance of
-/// that net is for the caller to find out.
+/// number, and what its text calls it is returned as a mention: whether there is such an instance
+/// of that net is for the caller to find out.
 pub fn read_value(alloc: Global, bytes: &[u8]) -> Result<ReadValue<'_>, Unread>
     ensures found { IfOk result (λ r. Begins most_brackets bytes.now (seen r)) }
-    ensures only { (x : Seen) → Begins most_brackets bytes.now x → Gives seen result (Some x) }
+    ensures only { (x : Seen) → Begins most_brackets bytes.now x → ReturnsRead seen result (Some x) }
 {
     seen_at(alloc, bytes)
 }
 
 /// The value that bytes begin with, before a delimiter or the end.
 pub(crate) fn seen_at(alloc: Global, bytes: &[u8]) -> Result<ReadValue<'_>, Unread>
-    ensures { Gives seen result (seen_at bytes.now) }
+    ensures { ReturnsRead seen result (seen_at bytes.now) }
 {
     let mut mentions = Vec::new(alloc);
     let (value, rest) = value_at(alloc, MOST_BRACKETS, bytes, &mut mentions)?;
@@ -57,7 +57,7 @@ pub(crate) fn seen_at(alloc: Global, bytes: &[u8]) -> Result<ReadValue<'_>, Unre
 
 /// The value that bytes begin with, whatever follows it.
 pub(crate) fn front_at(alloc: Global, bytes: &[u8]) -> Result<ReadValue<'_>, Unread>
-    ensures { Gives seen result (front_at bytes.now) }
+    ensures { ReturnsRead seen result (front_at bytes.now) }
 {
     let mut mentions = Vec::new(alloc);
     let (value, rest) = value_at(alloc, MOST_BRACKETS, bytes, &mut mentions)?;
@@ -86,7 +86,7 @@ fn value_at<'a>(
     bytes: &'a [u8],
     mentions: &mut Vec<Mention<'a>>,
 ) -> Result<(Value, &'a [u8]), Unread>
-    ensures { Gives (λ x. (x.0, map said mentions.new.items, x.1.now)) result
+    ensures { ReturnsRead (λ x. (x.0, map said mentions.new.items, x.1.now)) result
         (after (map said mentions.old.items) (value_at depth bytes.now)) }
 {
     let Some((first, rest)) = bytes.split_first() else {
@@ -123,7 +123,7 @@ fn row_at<'a>(
     bytes: &'a [u8],
     mentions: &mut Vec<Mention<'a>>,
 ) -> Result<(Vals, &'a [u8]), Unread>
-    ensures { Gives (λ x. (x.0, map said mentions.new.items, x.1.now)) result
+    ensures { ReturnsRead (λ x. (x.0, map said mentions.new.items, x.1.now)) result
         (with_front [] (map said mentions.old.items) (rows_at depth close bytes.now)) }
 {
     if depth == 0 {
@@ -159,7 +159,7 @@ fn others_at<'a>(
     values: &mut Vec<Value>,
     mentions: &mut Vec<Mention<'a>>,
 ) -> Result<&'a [u8], Unread>
-    ensures { Gives (λ x. (values.new.items, map said mentions.new.items, x.now)) result
+    ensures { ReturnsRead (λ x. (values.new.items, map said mentions.new.items, x.now)) result
         (with_front values.old.items (map said mentions.old.items)
         (tail_at (value_at depth) close most bytes.now)) }
 {

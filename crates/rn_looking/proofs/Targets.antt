@@ -60,7 +60,7 @@ pub this_target : (g : Grown) (head : Head) (site : D.Site) (e : Expr) (inst : I
 this_target g head site e inst is same a solves =
     sym (this_is head site [] e is a) ∙ ap (λ i. Some (Value.Inst i)) (sym same)
 
--- a variable is forced to what it is told to be
+-- a variable is forced to what it is said to be
 pub var_target : (g : Grown) (head : Head) (site : D.Site) (e : Expr) (x : ℕ) → e ≡ E.Var x →
     (told : Option Value) → ((v : Value) → (told ≡ Some v)
     ↔ IsForcedTo g.system g.decisions (λ a. Some (a.var head.path x)) v) →

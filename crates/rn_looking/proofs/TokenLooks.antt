@@ -96,7 +96,7 @@ part_vars vars part parts all =
 
 module _ (sought : Sought) (g : Grown) (node : ℕ) (head : Head) (t : Transition)
     (looked : IsLookedAt sought g node head t) (k : ℕ) where
-  -- the arc of the node by which points tell it
+  -- the arc of the node by which points give it
   arc_there : (x : NetArc) → slice_get t.arcs k ≡ Some x →
       slice_get (transition_in sought.system (node_of sought g.decisions node)).arcs k ≡ Some x
   arc_there x at =

@@ -1,5 +1,5 @@
 //! Going on with one of several tokens: with none the branch is given up, one is forced, and of
-//! more one is chosen, from a first one on, round. That one may be told by a share of the tokens,
+//! more one is chosen, from a first one on, round. That one may be given by a share of the tokens,
 //! so that several workers begin apart, however many tokens a place has (`docs/WORKERS.md`,
 //! 'Conflicts').
 ghost use Rattle.rn_looking.specs.Looks.{IsAmong};

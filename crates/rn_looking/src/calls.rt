@@ -19,7 +19,7 @@ ghost use Rattle.rn_looking.specs.Things.{IsOnCall, IsOnCalls, IsToBeCalled};
 use crate::answers::{Left, answers_left};
 use crate::best::{better, goes_on, is_best, is_enough};
 use crate::look::Look;
-use crate::tested::{Kept, TextChoice};
+use crate::tested::{Remembered, TextChoice};
 use rn_choices::Next;
 use rn_growing::{Decision, Growing, Head, transition_in};
 use rn_model::{Downlink, Expr, System, Transition};
@@ -139,7 +139,7 @@ fn look_for_answer(
     head: &Head,
     transition: &Transition,
     i: usize,
-    kept: &Kept,
+    kept: &Remembered,
 ) -> Result<Look, NoMemory>
     requires at { IsLookedAt problem.now growing.now node head.now transition.now }
     requires open { IsToBeCalled growing.now.decisions head.now transition.now i }
@@ -213,7 +213,7 @@ fn look_at_call(
     head: &Head,
     transition: &Transition,
     i: usize,
-    kept: &Kept,
+    kept: &Remembered,
 ) -> Result<Look, NoMemory>
     requires at { IsLookedAt problem.now growing.now node head.now transition.now }
     requires within { i < length transition.now.downlinks }
@@ -242,7 +242,7 @@ fn look_near_call(
     node: usize,
     head: &Head,
     transition: &Transition,
-    kept: &mut Kept,
+    kept: &mut Remembered,
 ) -> Result<Option<Look>, NoMemory>
     requires { IsLookedAt problem.now growing.now node head.now transition.now }
     ensures { IfOk result (λ best. IfSome best (Looked problem.now growing.now.decisions
@@ -277,7 +277,7 @@ pub(crate) fn look_at_calls(
     node: usize,
     head: &Head,
     transition: &Transition,
-    kept: &mut Kept,
+    kept: &mut Remembered,
 ) -> Result<Look, NoMemory>
     requires { IsLookedAt problem.now growing.now node head.now transition.now }
     ensures { IfOk result (λ look. Looked problem.now growing.now.decisions

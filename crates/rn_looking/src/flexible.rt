@@ -6,13 +6,13 @@ ghost use Rattle.std.specs.Prelude.{◌≡◌, ◌<◌, ◌↔◌, IfOk, IsTrue,
 ghost use Rattle.rn_model.specs.Lists.{IsWithin};
 ghost use Rattle.rn_model.specs.Markings.{tokens};
 ghost use Rattle.rn_choices.specs.declared.next.Next.TheVariants.{Stuck};
-ghost use Rattle.rn_looking.specs.declared.told.Told.TheVariants.{Fails};
+ghost use Rattle.rn_looking.specs.declared.told.Verdict.TheVariants.{Fails};
 ghost use Rattle.rn_looking.specs.Branches.{IsLookedAt};
 ghost use Rattle.rn_looking.specs.Looks.{GoesOn};
 
 use crate::arcs::{arc_at, known_value};
 use crate::parts::is_flexible;
-use crate::told::{Told, unless_waits};
+use crate::told::{Verdict, unless_waits};
 use rn_arcs::{bag_at, elements_of};
 use rn_growing::{Growing, Head};
 use rn_items::Items;
@@ -47,7 +47,7 @@ fn test_arc(
     head: &Head,
     transition: &Transition,
     k: usize,
-) -> Result<Told, NoMemory>
+) -> Result<Verdict, NoMemory>
     requires at { IsLookedAt problem.now growing.now node head.now transition.now }
     requires within { k < length transition.now.arcs }
     ensures { IfOk result (λ told. told ≡ Fails → GoesOn problem.now growing.now.decisions Stuck) }
@@ -56,16 +56,16 @@ fn test_arc(
     let _ = node;
     let arc = arc_at(transition, k);
     if !is_flexible(arc.kind) {
-        return Ok(Told::Holds);
+        return Ok(Verdict::Holds);
     }
     let Some(list) = known_value(alloc, growing, head, &arc.inscription)? else {
-        return Ok(Told::Waits);
+        return Ok(Verdict::Waits);
     };
     let values = elements_of(alloc, list);
     if holds_all(problem.table(), &head.inst, arc.place, values)? {
-        Ok(Told::Holds)
+        Ok(Verdict::Holds)
     } else {
-        Ok(Told::Fails)
+        Ok(Verdict::Fails)
     }
 }
 
@@ -79,16 +79,16 @@ pub(crate) fn test_lists(
     node: usize,
     head: &Head,
     transition: &Transition,
-) -> Result<Told, NoMemory>
+) -> Result<Verdict, NoMemory>
     requires { IsLookedAt problem.now growing.now node head.now transition.now }
     ensures { IfOk result (λ told. told ≡ Fails → GoesOn problem.now growing.now.decisions Stuck) }
 {
     let mut waits = false;
     for k in 0..transition.arcs.len() {
         match test_arc(alloc, problem, growing, node, head, transition, k)? {
-            Told::Fails => return Ok(Told::Fails),
-            Told::Waits => waits = true,
-            Told::Holds => {}
+            Verdict::Fails => return Ok(Verdict::Fails),
+            Verdict::Waits => waits = true,
+            Verdict::Holds => {}
         }
     }
     Ok(unless_waits(waits))

@@ -3,7 +3,7 @@
 //! with further decisions, and needn't be worked out again (`docs/SEARCH.md`, 'What it does next').
 ghost use Rattle.std.specs.Prelude.{◌≡◌, ◌⊎◌, IfOk};
 ghost use Rattle.rn_choices.specs.declared.next.Next.TheVariants.{Stuck};
-ghost use Rattle.rn_looking.specs.declared.told.Told.TheVariants.{Fails};
+ghost use Rattle.rn_looking.specs.declared.told.Verdict.TheVariants.{Fails};
 ghost use Rattle.rn_looking.specs.Branches.{IsLookedAt};
 ghost use Rattle.rn_looking.specs.Guards.{IsKnownUntrue};
 ghost use Rattle.rn_looking.specs.Looks.{GoesOn};
@@ -11,7 +11,7 @@ ghost use Rattle.rn_looking.specs.UntrueParts.{IsPartlyUntrue};
 
 use crate::guard_parts::is_partly_untrue;
 use crate::known::known_in_guard;
-use crate::told::{Told, fails_or_waits, unless_waits};
+use crate::told::{Verdict, fails_or_waits, unless_waits};
 use rn_calc::is_true;
 use rn_growing::{Growing, Head};
 use rn_model::{Cond, Transition};
@@ -26,16 +26,16 @@ fn test_guard(
     growing: &Growing<'_>,
     head: &Head,
     guard: &Cond,
-) -> Result<Told, NoMemory>
+) -> Result<Verdict, NoMemory>
     ensures { IfOk result (λ told. told ≡ Fails → IsKnownUntrue growing.now head.now guard.now
         ⊎ IsPartlyUntrue growing.now head.now guard.now) }
 {
     match known_in_guard(alloc, growing, head, guard)? {
         Some(known) => {
             if is_true(alloc, guard, &known)? {
-                Ok(Told::Holds)
+                Ok(Verdict::Holds)
             } else {
-                Ok(Told::Fails)
+                Ok(Verdict::Fails)
             }
         }
         None => Ok(fails_or_waits(is_partly_untrue(alloc, growing, head, guard)?)),
@@ -51,7 +51,7 @@ pub(crate) fn test_guards(
     node: usize,
     head: &Head,
     transition: &Transition,
-) -> Result<Told, NoMemory>
+) -> Result<Verdict, NoMemory>
     requires { IsLookedAt problem.now growing.now node head.now transition.now }
     ensures { IfOk result (λ told. told ≡ Fails → GoesOn problem.now growing.now.decisions Stuck) }
 {
@@ -61,9 +61,9 @@ pub(crate) fn test_guards(
     let mut waits = false;
     for guard in transition.guards.as_slice() {
         match test_guard(alloc, growing, head, guard)? {
-            Told::Fails => return Ok(Told::Fails),
-            Told::Waits => waits = true,
-            Told::Holds => {}
+            Verdict::Fails => return Ok(Verdict::Fails),
+            Verdict::Waits => waits = true,
+            Verdict::Holds => {}
         }
     }
     Ok(unless_waits(waits))

@@ -3,13 +3,13 @@
 //! lead. An arc whose token isn't known waits (`docs/SEARCH.md`, 'What it does next').
 ghost use Rattle.std.specs.Prelude.{◌≡◌, ◌<◌, IfOk, length};
 ghost use Rattle.rn_choices.specs.declared.next.Next.TheVariants.{Stuck};
-ghost use Rattle.rn_looking.specs.declared.told.Told.TheVariants.{Fails};
+ghost use Rattle.rn_looking.specs.declared.told.Verdict.TheVariants.{Fails};
 ghost use Rattle.rn_looking.specs.Branches.{IsLookedAt};
 ghost use Rattle.rn_looking.specs.Looks.{GoesOn};
 
 use crate::arcs::{arc_at, known_value};
 use crate::parts::is_inhibitor;
-use crate::told::{Told, unless_waits};
+use crate::told::{Verdict, unless_waits};
 use rn_growing::{Growing, Head};
 use rn_model::Transition;
 use rn_search::Problem;
@@ -26,21 +26,21 @@ fn test_arc(
     head: &Head,
     transition: &Transition,
     k: usize,
-) -> Result<Told, NoMemory>
+) -> Result<Verdict, NoMemory>
     requires at { IsLookedAt problem.now growing.now node head.now transition.now }
     requires within { k < length transition.now.arcs }
     ensures { IfOk result (λ told. told ≡ Fails → GoesOn problem.now growing.now.decisions Stuck) }
 {
     let arc = arc_at(transition, k);
     if !is_inhibitor(arc.kind) {
-        return Ok(Told::Holds);
+        return Ok(Verdict::Holds);
     }
     match known_value(alloc, growing, head, &arc.inscription)? {
         Some(value) => match problem.only_token(growing.decisions(), node, k, &value) {
-            Some(_) => Ok(Told::Fails),
-            None => Ok(Told::Holds),
+            Some(_) => Ok(Verdict::Fails),
+            None => Ok(Verdict::Holds),
         },
-        None => Ok(Told::Waits),
+        None => Ok(Verdict::Waits),
     }
 }
 
@@ -54,16 +54,16 @@ pub(crate) fn test_inhibitors(
     node: usize,
     head: &Head,
     transition: &Transition,
-) -> Result<Told, NoMemory>
+) -> Result<Verdict, NoMemory>
     requires { IsLookedAt problem.now growing.now node head.now transition.now }
     ensures { IfOk result (λ told. told ≡ Fails → GoesOn problem.now growing.now.decisions Stuck) }
 {
     let mut waits = false;
     for k in 0..transition.arcs.len() {
         match test_arc(alloc, problem, growing, node, head, transition, k)? {
-            Told::Fails => return Ok(Told::Fails),
-            Told::Waits => waits = true,
-            Told::Holds => {}
+            Verdict::Fails => return Ok(Verdict::Fails),
+            Verdict::Waits => waits = true,
+            Verdict::Holds => {}
         }
     }
     Ok(unless_waits(waits))

@@ -31,4 +31,4 @@ pub use known::values_but;
 pub use look::Look;
 pub use looking::look_at_all;
 pub use parts::transition_in;
-pub use tested::{Kept, Tested, TextChoice};
+pub use tested::{Remembered, Tested, TextChoice};

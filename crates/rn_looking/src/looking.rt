@@ -23,7 +23,7 @@ use crate::look::Look;
 use crate::near::look_near;
 use crate::parts::transition_in;
 use crate::results::look_at_results;
-use crate::tested::{Kept, TextChoice, step_on};
+use crate::tested::{Remembered, TextChoice, step_on};
 use crate::told::{has_failed, holds};
 use rn_binding::Application;
 use rn_choices::Next;
@@ -100,7 +100,7 @@ fn fails(
     node: usize,
     head: &Head,
     transition: &Transition,
-    kept: &mut Kept,
+    kept: &mut Remembered,
 ) -> Result<bool, NoMemory>
     requires { IsLookedAt problem.now growing.now node head.now transition.now }
     ensures { IfOk result (λ yes. IsTrue yes → GoesOn problem.now growing.now.decisions Stuck) }
@@ -114,7 +114,7 @@ fn fails(
 }
 
 // A look at a choice of a token counts by how often such ones were gone through in vain.
-fn weighed(look: Look, kept: &Kept, head: &Head) -> Look
+fn weighed(look: Look, kept: &Remembered, head: &Head) -> Look
     ensures { IsNarrowed look result }
 {
     match look {
@@ -135,7 +135,7 @@ fn look_for_tokens(
     head: &Head,
     transition: &Transition,
     first: usize,
-    kept: &Kept,
+    kept: &Remembered,
 ) -> Result<Look, NoMemory>
     requires { IsLookedAt problem.now growing.now node head.now transition.now }
     ensures { IfOk result (λ look. Looked problem.now growing.now.decisions
@@ -155,7 +155,7 @@ fn look_within(
     transition: &Transition,
     found: &[Application<'_>],
     first: usize,
-    kept: &mut Kept,
+    kept: &mut Remembered,
 ) -> Result<Look, NoMemory>
     requires at { IsLookedAt problem.now growing.now node head.now transition.now }
     requires are { map application_of found.now ≡ holes_of transition.now }
@@ -197,7 +197,7 @@ pub(crate) fn look_at_node(
     applications: &[Items<Application<'_>>],
     node: usize,
     first: usize,
-    kept: &mut Kept,
+    kept: &mut Remembered,
 ) -> Result<Look, NoMemory>
     requires branch { IsBranchOf problem.now growing.now }
     requires applied { AreAppliedIn growing.now.system growing.now.decisions applications.now }
@@ -243,7 +243,7 @@ fn look_at_newest(
     applications: &[Items<Application<'_>>],
     from: usize,
     first: usize,
-    kept: &mut Kept,
+    kept: &mut Remembered,
     known: Look,
 ) -> Result<Look, NoMemory>
     requires branch { IsBranchOf problem.now growing.now }
@@ -272,7 +272,7 @@ fn look_at_rest(
     applications: &[Items<Application<'_>>],
     first: usize,
     from: usize,
-    kept: &mut Kept,
+    kept: &mut Remembered,
 ) -> Result<(Look, usize), NoMemory>
     requires branch { IsBranchOf problem.now growing.now }
     requires applied { AreAppliedIn growing.now.system growing.now.decisions applications.now }
@@ -322,7 +322,7 @@ pub fn look_at_all(
     applications: &[Items<Application<'_>>],
     first: usize,
     from: usize,
-    kept: &mut Kept,
+    kept: &mut Remembered,
 ) -> Result<(Look, usize), NoMemory>
     requires branch { IsBranchOf problem.now growing.now }
     requires applied { AreAppliedIn growing.now.system growing.now.decisions applications.now }

@@ -11,7 +11,7 @@ ghost use Rattle.rn_looking.specs.Things.{IsOfEntries};
 use crate::best::is_enough;
 use crate::look::Look;
 use crate::looking::look_at_node;
-use crate::tested::Kept;
+use crate::tested::Remembered;
 use rn_binding::Application;
 use rn_growing::Growing;
 use rn_items::Items;
@@ -30,7 +30,7 @@ fn look_at_best(
     applications: &[Items<Application<'_>>],
     node: usize,
     first: usize,
-    kept: &mut Kept,
+    kept: &mut Remembered,
 ) -> Result<Option<Look>, NoMemory>
     requires branch { IsBranchOf problem.now growing.now }
     requires applied { AreAppliedIn growing.now.system growing.now.decisions applications.now }
@@ -54,7 +54,7 @@ const PART: usize = 16;
 
 // Where a look begins: with the nodes that are kept for it, the newest decision, that by which one found
 // last how to go on, and those around it, the nearest first.
-fn place(kept: &Kept, k: usize, near: usize, end: usize) -> usize {
+fn place(kept: &Remembered, k: usize, near: usize, end: usize) -> usize {
     let begins = kept.begins();
     if k < begins {
         return kept.begin(k);
@@ -84,7 +84,7 @@ pub(crate) fn look_near(
     applications: &[Items<Application<'_>>],
     first: usize,
     from: usize,
-    kept: &mut Kept,
+    kept: &mut Remembered,
 ) -> Result<Option<Look>, NoMemory>
     requires branch { IsBranchOf problem.now growing.now }
     requires applied { AreAppliedIn growing.now.system growing.now.decisions applications.now }

@@ -94,7 +94,7 @@ const SELDOM: usize = 64;
 
 /// What looks keep for those that follow.
 #[derive(Clone, Copy)]
-pub struct Kept {
+pub struct Remembered {
     pub(crate) tested: Tested,
 
     /// The decision by whose node a look found last how to go on, or that nothing does.
@@ -125,10 +125,10 @@ pub struct Kept {
     failed: [u32; KINDS],
 }
 
-impl Kept {
+impl Remembered {
     /// Nothing is kept.
-    pub fn none() -> Kept {
-        Kept {
+    pub fn none() -> Remembered {
+        Remembered {
             tested: Tested::none(),
             near: 0,
             result: 0,

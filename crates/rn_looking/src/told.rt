@@ -3,11 +3,11 @@
 //! with further decisions, and only a test that waits is made again (`docs/SEARCH.md`, 'What it
 //! does next').
 ghost use Rattle.std.specs.Prelude.{◌≡◌, ◌↔◌, IsTrue};
-ghost use Rattle.rn_looking.specs.declared.told.Told.TheVariants.{Fails, Holds};
+ghost use Rattle.rn_looking.specs.declared.told.Verdict.TheVariants.{Fails, Holds};
 
 /// What is known of a test.
 #[derive(Clone, Copy, Debug)]
-pub(crate) enum Told {
+pub(crate) enum Verdict {
     /// Each binding to which the decisions lead passes it.
     Holds,
 
@@ -19,29 +19,37 @@ pub(crate) enum Told {
 }
 
 /// Tests of which none fails hold, unless one waits.
-pub(crate) fn unless_waits(waits: bool) -> Told
+pub(crate) fn unless_waits(waits: bool) -> Verdict
     ensures { result ≡ Fails → ⊥ }
 {
-    if waits { Told::Waits } else { Told::Holds }
+    if waits {
+        Verdict::Waits
+    } else {
+        Verdict::Holds
+    }
 }
 
 /// A test of which a part is known to fail, or that waits.
-pub(crate) fn fails_or_waits(fails: bool) -> Told
+pub(crate) fn fails_or_waits(fails: bool) -> Verdict
     ensures { result ≡ Fails → IsTrue fails }
 {
-    if fails { Told::Fails } else { Told::Waits }
+    if fails {
+        Verdict::Fails
+    } else {
+        Verdict::Waits
+    }
 }
 
 /// Whether a test is known to fail.
-pub(crate) fn has_failed(told: Told) -> bool
+pub(crate) fn has_failed(told: Verdict) -> bool
     ensures { IsTrue result ↔ (told ≡ Fails) }
 {
-    matches!(told, Told::Fails)
+    matches!(told, Verdict::Fails)
 }
 
 /// Whether a test is known to hold.
-pub(crate) fn holds(told: Told) -> bool
+pub(crate) fn holds(told: Verdict) -> bool
     ensures { IsTrue result ↔ (told ≡ Holds) }
 {
-    matches!(told, Told::Holds)
+    matches!(told, Verdict::Holds)
 }

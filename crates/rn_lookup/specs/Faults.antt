@@ -16,7 +16,7 @@ use Rattle.rn_lookup.specs.declared.refusal.Refusal.TheVariants.{Form, Name, Ste
 use Rattle.rn_lookup.specs.Found.{transition_named, place_named, net_said, place_said}
 use Rattle.rn_lookup.specs.Found.{vars_due, values_fit, variables_fit, name_nets, names_net}
 
--- What a call returns tells this fault, or none, unless memory ran out.
+-- What a call returns reports this fault, or none, unless memory ran out.
 abbrev pub Tells : {X : Type 0} → Result X Refusal → Option Refusal → Type 0
 Tells (Ok x) fault = fault ≡ None
 Tells (Err Form) fault = fault ≡ Some Form

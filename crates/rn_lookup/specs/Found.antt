@@ -95,8 +95,8 @@ node_is_called system made n =
     is_called system made n.inst && list_all (λ g. are_called system made g.named) n.given
 
 -- the values of a mark, without their counts
-abbrev pub tokens_of : List Held → List Token
-tokens_of = map (λ h. h.token)
+abbrev pub tokens_held : List Held → List Token
+tokens_held = map (λ h. h.token)
 
 -- whether each instance that tokens name is
 abbrev pub tokens_are_called : System → List ℕ → List Token → Bool

@@ -5,13 +5,13 @@ use Rattle.std.specs.Ordering.{nat_cmp}
 use Rattle.std.specs.Cmp.Lexicographic.{slice_cmp}
 use Rattle.rn_model.specs.declared.system.System.{System}
 use Rattle.rn_model.specs.declared.system.Net.{Net}
-use Rattle.rn_lookup.specs.declared.tables.Table.{Table}
+use Rattle.rn_lookup.specs.declared.tables.NameTable.{NameTable}
 use Rattle.rn_lookup.specs.declared.directory.OwnNames.{OwnNames}
 use Rattle.rn_lookup.specs.declared.directory.Directory.{Directory}
 use Rattle.rn_lookup.specs.Found.{net_named, transition_named, place_named}
 
 -- the number that a table has for a name
-abbrev pub found_in : Table → List ℕ → Option ℕ
+abbrev pub found_in : NameTable → List ℕ → Option ℕ
 found_in table name = get (slice_cmp nat_cmp) table.numbers name
 
 -- a net's transitions and places can be counted in 32 bits

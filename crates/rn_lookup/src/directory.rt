@@ -5,7 +5,7 @@ ghost use Rattle.rn_model.specs.Systems.{net_at};
 ghost use Rattle.rn_lookup.specs.Found.{net_named, transition_named, place_named};
 ghost use Rattle.rn_lookup.specs.Tables.{AreFew, IsOwnOf, AreOwnOf, IsDirectoryOf};
 
-use crate::tables::{Table, table_of};
+use crate::tables::{NameTable, table_of};
 use rn_model::{Net, System};
 use rn_value::NoMemory;
 use std::alloc::Global;
@@ -13,15 +13,15 @@ use std::alloc::Global;
 /// The transitions and the places of a net by name.
 #[derive(Drop)]
 pub(crate) struct OwnNames {
-    pub(crate) transitions: Table,
-    pub(crate) places: Table,
+    pub(crate) transitions: NameTable,
+    pub(crate) places: NameTable,
 }
 
 /// The nets of a system by name, and the transitions and places of each. A look-up goes by an
 /// ordered map.
 #[derive(Drop)]
 pub struct Directory {
-    pub(crate) nets: Table,
+    pub(crate) nets: NameTable,
     pub(crate) own: Vec<OwnNames>,
 }
 

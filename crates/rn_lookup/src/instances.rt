@@ -5,7 +5,7 @@ ghost use Rattle.rn_lines.specs.Said.{said};
 ghost use Rattle.rn_lines.specs.NodeSeen.{given, node};
 ghost use Rattle.rn_lines.specs.LinesSeen.{item};
 ghost use Rattle.rn_lookup.specs.Found.{is_called, are_called, node_is_called};
-ghost use Rattle.rn_lookup.specs.Found.{tokens_are_called, tokens_of};
+ghost use Rattle.rn_lookup.specs.Found.{tokens_are_called, tokens_held};
 
 use rn_lines::{Mention, ReadGiven, ReadItem, ReadNode};
 use rn_model::{System, find_net};
@@ -59,7 +59,7 @@ pub fn node_is_called(system: &System, made: &[u32], read: &ReadNode<'_>) -> boo
 
 /// Whether the instances that the values of a mark name are.
 pub fn tokens_are_called(system: &System, made: &[u32], items: &[ReadItem<'_>]) -> bool
-    ensures { result ≡ tokens_are_called system.now made.now (tokens_of (map item items.now)) }
+    ensures { result ≡ tokens_are_called system.now made.now (tokens_held (map item items.now)) }
 {
     for item in items {
         if !are_called(system, made, item.token.mentions.as_slice()) {

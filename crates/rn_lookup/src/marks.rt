@@ -5,7 +5,7 @@ ghost use Rattle.rn_value.specs.Kinds.{value_has_kind};
 ghost use Rattle.rn_model.specs.Systems.{net_at, place_kind_in};
 ghost use Rattle.rn_lines.specs.Said.{said};
 ghost use Rattle.rn_lines.specs.LinesSeen.{item, token};
-ghost use Rattle.rn_lookup.specs.Found.{name_nets, net_said, place_said, tokens_of};
+ghost use Rattle.rn_lookup.specs.Found.{name_nets, net_said, place_said, tokens_held};
 ghost use Rattle.rn_lookup.specs.Faults.{Tells, token_fault, tokens_fault, mark_fault};
 ghost use Rattle.rn_lookup.specs.Tables.{IsDirectoryOf};
 
@@ -49,7 +49,7 @@ fn all_items_name_nets(
 ) -> Result<bool, NoMemory>
     requires { IsDirectoryOf system.now directory.now }
     ensures { IfOk result (λ all_named.
-        all_named ≡ list_all (λ t. name_nets system.now t.named) (tokens_of (map item items.now))) }
+        all_named ≡ list_all (λ t. name_nets system.now t.named) (tokens_held (map item items.now))) }
 {
     for item in items {
         if !name_nets(alloc, system, directory, item.token.mentions.as_slice())? {
@@ -61,7 +61,7 @@ fn all_items_name_nets(
 
 fn items_fit(items: &[ReadItem<'_>], kind: &Kind) -> bool
     ensures { result ≡ list_all (λ t. value_has_kind t.value kind.now)
-        (tokens_of (map item items.now)) }
+        (tokens_held (map item items.now)) }
 {
     for item in items {
         if !has_kind(&item.token.value, kind) {
@@ -79,7 +79,7 @@ fn check_items(
     kind: &Kind,
 ) -> Result<(), Refusal>
     requires { IsDirectoryOf system.now directory.now }
-    ensures { Tells result (tokens_fault system.now kind.now (tokens_of (map item items.now))) }
+    ensures { Tells result (tokens_fault system.now kind.now (tokens_held (map item items.now))) }
 {
     if !items_fit(items, kind) {
         return Err(Refusal::Form);
@@ -109,7 +109,7 @@ pub fn find_mark(
 ) -> Result<FoundMark, Refusal>
     requires { IsDirectoryOf system.now directory.now }
     ensures fault { Tells result (mark_fault system.now (said read.now.inst) read.now.place.now
-        (tokens_of (map item read.now.items.items))) }
+        (tokens_held (map item read.now.items.items))) }
     ensures net { IfOk result (λ f. f.net ≡ net_said system.now (said read.now.inst)) }
     ensures place { IfOk result (λ f.
         f.place ≡ place_said system.now (said read.now.inst) read.now.place.now) }

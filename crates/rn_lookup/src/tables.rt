@@ -46,11 +46,11 @@ impl Named for Place {
 
 /// Numbers by name.
 #[derive(Drop)]
-pub(crate) struct Table {
+pub(crate) struct NameTable {
     pub(crate) numbers: BTreeMap<Items<u8>, u32>,
 }
 
-impl Table {
+impl NameTable {
     /// The number of a name.
     pub(crate) fn number(&self, alloc: Global, name: &[u8]) -> Result<Option<u32>, NoMemory>
         ensures { IfOk result (λ number. number ≡ found_in self.now name.now) }
@@ -70,16 +70,16 @@ impl Table {
     }
 }
 
-fn empty_table(alloc: Global) -> Table
+fn empty_table(alloc: Global) -> NameTable
     ensures { (word : List ℕ) → found_in result word ≡ None }
 {
-    Table {
+    NameTable {
         numbers: BTreeMap::new(alloc),
     }
 }
 
 /// The table of a list's names, each with the number of the first that has it.
-pub(crate) fn table_of<T: Named>(alloc: Global, items: &[T]) -> Result<Table, NoMemory>
+pub(crate) fn table_of<T: Named>(alloc: Global, items: &[T]) -> Result<NameTable, NoMemory>
     requires { length items.now < 2 ^ 32 }
     ensures { IfOk result (λ table. (word : List ℕ) →
         found_in table word ≡ number_from T.name_of 0 items.now word) }

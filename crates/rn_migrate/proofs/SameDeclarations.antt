@@ -1,4 +1,4 @@
--- What is broken in declarations doesn't depend on spots, but for the spots that are told.
+-- What is broken in declarations doesn't depend on spots, but for the spots that are reported.
 use Rattle.std.proofs.Common.{◌≡◌, ℕ, ◌+◌, ◌&&◌, Bool, not, List, [], ◌∷◌, ◌++◌, length, map, refl, sym, ap, ◌∙◌, nat_eq}
 use Rattle.std.specs.Prelude.{flat_map, nat_le, Option, Some, None, option_map, if◌then◌else◌, nat_abs}
 use Rattle.std.specs.List.{list_any}

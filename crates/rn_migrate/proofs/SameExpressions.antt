@@ -1,5 +1,5 @@
 -- What is broken in expressions and conditions doesn't depend on spots, but for the spots that are
--- told.
+-- reported.
 use Rattle.std.proofs.Common.{◌≡◌, ℕ, ◌&&◌, Bool, not, List, [], ◌∷◌, ◌++◌, map, refl, ap, ◌∙◌}
 use Rattle.std.proofs.Math.Path.{fun_ext}
 use Rattle.std.specs.Prelude.{flat_map, is_none, unwrap_or}

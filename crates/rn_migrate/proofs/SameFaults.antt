@@ -1,4 +1,4 @@
--- What is broken in nets and systems doesn't depend on spots, but for the spots that are told.
+-- What is broken in nets and systems doesn't depend on spots, but for the spots that are reported.
 use Rattle.std.proofs.Common.{◌≡◌, ℕ, Bool, false, not, List, [], ◌++◌, map, ap, ◌∙◌, refl}
 use Rattle.std.proofs.Math.Path.{fun_ext}
 use Rattle.std.specs.Prelude.{flat_map, codes, Option, Some, None, option_map, is_some, unwrap_or, slice_get}

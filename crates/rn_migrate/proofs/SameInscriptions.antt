@@ -1,5 +1,5 @@
 -- What is broken in the inscriptions of a transition doesn't depend on spots, but for the spots that
--- are told.
+-- are reported.
 use Rattle.std.proofs.Common.{◌≡◌, ℕ, ◌&&◌, Bool, false, not, List, [], ◌∷◌, ◌++◌, length, map, refl, ap, ◌∙◌}
 use Rattle.std.specs.Prelude.{flat_map, nat_lt, Option, Some, None, option_map, is_none, is_some, if◌then◌else◌}
 use Rattle.std.specs.Option.{option_map_or}

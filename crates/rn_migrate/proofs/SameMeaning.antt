@@ -39,7 +39,7 @@ use Rattle.rn_net.specs.declared.plain.PMax.{PMax}
 use Rattle.rn_net.specs.declared.plain.PTransition.{PTransition}
 use Rattle.rn_declared.specs.Channels.{channel_from}
 use Rattle.rn_numbered.specs.Numbered.{Numbers, kind_of_form, kind_of, value_of_form, value_of, capacity_of, number_in, expr_of_form, expr_of, simple_of_form, cond_of, inscription_of, equality_of, guard_of, action_of, creation_of, uplink_of, downlink_of, arc_of, inscribed}
-use Rattle.rn_numbering.specs.Numbering.{numbers_of, transition_of, net_of, system_of}
+use Rattle.rn_numbering.specs.Numbering.{numbers_of, transition_of, numbered_net_of, system_of}
 use Rattle.rn_occurring.specs.TransitionVars.{with_vars}
 use Rattle.rn_print.specs.SameButSpots.{kind_unplaced, constant_unplaced, expr_unplaced, cond_unplaced, inscribed_unplaced, inscription_unplaced, channel_unplaced, var_unplaced, max_unplaced, place_unplaced, transition_unplaced, net_unplaced, unplaced}
 use Rattle.rn_migrate.proofs.Folds.{Steps, kind_fold, constant_fold, expr_fold, cond_fold}
@@ -346,7 +346,7 @@ each_transition plain net (t ∷ ts) =
     ∙ ap (λ xs. transition_of plain net t ∷ xs) (each_transition plain net ts)
 
 net_kept : (plain : Plain) (net : PNet) →
-    net_of (unplaced plain) (net_unplaced net) ≡ net_of plain net
+    numbered_net_of (unplaced plain) (net_unplaced net) ≡ numbered_net_of plain net
 net_kept plain net =
     let name = net.name.text in
     let places2 = map place_meant (map place_unplaced net.places) in
@@ -363,16 +363,16 @@ abbrev channel_meant : PChannel → Channel
 channel_meant c = channel_made c.name.text (map kind_of c.kinds)
 
 each_net : (plain : Plain) (nets : List PNet) →
-    map (net_of (unplaced plain)) (map net_unplaced nets) ≡ map (net_of plain) nets
+    map (numbered_net_of (unplaced plain)) (map net_unplaced nets) ≡ map (numbered_net_of plain) nets
 each_net plain [] = refl
 each_net plain (n ∷ ns) =
-    ap (λ x. x ∷ map (net_of (unplaced plain)) (map net_unplaced ns)) (net_kept plain n)
-    ∙ ap (λ xs. net_of plain n ∷ xs) (each_net plain ns)
+    ap (λ x. x ∷ map (numbered_net_of (unplaced plain)) (map net_unplaced ns)) (net_kept plain n)
+    ∙ ap (λ xs. numbered_net_of plain n ∷ xs) (each_net plain ns)
 
 pub system_kept : (plain : Plain) → system_of (unplaced plain) ≡ system_of plain
 system_kept plain =
     ap (λ nets. system_made nets (map channel_meant (map channel_unplaced plain.channels)))
     (each_net plain plain.nets)
-    ∙ ap (system_made (map (net_of plain) plain.nets))
+    ∙ ap (system_made (map (numbered_net_of plain) plain.nets))
     (kept channel_meant channel_unplaced plain.channels
     (λ c. ap (channel_made c.name.text) (kept kind_of kind_unplaced c.kinds kind_kept)))

@@ -137,7 +137,7 @@ pub fn same_repeats(a: &Repeats, b: &Repeats) -> bool
     same_parts(a.as_slice(), b.as_slice())
 }
 
-/// Values in a row are told by their repeats, and these are parted.
+/// Values in a row are given by their repeats, and these are parted.
 pub fn repeats_hold_values()
     ensures values { RepeatsHoldValues }
     ensures parted { RepeatsAreParted }

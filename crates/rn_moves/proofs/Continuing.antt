@@ -56,7 +56,7 @@ module _ (system : System) (nets : List ℕ) (names : List (List ℕ)) (entries 
             ∙ ap (λ k. out ++ all_lines system nets names k others) step_is ∙ all.2,
       )
 
-  -- what follows an entry can be told too
+  -- what follows an entry can be listed too
   rest_may : (last next step next' step' : ℕ) (entry : Entry) (rest : List Entry)
       (out out' : List ℕ) → HaveMoves system last next step (entry ∷ rest) →
       WritesEntry system nets names next step entry next' step' out out' →
@@ -104,7 +104,7 @@ module _ (system : System) (nets : List ℕ) (names : List (List ℕ)) (entries 
       let all = subst (λ todo. Continues system nets names entries before next step todo out) none goes [] tt in
       record { moves = all.0; are = all.1; text = sym (append-nil out) ∙ all.2 }
 
--- each node of a log whose moves can be told is one of the system
+-- each node of a log whose moves can be listed is one of the system
 pub nodes_told : (system : System) (last next step : ℕ) (entries : List Entry) →
     HaveMoves system last next step entries → AllByRecursion (HasEntryNodes system) entries
 nodes_told system last next step [] may = tt

@@ -21,9 +21,9 @@ use Rattle.rn_table.specs.declared.change.Row.{Row}
 use Rattle.rn_table.proofs.ChangeLemmas.{count_append, add_hit}
 use Rattle.rn_table.proofs.InstanceLemmas.{same_number, other_number}
 use Rattle.rn_moves.specs.declared.token.Token.{Token}
-use Rattle.rn_moves.specs.Connecting.{tokens_of, row_tokens, initial_tokens, made_tokens}
+use Rattle.rn_moves.specs.Connecting.{tokens_at_place, row_tokens, initial_tokens, made_tokens}
 use Rattle.rn_moves.specs.Moves.{AreTokens, brought_at, initial_at}
-use Rattle.rn_moves.specs.Order.{token_cmp, times}
+use Rattle.rn_moves.specs.Order.{token_cmp, token_count}
 use Rattle.rn_moves.specs.OrderLaws.{token_cmp-total}
 
 abbrev token : ℕ → ℕ → Value → Token
@@ -31,7 +31,7 @@ token n place v = record { inst = n; place = place; value = v }
 
 -- a token that is listed is counted
 pub is_counted : (t : Token) (ts : List Token) → Contains ts t →
-    0 < times ts t.inst t.place t.value
+    0 < token_count ts t.inst t.place t.value
 is_counted t [] there = absurd (not_in_nil t there)
 is_counted t (u ∷ ts) (zero, h, e) =
     let one : one_if (is_eq (token_cmp t u)) ≡ 1 =
@@ -73,23 +73,23 @@ module _ (n place : ℕ) (v : Value) where
       ∙ ap (λ c. c && (is_eq (nat_cmp place p) && same_value v w)) (unsigned_tied n i)
       ∙ ap (λ c. nat_eq n i && (c && same_value v w)) (unsigned_tied place p)
 
-  times-cons : (i p : ℕ) (w : Value) (ts : List Token) →
-      times (token i p w ∷ ts) n place v
-      ≡ cond (here i p) (one_if (same_value v w)) 0 + times ts n place v
-  times-cons i p w ts =
+  token_count-cons : (i p : ℕ) (w : Value) (ts : List Token) →
+      token_count (token i p w ∷ ts) n place v
+      ≡ cond (here i p) (one_if (same_value v w)) 0 + token_count ts n place v
+  token_count-cons i p w ts =
       sum_by-cons (λ t. one_if (is_eq (token_cmp (token n place v) t))) (token i p w) ts
-      ∙ ap (λ c. one_if c + times ts n place v) (token_is i p w)
-      ∙ ap (λ k. k + times ts n place v) (one_hit (nat_eq n i) (nat_eq place p) (same_value v w))
+      ∙ ap (λ c. one_if c + token_count ts n place v) (token_is i p w)
+      ∙ ap (λ k. k + token_count ts n place v) (one_hit (nat_eq n i) (nat_eq place p) (same_value v w))
 
-  pub times-append : (ts us : List Token) →
-      times (ts ++ us) n place v ≡ times ts n place v + times us n place v
-  times-append ts us = sum_by-append (λ t. one_if (is_eq (token_cmp (token n place v) t))) ts us
+  pub token_count-append : (ts us : List Token) →
+      token_count (ts ++ us) n place v ≡ token_count ts n place v + token_count us n place v
+  token_count-append ts us = sum_by-append (λ t. one_if (is_eq (token_cmp (token n place v) t))) ts us
 
   values_times : (i p : ℕ) (vs : List Value) →
-      times (tokens_of i p vs) n place v ≡ cond (here i p) (count_of v vs) 0
+      token_count (tokens_at_place i p vs) n place v ≡ cond (here i p) (count_of v vs) 0
   values_times i p [] = sym (none_hit (here i p))
   values_times i p (w ∷ vs) =
-      times-cons i p w (tokens_of i p vs)
+      token_count-cons i p w (tokens_at_place i p vs)
       ∙ ap (λ k. cond (here i p) (one_if (same_value v w)) 0 + k) (values_times i p vs)
       ∙ add_hit (here i p) (one_if (same_value v w)) (count_of v vs)
       ∙ ap (λ k. cond (here i p) k 0) (sym (count_of-cons v w vs))
@@ -100,12 +100,12 @@ module _ (n place : ℕ) (v : Value) where
 
   -- the tokens of rows are counted by the values of the rows of that place
   pub rows_times : (rows : List Row) →
-      times (flat_map row_tokens rows) n place v ≡ count_of v (values_at rows n place)
+      token_count (flat_map row_tokens rows) n place v ≡ count_of v (values_at rows n place)
   rows_times [] = refl
   rows_times (row ∷ rows) =
       let own : List Value = cond (here row.inst row.place) row.values [] in
-      times-append (row_tokens row) (flat_map row_tokens rows)
-      ∙ ap (λ k. k + times (flat_map row_tokens rows) n place v)
+      token_count-append (row_tokens row) (flat_map row_tokens rows)
+      ∙ ap (λ k. k + token_count (flat_map row_tokens rows) n place v)
       (values_times row.inst row.place row.values ∙ row_count (here row.inst row.place) row.values)
       ∙ ap (λ k. count_of v own + k) (rows_times rows)
       ∙ sym (count_append v own (values_at rows n place))
@@ -113,11 +113,11 @@ module _ (n place : ℕ) (v : Value) where
 -- initial tokens of an instance
 module _ (n : ℕ) (v : Value) (i : ℕ) where
   initial_below : (place k : ℕ) (ps : List Place) → place < k →
-      times (initial_tokens i k ps) n place v ≡ 0
+      token_count (initial_tokens i k ps) n place v ≡ 0
   initial_below place k [] low = refl
   initial_below place k (p ∷ ps) low =
-      times-append n place v (tokens_of i k p.initial) (initial_tokens i (k + 1) ps)
-      ∙ ap (λ x. x + times (initial_tokens i (k + 1) ps) n place v)
+      token_count-append n place v (tokens_at_place i k p.initial) (initial_tokens i (k + 1) ps)
+      ∙ ap (λ x. x + token_count (initial_tokens i (k + 1) ps) n place v)
       (values_times n place v i k p.initial
       ∙ ap (λ c. cond (nat_eq n i && c) (count_of v p.initial) 0) (other_number place k (λ e. omega (arith, e, low)))
       ∙ no_second (nat_eq n i) (count_of v p.initial))
@@ -127,13 +127,13 @@ module _ (n : ℕ) (v : Value) (i : ℕ) where
   initial_in ps j = option_map_or (λ p. p.initial) (slice_get ps j) []
 
   initial_times : (k : ℕ) (ps : List Place) (j : ℕ) →
-      times (initial_tokens i k ps) n (k + j) v ≡ cond (nat_eq n i) (count_of v (initial_in ps j)) 0
+      token_count (initial_tokens i k ps) n (k + j) v ≡ cond (nat_eq n i) (count_of v (initial_in ps j)) 0
   initial_times k [] j = sym (none_hit (nat_eq n i))
   initial_times k (p ∷ ps) zero =
       let place : k + 0 ≡ k = omega arith in
-      ap (λ q. times (initial_tokens i k (p ∷ ps)) n q v) place
-      ∙ times-append n k v (tokens_of i k p.initial) (initial_tokens i (k + 1) ps)
-      ∙ ap (λ x. x + times (initial_tokens i (k + 1) ps) n k v)
+      ap (λ q. token_count (initial_tokens i k (p ∷ ps)) n q v) place
+      ∙ token_count-append n k v (tokens_at_place i k p.initial) (initial_tokens i (k + 1) ps)
+      ∙ ap (λ x. x + token_count (initial_tokens i (k + 1) ps) n k v)
       (values_times n k v i k p.initial
       ∙ ap (λ c. cond (nat_eq n i && c) (count_of v p.initial) 0) (same_number k)
       ∙ only_first (nat_eq n i) (count_of v p.initial))
@@ -141,34 +141,34 @@ module _ (n : ℕ) (v : Value) (i : ℕ) where
       ∙ omega arith
   initial_times k (p ∷ ps) (suc j) =
       let place : k + suc j ≡ (k + 1) + j = omega arith in
-      times-append n (k + suc j) v (tokens_of i k p.initial) (initial_tokens i (k + 1) ps)
-      ∙ ap (λ x. x + times (initial_tokens i (k + 1) ps) n (k + suc j) v)
+      token_count-append n (k + suc j) v (tokens_at_place i k p.initial) (initial_tokens i (k + 1) ps)
+      ∙ ap (λ x. x + token_count (initial_tokens i (k + 1) ps) n (k + suc j) v)
       (values_times n (k + suc j) v i k p.initial
       ∙ ap (λ c. cond (nat_eq n i && c) (count_of v p.initial) 0) (other_number (k + suc j) k (λ e. omega (arith, e)))
       ∙ no_second (nat_eq n i) (count_of v p.initial))
-      ∙ ap (λ q. 0 + times (initial_tokens i (k + 1) ps) n q v) place
+      ∙ ap (λ q. 0 + token_count (initial_tokens i (k + 1) ps) n q v) place
       ∙ ap (λ x. 0 + x) (initial_times (k + 1) ps j)
       ∙ omega arith
 
   -- at a place of a net, by that place
   pub net_times : (system : System) (net place : ℕ) →
-      times (initial_tokens i 0 (net_at system net).places) n place v
+      token_count (initial_tokens i 0 (net_at system net).places) n place v
       ≡ cond (nat_eq n i) (count_of v (initial_at system net place)) 0
   net_times system net place =
       let places = (net_at system net).places in
       let same : 0 + place ≡ place = omega arith in
-      subst (λ q. times (initial_tokens i 0 places) n q v
+      subst (λ q. token_count (initial_tokens i 0 places) n q v
       ≡ cond (nat_eq n i) (count_of v (initial_in places place)) 0) same (initial_times 0 places place)
 
 -- the initial tokens of new instances
 pub made_times : (system : System) (next : ℕ) (nets : List ℕ) (n place : ℕ) (v : Value) →
-    times (made_tokens system next nets) n place v
+    token_count (made_tokens system next nets) n place v
     ≡ count_of v (brought_at system next nets n place)
 made_times system next [] n place v = refl
 made_times system next (net ∷ nets) n place v =
     let own : List Value = cond (nat_eq n next) (initial_at system net place) [] in
-    times-append n place v (initial_tokens next 0 (net_at system net).places) (made_tokens system (next + 1) nets)
-    ∙ ap (λ x. x + times (made_tokens system (next + 1) nets) n place v)
+    token_count-append n place v (initial_tokens next 0 (net_at system net).places) (made_tokens system (next + 1) nets)
+    ∙ ap (λ x. x + token_count (made_tokens system (next + 1) nets) n place v)
     (net_times n v next system net place ∙ row_count n place v (nat_eq n next) (initial_at system net place))
     ∙ ap (λ x. count_of v own + x) (made_times system (next + 1) nets n place v)
     ∙ sym (count_append v own (brought_at system (next + 1) nets n place))
@@ -176,7 +176,7 @@ made_times system next (net ∷ nets) n place v =
 -- sorted tokens are counted as before
 pub gathered : (at : ℕ → ℕ → List Value) (ts sorted : List Token) → IsSorted token_cmp sorted →
     IsPermutation ts sorted →
-    ((n place : ℕ) (v : Value) → times ts n place v ≡ count_of v (at n place)) →
+    ((n place : ℕ) (v : Value) → token_count ts n place v ≡ count_of v (at n place)) →
     AreTokens at sorted
 gathered at ts sorted up moved counted = record {
   ascending = up;
@@ -200,9 +200,9 @@ pub gone_tokens : (taken cleared : List Row) (ts sorted : List Token) →
     AreTokens (λ n place. values_at taken n place ++ values_at cleared n place) sorted
 gone_tokens taken cleared ts sorted is up moved =
     gathered (λ n place. values_at taken n place ++ values_at cleared n place) ts sorted up moved (λ n place v.
-    ap (λ ts. times ts n place v) is
-    ∙ times-append n place v (flat_map row_tokens taken) (flat_map row_tokens cleared)
-    ∙ ap (λ k. k + times (flat_map row_tokens cleared) n place v) (rows_times n place v taken)
+    ap (λ ts. token_count ts n place v) is
+    ∙ token_count-append n place v (flat_map row_tokens taken) (flat_map row_tokens cleared)
+    ∙ ap (λ k. k + token_count (flat_map row_tokens cleared) n place v) (rows_times n place v taken)
     ∙ ap (λ k. count_of v (values_at taken n place) + k) (rows_times n place v cleared)
     ∙ sym (count_append v (values_at taken n place) (values_at cleared n place)))
 
@@ -213,8 +213,8 @@ pub come_tokens : (system : System) (next : ℕ) (nets : List ℕ) (put : List R
     AreTokens (λ n place. brought_at system next nets n place ++ values_at put n place) sorted
 come_tokens system next nets put ts sorted is up moved =
     gathered (λ n place. brought_at system next nets n place ++ values_at put n place) ts sorted up moved (λ n place v.
-    ap (λ ts. times ts n place v) is
-    ∙ times-append n place v (made_tokens system next nets) (flat_map row_tokens put)
-    ∙ ap (λ k. k + times (flat_map row_tokens put) n place v) (made_times system next nets n place v)
+    ap (λ ts. token_count ts n place v) is
+    ∙ token_count-append n place v (made_tokens system next nets) (flat_map row_tokens put)
+    ∙ ap (λ k. k + token_count (flat_map row_tokens put) n place v) (made_times system next nets n place v)
     ∙ ap (λ k. count_of v (brought_at system next nets n place) + k) (rows_times n place v put)
     ∙ sym (count_append v (brought_at system next nets n place) (values_at put n place)))

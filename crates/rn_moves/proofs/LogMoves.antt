@@ -28,7 +28,7 @@ use Rattle.rn_table.proofs.InstanceLemmas.{same_number, other_number}
 use Rattle.rn_moves.specs.declared.token.Moves.{Moves}
 use Rattle.rn_moves.specs.Laws.{FirstIsInitial, MovesAddUp, MovesTakeWhatIsThere, times_put, times_taken}
 use Rattle.rn_moves.specs.Moves.{AreMovesFrom, brought_at, initial_at}
-use Rattle.rn_moves.specs.Order.{times}
+use Rattle.rn_moves.specs.Order.{token_count}
 use Rattle.rn_moves.proofs.MovedTokens.{enough, moved}
 
 -- the places of the first instance
@@ -104,8 +104,8 @@ from_run system depth step m (f ∷ fs) (mv ∷ ms) good is sound (fires, run) (
     run later n place v in
     let taken = of.taken.counted n place v in
     let put = of.put.counted n place v in
-    let all_taken = sum_by-cons (λ (moves : Moves). times moves.taken n place v) mv ms in
-    let all_put = sum_by-cons (λ (moves : Moves). times moves.put n place v) mv ms in
+    let all_taken = sum_by-cons (λ (moves : Moves). token_count moves.taken n place v) mv ms in
+    let all_put = sum_by-cons (λ (moves : Moves). token_count moves.put n place v) mv ms in
     omega (arith, here, others, taken, put, all_taken, all_put)
 
 pub moves_add_up : MovesAddUp
@@ -117,9 +117,9 @@ moves_add_up system depth fs gs ended (first ∷ ms) good run (begins, are) n pl
     (prefixes_are_runs system depth fs gs run)
     (prefix_moves system 2 1 fs gs ended ms are) n place v in
     let initial = first_is_initial system first begins n place v in
-    let none : times first.taken n place v ≡ 0 = ap (λ ts. times ts n place v) begins.taken in
-    let all_taken = sum_by-cons (λ (moves : Moves). times moves.taken n place v) first some in
-    let all_put = sum_by-cons (λ (moves : Moves). times moves.put n place v) first some in
+    let none : token_count first.taken n place v ≡ 0 = ap (λ ts. token_count ts n place v) begins.taken in
+    let all_taken = sum_by-cons (λ (moves : Moves). token_count moves.taken n place v) first some in
+    let all_put = sum_by-cons (λ (moves : Moves). token_count moves.put n place v) first some in
     omega (arith, later, initial, none, all_taken, all_put)
 
 pub moves_take_what_is_there : MovesTakeWhatIsThere

@@ -1,4 +1,4 @@
--- The moves of each log of a good system can be told.
+-- The moves of each log of a good system can be listed.
 use Rattle.std.proofs.Common.{◌≡◌, ℕ, suc, ◌+◌, ◌<◌, ◌≤◌, Bool, true, false, List, [], ◌∷◌, ◌++◌, length}
 use Rattle.std.proofs.Common.{refl, sym, ap, ◌∙◌, subst, arith, length-append}
 use Rattle.std.specs.Prelude.{Option, Some, None, Ok, Contains, flat_map, nat_le}

@@ -21,18 +21,18 @@ use Rattle.rn_moves.specs.Moves.{AreMovesFrom, AreMovesOf}
 use Rattle.rn_moves.specs.MovesText.{all_lines, moves_lines, net_numbered}
 
 -- these values as tokens of a place of an instance
-abbrev pub tokens_of : ℕ → ℕ → List Value → List Token
-tokens_of n place vs = map (λ v. record { inst = n; place = place; value = v }) vs
+abbrev pub tokens_at_place : ℕ → ℕ → List Value → List Token
+tokens_at_place n place vs = map (λ v. record { inst = n; place = place; value = v }) vs
 
 -- the tokens of a row
 abbrev pub row_tokens : Row → List Token
-row_tokens row = tokens_of row.inst row.place row.values
+row_tokens row = tokens_at_place row.inst row.place row.values
 
 -- the initial tokens of an instance, from the place with this number on
 abbrev pub initial_tokens : ℕ → ℕ → List Place → List Token
 initial_tokens n place [] = []
 initial_tokens n place (p ∷ ps) =
-    tokens_of n place p.initial ++ initial_tokens n (place + 1) ps
+    tokens_at_place n place p.initial ++ initial_tokens n (place + 1) ps
 
 -- the initial tokens of new instances of these nets, of which the first has this number
 abbrev pub made_tokens : System → ℕ → List ℕ → List Token

@@ -10,24 +10,24 @@ use Rattle.rn_model.specs.Lists.{count_of}
 use Rattle.rn_model.specs.Markings.{initial_marking, tokens_at}
 use Rattle.rn_model.specs.Runs.{Firing, Log, Run, end_of, entries_of}
 use Rattle.rn_moves.specs.declared.token.Moves.{Moves}
-use Rattle.rn_moves.specs.Order.{times}
+use Rattle.rn_moves.specs.Order.{token_count}
 use Rattle.rn_moves.specs.Movable.{HaveMoves}
 use Rattle.rn_moves.specs.Moves.{AreFirst, AreMoves, AreMovesOf}
 use Rattle.rn_moves.specs.MovesText.{nets_of}
 
 -- how often in all these moves a value leaves a place of an instance
 abbrev pub times_taken : List Moves → ℕ → ℕ → Value → ℕ
-times_taken all n place v = sum_by (λ moves. times moves.taken n place v) all
+times_taken all n place v = sum_by (λ moves. token_count moves.taken n place v) all
 
 -- and how often it comes there
 abbrev pub times_put : List Moves → ℕ → ℕ → Value → ℕ
-times_put all n place v = sum_by (λ moves. times moves.put n place v) all
+times_put all n place v = sum_by (λ moves. token_count moves.put n place v) all
 
 -- the moves of the start are the initial marking, place by place
 abbrev pub FirstIsInitial : Type 0
 FirstIsInitial = (system : System) (moves : Moves) → AreFirst system moves →
     (n place : ℕ) (v : Value) →
-    times moves.put n place v ≡ count_of v (tokens_at (initial_marking system) n place)
+    token_count moves.put n place v ≡ count_of v (tokens_at (initial_marking system) n place)
 
 -- What a place holds after the first firings of a run, and what has left it by then, is together what
 -- has come to it. This is said of every number of an instance: one that isn't made by then holds
@@ -47,14 +47,14 @@ MovesTakeWhatIsThere = (system : System) (depth : ℕ) (fs gs : List Firing) (f 
     (moves : Moves) → Good system → Run system depth (fs ++ f ∷ gs) →
     AreMovesOf system (end_of system fs).next (suc (length fs)) f.binding moves →
     (n place : ℕ) (v : Value) →
-    times moves.taken n place v ≤ count_of v (tokens_at (end_of system fs) n place)
+    token_count moves.taken n place v ≤ count_of v (tokens_at (end_of system fs) n place)
 
 -- a log has only one list of moves
 abbrev pub MovesAreOne : Type 0
 MovesAreOne = (system : System) (entries : List Entry) (all others : List Moves) →
     AreMoves system entries all → AreMoves system entries others → all ≡ others
 
--- the moves of each log of a good system can be told
+-- the moves of each log of a good system can be listed
 abbrev pub LogsHaveMoves : Type 0
 LogsHaveMoves = (system : System) (options : Options) (fs : List Firing)
     (ended : Option Reason) → Good system → IsInLimits options → Log system options fs ended →

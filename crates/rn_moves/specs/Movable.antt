@@ -1,5 +1,5 @@
--- When the moves of a log can be told: each of its firings is defined, and moves only tokens whose
--- instances have a name by its end.
+-- When the moves of a log can be listed: each of its firings is defined, and moves only tokens
+-- whose instances have a name by its end.
 use Rattle.std.specs.Prelude.{ℕ, suc, ◌≡◌, ◌+◌, ◌≤◌, List, [], ◌∷◌, length, All, Some, IsTrue, ⊤}
 use Rattle.rn_value.specs.Names.{instances_within}
 use Rattle.rn_model.specs.declared.system.System.{System}

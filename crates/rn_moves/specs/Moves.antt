@@ -20,7 +20,7 @@ use Rattle.rn_model.specs.Lists.{count_of}
 use Rattle.rn_model.specs.Systems.{net_at, main_net}
 use Rattle.rn_moves.specs.declared.token.Token.{Token}
 use Rattle.rn_moves.specs.declared.token.Moves.{Moves}
-use Rattle.rn_moves.specs.Order.{token_cmp, times}
+use Rattle.rn_moves.specs.Order.{token_cmp, token_count}
 
 -- the initial tokens of a place of a net
 abbrev pub initial_at : System → ℕ → ℕ → List Value
@@ -51,7 +51,7 @@ come_at system next b acts n place =
 -- These tokens ascend, and have at each place of each instance just these values.
 pub record AreTokens (at : ℕ → ℕ → List Value) (tokens : List Token) : Type 0 where
   pub ascending : IsSorted token_cmp tokens
-  pub counted : (n place : ℕ) (v : Value) → times tokens n place v ≡ count_of v (at n place)
+  pub counted : (n place : ℕ) (v : Value) → token_count tokens n place v ≡ count_of v (at n place)
 
 -- The moves of the start: no token leaves, and those come that instance 1, of `main`, has at first.
 pub record AreFirst (system : System) (moves : Moves) : Type 0 where

@@ -55,7 +55,7 @@ module _ (system : System) (nets : List ℕ) (names : List (List ℕ)) where
   all_lines step [] = []
   all_lines step (moves ∷ others) = moves_lines step moves ++ all_lines (suc step) others
 
--- The bytes tell the moves of a log, from those of the start, which have the number 0.
+-- The bytes list the moves of a log, from those of the start, which have the number 0.
 pub record MovesText (system : System) (entries : List Entry) (bytes : List ℕ) : Type 0 where
   pub moves : List Moves
   pub are : AreMoves system entries moves

@@ -14,6 +14,6 @@ token_cmp t u =
     (ordering_then (nat_cmp t.place u.place) (value_cmp t.value u.value))
 
 -- how often a value is among the tokens of a place of an instance
-abbrev pub times : List Token → ℕ → ℕ → Value → ℕ
-times tokens n place v =
+abbrev pub token_count : List Token → ℕ → ℕ → Value → ℕ
+token_count tokens n place v =
     count_of token_cmp (record { inst = n; place = place; value = v }) tokens

@@ -2,7 +2,7 @@
 ghost use Rattle.std.specs.Prelude.{◌≡◌, ◌+◌, ◌<◌, ◌^◌, ◌++◌, length, flat_map, IfOk, OnOk};
 ghost use Rattle.rn_model.specs.Good.{Good};
 ghost use Rattle.rn_table.specs.Changes.{values_at};
-ghost use Rattle.rn_moves.specs.Connecting.{tokens_of, row_tokens, initial_tokens, made_tokens};
+ghost use Rattle.rn_moves.specs.Connecting.{tokens_at_place, row_tokens, initial_tokens, made_tokens};
 ghost use Rattle.rn_moves.specs.Moves.{AreTokens, brought_at};
 
 use crate::order::ascending;
@@ -46,7 +46,7 @@ fn add_values(
     place: u32,
     values: &[Value],
 ) -> Result<(), NoMemory>
-    ensures { OnOk result (tokens.new.items ≡ tokens.old.items ++ tokens_of inst place values.now) }
+    ensures { OnOk result (tokens.new.items ≡ tokens.old.items ++ tokens_at_place inst place values.now) }
 {
     for value in values {
         tokens.push(Token {

@@ -102,7 +102,7 @@ pub fn write_moves(alloc: Global, system: &System, entries: &[Entry]) -> Result<
     Ok(text)
 }
 
-/// The moves of each log of a good system can be told.
+/// The moves of each log of a good system can be listed.
 pub fn logs_have_moves()
     ensures { LogsHaveMoves }
 {}

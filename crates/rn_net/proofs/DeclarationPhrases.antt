@@ -26,7 +26,7 @@ use Rattle.rn_net.specs.Nets.{IsChannel, AreVars, AreMoreNames, IsKindOfPlace, I
 use Rattle.rn_net.specs.Parts.{IsPName, AreNames, IsInitialUpTo, IsPlaceEnd, end_of}
 use Rattle.rn_net.specs.Levels.{Region}
 use Rattle.rn_net.specs.Levels.Region.{between, declaring}
-use Rattle.rn_net.specs.Progress.{Sort, Stage, Fails, Reads, Moves, done, HasNext, IsNoNumber}
+use Rattle.rn_net.specs.Progress.{Sort, Stage, Fails, Reads, MovesOn, done, HasNext, IsNoNumber}
 use Rattle.rn_net.proofs.Steps.{alike-cons, begin, change}
 use Rattle.rn_net.proofs.Sorts.{any, WithKind, kind_then, name_then, number_then, then, kind_read, kind_stuck, name_read, name_fails, number_read, number_stuck, from_done, next_is, tell_apart}
 use Rattle.rn_net.proofs.Rows.{Row, row_up_to}
@@ -298,6 +298,6 @@ pub name_result : (tokens : List Token) (at : ℕ) (r : Result (PName × ℕ) In
 name_result tokens at (Ok (name, next)) inside h = name_reads tokens at next h.0 h.1
 name_result tokens at (Err e) inside h = name_none tokens at e inside h
 
-pub name_moves : (tokens : List Token) (at : ℕ) (r : Result (PName × ℕ) InscriptFault) → MatchResult r (λ found. IsNextName tokens at found.0 × (found.1 ≡ at + 1)) (λ fault. IsNoName tokens at fault) → Moves tokens at r
+pub name_moves : (tokens : List Token) (at : ℕ) (r : Result (PName × ℕ) InscriptFault) → MatchResult r (λ found. IsNextName tokens at found.0 × (found.1 ≡ at + 1)) (λ fault. IsNoName tokens at fault) → MovesOn tokens at r
 name_moves tokens at (Ok (name, next)) h = (omega (arith, h.1), omega (arith, h.1, h.0.2.1))
 name_moves tokens at (Err e) h = tt

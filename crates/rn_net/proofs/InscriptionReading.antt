@@ -377,7 +377,7 @@ one-onward law notation p i (inr x) (inr y) =
     let end : c.1 ≡ d.1 = let e = c.2.3.1 in let f = d.2.3.1 in let g = m.1 in cc in
     (c.3.0 ∙ ap (arcs_of i x.0 x.1) more ∙ ap (λ z. arcs_of i z x.1 d.0) k ∙ ap (λ z. arcs_of i y.0 z d.0) n ∙ sym d.3.0, c.3.1 ∙ end ∙ sym d.3.1)
 
--- what comes before a semicolon is told by the tokens
+-- what comes before a semicolon is given by the tokens
 pub one_statement : OneInscription → OneExpression → (notation : ℕ) {ts : List Token} {a b : List PInscription} {r q : List Token} → AreInscribedUpTo notation ts a r → AreInscribedUpTo notation ts b q → (a ≡ b) × (r ≡ q)
 one_statement law expr notation {ts = ts} {a = a} {b = b} {r = r} {q = q} x y =
     let c = form-split notation ts a r x in

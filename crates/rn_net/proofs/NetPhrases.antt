@@ -26,7 +26,7 @@ use Rattle.rn_net.specs.declared.part.Part.{Part}
 use Rattle.rn_net.specs.declared.part.Item.{Item}
 use Rattle.rn_net.specs.Words.{net_word, trans_word, var_word, place_word, channel_word}
 use Rattle.rn_net.specs.Lists.{AreInscribedUpTo}
-use Rattle.rn_net.specs.Nets.{IsChannel, AreVars, IsPlace, IsTransition, AreInscribed, AreInscriptions, AreParts, IsNet, net_of, transition_of}
+use Rattle.rn_net.specs.Nets.{IsChannel, AreVars, IsPlace, IsTransition, AreInscribed, AreInscriptions, AreParts, IsNet, plain_net_of, transition_of}
 use Rattle.rn_net.specs.Parts.{IsNetPart, IsItem, with_part}
 use Rattle.rn_net.specs.Levels.{Region, is_too_deep, after}
 use Rattle.rn_net.specs.Levels.Region.{between, heading}
@@ -239,7 +239,7 @@ part_none notation tokens at inside a b c = stuck tokens at (begin (part_sort no
 
 -- `net n { .. }`
 abbrev pub net_inside : ℕ → PName → Sort PNet
-net_inside notation name = many_on (parts notation) (net_of name [] [] [])
+net_inside notation name = many_on (parts notation) (plain_net_of name [] [] [])
 
 abbrev pub net_open : ℕ → PName → Sort PNet
 net_open notation name = kind_then open_brace (λ b. net_inside notation name)
@@ -250,7 +250,7 @@ net_sort notation = kind_then net_word (λ w. name_then (net_open notation))
 pub net-on : (notation : ℕ) (ts : List Token) (e : PNet) (rest : List Token) → (net_sort notation).is ts e rest → IsNet notation ts e rest
 net-on notation ts e rest x = let n = x.4 in let b = n.5 in let i = b.4 in
     subst (λ us. IsNet notation us e rest) (sym (x.2 ∙ ap (λ us. x.0 ∷ us) (n.3 ∙ ap (λ us. n.0 ∷ us) b.2)))
-    (subst (λ m. IsNet notation (x.0 ∷ n.0 ∷ b.0 ∷ b.1) m rest) (sym i.3.3) (IsNet.net x.3 n.4 b.3 (subst (λ us. AreParts notation (net_of (name_at n.0.spot n.2) [] [] []) b.1 i.0 us) i.3.1 i.2) i.3.2))
+    (subst (λ m. IsNet notation (x.0 ∷ n.0 ∷ b.0 ∷ b.1) m rest) (sym i.3.3) (IsNet.net x.3 n.4 b.3 (subst (λ us. AreParts notation (plain_net_of (name_at n.0.spot n.2) [] [] []) b.1 i.0 us) i.3.1 i.2) i.3.2))
 
 pub net-only : (notation : ℕ) (ts : List Token) (e : PNet) (rest : List Token) → IsNet notation ts e rest → (net_sort notation).is ts e rest
 net-only notation ts e rest x = by x

@@ -58,7 +58,7 @@ split-at (x ∷ a) b (y ∷ c) d is =
       | inr s ↦ inr (s.0, s.1, let e = s.2 in (ap (λ us. x ∷ us) e ∙ ap (λ v. v ∷ (c ++ s.0 ∷ s.1)) here), s.3)
     ]
 
--- where the first token stands that is in no phrase is told by the tokens
+-- where the first token stands that is in no phrase is given by the tokens
 pub unique : (i : ℕ) (p q : List Token) (u v : Token) (r s : List Token) → AreInside i 0 p → AreInside i 0 q → IsOut u.kind → IsOut v.kind → p ++ u ∷ r ≡ q ++ v ∷ s → (p ≡ q) × (u ∷ r ≡ v ∷ s)
 unique i [] [] u v r s a b h k is = (refl, is)
 unique i [] (y ∷ q) u v r s a b h k is = out b.0 y.kind (let e : y ≡ u = cc in subst (λ w. IsOut w.kind) (sym e) h) (subst (λ n. Passes n b.0 y.kind) a b.1)

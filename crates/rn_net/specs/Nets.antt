@@ -46,8 +46,8 @@ place_of name kind initial max =
 abbrev pub transition_of : PName → List PInscription → PTransition
 transition_of name inscriptions = record { name = name; inscriptions = inscriptions }
 
-abbrev pub net_of : PName → List PVar → List PPlace → List PTransition → PNet
-net_of name vars places transitions =
+abbrev pub plain_net_of : PName → List PVar → List PPlace → List PTransition → PNet
+plain_net_of name vars places transitions =
     record { name = name; vars = vars; places = places; transitions = transitions }
 
 abbrev pub plain_of : ℕ → List PChannel → List PNet → Plain
@@ -154,25 +154,25 @@ pub data AreParts (notation : ℕ) : PNet → List Token → PNet → List Token
   and_vars : {ts mid rest : List Token} {name : PName} {vars more : List PVar}
       {places : List PPlace} {transitions : List PTransition} {net : PNet} →
       AreVars ts more mid →
-      AreParts notation (net_of name (vars ++ more) places transitions) mid net rest →
-      AreParts notation (net_of name vars places transitions) ts net rest
+      AreParts notation (plain_net_of name (vars ++ more) places transitions) mid net rest →
+      AreParts notation (plain_net_of name vars places transitions) ts net rest
   and_place : {ts mid rest : List Token} {name : PName} {vars : List PVar}
       {places : List PPlace} {place : PPlace} {transitions : List PTransition} {net : PNet} →
       IsPlace ts place mid →
-      AreParts notation (net_of name vars (places ++ place ∷ []) transitions) mid net rest →
-      AreParts notation (net_of name vars places transitions) ts net rest
+      AreParts notation (plain_net_of name vars (places ++ place ∷ []) transitions) mid net rest →
+      AreParts notation (plain_net_of name vars places transitions) ts net rest
   and_transition : {ts mid rest : List Token} {name : PName} {vars : List PVar}
       {places : List PPlace} {transitions : List PTransition} {transition : PTransition}
       {net : PNet} →
       IsTransition notation ts transition mid →
-      AreParts notation (net_of name vars places (transitions ++ transition ∷ [])) mid net rest →
-      AreParts notation (net_of name vars places transitions) ts net rest
+      AreParts notation (plain_net_of name vars places (transitions ++ transition ∷ [])) mid net rest →
+      AreParts notation (plain_net_of name vars places transitions) ts net rest
 
 -- `net n { }` with the parts of the net between the braces
 pub data IsNet (notation : ℕ) : List Token → PNet → List Token → Type 0 where
   net : {t u v w : Token} {ts rest : List Token} {name : List ℕ} {parts : PNet} →
       t.kind ≡ net_word → u.kind ≡ Name name → v.kind ≡ open_brace →
-      AreParts notation (net_of (name_at u.spot name) [] [] []) ts parts (w ∷ rest) →
+      AreParts notation (plain_net_of (name_at u.spot name) [] [] []) ts parts (w ∷ rest) →
       w.kind ≡ close_brace →
       IsNet notation (t ∷ u ∷ v ∷ ts) parts rest
 

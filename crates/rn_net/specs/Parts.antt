@@ -29,7 +29,7 @@ use Rattle.rn_net.specs.declared.plain.PNet.{PNet}
 use Rattle.rn_net.specs.declared.plain.PMax.{PMax}
 use Rattle.rn_net.specs.Nets.{AreMoreNames, AreVars, IsCapacity, AreInitial, IsPlace}
 use Rattle.rn_net.specs.Nets.{IsTransition, AreInscriptions, further_arc}
-use Rattle.rn_net.specs.Nets.{AreParts, IsChannel, IsNet, net_of, plain_of}
+use Rattle.rn_net.specs.Nets.{AreParts, IsChannel, IsNet, plain_net_of, plain_of}
 
 -- a part, and the net with it
 abbrev pub IsNetPart : ℕ → Phrases Part
@@ -38,10 +38,10 @@ IsNetPart notation ts (Part.Place place) rest = IsPlace ts place rest
 IsNetPart notation ts (Part.Transition transition) rest = IsTransition notation ts transition rest
 
 abbrev pub with_part : PNet → Part → PNet
-with_part n (Part.Vars vars) = net_of n.name (n.vars ++ vars) n.places n.transitions
-with_part n (Part.Place place) = net_of n.name n.vars (n.places ++ place ∷ []) n.transitions
+with_part n (Part.Vars vars) = plain_net_of n.name (n.vars ++ vars) n.places n.transitions
+with_part n (Part.Place place) = plain_net_of n.name n.vars (n.places ++ place ∷ []) n.transitions
 with_part n (Part.Transition transition) =
-    net_of n.name n.vars n.places (n.transitions ++ transition ∷ [])
+    plain_net_of n.name n.vars n.places (n.transitions ++ transition ∷ [])
 
 -- an item, and the system with it
 abbrev pub IsItem : ℕ → Phrases Item
@@ -81,7 +81,7 @@ AreInscriptionsUpTo notation = Then (AreInscriptions notation []) (λ all. Takes
 
 abbrev pub ArePartsUpTo : ℕ → PName → Phrases PNet
 ArePartsUpTo notation name =
-    Then (AreParts notation (net_of name [] [] [])) (λ net. Takes close_brace net)
+    Then (AreParts notation (plain_net_of name [] [] [])) (λ net. Takes close_brace net)
 
 -- after an arc of so many tokens more inscriptions may follow: in notation 2, where its first is in
 -- the text

@@ -70,9 +70,9 @@ Reads X tokens at first last (Ok (a, end)) =
 Reads X tokens at first last (Err e) = Fails X (drop at tokens) first (length tokens) e
 
 -- a reader that returns something goes on among the tokens
-abbrev pub Moves : {A : Type 0} → List Token → ℕ → Result (A × ℕ) InscriptFault → Type 0
-Moves tokens at (Ok (a, end)) = (at ≤ end) × (end ≤ length tokens)
-Moves tokens at (Err e) = Unit {0}
+abbrev pub MovesOn : {A : Type 0} → List Token → ℕ → Result (A × ℕ) InscriptFault → Type 0
+MovesOn tokens at (Ok (a, end)) = (at ≤ end) × (end ≤ length tokens)
+MovesOn tokens at (Err e) = Unit {0}
 
 -- `}`, `]` or `;`
 abbrev pub IsEnd : ℕ → Type 0

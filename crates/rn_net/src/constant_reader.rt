@@ -6,7 +6,7 @@ ghost use Rattle.rn_net.specs.Constants.{IsConstant, AreItems};
 ghost use Rattle.rn_net.specs.Levels.{Region, after};
 ghost use Rattle.rn_net.specs.Levels.Region.{declaring};
 ghost use Rattle.rn_net.specs.Lists.{AreConstantsUpTo};
-ghost use Rattle.rn_net.specs.Progress.{Reads, Moves, HasNext, IsEnd, HaveNaturals};
+ghost use Rattle.rn_net.specs.Progress.{Reads, MovesOn, HasNext, IsEnd, HaveNaturals};
 
 use crate::constants::{PConst, PConstForm, PConsts};
 use crate::cursor::{expect_sign, open_level, past_number, past_sign, past_text};
@@ -26,7 +26,7 @@ pub(crate) fn constant(
 ) -> Result<(PConst, usize), InscriptFault>
     requires inside { at ≤ length tokens.now }
     requires naturals { HaveNaturals tokens.now }
-    ensures moved { Moves tokens.now at result }
+    ensures moved { MovesOn tokens.now at result }
     ensures reads { (depth : ℕ) → levels + depth ≡ 64 →
         Reads IsConstant tokens.now at (declaring depth) (declaring depth) result }
 {
@@ -67,7 +67,7 @@ fn negative(
     requires naturals { HaveNaturals tokens.now }
     requires next { HasNext tokens.now at minus spot }
     requires after { after ≡ at + 1 }
-    ensures moved { Moves tokens.now at result }
+    ensures moved { MovesOn tokens.now at result }
     ensures reads { (depth : ℕ) →
         Reads IsConstant tokens.now at (declaring depth) (declaring depth) result }
 {
@@ -93,7 +93,7 @@ fn tuple(
     requires naturals { HaveNaturals tokens.now }
     requires next { HasNext tokens.now at open_bracket spot }
     requires inside { inside ≡ at + 1 }
-    ensures moved { Moves tokens.now at result }
+    ensures moved { MovesOn tokens.now at result }
     ensures reads { (depth : ℕ) → levels + depth ≡ 64 →
         Reads IsConstant tokens.now at (declaring depth) (declaring depth) result }
 {
@@ -116,7 +116,7 @@ fn list(
     requires naturals { HaveNaturals tokens.now }
     requires next { HasNext tokens.now at open_brace spot }
     requires inside { inside ≡ at + 1 }
-    ensures moved { Moves tokens.now at result }
+    ensures moved { MovesOn tokens.now at result }
     ensures reads { (depth : ℕ) → levels + depth ≡ 64 →
         Reads IsConstant tokens.now at (declaring depth) (declaring depth) result }
 {
@@ -138,7 +138,7 @@ fn constants_listed(
     requires inside { at ≤ length tokens.now }
     requires naturals { HaveNaturals tokens.now }
     requires close { IsEnd close }
-    ensures moved { Moves tokens.now at result }
+    ensures moved { MovesOn tokens.now at result }
     ensures reads { (depth : ℕ) → levels + depth ≡ 64 →
         (last : Region) → after (declaring depth) (Kind.Sign close) ≡ last →
         Reads (AreItems (Kind.Sign close)) tokens.now at (declaring depth) last result }
@@ -161,7 +161,7 @@ pub(crate) fn constants_up_to(
     requires inside { at ≤ length tokens.now }
     requires naturals { HaveNaturals tokens.now }
     requires close { IsEnd close }
-    ensures moved { Moves tokens.now at result }
+    ensures moved { MovesOn tokens.now at result }
     ensures reads { (depth : ℕ) → levels + depth ≡ 64 →
         (last : Region) → after (declaring depth) (Kind.Sign close) ≡ last →
         Reads (AreConstantsUpTo (Kind.Sign close)) tokens.now at (declaring depth) last result }

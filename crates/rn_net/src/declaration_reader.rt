@@ -4,7 +4,7 @@ ghost use Rattle.rn_inscript.specs.Stages.{IsNextKind};
 ghost use Rattle.rn_net.specs.Levels.Region.{between, declaring};
 ghost use Rattle.rn_net.specs.Nets.{IsChannel, AreVars, IsPlace, var_of};
 ghost use Rattle.rn_net.specs.Parts.{IsPName, AreNamesUpTo, IsInitialUpTo, IsPlaceEnd};
-ghost use Rattle.rn_net.specs.Progress.{Reads, Moves, HaveNaturals};
+ghost use Rattle.rn_net.specs.Progress.{Reads, MovesOn, HaveNaturals};
 ghost use Rattle.rn_net.specs.Words.{channel_word, var_word, place_word};
 
 use crate::constant_reader::constants_up_to;
@@ -30,7 +30,7 @@ pub(crate) fn channel(
 ) -> Result<(PChannel, usize), InscriptFault>
     requires next { IsNextKind tokens.now at channel_word }
     requires start { start ≡ at + 1 }
-    ensures moved { Moves tokens.now (at + 1) result }
+    ensures moved { MovesOn tokens.now (at + 1) result }
     ensures reads { Reads IsChannel tokens.now at between between result }
 {
     let (name, after_name) = expect_name(alloc, tokens, start)?;
@@ -43,7 +43,7 @@ pub(crate) fn channel(
 
 fn one_name(alloc: Global, tokens: &Tokens, at: usize) -> Result<(PName, usize), InscriptFault>
     requires { at ≤ length tokens.now }
-    ensures moved { Moves tokens.now at result }
+    ensures moved { MovesOn tokens.now at result }
     ensures reads { Reads IsPName tokens.now at (declaring 0) (declaring 0) result }
 {
     expect_name(alloc, tokens, at)
@@ -56,7 +56,7 @@ fn names_up_to(
     at: usize,
 ) -> Result<(Items<PName>, usize), InscriptFault>
     requires { at ≤ length tokens.now }
-    ensures moved { Moves tokens.now at result }
+    ensures moved { MovesOn tokens.now at result }
     ensures reads { Reads AreNamesUpTo tokens.now at (declaring 0) (declaring 0) result }
 {
     let (first, after_first) = one_name(alloc, tokens, at)?;
@@ -110,7 +110,7 @@ pub(crate) fn vars(
 ) -> Result<(PVars, usize), InscriptFault>
     requires next { IsNextKind tokens.now at var_word }
     requires start { start ≡ at + 1 }
-    ensures moved { Moves tokens.now (at + 1) result }
+    ensures moved { MovesOn tokens.now (at + 1) result }
     ensures reads { Reads AreVars tokens.now at between between result }
 {
     let (names, after_names) = names_up_to(alloc, tokens, start)?;
@@ -128,7 +128,7 @@ fn initial_up_to(
 ) -> Result<(PConsts, usize), InscriptFault>
     requires inside { at ≤ length tokens.now }
     requires naturals { HaveNaturals tokens.now }
-    ensures moved { Moves tokens.now at result }
+    ensures moved { MovesOn tokens.now at result }
     ensures reads { Reads IsInitialUpTo tokens.now at (declaring 0) between result }
 {
     if let Some((_, end)) = past_sign(tokens, at, sign::SEMICOLON) {
@@ -142,7 +142,7 @@ fn initial_up_to(
 fn place_end(alloc: Global, tokens: &Tokens, at: usize) -> Result<(PlaceEnd, usize), InscriptFault>
     requires inside { at ≤ length tokens.now }
     requires naturals { HaveNaturals tokens.now }
-    ensures moved { Moves tokens.now at result }
+    ensures moved { MovesOn tokens.now at result }
     ensures reads { Reads IsPlaceEnd tokens.now at (declaring 0) between result }
 {
     if let Some((_, after_word)) = past_name(tokens, at, "max") {
@@ -165,7 +165,7 @@ pub(crate) fn place(
     requires naturals { HaveNaturals tokens.now }
     requires next { IsNextKind tokens.now at place_word }
     requires start { start ≡ at + 1 }
-    ensures moved { Moves tokens.now (at + 1) result }
+    ensures moved { MovesOn tokens.now (at + 1) result }
     ensures reads { Reads IsPlace tokens.now at between between result }
 {
     let (name, after_name) = expect_name(alloc, tokens, start)?;

@@ -7,7 +7,7 @@ ghost use Rattle.rn_net.specs.Levels.Region.{between, inscribing};
 ghost use Rattle.rn_net.specs.Lists.{AreFurtherUpTo, AreInscribedUpTo};
 ghost use Rattle.rn_net.specs.Nets.{further_arc};
 ghost use Rattle.rn_net.specs.Parts.{AreInscriptionsUpTo, EndsStatement, IsOpen, NotOpen};
-ghost use Rattle.rn_net.specs.Progress.{Moves, Reads};
+ghost use Rattle.rn_net.specs.Progress.{MovesOn, Reads};
 
 use crate::cursor::{expect_sign, past_sign};
 use crate::plain::PInscriptions;
@@ -110,7 +110,7 @@ fn further_up_to(
     at: usize,
 ) -> Result<(PExprs, usize), InscriptFault>
     requires { at ≤ length tokens.now }
-    ensures moved { Moves tokens.now at result }
+    ensures moved { MovesOn tokens.now at result }
     ensures reads { (c : Count) →
         Reads AreFurtherUpTo tokens.now at (inscribing 0 c) between result }
 {
@@ -139,7 +139,7 @@ fn others_up_to(
 ) -> Result<(PInscriptions, usize), InscriptFault>
     requires before { at ≤ after }
     requires inside { after ≤ length tokens.now }
-    ensures moved { Moves tokens.now after result }
+    ensures moved { MovesOn tokens.now after result }
     ensures reads { EndsStatement notation (after - at) first.now tokens.now after result }
 {
     if let Some((kind, place)) = open_arc(first, at, after, notation) {
@@ -160,7 +160,7 @@ fn inscribed(
 ) -> Result<(PInscriptions, usize), InscriptFault>
     requires inside { at ≤ length tokens.now }
     requires other { IsNotNextKind tokens.now at close_brace }
-    ensures moved { Moves tokens.now (at + 1) result }
+    ensures moved { MovesOn tokens.now (at + 1) result }
     ensures reads { Reads (AreInscribedUpTo notation) tokens.now at between between result }
 {
     // For its clause: tokens stand for one inscription at most.
@@ -179,7 +179,7 @@ pub(crate) fn inscriptions_up_to(
     notation: u32,
 ) -> Result<(PInscriptions, usize), InscriptFault>
     requires { at ≤ length tokens.now }
-    ensures moved { Moves tokens.now at result }
+    ensures moved { MovesOn tokens.now at result }
     ensures reads { Reads (AreInscriptionsUpTo notation) tokens.now at between between result }
 {
     let mut all = Vec::new(alloc);

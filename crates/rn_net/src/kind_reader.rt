@@ -4,7 +4,7 @@ ghost use Rattle.rn_notation.specs.declared.token.TokenKind.TheVariants as Kind;
 ghost use Rattle.rn_inscript.specs.Signs.{open_brace, open_bracket};
 ghost use Rattle.rn_net.specs.Kinds.{IsKind, AreListed};
 ghost use Rattle.rn_net.specs.Levels.Region.{declaring};
-ghost use Rattle.rn_net.specs.Progress.{Reads, Moves, HasNext};
+ghost use Rattle.rn_net.specs.Progress.{Reads, MovesOn, HasNext};
 ghost use Rattle.rn_net.specs.Lists.{AreKindsUpTo};
 ghost use Rattle.rn_inscript.specs.Stages.{IsClose};
 
@@ -24,7 +24,7 @@ pub(crate) fn kind(
     levels: u32,
 ) -> Result<(PKind, usize), InscriptFault>
     requires { at ≤ length tokens.now }
-    ensures moved { Moves tokens.now at result }
+    ensures moved { MovesOn tokens.now at result }
     ensures reads { (depth : ℕ) → levels + depth ≡ 64 →
         Reads IsKind tokens.now at (declaring depth) (declaring depth) result }
 {
@@ -61,7 +61,7 @@ fn tuple(
 ) -> Result<(PKind, usize), InscriptFault>
     requires next { HasNext tokens.now at open_bracket spot }
     requires inside { inside ≡ at + 1 }
-    ensures moved { Moves tokens.now at result }
+    ensures moved { MovesOn tokens.now at result }
     ensures reads { (depth : ℕ) → levels + depth ≡ 64 →
         Reads IsKind tokens.now at (declaring depth) (declaring depth) result }
 {
@@ -83,7 +83,7 @@ fn list(
 ) -> Result<(PKind, usize), InscriptFault>
     requires next { HasNext tokens.now at open_brace spot }
     requires inside { inside ≡ at + 1 }
-    ensures moved { Moves tokens.now at result }
+    ensures moved { MovesOn tokens.now at result }
     ensures reads { (depth : ℕ) → levels + depth ≡ 64 →
         Reads IsKind tokens.now at (declaring depth) (declaring depth) result }
 {
@@ -105,7 +105,7 @@ pub(crate) fn kinds_listed(
 ) -> Result<(PKinds, usize), InscriptFault>
     requires inside { at ≤ length tokens.now }
     requires close { IsClose close }
-    ensures moved { Moves tokens.now at result }
+    ensures moved { MovesOn tokens.now at result }
     ensures reads { (depth : ℕ) → levels + (depth + 1) ≡ 64 →
         Reads (AreListed (Kind.Sign close)) tokens.now at (declaring (depth + 1)) (declaring depth) result }
 {
@@ -126,7 +126,7 @@ fn kinds_up_to(
 ) -> Result<(PKinds, usize), InscriptFault>
     requires inside { at ≤ length tokens.now }
     requires close { IsClose close }
-    ensures moved { Moves tokens.now at result }
+    ensures moved { MovesOn tokens.now at result }
     ensures reads { (depth : ℕ) → levels + (depth + 1) ≡ 64 →
         Reads (AreKindsUpTo (Kind.Sign close)) tokens.now at (declaring (depth + 1)) (declaring depth) result }
 {

@@ -4,7 +4,7 @@ ghost use Rattle.rn_inscript.specs.Stages.{IsNextKind};
 ghost use Rattle.rn_net.specs.Levels.Region.{between};
 ghost use Rattle.rn_net.specs.Nets.{IsTransition, IsNet};
 ghost use Rattle.rn_net.specs.Parts.{IsNetPart, IsItem, with_part, ArePartsUpTo};
-ghost use Rattle.rn_net.specs.Progress.{Reads, Moves, HaveNaturals};
+ghost use Rattle.rn_net.specs.Progress.{Reads, MovesOn, HaveNaturals};
 ghost use Rattle.rn_net.specs.Words.{trans_word, net_word};
 
 use crate::cursor::{expect_name, expect_sign, past_sign, past_word};
@@ -28,7 +28,7 @@ fn transition(
 ) -> Result<(PTransition, usize), InscriptFault>
     requires next { IsNextKind tokens.now at trans_word }
     requires start { start ≡ at + 1 }
-    ensures moved { Moves tokens.now (at + 1) result }
+    ensures moved { MovesOn tokens.now (at + 1) result }
     ensures reads { Reads (IsTransition notation) tokens.now at between between result }
 {
     let (name, after_name) = expect_name(alloc, tokens, start)?;
@@ -46,7 +46,7 @@ fn part(
 ) -> Result<(Part, usize), InscriptFault>
     requires inside { at ≤ length tokens.now }
     requires naturals { HaveNaturals tokens.now }
-    ensures moved { Moves tokens.now (at + 1) result }
+    ensures moved { MovesOn tokens.now (at + 1) result }
     ensures reads { Reads (IsNetPart notation) tokens.now at between between result }
 {
     if let Some((_, start)) = past_word(tokens, at, word::VAR) {
@@ -125,7 +125,7 @@ fn parts_up_to(
 ) -> Result<(PNet, usize), InscriptFault>
     requires inside { at ≤ length tokens.now }
     requires naturals { HaveNaturals tokens.now }
-    ensures moved { Moves tokens.now at result }
+    ensures moved { MovesOn tokens.now at result }
     ensures reads { Reads (ArePartsUpTo notation name) tokens.now at between between result }
 {
     let mut net = PNet {
@@ -156,7 +156,7 @@ fn net(
     requires naturals { HaveNaturals tokens.now }
     requires next { IsNextKind tokens.now at net_word }
     requires start { start ≡ at + 1 }
-    ensures moved { Moves tokens.now (at + 1) result }
+    ensures moved { MovesOn tokens.now (at + 1) result }
     ensures reads { Reads (IsNet notation) tokens.now at between between result }
 {
     let (name, after_name) = expect_name(alloc, tokens, start)?;
@@ -173,7 +173,7 @@ pub(crate) fn item(
 ) -> Result<(Item, usize), InscriptFault>
     requires inside { at ≤ length tokens.now }
     requires naturals { HaveNaturals tokens.now }
-    ensures moved { Moves tokens.now (at + 1) result }
+    ensures moved { MovesOn tokens.now (at + 1) result }
     ensures reads { Reads (IsItem notation) tokens.now at between between result }
 {
     if let Some((_, start)) = past_word(tokens, at, word::CHANNEL) {

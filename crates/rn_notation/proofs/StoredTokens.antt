@@ -3,7 +3,7 @@ use Rattle.std.proofs.Common.{◌≡◌, List, [], ◌∷◌, ◌++◌, length, 
 use Rattle.std.specs.List.{AllByRecursion}
 use Rattle.std.proofs.lemmas.Option.{get_or_from_slice_get}
 use Rattle.std.proofs.Math.ListN.{get_or-append}
-use Rattle.rn_notation.specs.StoredTokens.{token_stored, IsStored, GoesOn}
+use Rattle.rn_notation.specs.StoredTokens.{token_stored, IsStored, IsPrefixOf}
 use Rattle.rn_notation.specs.declared.token.Token.{Token}
 use Rattle.rn_notation.specs.declared.token.TokenKind.{TokenKind}
 use Rattle.rn_notation.specs.declared.token.TokenKind.TheVariants.{Word}
@@ -13,7 +13,7 @@ abbrev pub of_kind : Stored → TokenKind → Token
 of_kind s kind = record { kind = kind; start = s.start; end = s.end; spot = s.spot }
 
 pub one_more : (kinds longer : List TokenKind) (ss : List Stored) (s : Stored) (kind : TokenKind) →
-    GoesOn kinds longer → AllByRecursion (IsStored (length kinds)) ss → slice_get longer s.kind ≡ Some kind →
+    IsPrefixOf kinds longer → AllByRecursion (IsStored (length kinds)) ss → slice_get longer s.kind ≡ Some kind →
     map (token_stored longer) (ss ++ s ∷ []) ≡ map (token_stored kinds) ss ++ of_kind s kind ∷ []
 one_more kinds longer [] s kind on all at = ap (λ k. of_kind s k ∷ []) (get_or_from_slice_get longer s.kind kind (Word 0) at)
 one_more kinds longer (t ∷ ts) s kind (more, on) (inside, all) at =

@@ -20,5 +20,5 @@ abbrev pub IsStored : ℕ → Stored → Type 0
 IsStored count s = s.kind < count
 
 -- the second list goes on where the first ends
-abbrev pub GoesOn : List TokenKind → List TokenKind → Type 0
-GoesOn kinds longer = (more : List TokenKind) × (longer ≡ kinds ++ more)
+abbrev pub IsPrefixOf : List TokenKind → List TokenKind → Type 0
+IsPrefixOf kinds longer = (more : List TokenKind) × (longer ≡ kinds ++ more)

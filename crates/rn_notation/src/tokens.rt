@@ -2,7 +2,7 @@
 ghost use Rattle.std.specs.Prelude.{◌≡◌, ◌↔◌, ◌<◌, ◌^◌, ◌++◌, ◌∷◌, [], Some, length, slice_get};
 ghost use Rattle.std.specs.Prelude.{IsTrue, IfOk, OnOk, OnSome};
 ghost use Rattle.std.specs.Option.{option_map};
-ghost use Rattle.rn_notation.specs.StoredTokens.{lent, GoesOn};
+ghost use Rattle.rn_notation.specs.StoredTokens.{lent, IsPrefixOf};
 
 use crate::token::{Spot, TokenKind, TokenRef};
 use rn_value::NoMemory;
@@ -44,7 +44,7 @@ impl Model for Tokens {
     ghost invariant = { λ t. AllByRecursion (IsStored (length t.kinds.items)) t.stored.items };
 }
 
-/// Where the kinds stand that are remembered, each at a number made of it. It tells where to look
+/// Where the kinds stand that are remembered, each at a number made of it. It says where to look
 /// and is never trusted.
 #[derive(Drop)]
 pub(crate) struct Recent {
@@ -185,7 +185,7 @@ fn place_of(
     kind: TokenKind,
 ) -> Result<usize, NoMemory>
     ensures place { IfOk result (λ place. slice_get kinds.new.items place ≡ Some kind) }
-    ensures more { GoesOn kinds.old.items kinds.new.items }
+    ensures more { IsPrefixOf kinds.old.items kinds.new.items }
 {
     let number = number_of(&kind);
     let known = recent.place(number);

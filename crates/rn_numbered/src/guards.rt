@@ -5,7 +5,7 @@ ghost use Rattle.rn_numbered.specs.Numbered.{cond_of, number_in};
 ghost use Rattle.rn_numbered.specs.Parts.{simple_of};
 
 use crate::numbered::expr_of;
-use crate::numbers::Names;
+use crate::numbers::NameNumbers;
 use rn_inscript::{PCond, PSimple};
 use rn_items::Items;
 use rn_model::{CompareKind, Cond, Simple, Simples};
@@ -14,7 +14,7 @@ use std::alloc::Global;
 
 /// One comparison or negation. An expression without comparison stands for that with itself.
 #[cycle(cond)]
-fn simple_of(alloc: Global, simple: &PSimple, vars: &Names) -> Result<Simple, NoMemory>
+fn simple_of(alloc: Global, simple: &PSimple, vars: &NameNumbers) -> Result<Simple, NoMemory>
     requires { AreFew vars.now }
     ensures { IfOk result (λ made. made ≡ simple_of simple.now (number_in vars.now)) }
 {
@@ -33,7 +33,7 @@ fn simple_of(alloc: Global, simple: &PSimple, vars: &Names) -> Result<Simple, No
 
 /// Conditions that all hold.
 #[cycle(cond)]
-fn simples_of(alloc: Global, simples: &[PSimple], vars: &Names) -> Result<Simples, NoMemory>
+fn simples_of(alloc: Global, simples: &[PSimple], vars: &NameNumbers) -> Result<Simples, NoMemory>
     requires { AreFew vars.now }
     ensures { IfOk result (λ made. made
         ≡ map (λ numbered. numbered (number_in vars.now)) (map simple_of simples.now)) }
@@ -47,7 +47,7 @@ fn simples_of(alloc: Global, simples: &[PSimple], vars: &Names) -> Result<Simple
 
 /// The condition with numbers in place of names, where variables have these.
 #[cycle(cond)]
-pub(crate) fn cond_of(alloc: Global, cond: &PCond, vars: &Names) -> Result<Cond, NoMemory>
+pub(crate) fn cond_of(alloc: Global, cond: &PCond, vars: &NameNumbers) -> Result<Cond, NoMemory>
     requires { AreFew vars.now }
     ensures { IfOk result (λ made. made ≡ cond_of cond.now (number_in vars.now)) }
 {

@@ -6,7 +6,7 @@ ghost use Rattle.rn_numbered.specs.NumbersFound.{numbers_by, channel_by, expr_of
 
 use crate::guards::cond_of;
 use crate::numbered::{expr_of, exprs_of};
-use crate::numbers::{ChannelNames, Names};
+use crate::numbers::{ChannelNumbers, NameNumbers};
 use rn_inscript::{PExpr, PExprs, PInscribed, PInscription, PName};
 use rn_items::Items;
 use rn_model::{
@@ -19,14 +19,14 @@ use std::alloc::Global;
 /// The names of a net and its system, by which numbers are found.
 #[derive(Drop)]
 pub struct Tables<'a> {
-    pub vars: &'a Names,
-    pub places: &'a Names,
-    pub nets: &'a Names,
-    pub channels: &'a ChannelNames,
+    pub vars: &'a NameNumbers,
+    pub places: &'a NameNumbers,
+    pub nets: &'a NameNumbers,
+    pub channels: &'a ChannelNumbers,
 }
 
 /// The arguments of a call.
-fn args_of(alloc: Global, args: &PExprs, vars: &Names) -> Result<Exprs, NoMemory>
+fn args_of(alloc: Global, args: &PExprs, vars: &NameNumbers) -> Result<Exprs, NoMemory>
     requires { AreFew vars.now }
     ensures { IfOk result (λ made. made ≡ map (λ e. expr_of e (number_in vars.now)) args.now) }
 {
@@ -187,7 +187,7 @@ pub fn downlinks_of(
 }
 
 /// The inscription of an arc, and the empty list where it is absent.
-fn arc_expr_of(alloc: Global, e: &Option<PExpr>, vars: &Names) -> Result<Expr, NoMemory>
+fn arc_expr_of(alloc: Global, e: &Option<PExpr>, vars: &NameNumbers) -> Result<Expr, NoMemory>
     requires { AreFew vars.now }
     ensures { IfOk result (λ made. made ≡ expr_of_arc e.now (number_in vars.now)) }
 {

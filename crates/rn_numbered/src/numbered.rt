@@ -3,7 +3,7 @@ ghost use Rattle.std.specs.Prelude.{◌≡◌, IfOk, map};
 ghost use Rattle.rn_numbered.specs.NumbersFound.{AreFew};
 ghost use Rattle.rn_numbered.specs.Numbered.{kind_of, value_of, capacity_of, expr_of, number_in};
 
-use crate::numbers::Names;
+use crate::numbers::NameNumbers;
 use rn_inscript::{PExpr, PForm};
 use rn_items::{Boxed, Items};
 use rn_model::limits::GREATEST_CAPACITY;
@@ -73,7 +73,7 @@ pub fn capacity_of(max: Option<PMax>) -> Option<u32>
 
 /// The expression with numbers in place of names, where variables have these.
 #[cycle(expr)]
-pub(crate) fn expr_of(alloc: Global, e: &PExpr, vars: &Names) -> Result<Expr, NoMemory>
+pub(crate) fn expr_of(alloc: Global, e: &PExpr, vars: &NameNumbers) -> Result<Expr, NoMemory>
     requires { AreFew vars.now }
     ensures { IfOk result (λ made. made ≡ expr_of e.now (number_in vars.now)) }
 {
@@ -98,7 +98,7 @@ pub(crate) fn expr_of(alloc: Global, e: &PExpr, vars: &Names) -> Result<Expr, No
 }
 
 #[cycle(expr)]
-pub(crate) fn exprs_of(alloc: Global, es: &[PExpr], vars: &Names) -> Result<Exprs, NoMemory>
+pub(crate) fn exprs_of(alloc: Global, es: &[PExpr], vars: &NameNumbers) -> Result<Exprs, NoMemory>
     requires { AreFew vars.now }
     ensures { IfOk result (λ made. made
         ≡ map (λ numbered. numbered (number_in vars.now)) (map expr_of es.now)) }

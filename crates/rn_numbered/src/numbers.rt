@@ -7,7 +7,7 @@ ghost use Rattle.rn_numbered.specs.Numbered.{number_in};
 ghost use Rattle.rn_numbered.specs.NumbersFound.{is_key, key_of, channel_by};
 
 use indexmap::IndexSet;
-use rn_declared::{Named, Table};
+use rn_declared::{NameTable, Named};
 use rn_net::PChannel;
 use rn_value::{NoMemory, Str};
 use std::alloc::Global;
@@ -18,12 +18,12 @@ use std::marker::Model;
 /// The set numbers them, and the table finds their numbers. It compares names in order, so that it
 /// finds one among names with equal hashes as fast as among others.
 #[derive(Drop)]
-pub struct Names {
+pub struct NameNumbers {
     names: IndexSet<String>,
-    numbers: Table,
+    numbers: NameTable,
 }
 
-impl Model for Names {
+impl Model for NameNumbers {
     ghost use Rattle.std.specs.Prelude.{◌≡◌, List, ℕ, map, string_bytes};
     ghost use Rattle.rn_declared.specs.Names.{number_among};
     ghost use Rattle.rn_declared.specs.Tables.{found_in};
@@ -36,29 +36,29 @@ impl Model for Names {
         found_in names.numbers name ≡ number_among (map string_bytes names.names.keys) name };
 }
 
-impl Names {
-    fn new(alloc: Global) -> Names
+impl NameNumbers {
+    fn new(alloc: Global) -> NameNumbers
         ensures { result ≡ [] }
     {
-        Names {
+        NameNumbers {
             names: IndexSet::new(alloc),
-            numbers: Table::new(alloc),
+            numbers: NameTable::new(alloc),
         }
     }
 
     /// These names, and another at the end.
-    fn with(self, alloc: Global, name: &Str) -> Result<Names, NoMemory>
+    fn with(self, alloc: Global, name: &Str) -> Result<NameNumbers, NoMemory>
         requires { list_any (λ declared. same_name declared name.now) self ≡ false }
         ensures { IfOk result (λ names. names ≡ self ++ name.now ∷ []) }
     {
-        let Names {
+        let NameNumbers {
             mut names,
             mut numbers,
         } = self;
         let number = names.len();
         names.insert(String::from_str(alloc, name.as_str())?)?;
         numbers.declare(alloc, name, number)?;
-        Ok(Names { names, numbers })
+        Ok(NameNumbers { names, numbers })
     }
 
     /// The number of a name, and 0 where it isn't there.
@@ -74,11 +74,11 @@ impl Names {
 }
 
 /// The names that are declared here.
-pub fn names_of<T: Named>(alloc: Global, items: &[T]) -> Result<Names, NoMemory>
+pub fn names_of<T: Named>(alloc: Global, items: &[T]) -> Result<NameNumbers, NoMemory>
     requires { names_faults [] (map T.name_of items.now) ≡ [] }
     ensures { IfOk result (λ names. names ≡ map (λ item. (T.name_of item).text) items.now) }
 {
-    let mut names = Names::new(alloc);
+    let mut names = NameNumbers::new(alloc);
     for item in items {
         names = names.with(alloc, &item.name().text)?;
     }
@@ -88,11 +88,11 @@ pub fn names_of<T: Named>(alloc: Global, items: &[T]) -> Result<Names, NoMemory>
 /// Channels by name and number of arguments, which contracts see as their list. The number of a
 /// channel is its index.
 #[derive(Drop)]
-pub struct ChannelNames {
+pub struct ChannelNumbers {
     channels: IndexSet<(String, usize)>,
 }
 
-impl Model for ChannelNames {
+impl Model for ChannelNumbers {
     ghost use Rattle.std.specs.Prelude.{List, ℕ, map, string_bytes};
 
     ghost Value = { List (List ℕ × ℕ) };
@@ -100,11 +100,11 @@ impl Model for ChannelNames {
     ghost view = { λ names. map (λ key. (string_bytes key.0, key.1)) names.channels.keys };
 }
 
-impl ChannelNames {
-    fn new(alloc: Global) -> ChannelNames
+impl ChannelNumbers {
+    fn new(alloc: Global) -> ChannelNumbers
         ensures { result ≡ [] }
     {
-        ChannelNames {
+        ChannelNumbers {
             channels: IndexSet::new(alloc),
         }
     }
@@ -133,11 +133,11 @@ impl ChannelNames {
 }
 
 /// The channels that are declared here.
-pub fn channel_names_of(alloc: Global, channels: &[PChannel]) -> Result<ChannelNames, NoMemory>
+pub fn channel_names_of(alloc: Global, channels: &[PChannel]) -> Result<ChannelNumbers, NoMemory>
     requires { channels_faults [] channels.now ≡ [] }
     ensures { IfOk result (λ names. names ≡ map key_of channels.now) }
 {
-    let mut names = ChannelNames::new(alloc);
+    let mut names = ChannelNumbers::new(alloc);
     for channel in channels {
         names.put(alloc, &channel.name.text, channel.kinds.len())?;
     }

@@ -6,7 +6,7 @@ use Rattle.std.proofs.lemmas.List.{length-map}
 use Rattle.rn_net.specs.declared.plain.Plain.{Plain}
 use Rattle.rn_net.specs.declared.plain.PNet.{PNet}
 use Rattle.rn_model.specs.declared.system.Net.{Net}
-use Rattle.rn_numbering.specs.Numbering.{net_of}
+use Rattle.rn_numbering.specs.Numbering.{numbered_net_of}
 use Rattle.rn_numbered.specs.Numbered.{number_in, kind_of}
 use Rattle.rn_numbered.specs.NumbersFound.{key_of, channel_by}
 use Rattle.rn_numbering.specs.Making.{transitions_by, bare_net, net_by}
@@ -15,7 +15,7 @@ use Rattle.rn_numbered.proofs.NumberLemmas.{channel_is}
 -- the nets, where the names of channels are found
 pub nets_are : (plain : Plain) →
     map (net_by (map (λ n. n.name.text) plain.nets) (channel_by (map key_of plain.channels))) plain.nets
-    ≡ map (net_of plain) plain.nets
+    ≡ map (numbered_net_of plain) plain.nets
 nets_are plain =
     ap (λ channel. map (net_by (map (λ n. n.name.text) plain.nets) channel) plain.nets)
     (fun_ext (λ name. fun_ext (λ count.

@@ -28,8 +28,8 @@ transition_of plain net t =
     (inscribed (numbers_of plain net) t.name.text (map (λ i. i.form) t.inscriptions))
 
 -- the net with numbers in place of names
-abbrev pub net_of : Plain → PNet → Net
-net_of plain net = record {
+abbrev pub numbered_net_of : Plain → PNet → Net
+numbered_net_of plain net = record {
   name = net.name.text;
   vars = map (λ v. record { name = v.name.text; kind = kind_of v.kind }) net.vars;
   places = map
@@ -46,6 +46,6 @@ net_of plain net = record {
 -- the system with numbers in place of names
 abbrev pub system_of : Plain → System
 system_of plain = record {
-  nets = map (net_of plain) plain.nets;
+  nets = map (numbered_net_of plain) plain.nets;
   channels = map (λ c. record { name = c.name.text; kinds = map kind_of c.kinds }) plain.channels;
 }

@@ -17,8 +17,8 @@ use rn_items::Items;
 use rn_model::{Channels, Net, Nets, System, Transition, Transitions};
 use rn_net::{PNet, PTransition, Plain};
 use rn_numbered::{
-    ChannelNames, Names, Tables, actions_of, arcs_of, channel_names_of, creations_of, downlinks_of,
-    equalities_of, guards_of, names_of, uplink_of,
+    ChannelNumbers, NameNumbers, Tables, actions_of, arcs_of, channel_names_of, creations_of,
+    downlinks_of, equalities_of, guards_of, names_of, uplink_of,
 };
 use rn_occurring::put_vars;
 use rn_value::{NoMemory, Str, copy_text};
@@ -143,8 +143,8 @@ fn transitions_of(
 /// A net that has no transitions yet, and the names by which they find its variables and places.
 #[derive(Drop)]
 struct BegunNet {
-    vars: Names,
-    places: Names,
+    vars: NameNumbers,
+    places: NameNumbers,
     net: Net,
 }
 
@@ -186,8 +186,8 @@ fn end_net(
     alloc: Global,
     begun: BegunNet,
     transitions: Vec<PTransition>,
-    nets: &Names,
-    channels: &ChannelNames,
+    nets: &NameNumbers,
+    channels: &ChannelNumbers,
 ) -> Result<Net, NoMemory>
     requires vars { AreFew begun.vars }
     requires count { AreFew begun.net.vars }
@@ -222,7 +222,12 @@ fn end_net(
 }
 
 /// A net of a system with these nets and channels. Its plain form is given up.
-fn net_of(alloc: Global, net: PNet, nets: &Names, channels: &ChannelNames) -> Result<Net, NoMemory>
+fn net_of(
+    alloc: Global,
+    net: PNet,
+    nets: &NameNumbers,
+    channels: &ChannelNumbers,
+) -> Result<Net, NoMemory>
     requires declared { HasNetNumbers net }
     requires nets { AreFew nets.now }
     requires channels { AreFew channels.now }
@@ -237,8 +242,8 @@ fn net_of(alloc: Global, net: PNet, nets: &Names, channels: &ChannelNames) -> Re
 fn nets_of(
     alloc: Global,
     nets: Vec<PNet>,
-    names: &Names,
-    channels: &ChannelNames,
+    names: &NameNumbers,
+    channels: &ChannelNumbers,
 ) -> Result<Nets, NoMemory>
     requires declared { All HasNetNumbers nets.items }
     requires nets { AreFew names.now }
@@ -256,8 +261,8 @@ fn nets_of(
 /// The channels of a system, and the names by which its transitions find its nets and channels.
 #[derive(Drop)]
 struct BegunSystem {
-    nets: Names,
-    channels: ChannelNames,
+    nets: NameNumbers,
+    channels: ChannelNumbers,
     made: Channels,
 }
 

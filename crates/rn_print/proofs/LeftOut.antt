@@ -59,7 +59,7 @@ any_count c d ts (t, us, e, kind) h =
         (near, subst (λ r. IsShallow r us) (sym same) here)
 
 -- The second tokens are the first up to their end, but for parentheses that are left out, and for
--- `: []` before the end. Of each bracket that is open it is told whether both have it. What comes
+-- `: []` before the end. Of each bracket that is open it is said whether both have it. What comes
 -- from the end on is given.
 pub data LeftOut (ending later : List Token) : Stand → List Bool → List Token → List Token → Type 0 where
   done : EndsHere ending → EndsHere later → LeftOut ending later at_end [] ending later

@@ -24,7 +24,7 @@ use Rattle.rn_net.specs.declared.plain.PPlace.{PPlace}
 use Rattle.rn_net.specs.declared.plain.PMax.{PMax}
 use Rattle.rn_net.specs.declared.plain.PTransition.{PTransition}
 use Rattle.rn_net.specs.declared.plain.PNet.{PNet}
-use Rattle.rn_net.specs.Nets.{var_of, net_of, plain_of, IsChannel, AreMoreNames, AreVars, IsKindOfPlace, IsCapacity, AreInitial, IsPlace, IsTransition, AreParts, IsNet, AreItems, IsSystem}
+use Rattle.rn_net.specs.Nets.{var_of, plain_net_of, plain_of, IsChannel, AreMoreNames, AreVars, IsKindOfPlace, IsCapacity, AreInitial, IsPlace, IsTransition, AreParts, IsNet, AreItems, IsSystem}
 use Rattle.rn_print.specs.Nets.{channel_text, var_text, place_text, transition_text, net_text, canonical_text}
 use Rattle.rn_print.specs.SameButSpots.{name_unplaced, channel_unplaced, var_unplaced, place_unplaced, transition_unplaced, net_unplaced, unplaced}
 use Rattle.rn_net.specs.Levels.{IsShallow, after}
@@ -48,36 +48,36 @@ net_stands rest = IsToken.word refl refl refl
 -- sequences of declarations are parts of a net
 vars_are : {notation : ℕ} {ts mid rest : List Token} {items vars : List PVar} {name : PName} {places : List PPlace}
     {transitions : List PTransition} {net : PNet} → Sequence IsVar ts items mid →
-    AreParts notation (net_of name (vars ++ items) places transitions) mid net rest →
-    AreParts notation (net_of name vars places transitions) ts net rest
+    AreParts notation (plain_net_of name (vars ++ items) places transitions) mid net rest →
+    AreParts notation (plain_net_of name vars places transitions) ts net rest
 vars_are {notation = notation} {mid = mid} {rest = rest} {vars = vars} {name = name} {places = places} {transitions = transitions} {net = net} Sequence.done parts =
-    subst (λ vars. AreParts notation (net_of name vars places transitions) mid net rest) (append-nil vars) parts
+    subst (λ vars. AreParts notation (plain_net_of name vars places transitions) mid net rest) (append-nil vars) parts
 vars_are {notation = notation} {mid = mid} {rest = rest} {vars = vars} {name = name} {places = places} {transitions = transitions} {net = net} (Sequence.next {item = v} {items = items} x more) parts =
     AreParts.and_vars x (vars_are more
-    (subst (λ vars. AreParts notation (net_of name vars places transitions) mid net rest)
+    (subst (λ vars. AreParts notation (plain_net_of name vars places transitions) mid net rest)
     (sym (append_assoc vars (v ∷ []) items)) parts))
 
 places_are : {notation : ℕ} {ts mid rest : List Token} {items places : List PPlace} {name : PName} {vars : List PVar}
     {transitions : List PTransition} {net : PNet} → Sequence IsPlace ts items mid →
-    AreParts notation (net_of name vars (places ++ items) transitions) mid net rest →
-    AreParts notation (net_of name vars places transitions) ts net rest
+    AreParts notation (plain_net_of name vars (places ++ items) transitions) mid net rest →
+    AreParts notation (plain_net_of name vars places transitions) ts net rest
 places_are {notation = notation} {mid = mid} {rest = rest} {places = places} {name = name} {vars = vars} {transitions = transitions} {net = net} Sequence.done parts =
-    subst (λ places. AreParts notation (net_of name vars places transitions) mid net rest) (append-nil places) parts
+    subst (λ places. AreParts notation (plain_net_of name vars places transitions) mid net rest) (append-nil places) parts
 places_are {notation = notation} {mid = mid} {rest = rest} {places = places} {name = name} {vars = vars} {transitions = transitions} {net = net} (Sequence.next {item = p} {items = items} x more) parts =
     AreParts.and_place x (places_are more
-    (subst (λ places. AreParts notation (net_of name vars places transitions) mid net rest)
+    (subst (λ places. AreParts notation (plain_net_of name vars places transitions) mid net rest)
     (sym (append_assoc places (p ∷ []) items)) parts))
 
 transitions_are : {notation : ℕ} {ts mid rest : List Token} {items transitions : List PTransition} {name : PName}
     {vars : List PVar} {places : List PPlace} {net : PNet} → Sequence (IsTransition notation) ts items mid →
-    AreParts notation (net_of name vars places (transitions ++ items)) mid net rest →
-    AreParts notation (net_of name vars places transitions) ts net rest
+    AreParts notation (plain_net_of name vars places (transitions ++ items)) mid net rest →
+    AreParts notation (plain_net_of name vars places transitions) ts net rest
 transitions_are {notation = notation} {mid = mid} {rest = rest} {transitions = transitions} {name = name} {vars = vars} {places = places} {net = net} Sequence.done parts =
-    subst (λ transitions. AreParts notation (net_of name vars places transitions) mid net rest)
+    subst (λ transitions. AreParts notation (plain_net_of name vars places transitions) mid net rest)
     (append-nil transitions) parts
 transitions_are {notation = notation} {mid = mid} {rest = rest} {transitions = transitions} {name = name} {vars = vars} {places = places} {net = net} (Sequence.next {item = t} {items = items} x more) parts =
     AreParts.and_transition x (transitions_are more
-    (subst (λ transitions. AreParts notation (net_of name vars places transitions) mid net rest)
+    (subst (λ transitions. AreParts notation (plain_net_of name vars places transitions) mid net rest)
     (sym (append_assoc transitions (t ∷ []) items)) parts))
 
 -- what holds of each element in a list
@@ -142,12 +142,12 @@ net_line notation net back =
           let m = p.means (before ++ a) (tokens_in (before ++ b) r.tree (w ∷ rest)) in
           let n = v.means (before ++ start)
           (tokens_in (before ++ a) p.tree (tokens_in (before ++ b) r.tree (w ∷ rest))) in (
-            net_of (name_at u.spot name) n.0 m.0 l.0,
+            plain_net_of (name_at u.spot name) n.0 m.0 l.0,
             IsNet.net refl refl refl
                 (vars_are n.1 (places_are m.1 (transitions_are l.1 AreParts.no_more_parts))) refl,
-            ap (λ vs. net_of (name_unplaced net.name) vs (map place_unplaced m.0) (map transition_unplaced l.0)) n.2
-                ∙ ap (λ ps. net_of (name_unplaced net.name) (map var_unplaced net.vars) ps (map transition_unplaced l.0)) m.2
-                ∙ ap (λ ts. net_of (name_unplaced net.name) (map var_unplaced net.vars) (map place_unplaced net.places) ts) l.2,
+            ap (λ vs. plain_net_of (name_unplaced net.name) vs (map place_unplaced m.0) (map transition_unplaced l.0)) n.2
+                ∙ ap (λ ps. plain_net_of (name_unplaced net.name) (map var_unplaced net.vars) ps (map transition_unplaced l.0)) m.2
+                ∙ ap (λ ts. plain_net_of (name_unplaced net.name) (map var_unplaced net.vars) (map place_unplaced net.places) ts) l.2,
           );
       shallow = λ before rest h.
           let a = start ++ bytes_in v.tree in

@@ -27,7 +27,7 @@ use Rattle.rn_net.specs.declared.plain.PMax.{PMax}
 use Rattle.rn_net.specs.declared.plain.PTransition.{PTransition}
 use Rattle.rn_net.specs.Kinds.{kind_at}
 use Rattle.rn_net.specs.Constants.{constant_at}
-use Rattle.rn_net.specs.Nets.{channel_of, var_of, max_of, place_of, transition_of, net_of, plain_of}
+use Rattle.rn_net.specs.Nets.{channel_of, var_of, max_of, place_of, transition_of, plain_net_of, plain_of}
 
 -- the first byte of a text
 abbrev pub first_spot : Spot
@@ -111,7 +111,7 @@ transition_unplaced transition =
 -- of a net and of a system, whose notation is kept
 abbrev pub net_unplaced : PNet → PNet
 net_unplaced net =
-    net_of (name_unplaced net.name) (map var_unplaced net.vars) (map place_unplaced net.places)
+    plain_net_of (name_unplaced net.name) (map var_unplaced net.vars) (map place_unplaced net.places)
     (map transition_unplaced net.transitions)
 
 abbrev pub unplaced : Plain → Plain

@@ -5,7 +5,7 @@ ghost use Rattle.rn_print.specs.Laws.{MigratedTextsAreRead};
 
 use rn_net::net_laws;
 
-/// The canonical text of what a text spells is read back, is fixed, and tells all but spots.
+/// The canonical text of what a text spells is read back, is fixed, and says all but spots.
 ///
 /// It does nothing: its clauses say what holds of all plain forms.
 pub fn printing_laws()

@@ -22,7 +22,7 @@ use Rattle.rn_pt.specs.declared.plain.PtPlace.{PtPlace}
 use Rattle.rn_pt.specs.declared.plain.PtTransition.{PtTransition}
 use Rattle.rn_pt.specs.declared.plain.PtNet.{PtNet}
 use Rattle.rn_pt.specs.Words.{arc_word, pt_word}
-use Rattle.rn_pt.specs.Grammar.{place_of, arc_of, transition_of, net_of, inhibits, WeightUpTo, IsPtTransition}
+use Rattle.rn_pt.specs.Grammar.{place_of, arc_of, transition_of, weighted_net_of, inhibits, WeightUpTo, IsPtTransition}
 
 abbrev pub semicolon : Single Spot
 semicolon = sign_of sign.SEMICOLON
@@ -93,7 +93,7 @@ abbrev pub transitions_up_to : Sort (List PtTransition)
 transitions_up_to = and_then (many transition) closed
 
 abbrev pub parts_end : List PtPlace → Sort PtNet
-parts_end places = and_then transitions_up_to (λ transitions. done (net_of places transitions))
+parts_end places = and_then transitions_up_to (λ transitions. done (weighted_net_of places transitions))
 
 abbrev pub parts_up_to : Sort PtNet
 parts_up_to = and_then (many place) parts_end

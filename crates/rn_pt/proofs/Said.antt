@@ -25,7 +25,7 @@ use Rattle.rn_pt.specs.declared.plain.PtPlace.{PtPlace}
 use Rattle.rn_pt.specs.declared.plain.PtTransition.{PtTransition}
 use Rattle.rn_pt.specs.declared.plain.PtNet.{PtNet}
 use Rattle.rn_pt.specs.Words.{arc_word, arc_word_of, pt_word}
-use Rattle.rn_pt.specs.Grammar.{place_of, arc_of, transition_of, net_of, inhibits, NumberUpTo, WeightUpTo, IsPtArc, ArcsUpTo, IsPtPlace, IsPtTransition, TransitionsUpTo, PartsUpTo, IsPtNet}
+use Rattle.rn_pt.specs.Grammar.{place_of, arc_of, transition_of, weighted_net_of, inhibits, NumberUpTo, WeightUpTo, IsPtArc, ArcsUpTo, IsPtPlace, IsPtTransition, TransitionsUpTo, PartsUpTo, IsPtNet}
 
 -- Q holds of each of these
 abbrev pub Each : {A : Type 0} → (A → Type 0) → List A → Type 0
@@ -189,9 +189,9 @@ NetIs net = Each PlaceIs net.places × Each TransitionIs net.transitions
 
 parts_kept : Keeps PartsUpTo NetIs
 parts_kept =
-    then_keeps (Many IsPtPlace) (λ places. Then TransitionsUpTo (λ transitions. Done (net_of places transitions))) (Each PlaceIs) NetIs (many_keeps IsPtPlace PlaceIs place_kept)
-    (λ places good. then_keeps TransitionsUpTo (λ transitions. Done (net_of places transitions)) (Each TransitionIs) NetIs (closed_kept IsPtTransition TransitionIs transition_kept)
-    (λ transitions each. done_keeps (net_of places transitions) NetIs (good, each)))
+    then_keeps (Many IsPtPlace) (λ places. Then TransitionsUpTo (λ transitions. Done (weighted_net_of places transitions))) (Each PlaceIs) NetIs (many_keeps IsPtPlace PlaceIs place_kept)
+    (λ places good. then_keeps TransitionsUpTo (λ transitions. Done (weighted_net_of places transitions)) (Each TransitionIs) NetIs (closed_kept IsPtTransition TransitionIs transition_kept)
+    (λ transitions each. done_keeps (weighted_net_of places transitions) NetIs (good, each)))
 
 pub net_kept : Keeps IsPtNet NetIs
 net_kept = one_then pt_word (λ s. Then (One (read.sign sign.LEFT_BRACE)) (λ s. PartsUpTo)) NetIs (λ s. one_then (read.sign sign.LEFT_BRACE) (λ s. PartsUpTo) NetIs (λ s. parts_kept))

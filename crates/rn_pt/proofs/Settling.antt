@@ -136,7 +136,7 @@ unless-memory (Why.N4 s) expected x = given (λ e. let no : ⊥ = let h = e in c
 unless-memory (Why.N5 s) expected x = given (λ e. let no : ⊥ = let h = e in cc in no) x
 unless-memory (Why.NoMemory _) expected x = tt
 
--- a reason is told, unless memory ran out
+-- a reason is reported, unless memory ran out
 told : (why : TextFault) → (report_text why ≡ Why.NoMemory no_memory) ⊎ IsTold why
 told (Text.Stopped s) = inr tt
 told (Text.TooFar s) = inr tt

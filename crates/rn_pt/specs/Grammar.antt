@@ -25,8 +25,8 @@ arc_of word place weight = record { word = word; place = place; weight = weight 
 abbrev pub transition_of : Named → List PtArc → PtTransition
 transition_of name arcs = record { name = name; arcs = arcs }
 
-abbrev pub net_of : List PtPlace → List PtTransition → PtNet
-net_of places transitions = record { places = places; transitions = transitions }
+abbrev pub weighted_net_of : List PtPlace → List PtTransition → PtNet
+weighted_net_of places transitions = record { places = places; transitions = transitions }
 
 -- `[ "=" number ] ";"`, with this sign in place of `=`
 abbrev pub NumberUpTo : ℕ → Phrases (Option Numeral)
@@ -80,7 +80,7 @@ TransitionsUpTo =
 abbrev pub PartsUpTo : Phrases PtNet
 PartsUpTo =
     Then (Many IsPtPlace)
-    (λ places. Then TransitionsUpTo (λ transitions. Done (net_of places transitions)))
+    (λ places. Then TransitionsUpTo (λ transitions. Done (weighted_net_of places transitions)))
 
 -- `"pt" "{" { place } { transition } "}"`
 abbrev pub IsPtNet : Phrases PtNet

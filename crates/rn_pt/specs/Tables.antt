@@ -6,18 +6,18 @@ use Rattle.std.specs.Cmp.Lexicographic.{slice_cmp}
 use Rattle.std.specs.BTreeMap.{get}
 use Rattle.rn_model.specs.Limits.{longest_name}
 use Rattle.rn_reading.specs.declared.named.Named.{Named}
-use Rattle.rn_pt.specs.declared.table.Table.{Table}
+use Rattle.rn_pt.specs.declared.table.NameTable.{NameTable}
 use Rattle.rn_pt.specs.declared.fault.Rule.TheVariants as Rule
 use Rattle.rn_pt.specs.declared.fault.Broken.{Broken}
 use Rattle.rn_pt.specs.Faults.{broken_if}
 use Rattle.rn_pt.specs.Rules.{same_name, number_among}
 
 -- the number that a table finds for a name
-abbrev pub found_in : Table → List ℕ → Option ℕ
+abbrev pub found_in : NameTable → List ℕ → Option ℕ
 found_in table name = get (slice_cmp nat_cmp) table.numbers name
 
 -- the table finds the numbers of these names
-abbrev pub FindsAmong : List (List ℕ) → Table → Type 0
+abbrev pub FindsAmong : List (List ℕ) → NameTable → Type 0
 FindsAmong names table = (name : List ℕ) → found_in table name ≡ number_among names name
 
 -- a number that was found, or else another where it is the same name

@@ -1,7 +1,7 @@
 //! Reading arcs, and numbers up to a semicolon.
 ghost use Rattle.std.specs.Prelude.{◌≡◌, ◌≢◌, ◌+◌, ◌≤◌, length};
 ghost use Rattle.rn_notation.specs.declared.sign.TheConstants as sign;
-ghost use Rattle.rn_reading.specs.Stages.{ReadsUncounted, Moves};
+ghost use Rattle.rn_reading.specs.Stages.{ReadsUncounted, MovesOn};
 ghost use Rattle.rn_pt.specs.Grammar.{NumberUpTo, WeightUpTo, IsPtArc, ArcsUpTo, inhibits};
 
 use crate::plain::{PtArc, PtArcs};
@@ -20,7 +20,7 @@ pub(crate) fn number_up_to(
 ) -> Result<(Option<Numeral>, usize), ReadFault>
     requires inside { at ≤ length tokens.now }
     requires apart { opens ≢ sign.SEMICOLON }
-    ensures moved { Moves tokens.now (at + 1) result }
+    ensures moved { MovesOn tokens.now (at + 1) result }
     ensures reads { ReadsUncounted (NumberUpTo opens) tokens.now at result }
 {
     if let Some((_, start)) = past_sign(tokens, at, opens) {
@@ -39,7 +39,7 @@ fn weight_up_to(
     inhibits: bool,
 ) -> Result<(Option<Numeral>, usize), ReadFault>
     requires inside { at ≤ length tokens.now }
-    ensures moved { Moves tokens.now (at + 1) result }
+    ensures moved { MovesOn tokens.now (at + 1) result }
     ensures reads { ReadsUncounted (WeightUpTo inhibits) tokens.now at result }
 {
     if inhibits {
@@ -58,7 +58,7 @@ fn inhibits(kind: ArcKind) -> bool
 /// `in p * 2;`
 fn arc(alloc: Global, tokens: &Tokens, at: usize) -> Result<(PtArc, usize), ReadFault>
     requires { at ≤ length tokens.now }
-    ensures moved { Moves tokens.now (at + 1) result }
+    ensures moved { MovesOn tokens.now (at + 1) result }
     ensures reads { ReadsUncounted IsPtArc tokens.now at result }
 {
     let (word, after_word) = expect_arc_word(tokens, at)?;
@@ -79,7 +79,7 @@ pub(crate) fn arcs_up_to(
     at: usize,
 ) -> Result<(PtArcs, usize), ReadFault>
     requires { at ≤ length tokens.now }
-    ensures moved { Moves tokens.now (at + 1) result }
+    ensures moved { MovesOn tokens.now (at + 1) result }
     ensures reads { ReadsUncounted ArcsUpTo tokens.now at result }
 {
     let mut all = Vec::new(alloc);

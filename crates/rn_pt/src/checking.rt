@@ -10,7 +10,7 @@ use crate::fault::Rule;
 use crate::first::First;
 use crate::names::declare_all;
 use crate::plain::{PtArc, PtNet, PtPlace, PtTransition};
-use crate::table::Table;
+use crate::table::NameTable;
 use rn_model::limits::{MOST_INITIAL, MOST_PLACES, MOST_TRANSITIONS};
 use rn_reading::Numeral;
 use rn_value::NoMemory;
@@ -37,7 +37,7 @@ fn note_places(places: &[PtPlace], first: &mut First)
 }
 
 /// Notes an arc whose place isn't declared, or whose weight isn't within its limits.
-fn note_arc(arc: &PtArc, table: &Table, first: &mut First)
+fn note_arc(arc: &PtArc, table: &NameTable, first: &mut First)
     ensures { (names : List (List ℕ)) →
         ((name : List ℕ) → found_in table.now name ≡ number_among names name) →
         first.new.broken ≡ first_from first.old.broken (arc_broken names arc.now) }
@@ -48,7 +48,7 @@ fn note_arc(arc: &PtArc, table: &Table, first: &mut First)
 }
 
 /// Notes the arcs of a transition, and the first one past the limit.
-fn note_arcs(arcs: &[PtArc], table: &Table, first: &mut First)
+fn note_arcs(arcs: &[PtArc], table: &NameTable, first: &mut First)
     ensures { (names : List (List ℕ)) →
         ((name : List ℕ) → found_in table.now name ≡ number_among names name) →
         first.new.broken ≡ first_from first.old.broken (flat_map (arc_broken names) arcs.now) }
@@ -69,7 +69,7 @@ fn note_past_arc(arcs: &[PtArc], first: &mut First)
 }
 
 /// Notes what is broken in the arcs of transitions.
-fn note_transitions(transitions: &[PtTransition], table: &Table, first: &mut First)
+fn note_transitions(transitions: &[PtTransition], table: &NameTable, first: &mut First)
     ensures { (names : List (List ℕ)) →
         ((name : List ℕ) → found_in table.now name ≡ number_among names name) →
         first.new.broken ≡ first_from first.old.broken
@@ -83,7 +83,7 @@ fn note_transitions(transitions: &[PtTransition], table: &Table, first: &mut Fir
 }
 
 /// The first rule that a net breaks, and the table of its places.
-pub(crate) fn check(alloc: Global, net: &PtNet) -> Result<(First, Table), NoMemory>
+pub(crate) fn check(alloc: Global, net: &PtNet) -> Result<(First, NameTable), NoMemory>
     ensures first { IfOk result (λ checked. checked.0.broken
         ≡ first_from None (net_broken net.now)) }
     ensures found { IfOk result (λ checked. (name : List ℕ) →

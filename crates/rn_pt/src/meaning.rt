@@ -6,7 +6,7 @@ ghost use Rattle.rn_pt.specs.Rules.{net_broken, place_broken, place_names};
 ghost use Rattle.rn_pt.specs.Tables.{found_in, FindsAmong};
 
 use crate::plain::{PtArc, PtNet, PtPlace, PtTransition};
-use crate::table::Table;
+use crate::table::NameTable;
 use rn_items::Items;
 use rn_reading::Numeral;
 use rn_value::{NoMemory, Str, copy_text};
@@ -25,7 +25,7 @@ fn amount(absent: u32, number: &Option<Numeral>) -> u32
 }
 
 /// The number of a declared name.
-fn number_of(table: &Table, name: &Str) -> u32
+fn number_of(table: &NameTable, name: &Str) -> u32
     requires fits { number_or_first (found_in table.now name.now) < 2 ^ 32 }
     ensures { result ≡ number_or_first (found_in table.now name.now) }
 {
@@ -57,7 +57,7 @@ fn places_of(alloc: Global, places: &[PtPlace]) -> Result<Vec<WPlace>, NoMemory>
 }
 
 /// The arc, by the numbers of the names of places.
-fn arc_of(table: &Table, arc: &PtArc) -> WArc
+fn arc_of(table: &NameTable, arc: &PtArc) -> WArc
     requires few { (name : List ℕ) → number_or_first (found_in table.now name) < 2 ^ 32 }
     requires fits { amount 1 arc.now.weight < 2 ^ 32 }
     ensures { (names : List (List ℕ)) → FindsAmong names table.now →
@@ -72,7 +72,7 @@ fn arc_of(table: &Table, arc: &PtArc) -> WArc
 
 fn transition_of(
     alloc: Global,
-    table: &Table,
+    table: &NameTable,
     transition: &PtTransition,
 ) -> Result<WTransition, NoMemory>
     requires few { (name : List ℕ) → number_or_first (found_in table.now name) < 2 ^ 32 }
@@ -93,7 +93,7 @@ fn transition_of(
 
 fn transitions_of(
     alloc: Global,
-    table: &Table,
+    table: &NameTable,
     transitions: &[PtTransition],
 ) -> Result<Vec<WTransition>, NoMemory>
     requires few { (name : List ℕ) → number_or_first (found_in table.now name) < 2 ^ 32 }
@@ -109,7 +109,11 @@ fn transitions_of(
 }
 
 /// The net with numbers in place of names, from the table of its places.
-pub(crate) fn weighted_of(alloc: Global, table: &Table, net: &PtNet) -> Result<Weighted, NoMemory>
+pub(crate) fn weighted_of(
+    alloc: Global,
+    table: &NameTable,
+    net: &PtNet,
+) -> Result<Weighted, NoMemory>
     requires unbroken { net_broken net.now ≡ [] }
     requires found { FindsAmong (place_names net.now) table.now }
     ensures { IfOk result (λ weighted. weighted ≡ weighted_of net.now) }

@@ -8,7 +8,7 @@ ghost use Rattle.rn_pt.specs.Tables.{found_in, with_name, name_noted};
 use crate::fault::Rule;
 use crate::first::First;
 use crate::plain::{PtPlace, PtTransition};
-use crate::table::Table;
+use crate::table::NameTable;
 use rn_model::limits::LONGEST_NAME;
 use rn_reading::Named;
 use rn_value::NoMemory;
@@ -45,7 +45,7 @@ fn declare(
     alloc: Global,
     name: &Named,
     number: usize,
-    table: &mut Table,
+    table: &mut NameTable,
     first: &mut First,
 ) -> Result<(), NoMemory>
     ensures noted { OnOk result (first.new.broken ≡ first_from first.old.broken
@@ -77,13 +77,13 @@ pub(crate) fn declare_all<T: Declared>(
     items: &[T],
     most: usize,
     first: &mut First,
-) -> Result<Table, NoMemory>
+) -> Result<NameTable, NoMemory>
     ensures noted { OnOk result (first.new.broken ≡ first_from first.old.broken
         (declared_broken most (map T.name_of items.now))) }
     ensures found { IfOk result (λ table. (name : List ℕ) → found_in table name
         ≡ number_among (map (λ n. n.text) (map T.name_of items.now)) name) }
 {
-    let mut table = Table::new(alloc);
+    let mut table = NameTable::new(alloc);
     for i in 0..items.len() {
         declare(alloc, items[i].name(), i, &mut table, first)?;
     }

@@ -1,6 +1,6 @@
 //! Reading places, transitions and whole nets.
 ghost use Rattle.std.specs.Prelude.{◌+◌, ◌≤◌, length};
-ghost use Rattle.rn_reading.specs.Stages.{ReadsUncounted, Moves};
+ghost use Rattle.rn_reading.specs.Stages.{ReadsUncounted, MovesOn};
 ghost use Rattle.rn_pt.specs.Grammar.{IsPtNet, IsPtPlace, IsPtTransition};
 ghost use Rattle.rn_pt.specs.Grammar.{PartsUpTo, TransitionsUpTo};
 
@@ -15,7 +15,7 @@ use std::alloc::Global;
 /// `place p = 2;`
 fn place(alloc: Global, tokens: &Tokens, at: usize) -> Result<(PtPlace, usize), ReadFault>
     requires { at ≤ length tokens.now }
-    ensures moved { Moves tokens.now (at + 1) result }
+    ensures moved { MovesOn tokens.now (at + 1) result }
     ensures reads { ReadsUncounted IsPtPlace tokens.now at result }
 {
     let (_, after_word) = expect_word(tokens, at, word::PLACE)?;
@@ -27,7 +27,7 @@ fn place(alloc: Global, tokens: &Tokens, at: usize) -> Result<(PtPlace, usize), 
 /// `trans t { in p; out q; }`
 fn transition(alloc: Global, tokens: &Tokens, at: usize) -> Result<(PtTransition, usize), ReadFault>
     requires { at ≤ length tokens.now }
-    ensures moved { Moves tokens.now (at + 1) result }
+    ensures moved { MovesOn tokens.now (at + 1) result }
     ensures reads { ReadsUncounted IsPtTransition tokens.now at result }
 {
     let (_, after_word) = expect_word(tokens, at, word::TRANS)?;
@@ -44,7 +44,7 @@ fn transitions_up_to(
     at: usize,
 ) -> Result<(PtTransitions, usize), ReadFault>
     requires { at ≤ length tokens.now }
-    ensures moved { Moves tokens.now (at + 1) result }
+    ensures moved { MovesOn tokens.now (at + 1) result }
     ensures reads { ReadsUncounted TransitionsUpTo tokens.now at result }
 {
     let mut all = Vec::new(alloc);
@@ -61,7 +61,7 @@ fn transitions_up_to(
 /// Places and then transitions, up to and past the closing brace.
 fn parts_up_to(alloc: Global, tokens: &Tokens, at: usize) -> Result<(PtNet, usize), ReadFault>
     requires { at ≤ length tokens.now }
-    ensures moved { Moves tokens.now (at + 1) result }
+    ensures moved { MovesOn tokens.now (at + 1) result }
     ensures reads { ReadsUncounted PartsUpTo tokens.now at result }
 {
     let mut places = Vec::new(alloc);

@@ -8,16 +8,16 @@ use std::collections::BTreeMap;
 
 /// The numbers of names, each that of the first declaration of the name.
 #[derive(Drop)]
-pub(crate) struct Table {
+pub(crate) struct NameTable {
     pub numbers: BTreeMap<Str, usize>,
 }
 
-impl Table {
+impl NameTable {
     /// A table in which no name is declared.
-    pub(crate) fn new(alloc: Global) -> Table
+    pub(crate) fn new(alloc: Global) -> NameTable
         ensures { (name : List ℕ) → found_in result name ≡ None }
     {
-        Table {
+        NameTable {
             numbers: BTreeMap::new(alloc),
         }
     }

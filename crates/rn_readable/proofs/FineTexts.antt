@@ -54,7 +54,7 @@ use Rattle.rn_net.specs.Texts.{Spells}
 use Rattle.rn_numbered.specs.Numbered.{value_of, value_of_form, capacity_of, Numbers}
 use Rattle.rn_numbering.specs.Numbering.{numbers_of}
 use Rattle.rn_numbered.specs.Numbered.{equality_of, action_of, uplink_of, downlink_of, arc_of}
-use Rattle.rn_numbering.specs.Numbering.{transition_of, net_of, system_of}
+use Rattle.rn_numbering.specs.Numbering.{transition_of, numbered_net_of, system_of}
 use Rattle.rn_numbered.specs.Numbered.{expr_of, kind_of}
 use Rattle.rn_spelled.proofs.KindDepths.{push}
 use Rattle.rn_readable.proofs.MendedValues.{mended, IsFine, int_is_fine, text_is_fine}
@@ -477,14 +477,14 @@ module _ (plain : Plain) where
   numbered_place p fine =
       All-from_recursion IsFine (map value_of p.initial) (each_map IsFine value_of p.initial fine)
 
-  numbered_net : (net : PNet) → IsFinePNet net → IsFineNet (net_of plain net)
+  numbered_net : (net : PNet) → IsFinePNet net → IsFineNet (numbered_net_of plain net)
   numbered_net net fine = record {
     transitions = All-from_recursion IsFineTransition
         (map (transition_of plain net) net.transitions)
         (each_map IsFineTransition (transition_of plain net) net.transitions
         (each_weaker IsFinePTransition (λ t. IsFineTransition (transition_of plain net t))
         (numbered_transition net) net.transitions fine.transitions));
-    initial = All-from_recursion HasFineInitial (net_of plain net).places
+    initial = All-from_recursion HasFineInitial (numbered_net_of plain net).places
         (each_map HasFineInitial
         (λ p. record {
           name = p.name.text;
@@ -501,7 +501,7 @@ module _ (plain : Plain) where
 pub spelled_is_fine : (bytes : List ℕ) (plain : Plain) → Spells bytes plain →
     IsFineSystem (system_of plain)
 spelled_is_fine bytes plain spelled =
-    All-from_recursion IsFineNet (map (net_of plain) plain.nets)
-    (each_map IsFineNet (net_of plain) plain.nets
-    (each_weaker IsFinePNet (λ net. IsFineNet (net_of plain net)) (numbered_net plain) plain.nets
+    All-from_recursion IsFineNet (map (numbered_net_of plain) plain.nets)
+    (each_map IsFineNet (numbered_net_of plain) plain.nets
+    (each_weaker IsFinePNet (λ net. IsFineNet (numbered_net_of plain net)) (numbered_net plain) plain.nets
     (system_is_fine spelled.system (tokens_are_fine spelled.read))))

@@ -93,7 +93,7 @@ stopped-fine C first X x f = ends-fine C first X (stopped-ends C first X x) f
 deep-fine : (C : Counting) (first : C.Count) {A : Type 0} (X : Phrases A) {tokens : List Token} {s : Spot} → IsDeep C first X tokens s → AreFine C first X tokens → ⊥
 deep-fine C first X x f = ends-fine C first X (deep-ends C first X x) f
 
--- what is told of a text but for want of memory
+-- what is reported of a text but for want of memory
 abbrev pub IsTold : TextFault → Type 0
 IsTold (Why.NoMemory _) = ⊥
 IsTold _ = Unit {0}

@@ -87,9 +87,9 @@ Reads C F X tokens at first last (Ok (a, end)) =
 Reads C F X tokens at first last (Err e) = Fails C F X (drop at tokens) first (length tokens) e
 
 -- a reader that returns something goes on among the tokens
-abbrev pub Moves : {A : Type 0} → List Token → ℕ → Result (A × ℕ) ReadFault → Type 0
-Moves tokens at (Ok (a, end)) = (at ≤ end) × (end ≤ length tokens)
-Moves tokens at (Err e) = Unit {0}
+abbrev pub MovesOn : {A : Type 0} → List Token → ℕ → Result (A × ℕ) ReadFault → Type 0
+MovesOn tokens at (Ok (a, end)) = (at ≤ end) × (end ≤ length tokens)
+MovesOn tokens at (Err e) = Unit {0}
 
 -- the token at an index, with those after it
 abbrev pub IsNext : List Token → ℕ → Token → Type 0

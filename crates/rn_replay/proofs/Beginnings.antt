@@ -11,8 +11,8 @@ use Rattle.rn_fire.specs.declared.setup.Setup.{Setup}
 use Rattle.rn_fire.specs.States.{State}
 use Rattle.rn_replay.specs.Parts.{HasMarks, IsDoneWith, RedoesAll, TriesEnd}
 use Rattle.rn_replay.specs.Replays.{Begins, IsUnsearched, Refuses, Replays, firing}
-use Rattle.rn_replay.specs.declared.begun.Begun.{Begun}
-use Rattle.rn_replay.specs.declared.begun.Begun.TheVariants as Begin
+use Rattle.rn_replay.specs.declared.begun.BegunReplay.{BegunReplay}
+use Rattle.rn_replay.specs.declared.begun.BegunReplay.TheVariants as Begin
 use Rattle.rn_replay.specs.declared.ending.EndTried.TheVariants.{Unsearched}
 use Rattle.rn_replay.specs.declared.fault.ReplayFault.{ReplayFault}
 use Rattle.rn_replay.specs.declared.fault.ReplayFault.TheVariants as R
@@ -29,7 +29,7 @@ begins_refused system options told (R.V5 n) refused = firing refused.3 refused.2
 
 -- an end that is true, and the marks
 pub begins_done : (system : System) (options : Options) (told : Told) (t : State) (number : ℕ)
-    (r : Result Begun ReplayFault) →
+    (r : Result BegunReplay ReplayFault) →
     ((q : Result State ReplayFault) → HasMarks t number told q → Replays system options told q) →
     IsDoneWith t number told r → Begins system options told r
 begins_done system options told t number (Ok (Begin.Done u)) marked has = marked (Ok u) has

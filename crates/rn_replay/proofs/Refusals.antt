@@ -15,7 +15,7 @@ use Rattle.rn_fire.specs.States.{State, IsState, logged}
 use Rattle.rn_fire.proofs.OutcomeLemmas.{fits_decides}
 use Rattle.rn_replay.specs.Parts.{Candidates, Certified, FiresNow, Redoes}
 use Rattle.rn_replay.specs.Parts.{fault_of, last_of, outs_of, unfit_of}
-use Rattle.rn_replay.specs.Replays.{FiringRefused, Gives}
+use Rattle.rn_replay.specs.Replays.{FiringRefused, FiresAsSaid}
 use Rattle.rn_replay.specs.declared.fault.ReplayFault.{ReplayFault}
 use Rattle.rn_replay.specs.declared.fault.ReplayFault.TheVariants as R
 use Rattle.rn_replay.specs.declared.firing.Unfit.{Unfit}
@@ -126,7 +126,7 @@ module _ (s : State) (is : IsState s) (going : s.ended ≡ None) (number : ℕ)
         below,
         cert.1,
         λ gives.
-            let at = subst (λ x. Gives s.setup.system s.fired
+            let at = subst (λ x. FiresAsSaid s.setup.system s.fired
             (record { worker = f.worker; binding = x; outs = fired.0 })) cert.0 fired.1.defined in
             let one = at.1 in
             let two = gives.1 in

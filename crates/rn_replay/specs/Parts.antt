@@ -22,8 +22,8 @@ use Rattle.rn_fire.specs.Commits.{HasFired, IsEnabledNow, next_firing}
 use Rattle.rn_fire.specs.Ends.{with_end}
 use Rattle.rn_fire.specs.States.{State, end_marking, firings_in}
 use Rattle.rn_replay.specs.Replays.{FiringRefused, Reaches}
-use Rattle.rn_replay.specs.declared.begun.Begun.{Begun}
-use Rattle.rn_replay.specs.declared.begun.Begun.TheVariants as Begin
+use Rattle.rn_replay.specs.declared.begun.BegunReplay.{BegunReplay}
+use Rattle.rn_replay.specs.declared.begun.BegunReplay.TheVariants as Begin
 use Rattle.rn_replay.specs.declared.ending.EndTried.{EndTried}
 use Rattle.rn_replay.specs.declared.ending.EndTried.TheVariants.{Ended, Untrue, Unsearched}
 use Rattle.rn_replay.specs.declared.fault.ReplayFault.{ReplayFault}
@@ -145,7 +145,7 @@ HasMarks s number told (Err (R.NoMemory _)) = ⊤
 HasMarks s number told (Err _) = ⊥
 
 -- the same of a replay that is done
-abbrev pub IsDoneWith : State → ℕ → Told → Result Begun ReplayFault → Type 0
+abbrev pub IsDoneWith : State → ℕ → Told → Result BegunReplay ReplayFault → Type 0
 IsDoneWith s number told (Ok (Begin.Done t)) = HasMarks s number told (Ok t)
 IsDoneWith s number told (Ok (Begin.Dead t)) = ⊥
 IsDoneWith s number told (Err fault) = HasMarks s number told (Err fault)

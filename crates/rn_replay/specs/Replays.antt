@@ -15,8 +15,8 @@ use Rattle.rn_model.specs.Liveness.{LivePart}
 use Rattle.rn_model.specs.Runs.{Firing, IsTrueEnd, Log, end_of, entries_of}
 use Rattle.rn_binding.specs.Soundness.{IsSound}
 use Rattle.rn_fire.specs.States.{State, end_marking, logged}
-use Rattle.rn_replay.specs.declared.begun.Begun.{Begun}
-use Rattle.rn_replay.specs.declared.begun.Begun.TheVariants as Begin
+use Rattle.rn_replay.specs.declared.begun.BegunReplay.{BegunReplay}
+use Rattle.rn_replay.specs.declared.begun.BegunReplay.TheVariants as Begin
 use Rattle.rn_replay.specs.declared.fault.ReplayFault.{ReplayFault}
 use Rattle.rn_replay.specs.declared.fault.ReplayFault.TheVariants.{V1, V2, V3, V4, V5, NoMemory}
 
@@ -39,8 +39,8 @@ pub record Reaches (system : System) (options : Options) (entries : List Entry)
   pub log : Log system options before None
 
 -- the firing of its binding is defined after these, and prints what it says
-abbrev pub Gives : System → List Firing → Firing → Type 0
-Gives system before f =
+abbrev pub FiresAsSaid : System → List Firing → Firing → Type 0
+FiresAsSaid system before f =
     (fired : Fired)
     × (fire system (end_of system before) f.binding (suc (length before)) ≡ Ok fired)
     × (f.outs ≡ fired.outs)
@@ -59,7 +59,7 @@ FiringRefused system options before f (V2 n) =
     × IsSound system options.depth f.binding × ¬ Fits system (end_of system before) f.binding
 FiringRefused system options before f (V3 n) =
     (n ≡ suc (length before)) × (length before < options.steps)
-    × Enabled system (end_of system before) f.binding options.depth × ¬ Gives system before f
+    × Enabled system (end_of system before) f.binding options.depth × ¬ FiresAsSaid system before f
 FiringRefused system options before f (V5 n) = ⊥
 FiringRefused system options before f (NoMemory _) = ⊤
 
@@ -111,7 +111,7 @@ pub record IsUnsearched (told : Told) (s : State) : Type 0 where
 
 -- The answer before the search: all is replayed; or the search decides, in a state of this system and
 -- these options.
-abbrev pub Begins : System → Options → Told → Result Begun ReplayFault → Type 0
+abbrev pub Begins : System → Options → Told → Result BegunReplay ReplayFault → Type 0
 Begins system options told (Ok (Begin.Done s)) = IsReplayed system options told s
 Begins system options told (Ok (Begin.Dead s)) =
     (s.setup ≡ record { system = system; options = options }) × IsUnsearched told s

@@ -3,7 +3,7 @@ ghost use Rattle.rn_model.specs.Good.{Good, IsInLimits};
 ghost use Rattle.rn_replay.specs.Parts.{IsDoneWith};
 ghost use Rattle.rn_replay.specs.Replays.{Begins, IsWhole};
 
-use crate::begun::Begun;
+use crate::begun::BegunReplay;
 use crate::ending::{EndTried, told_end, try_end};
 use crate::fault::ReplayFault;
 use crate::finishing::with_marks;
@@ -15,11 +15,16 @@ use std::alloc::Global;
 use std::sync::Arc;
 
 /// A replay that is done, where the marks that are told are those of the state.
-fn done_with(alloc: Global, state: SimState, number: u32, told: &Told) -> Result<Begun, ReplayFault>
+fn done_with(
+    alloc: Global,
+    state: SimState,
+    number: u32,
+    told: &Told,
+) -> Result<BegunReplay, ReplayFault>
     ensures { IsDoneWith state number told.now result }
 {
     let marked = with_marks(alloc, state, number, told)?;
-    Ok(Begun::Done(marked))
+    Ok(BegunReplay::Done(marked))
 }
 
 /// Replays what is told, up to the search for an enabled binding that an end without one needs.
@@ -36,7 +41,7 @@ pub fn begin_replay(
     system: Arc<System>,
     options: Options,
     told: &Told,
-) -> Result<Begun, ReplayFault>
+) -> Result<BegunReplay, ReplayFault>
     requires good { Good system.value }
     requires limits { IsInLimits options }
     requires whole { IsWhole told.now.entries }
@@ -48,7 +53,7 @@ pub fn begin_replay(
     let reason = told_end(entries);
     let tried = try_end(alloc, &mut state, &options, reason)?;
     match tried {
-        EndTried::Unsearched => Ok(Begun::Dead(state)),
+        EndTried::Unsearched => Ok(BegunReplay::Dead(state)),
         EndTried::Untrue => Err(ReplayFault::V4(number)),
         EndTried::Ended => done_with(alloc, state, number, told),
     }

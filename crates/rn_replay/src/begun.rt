@@ -3,7 +3,7 @@ use rn_fire::SimState;
 
 /// A replay before the search.
 #[derive(Drop)]
-pub enum Begun {
+pub enum BegunReplay {
     /// All that is told is true.
     Done(SimState),
 

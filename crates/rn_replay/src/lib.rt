@@ -13,7 +13,7 @@ mod redoing;
 mod searching;
 
 pub use beginning::begin_replay;
-pub use begun::Begun;
+pub use begun::BegunReplay;
 pub use fault::ReplayFault;
 pub use finishing::finish_replay;
 pub use laws::replay_laws;

@@ -5,7 +5,7 @@ ghost use Rattle.rn_model.specs.Enabling.{DeadAt};
 ghost use Rattle.rn_replay.specs.Replays.{IsWhole, Replays, IsUnsearched};
 
 use crate::beginning::begin_replay;
-use crate::begun::Begun;
+use crate::begun::BegunReplay;
 use crate::fault::ReplayFault;
 use crate::finishing::finish_replay;
 use rn_channel::Uplinks;
@@ -60,7 +60,7 @@ pub fn replay(
 {
     let begun = begin_replay(alloc, system, options, told)?;
     match begun {
-        Begun::Done(state) => Ok(state),
-        Begun::Dead(state) => finished(alloc, state, told, options.depth),
+        BegunReplay::Done(state) => Ok(state),
+        BegunReplay::Dead(state) => finished(alloc, state, told, options.depth),
     }
 }

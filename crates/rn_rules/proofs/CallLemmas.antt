@@ -1,4 +1,4 @@
--- What is told of arcs, calls, creations and actions.
+-- What is reported of arcs, calls, creations and actions.
 use Rattle.std.proofs.Common.{◌≡◌, ℕ, suc, ◌+◌, min, List, [], ◌∷◌, ◌++◌, length, map, drop}
 use Rattle.std.proofs.Common.{refl, sym, ap, ◌∙◌, Option, Some, None, ◌&&◌, not, arith}
 use Rattle.std.specs.Prelude.{flat_map}
@@ -9,7 +9,7 @@ use Rattle.rn_inscript.specs.declared.inscriptions.PName.{PName}
 use Rattle.rn_declared.specs.declared.fault.Rule.TheVariants as Rule
 use Rattle.rn_declared.specs.declared.fault.Fault.{Fault}
 use Rattle.rn_declared.specs.declared.pattern.Pattern.{Pattern}
-use Rattle.rn_rules.specs.declared.sight.Sight.{Sight}
+use Rattle.rn_rules.specs.declared.sight.SeenExpr.{SeenExpr}
 use Rattle.rn_declared.specs.Faults.{first_from, broken_if}
 use Rattle.rn_rules.specs.Expressions.{Where, Seen, seen_of, misfit}
 use Rattle.rn_rules.specs.Arcs.{inscribed_faults, asked_of, is_clear, is_variable}
@@ -78,7 +78,7 @@ call_told N known patterns name seen =
     ∙ sym (first_from-append (flat_map (λ e. e.faults) seen) (channel_call_faults patterns name seen) known)
 
 -- past the end of one of two lists there are no more
-pub misfits_past : {N : Type 0} → (sights : List (Sight N)) (patterns : List Pattern) (n : ℕ) →
+pub misfits_past : {N : Type 0} → (sights : List (SeenExpr N)) (patterns : List Pattern) (n : ℕ) →
     n ≡ min (length sights) (length patterns) → misfits_of (drop n sights) (drop n patterns) ≡ []
 misfits_past {N = N} [] patterns n e = let z : n ≡ 0 = omega arith in rw z refl
 misfits_past {N = N} (s ∷ ss) [] n e = let z : n ≡ 0 = omega arith in rw z refl

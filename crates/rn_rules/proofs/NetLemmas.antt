@@ -1,4 +1,4 @@
--- What is told of nets and systems, part after part.
+-- What is reported of nets and systems, part after part.
 use Rattle.std.proofs.Common.{◌≡◌, ℕ, Bool, not, List, [], ◌++◌, map, sym, ap, ◌∙◌, Option}
 use Rattle.std.specs.Prelude.{flat_map, slice_get, is_some, codes}
 use Rattle.std.specs.List.{list_any}
@@ -24,7 +24,7 @@ use Rattle.rn_rules.specs.Systems.{net_faults, system_faults, text_start}
 use Rattle.rn_rules.specs.Scopes.{faults_in_net}
 use Rattle.rn_declared.proofs.ToldLemmas.{first_from-append}
 
--- five parts, of which the second and third are told at once
+-- five parts, of which the second and third are reported at once
 pub told_of_five : (a b c d e : List Fault) (known : Option Fault) →
     first_from (first_from (first_from (first_from known a) (b ++ c)) d) e
     ≡ first_from known (a ++ b ++ c ++ d ++ e)
@@ -61,7 +61,7 @@ net_parts is_net channel vars places ts =
     ++ declared_faults most_transitions (map (λ t. t.name) ts)
     ++ flat_map (transition_faults (scope_parts is_net channel vars places)) ts
 
--- what is told of a net, where names find what is declared in it
+-- what is reported of a net, where names find what is declared in it
 pub net_told : (is_net : List ℕ → Bool) (channel : List ℕ → ℕ → Option (List Pattern)) (net : PNet)
     (vars : List PVar) (places : List PPlace) (ts : List PTransition)
     (var_found place_found : List ℕ → Option Pattern) (capped : List ℕ → Bool) (k0 k1 k2 k3 k4 : Option Fault) →
@@ -112,7 +112,7 @@ net_told is_net channel net vars places ts var_found place_found capped k0 k1 k2
     ∙ ap (λ ys. first_from k0 (net_parts is_net channel net.vars ys ts)) own_places
     ∙ ap (λ zs. first_from k0 (net_parts is_net channel net.vars net.places zs)) own_ts
 
--- what is told of nets, where names find the nets and channels of a system
+-- what is reported of nets, where names find the nets and channels of a system
 pub nets_told : (plain : Plain) (ns : List PNet) (found : List ℕ → Option ℕ)
     (channel : List ℕ → ℕ → Option (List Pattern)) (known : Option Fault) →
     ((name : List ℕ) → found name ≡ number_among (map (λ n. n.text) (map (λ net. net.name) plain.nets)) name) →
@@ -135,7 +135,7 @@ nets_told plain ns found channel known nets_are channels_are =
     ap (λ f. first_from known (flat_map (faults_in_net f channel) ns)) nets
     ∙ ap (λ f. first_from known (flat_map (faults_in_net is_declared f) ns)) channels
 
--- what is told of a system, part after part
+-- what is reported of a system, part after part
 pub system_told : (plain : Plain) (cs : List PChannel) (ns : List PNet) (found : List ℕ → Option ℕ)
     (channel : List ℕ → ℕ → Option (List Pattern)) (main : Bool) (k0 k1 k2 k3 k4 : Option Fault) →
     cs ≡ plain.channels → ns ≡ plain.nets →

@@ -1,4 +1,4 @@
--- What the code keeps of expressions and tells of them, beside what the rules see.
+-- What the code keeps of expressions and reports of them, beside what the rules see.
 use Rattle.std.proofs.Common.{◌≡◌, ℕ, ◌+◌, ◌<◌, Bool, true, false, ◌&&◌, not, List, [], ◌∷◌}
 use Rattle.std.proofs.Common.{◌++◌, length, map, take, get_or, refl, sym, ap, ◌∙◌, Option}
 use Rattle.std.proofs.lemmas.List.{take_more, map-append, length-map}
@@ -126,7 +126,7 @@ tuple_told N known spot seen =
     (map-map (λ s. s.spot) (sight_of {N = N}) seen)
     ∙ sym (first_from-append (flat_map (λ e. e.faults) seen) (past_limit most_parts (map (λ e. e.spot) seen)) known)
 
--- what is told of the expressions so far, and of one more
+-- what is reported of the expressions so far, and of one more
 pub all_told : (es : List PExpr) (place : Where) (i : ℕ) (e : PExpr) (known : Option Fault) →
     i < length es → e ≡ get_or es i e →
     first_from

@@ -19,7 +19,7 @@ use Rattle.rn_rules.specs.Transitions.{Scope, Progress, is_uplink, inscription_f
 use Rattle.rn_declared.proofs.NameLemmas.{push}
 use Rattle.rn_declared.proofs.ToldLemmas.{first_from-append}
 
--- what is told of the next inscription, and of those that are left
+-- what is reported of the next inscription, and of those that are left
 pub inscriptions_told_more : (s : Scope) (p : Progress) (is : List PInscription) (i : ℕ) (x : PInscription)
     (sets : ℕ) (up : Bool) (known now : Option Fault) → i < length is → x ≡ get_or is i x →
     sets ≡ length (set_name x.form) → up ≡ is_uplink x.form →

@@ -46,7 +46,7 @@ inscribed_faults kind place e at =
     ++ broken_if (is_clear kind && not (is_variable e)) Rule.Inscription (seen_of e at).spot
 
 -- What is broken in an arc. Its place is declared, and it has an inscription: only flexible and
--- clear arcs may have none in a text, and then this is told at the place's name.
+-- clear arcs may have none in a text, and then this is reported at the place's name.
 abbrev pub arc_faults : ArcKind → Option Pattern → PName → Option PExpr → Where → List Fault
 arc_faults kind place name None at =
     broken_if (is_none place) Rule.Known name.spot ++ broken Rule.Inscription name.spot ∷ []

@@ -10,7 +10,7 @@ use Rattle.rn_declared.specs.declared.fault.Fault.{Fault}
 use Rattle.rn_declared.specs.Faults.{broken}
 use Rattle.rn_rules.specs.Expressions.{Where, Seen, seen_of, apart, operands_faults}
 
--- two sides that must share a kind, told at the left one
+-- two sides that must share a kind, reported at the left one
 unfoldable pub sides_faults : Seen → Seen → List Fault
 sides_faults a b = a.faults ++ b.faults ++ apart a b a.spot
 

@@ -30,8 +30,8 @@ abbrev pub is_whole : List Fault → Bool
 is_whole [] = true
 is_whole (fault ∷ faults) = false
 
--- Two expressions that must share a kind, and the spot that is told where they don't. An expression
--- in which something is broken has no kind, and is compared with nothing.
+-- Two expressions that must share a kind, and the spot that is reported where they don't. An
+-- expression in which something is broken has no kind, and is compared with nothing.
 abbrev pub apart : Seen → Seen → Spot → List Fault
 apart a b spot =
     broken_if (is_whole a.faults && is_whole b.faults && not (share a.pattern b.pattern))

@@ -9,14 +9,14 @@ use Rattle.rn_declared.specs.Patterns.{pattern_of}
 use Rattle.rn_declared.specs.Names.{number_among, declared_faults}
 use Rattle.rn_declared.specs.Declarations.{kind_faults, place_faults, has_capacity}
 use Rattle.rn_declared.specs.declared.pattern.Pattern.{Pattern}
-use Rattle.rn_rules.specs.declared.scope.Known.{Known}
+use Rattle.rn_rules.specs.declared.scope.KnownNames.{KnownNames}
 use Rattle.rn_rules.specs.declared.scope.Stand.{Stand}
 use Rattle.rn_declared.specs.Tables.{found_in, pattern_in, capped_in, channel_in}
 use Rattle.rn_rules.specs.Numbers.{declared_of, places_of, channels_of}
 use Rattle.rn_rules.specs.Transitions.{Scope, Progress, transition_faults}
 
 -- what is known by name
-abbrev pub scope_in : {N : Type 0} → Known N → Scope
+abbrev pub scope_in : {N : Type 0} → KnownNames N → Scope
 scope_in known = record {
   pattern_of_var = pattern_in (declared_of known.vars.now);
   pattern_of_place = pattern_in (places_of known.places.now).declared;

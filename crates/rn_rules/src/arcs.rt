@@ -1,4 +1,4 @@
-//! Arcs: what is broken in them is told.
+//! Arcs: what is broken in them is reported.
 ghost use Rattle.std.specs.Prelude.{◌≡◌, OnOk, IfOk, option_copied};
 ghost use Rattle.rn_declared.specs.Faults.{first_from};
 ghost use Rattle.rn_rules.specs.Arcs.{arc_faults, inscribed_faults, asked_of, is_clear, is_variable};
@@ -6,7 +6,7 @@ ghost use Rattle.rn_rules.specs.Sights.{where_of, misfit_if};
 ghost use Rattle.std.specs.Option.{option_map};
 
 use crate::seeing::{fits, see};
-use crate::sight::{Here, Sight};
+use crate::sight::{Here, SeenExpr};
 use rn_declared::numbered::copy;
 use rn_declared::{First, Numbered, Numbers, Rule};
 use rn_inscript::{PExpr, PForm, PName};
@@ -44,12 +44,12 @@ fn is_clear(kind: ArcKind) -> bool
     matches!(kind, ArcKind::Clear)
 }
 
-/// Tells an inscription that hasn't the kind that is asked for, where the place is known.
+/// Reports an inscription that hasn't the kind that is asked for, where the place is known.
 fn tell_misfit<N: Numbers>(
     alloc: Global,
     kind: ArcKind,
     place: Option<&Numbered<N>>,
-    sight: &Sight<N>,
+    sight: &SeenExpr<N>,
     first: &mut First,
 ) -> Result<(), NoMemory>
     ensures { OnOk result (first.new.fault ≡ first_from first.old.fault
@@ -65,7 +65,7 @@ fn tell_misfit<N: Numbers>(
     }
 }
 
-/// Tells what is broken in the inscription of an arc.
+/// Reports what is broken in the inscription of an arc.
 fn see_inscribed<N: Numbers>(
     alloc: Global,
     kind: ArcKind,
@@ -85,7 +85,7 @@ fn see_inscribed<N: Numbers>(
     Ok(())
 }
 
-/// Tells what is broken in an arc.
+/// Reports what is broken in an arc.
 pub(crate) fn see_arc<N: Numbers>(
     alloc: Global,
     kind: ArcKind,

@@ -1,4 +1,4 @@
-//! Calls, creations and actions: what is broken in them is told.
+//! Calls, creations and actions: what is broken in them is reported.
 ghost use Rattle.std.specs.Prelude.{◌≡◌, OnOk, map, option_copied};
 ghost use Rattle.rn_declared.specs.Faults.{first_from};
 ghost use Rattle.rn_rules.specs.Expressions.{seen_of};
@@ -11,7 +11,7 @@ ghost use Rattle.rn_rules.specs.Numbers.{declared_of};
 ghost use Rattle.rn_declared.specs.declared.pattern.Pattern.TheVariants as Form;
 
 use crate::seeing::{fits, see, see_all, see_variable};
-use crate::sight::{Here, Sight};
+use crate::sight::{Here, SeenExpr};
 use rn_declared::numbered::share;
 use rn_declared::{First, Numbered, Numbers, Rule};
 use rn_inscript::{PExpr, PName};
@@ -19,8 +19,8 @@ use rn_notation::Spot;
 use rn_value::NoMemory;
 use std::alloc::Global;
 
-/// Tells each argument that hasn't the kind of the pattern at its index.
-fn tell_misfits<N: Numbers>(sights: &[Sight<N>], patterns: &[Numbered<N>], first: &mut First)
+/// Reports each argument that hasn't the kind of the pattern at its index.
+fn tell_misfits<N: Numbers>(sights: &[SeenExpr<N>], patterns: &[Numbered<N>], first: &mut First)
     ensures { first.new.fault ≡ first_from first.old.fault (misfits_of sights.now patterns.now) }
 {
     for i in 0..sights.len().min(patterns.len()) {
@@ -28,11 +28,11 @@ fn tell_misfits<N: Numbers>(sights: &[Sight<N>], patterns: &[Numbered<N>], first
     }
 }
 
-/// Tells a channel that isn't there, or arguments that it doesn't take.
+/// Reports a channel that isn't there, or arguments that it doesn't take.
 fn tell_call<N: Numbers>(
     patterns: Option<&[Numbered<N>]>,
     spot: Spot,
-    sights: &[Sight<N>],
+    sights: &[SeenExpr<N>],
     first: &mut First,
 )
     ensures { first.new.fault ≡ first_from first.old.fault
@@ -44,7 +44,8 @@ fn tell_call<N: Numbers>(
     }
 }
 
-/// Tells what is broken in a call of a channel, whose arguments have these patterns if it is there.
+/// Reports what is broken in a call of a channel, whose arguments have these patterns if it is
+/// there.
 pub(crate) fn see_call<N: Numbers>(
     alloc: Global,
     patterns: Option<&[Numbered<N>]>,
@@ -62,15 +63,15 @@ pub(crate) fn see_call<N: Numbers>(
     Ok(())
 }
 
-/// Tells an expression that is no net.
-fn tell_no_net<N: Numbers>(sight: &Sight<N>, first: &mut First)
+/// Reports an expression that is no net.
+fn tell_no_net<N: Numbers>(sight: &SeenExpr<N>, first: &mut First)
     ensures { first.new.fault ≡ first_from first.old.fault (misfit_of sight.now Form.Net) }
 {
     let asked = Numbered::net();
     fits(sight, &asked, first);
 }
 
-/// Tells what is broken in the target of a downlink.
+/// Reports what is broken in the target of a downlink.
 pub(crate) fn see_target<N: Numbers>(
     alloc: Global,
     target: &PExpr,
@@ -95,7 +96,7 @@ fn is_no_net<N: Numbers>(pattern: Option<&Numbered<N>>) -> bool
     }
 }
 
-/// Tells what is broken in a creation, where its net is declared or not.
+/// Reports what is broken in a creation, where its net is declared or not.
 pub(crate) fn see_creation<N: Numbers>(
     var: &PName,
     net: &PName,
@@ -116,7 +117,7 @@ pub(crate) fn see_creation<N: Numbers>(
     Ok(())
 }
 
-/// Tells what is broken on the left of an action, which is that of this number.
+/// Reports what is broken on the left of an action, which is that of this number.
 pub(crate) fn see_left<N: Numbers>(var: &PName, past: usize, here: &Here<N>, first: &mut First)
     ensures { first.new.fault ≡ first_from first.old.fault
         (set_faults (pattern_in (declared_of here.now.vars.now) var.now.text)
@@ -134,8 +135,8 @@ pub(crate) fn see_left<N: Numbers>(var: &PName, past: usize, here: &Here<N>, fir
     first.tell_if(again, Rule::Actions, var.spot);
 }
 
-/// Tells an expression that hasn't the kind of a pattern, where there is one.
-fn tell_misfit_if<N: Numbers>(pattern: Option<&Numbered<N>>, sight: &Sight<N>, first: &mut First)
+/// Reports an expression that hasn't the kind of a pattern, where there is one.
+fn tell_misfit_if<N: Numbers>(pattern: Option<&Numbered<N>>, sight: &SeenExpr<N>, first: &mut First)
     ensures { first.new.fault ≡ first_from first.old.fault
         (misfit_if sight.now (option_copied pattern.entry)) }
 {
@@ -147,7 +148,7 @@ fn tell_misfit_if<N: Numbers>(pattern: Option<&Numbered<N>>, sight: &Sight<N>, f
     }
 }
 
-/// Tells what is broken in the value of an action.
+/// Reports what is broken in the value of an action.
 pub(crate) fn see_value<N: Numbers>(
     alloc: Global,
     pattern: Option<&Numbered<N>>,

@@ -1,4 +1,4 @@
-//! Conditions of guards: what is broken in them is told.
+//! Conditions of guards: what is broken in them is reported.
 ghost use Rattle.std.specs.Prelude.{◌≡◌, OnOk};
 ghost use Rattle.rn_declared.specs.Faults.{first_from, broken_if};
 ghost use Rattle.rn_declared.specs.declared.fault.Rule.TheVariants as Rules;
@@ -7,7 +7,7 @@ ghost use Rattle.rn_rules.specs.Conditions.{condition_faults, simple_seen, sides
 ghost use Rattle.rn_rules.specs.Sights.{where_of, are_apart};
 
 use crate::seeing::{see, see_operand};
-use crate::sight::{Here, Sight};
+use crate::sight::{Here, SeenExpr};
 use rn_declared::numbered::share;
 use rn_declared::{First, Numbers, Rule};
 use rn_inscript::{PCond, PExpr, PSimple};
@@ -32,8 +32,8 @@ pub(crate) fn see_sides<N: Numbers>(
     Ok(())
 }
 
-/// Tells two sides that are whole and share no kind.
-fn tell_apart<N: Numbers>(a: &Sight<N>, b: &Sight<N>, first: &mut First)
+/// Reports two sides that are whole and share no kind.
+fn tell_apart<N: Numbers>(a: &SeenExpr<N>, b: &SeenExpr<N>, first: &mut First)
     ensures { first.new.fault ≡ first_from first.old.fault
         (broken_if (are_apart a.now b.now) Rules.Kinds a.now.spot) }
 {
@@ -112,7 +112,7 @@ fn see_simple<N: Numbers>(
     }
 }
 
-/// Tells what is broken in a condition.
+/// Reports what is broken in a condition.
 #[cycle(condition)]
 pub(crate) fn see_condition<N: Numbers>(
     alloc: Global,

@@ -1,4 +1,4 @@
-//! Inscriptions: what is broken in them is told.
+//! Inscriptions: what is broken in them is reported.
 ghost use Rattle.std.specs.Prelude.{◌≡◌, OnOk, if◌then◌else◌};
 ghost use Rattle.rn_model.specs.Systems.{is_output};
 ghost use Rattle.rn_declared.specs.Faults.{first_from};
@@ -11,7 +11,7 @@ use crate::arcs::see_arc;
 use crate::calls::{see_call, see_creation, see_left, see_target, see_value};
 use crate::conditions::{see_condition, see_sides};
 use crate::counted::see_counted;
-use crate::scope::{Known, Stand};
+use crate::scope::{KnownNames, Stand};
 use crate::seeing::see;
 use crate::sight::Here;
 use rn_declared::{First, Numbers, Rule};
@@ -21,7 +21,7 @@ use rn_notation::Spot;
 use rn_value::NoMemory;
 use std::alloc::Global;
 
-fn in_action<'a, N: Numbers>(known: &Known<'a, N>, stand: &Stand<'a>) -> Here<'a, N>
+fn in_action<'a, N: Numbers>(known: &KnownNames<'a, N>, stand: &Stand<'a>) -> Here<'a, N>
     ensures { where_of result ≡ in_action (scope_in known.now) (progress_of stand.now) }
 {
     Here {
@@ -32,7 +32,7 @@ fn in_action<'a, N: Numbers>(known: &Known<'a, N>, stand: &Stand<'a>) -> Here<'a
     }
 }
 
-fn in_output<'a, N: Numbers>(known: &Known<'a, N>, stand: &Stand<'a>) -> Here<'a, N>
+fn in_output<'a, N: Numbers>(known: &KnownNames<'a, N>, stand: &Stand<'a>) -> Here<'a, N>
     ensures { where_of result ≡ in_output (scope_in known.now) (progress_of stand.now) }
 {
     Here {
@@ -43,7 +43,7 @@ fn in_output<'a, N: Numbers>(known: &Known<'a, N>, stand: &Stand<'a>) -> Here<'a
     }
 }
 
-fn elsewhere<'a, N: Numbers>(known: &Known<'a, N>, stand: &Stand<'a>) -> Here<'a, N>
+fn elsewhere<'a, N: Numbers>(known: &KnownNames<'a, N>, stand: &Stand<'a>) -> Here<'a, N>
     ensures { where_of result ≡ elsewhere (scope_in known.now) (progress_of stand.now) }
 {
     Here {
@@ -54,7 +54,11 @@ fn elsewhere<'a, N: Numbers>(known: &Known<'a, N>, stand: &Stand<'a>) -> Here<'a
     }
 }
 
-fn of_arc<'a, N: Numbers>(kind: ArcKind, known: &Known<'a, N>, stand: &Stand<'a>) -> Here<'a, N>
+fn of_arc<'a, N: Numbers>(
+    kind: ArcKind,
+    known: &KnownNames<'a, N>,
+    stand: &Stand<'a>,
+) -> Here<'a, N>
     ensures { where_of result ≡ (if is_output kind
         then in_output (scope_in known.now) (progress_of stand.now)
         else elsewhere (scope_in known.now) (progress_of stand.now)) }
@@ -66,12 +70,12 @@ fn of_arc<'a, N: Numbers>(kind: ArcKind, known: &Known<'a, N>, stand: &Stand<'a>
     }
 }
 
-/// Tells what is broken in an action that sets a variable.
+/// Reports what is broken in an action that sets a variable.
 fn see_set<N: Numbers>(
     alloc: Global,
     var: &PName,
     value: &PExpr,
-    known: &Known<N>,
+    known: &KnownNames<N>,
     stand: &Stand,
     first: &mut First,
 ) -> Result<(), NoMemory>
@@ -89,12 +93,12 @@ fn see_set<N: Numbers>(
     Ok(())
 }
 
-/// Tells what is broken in a call of a channel.
+/// Reports what is broken in a call of a channel.
 fn see_channel<N: Numbers>(
     alloc: Global,
     channel: &PName,
     args: &PExprs,
-    known: &Known<N>,
+    known: &KnownNames<N>,
     stand: &Stand,
     first: &mut First,
 ) -> Result<(), NoMemory>
@@ -107,13 +111,13 @@ fn see_channel<N: Numbers>(
     Ok(())
 }
 
-/// Tells what is broken in an uplink.
+/// Reports what is broken in an uplink.
 fn see_uplink<N: Numbers>(
     alloc: Global,
     spot: Spot,
     channel: &PName,
     args: &PExprs,
-    known: &Known<N>,
+    known: &KnownNames<N>,
     stand: &Stand,
     first: &mut First,
 ) -> Result<(), NoMemory>
@@ -125,13 +129,13 @@ fn see_uplink<N: Numbers>(
     Ok(())
 }
 
-/// Tells what is broken in a downlink.
+/// Reports what is broken in a downlink.
 fn see_downlink<N: Numbers>(
     alloc: Global,
     target: &PExpr,
     channel: &PName,
     args: &PExprs,
-    known: &Known<N>,
+    known: &KnownNames<N>,
     stand: &Stand,
     first: &mut First,
 ) -> Result<(), NoMemory>
@@ -144,11 +148,11 @@ fn see_downlink<N: Numbers>(
     Ok(())
 }
 
-/// Tells what is broken in an inscription.
+/// Reports what is broken in an inscription.
 pub(crate) fn see_inscription<N: Numbers>(
     alloc: Global,
     i: &PInscription,
-    known: &Known<N>,
+    known: &KnownNames<N>,
     stand: &Stand,
     first: &mut First,
 ) -> Result<(), NoMemory>

@@ -1,4 +1,4 @@
-//! Nets and systems: what is broken in them is told.
+//! Nets and systems: what is broken in them is reported.
 ghost use Rattle.std.specs.Prelude.{◌≡◌, OnOk, flat_map, is_some, codes};
 ghost use Rattle.std.specs.List.{list_any};
 ghost use Rattle.rn_declared.specs.Faults.{first_from};
@@ -10,11 +10,11 @@ ghost use Rattle.rn_rules.specs.Scopes.{scope_in, faults_in_net};
 ghost use Rattle.rn_declared.specs.Tables.{channel_in};
 ghost use Rattle.rn_rules.specs.Numbers.{channels_of};
 
-use crate::scope::{ChannelNames, Known, channel_names_of, names_of, place_names_of};
+use crate::scope::{ChannelNames, KnownNames, channel_names_of, names_of, place_names_of};
 use crate::transitions::see_transition;
 use rn_declared::{
-    Channels, First, Kinds, Numbers, Rule, Table, declare_all, declare_channels, declare_places,
-    declare_vars, kinds_of,
+    DeclaredChannels, First, KindTable, NameTable, Numbers, Rule, declare_all, declare_channels,
+    declare_places, declare_vars, kinds_of,
 };
 use rn_model::limits::{MOST_NETS, MOST_TRANSITIONS};
 use rn_net::{PNet, PTransition, Plain};
@@ -23,11 +23,11 @@ use rn_value::NoMemory;
 use std::alloc::Global;
 use std::marker::Brand;
 
-/// Tells what is broken in transitions.
+/// Reports what is broken in transitions.
 fn see_transitions<N: Numbers>(
     alloc: Global,
     transitions: &[PTransition],
-    known: &Known<N>,
+    known: &KnownNames<N>,
     first: &mut First,
 ) -> Result<(), NoMemory>
     ensures { OnOk result (first.new.fault ≡ first_from first.old.fault
@@ -39,13 +39,13 @@ fn see_transitions<N: Numbers>(
     Ok(())
 }
 
-/// Tells what is broken in a net of a system with these nets and channels.
+/// Reports what is broken in a net of a system with these nets and channels.
 fn see_net<N: Numbers>(
     alloc: Global,
     net: &PNet,
-    nets: &Table,
+    nets: &NameTable,
     channels: &ChannelNames<N>,
-    kinds: &Kinds,
+    kinds: &KindTable,
     first: &mut First,
 ) -> Result<(), NoMemory>
     requires { kinds.now.patterns ≡ N.patterns }
@@ -58,7 +58,7 @@ fn see_net<N: Numbers>(
     let places = place_names_of(alloc, declared, kinds)?;
     let transitions = net.transitions.as_slice();
     let _names = declare_all(alloc, transitions, MOST_TRANSITIONS, first)?;
-    let known = Known {
+    let known = KnownNames {
         vars: &vars,
         places: &places,
         nets,
@@ -68,13 +68,13 @@ fn see_net<N: Numbers>(
     Ok(())
 }
 
-/// Tells what is broken in nets of a system with these nets and channels.
+/// Reports what is broken in nets of a system with these nets and channels.
 fn see_nets<N: Numbers>(
     alloc: Global,
     nets: &[PNet],
-    table: &Table,
+    table: &NameTable,
     channels: &ChannelNames<N>,
-    kinds: &Kinds,
+    kinds: &KindTable,
     first: &mut First,
 ) -> Result<(), NoMemory>
     requires { kinds.now.patterns ≡ N.patterns }
@@ -100,13 +100,14 @@ fn has_main(nets: &[PNet]) -> bool
     false
 }
 
-/// Tells what is broken in nets of a system with these nets and channels, whose kinds have numbers.
+/// Reports what is broken in nets of a system with these nets and channels, whose kinds have
+/// numbers.
 fn see_numbered<N: Numbers>(
     alloc: Global,
     nets: &[PNet],
-    table: &Table,
-    channels: Channels,
-    kinds: &Kinds,
+    table: &NameTable,
+    channels: DeclaredChannels,
+    kinds: &KindTable,
     first: &mut First,
 ) -> Result<(), NoMemory>
     requires { kinds.now.patterns ≡ N.patterns }
@@ -119,7 +120,7 @@ fn see_numbered<N: Numbers>(
     Ok(())
 }
 
-/// Tells what is broken in a system.
+/// Reports what is broken in a system.
 pub(crate) fn see_system(alloc: Global, plain: &Plain, first: &mut First) -> Result<(), NoMemory>
     ensures { OnOk result (first.new.fault ≡ first_from first.old.fault (system_faults plain.now)) }
 {

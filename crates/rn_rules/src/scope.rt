@@ -4,7 +4,8 @@ ghost use Rattle.rn_declared.specs.Tables.{pattern_in, capped_in, channel_in};
 ghost use Rattle.rn_rules.specs.Numbers.{declared_of, places_of, channels_of};
 
 use rn_declared::{
-    Channels, Declared, DeclaredPlaces, Kinds, Numbered, Numbers, Patterns, Table, number_all,
+    Declared, DeclaredChannels, DeclaredPlaces, KindTable, NameTable, Numbered, Numbers, Patterns,
+    number_all,
 };
 use rn_items::Items;
 use rn_value::{NoMemory, Str};
@@ -13,12 +14,12 @@ use std::collections::BTreeMap;
 
 /// What was declared with a kind by name, with numbers at the patterns.
 #[derive(Drop)]
-pub(crate) struct Names<N: Numbers> {
-    pub(crate) table: Table,
+pub(crate) struct KindedNames<N: Numbers> {
+    pub(crate) table: NameTable,
     pub(crate) patterns: Items<Numbered<N>>,
 }
 
-impl<N: Numbers> Names<N> {
+impl<N: Numbers> KindedNames<N> {
     /// The pattern of the kind with which a name was declared first.
     pub(crate) fn pattern(&self, name: &Str) -> Option<&Numbered<N>>
         ensures { option_copied result ≡ pattern_in (declared_of self.now) name.now }
@@ -34,20 +35,20 @@ impl<N: Numbers> Names<N> {
 pub(crate) fn names_of<N: Numbers>(
     alloc: Global,
     declared: Declared,
-    kinds: &Kinds,
-) -> Result<Names<N>, NoMemory>
+    kinds: &KindTable,
+) -> Result<KindedNames<N>, NoMemory>
     requires { kinds.now.patterns ≡ N.patterns }
     ensures { IfOk result (λ names. declared_of names ≡ declared) }
 {
     let Declared { table, patterns } = declared;
     let patterns = number_all(alloc, patterns.as_slice(), kinds)?;
-    Ok(Names { table, patterns })
+    Ok(KindedNames { table, patterns })
 }
 
 /// What was declared as a place by name, and whether each has a capacity.
 #[derive(Drop)]
 pub(crate) struct PlaceNames<N: Numbers> {
-    pub(crate) names: Names<N>,
+    pub(crate) names: KindedNames<N>,
     pub(crate) capped: Items<bool>,
 }
 
@@ -74,7 +75,7 @@ impl<N: Numbers> PlaceNames<N> {
 pub(crate) fn place_names_of<N: Numbers>(
     alloc: Global,
     places: DeclaredPlaces,
-    kinds: &Kinds,
+    kinds: &KindTable,
 ) -> Result<PlaceNames<N>, NoMemory>
     requires { kinds.now.patterns ≡ N.patterns }
     ensures { IfOk result (λ names. places_of names ≡ places) }
@@ -87,7 +88,7 @@ pub(crate) fn place_names_of<N: Numbers>(
 /// The channels, by their number of arguments and their name, with numbers at the patterns.
 #[derive(Drop)]
 pub(crate) struct ChannelNames<N: Numbers> {
-    pub(crate) tables: BTreeMap<usize, Table>,
+    pub(crate) tables: BTreeMap<usize, NameTable>,
     pub(crate) patterns: Items<Items<Numbered<N>>>,
 }
 
@@ -112,7 +113,7 @@ impl<N: Numbers> ChannelNames<N> {
 fn number_lists<N: Numbers>(
     alloc: Global,
     lists: &[Patterns],
-    kinds: &Kinds,
+    kinds: &KindTable,
 ) -> Result<Items<Items<Numbered<N>>>, NoMemory>
     requires { kinds.now.patterns ≡ N.patterns }
     ensures { IfOk result (λ all. all ≡ lists.now) }
@@ -127,23 +128,23 @@ fn number_lists<N: Numbers>(
 /// The same channels, with numbers at their patterns.
 pub(crate) fn channel_names_of<N: Numbers>(
     alloc: Global,
-    channels: Channels,
-    kinds: &Kinds,
+    channels: DeclaredChannels,
+    kinds: &KindTable,
 ) -> Result<ChannelNames<N>, NoMemory>
     requires { kinds.now.patterns ≡ N.patterns }
     ensures { IfOk result (λ names. channels_of names ≡ channels) }
 {
-    let Channels { tables, patterns } = channels;
+    let DeclaredChannels { tables, patterns } = channels;
     let patterns = number_lists(alloc, patterns.as_slice(), kinds)?;
     Ok(ChannelNames { tables, patterns })
 }
 
 /// What is known by name in a net.
 #[derive(Drop)]
-pub(crate) struct Known<'a, N: Numbers> {
-    pub(crate) vars: &'a Names<N>,
+pub(crate) struct KnownNames<'a, N: Numbers> {
+    pub(crate) vars: &'a KindedNames<N>,
     pub(crate) places: &'a PlaceNames<N>,
-    pub(crate) nets: &'a Table,
+    pub(crate) nets: &'a NameTable,
     pub(crate) channels: &'a ChannelNames<N>,
 }
 
@@ -151,7 +152,7 @@ pub(crate) struct Known<'a, N: Numbers> {
 /// before, how many in the transition, and whether an uplink stands before.
 #[derive(Drop)]
 pub(crate) struct Stand<'a> {
-    pub(crate) setters: &'a Table,
+    pub(crate) setters: &'a NameTable,
     pub(crate) past: usize,
     pub(crate) sets: usize,
     pub(crate) called: bool,

@@ -1,4 +1,4 @@
-//! Expressions: what is broken in them is told, and which kinds they have.
+//! Expressions: what is broken in them is reported, and which kinds they have.
 ghost use Rattle.std.specs.Prelude.{◌≡◌, ◌&&◌, not, map, flat_map, IfOk, OnOk, unwrap_or, is_some};
 ghost use Rattle.std.specs.List.{list_all};
 ghost use Rattle.rn_declared.specs.Faults.{first_from, broken_if, past_limit};
@@ -9,7 +9,7 @@ ghost use Rattle.rn_declared.specs.declared.pattern.Pattern.TheVariants as Form;
 ghost use Rattle.rn_model.specs.Limits.{most_parts};
 ghost use Rattle.rn_declared.specs.declared.fault.Rule.TheVariants as Rules;
 
-use crate::sight::{Here, Sight};
+use crate::sight::{Here, SeenExpr};
 use rn_declared::numbered::{both_of, copy, share};
 use rn_declared::{First, Numbered, Numbers, Rule};
 use rn_inscript::{PExpr, PForm};
@@ -20,8 +20,9 @@ use rn_shared::Shared;
 use rn_value::{NoMemory, Str};
 use std::alloc::Global;
 
-/// Tells an expression that hasn't the kind that is asked for, and says whether it is whole and has.
-pub(crate) fn fits<N: Numbers>(sight: &Sight<N>, asked: &Numbered<N>, first: &mut First) -> bool
+/// Reports an expression that hasn't the kind that is asked for, and says whether it is whole and
+/// has.
+pub(crate) fn fits<N: Numbers>(sight: &SeenExpr<N>, asked: &Numbered<N>, first: &mut First) -> bool
     ensures fits { result ≡ fits_pattern sight.now asked.now }
     ensures told { first.new.fault ≡ first_from first.old.fault
         (broken_if (sight.now.whole && not (share asked.now sight.now.pattern)) Rules.Kinds sight.now.spot) }
@@ -31,8 +32,8 @@ pub(crate) fn fits<N: Numbers>(sight: &Sight<N>, asked: &Numbered<N>, first: &mu
     sight.whole && same
 }
 
-/// Tells an expression that is no whole number, and says whether it is whole and is one.
-fn fits_int<N: Numbers>(sight: &Sight<N>, first: &mut First) -> bool
+/// Reports an expression that is no whole number, and says whether it is whole and is one.
+fn fits_int<N: Numbers>(sight: &SeenExpr<N>, first: &mut First) -> bool
     ensures fits { result ≡ fits_pattern sight.now Form.Int }
     ensures told { first.new.fault ≡ first_from first.old.fault
         (broken_if (sight.now.whole && not (share Form.Int sight.now.pattern)) Rules.Kinds sight.now.spot) }
@@ -41,13 +42,13 @@ fn fits_int<N: Numbers>(sight: &Sight<N>, first: &mut First) -> bool
     fits(sight, &asked, first)
 }
 
-/// Tells what is wrong with a variable, and gives its kind.
+/// Reports what is wrong with a variable, and gives its kind.
 pub(crate) fn see_variable<N: Numbers>(
     name: &Str,
     spot: Spot,
     here: &Here<N>,
     first: &mut First,
-) -> Result<Sight<N>, NoMemory>
+) -> Result<SeenExpr<N>, NoMemory>
     ensures sight { IfOk result (λ s. s ≡ variable_sight (where_of here.now) name.now spot) }
     ensures told { OnOk result (first.new.fault ≡ first_from first.old.fault
         (variable_faults (where_of here.now) name.now spot)) }
@@ -63,20 +64,21 @@ pub(crate) fn see_variable<N: Numbers>(
     let known = pattern.is_some();
     first.tell_if(!known, Rule::Known, spot);
     first.tell_if(!may_stand, Rule::Actions, spot);
-    Ok(Sight {
+    Ok(SeenExpr {
         spot,
         whole: known && may_stand,
         pattern: pattern.unwrap_or(Numbered::any()),
     })
 }
 
-/// The elements of a list so far with one more, which is told where it shares no kind with them.
+/// The elements of a list so far with one more, which is reported where it shares no kind with
+/// them.
 fn with_element<N: Numbers>(
     alloc: Global,
-    before: Sight<N>,
-    e: Sight<N>,
+    before: SeenExpr<N>,
+    e: SeenExpr<N>,
     first: &mut First,
-) -> Result<Sight<N>, NoMemory>
+) -> Result<SeenExpr<N>, NoMemory>
     ensures sight { IfOk result (λ s. s ≡ joined before e) }
     ensures told { OnOk result (first.new.fault ≡ first_from first.old.fault
         (broken_if (are_apart before e) Rules.Kinds e.spot)) }
@@ -84,7 +86,7 @@ fn with_element<N: Numbers>(
     let both = before.whole && e.whole;
     let same = share(&before.pattern, &e.pattern);
     first.tell_if(both && !same, Rule::Kinds, e.spot);
-    Ok(Sight {
+    Ok(SeenExpr {
         spot: before.spot,
         whole: both && same,
         pattern: both_of(alloc, &before.pattern, &e.pattern)?,
@@ -92,17 +94,17 @@ fn with_element<N: Numbers>(
 }
 
 /// The list of these elements.
-fn as_list<N: Numbers>(alloc: Global, elements: Sight<N>) -> Result<Sight<N>, NoMemory>
+fn as_list<N: Numbers>(alloc: Global, elements: SeenExpr<N>) -> Result<SeenExpr<N>, NoMemory>
     ensures { IfOk result (λ s. s ≡ listed_sight elements) }
 {
-    Ok(Sight {
+    Ok(SeenExpr {
         spot: elements.spot,
         whole: elements.whole,
         pattern: Numbered::list(Shared::new(alloc, elements.pattern)?),
     })
 }
 
-fn are_whole<N: Numbers>(sights: &[Sight<N>]) -> bool
+fn are_whole<N: Numbers>(sights: &[SeenExpr<N>]) -> bool
     ensures { result ≡ list_all (λ s. s.whole) sights.now }
 {
     for sight in sights {
@@ -115,25 +117,25 @@ fn are_whole<N: Numbers>(sights: &[Sight<N>]) -> bool
 
 fn patterns_seen<N: Numbers>(
     alloc: Global,
-    sights: Vec<Sight<N>>,
+    sights: Vec<SeenExpr<N>>,
 ) -> Result<Shared<Items<Numbered<N>>>, NoMemory>
     ensures { IfOk result (λ ps. ps ≡ map (λ s. s.pattern) sights.items) }
 {
     let mut patterns = Vec::new(alloc);
     for sight in sights {
-        let Sight { pattern, .. } = sight;
+        let SeenExpr { pattern, .. } = sight;
         patterns.push(pattern)?;
     }
     Ok(Shared::new(alloc, Items::from_vec(patterns))?)
 }
 
-/// The tuple of these parts, of which too many are told at the first that is.
+/// The tuple of these parts, of which too many are reported at the first that is.
 fn as_tuple<N: Numbers>(
     alloc: Global,
     spot: Spot,
-    parts: Vec<Sight<N>>,
+    parts: Vec<SeenExpr<N>>,
     first: &mut First,
-) -> Result<Sight<N>, NoMemory>
+) -> Result<SeenExpr<N>, NoMemory>
     ensures sight { IfOk result (λ s. s ≡ tuple_sight spot parts.items) }
     ensures told { OnOk result (first.new.fault ≡ first_from first.old.fault
         (past_limit most_parts (map (λ part. part.spot) parts.items))) }
@@ -141,34 +143,34 @@ fn as_tuple<N: Numbers>(
     if let Some(part) = parts.get(MOST_PARTS) {
         first.tell(Rule::Limit, part.spot);
     }
-    Ok(Sight {
+    Ok(SeenExpr {
         spot,
         whole: parts.len() <= MOST_PARTS && are_whole(parts.as_slice()),
         pattern: Numbered::tuple(patterns_seen(alloc, parts)?),
     })
 }
 
-/// Tells what is broken in an expression, and gives the kinds that it has.
+/// Reports what is broken in an expression, and gives the kinds that it has.
 #[cycle(see)]
 pub(crate) fn see<N: Numbers>(
     alloc: Global,
     expr: &PExpr,
     here: &Here<N>,
     first: &mut First,
-) -> Result<Sight<N>, NoMemory>
+) -> Result<SeenExpr<N>, NoMemory>
     ensures sight { IfOk result (λ s. s ≡ sight_of (seen_of expr.now (where_of here.now))) }
     ensures told { OnOk result (first.new.fault ≡ first_from first.old.fault
         (seen_of expr.now (where_of here.now)).faults) }
 {
     let spot = expr.spot;
     match &expr.form {
-        PForm::Int(_) => Ok(Sight::whole(spot, Numbered::int())),
-        PForm::Text(_) => Ok(Sight::whole(spot, Numbered::text())),
+        PForm::Int(_) => Ok(SeenExpr::whole(spot, Numbered::int())),
+        PForm::Text(_) => Ok(SeenExpr::whole(spot, Numbered::text())),
         PForm::Name(name) => Ok(see_variable(name, spot, here, first)?),
-        PForm::This => Ok(Sight::whole(spot, Numbered::net())),
+        PForm::This => Ok(SeenExpr::whole(spot, Numbered::net())),
         PForm::Step => {
             first.tell_if(!here.step_may, Rule::Actions, spot);
-            Ok(Sight {
+            Ok(SeenExpr {
                 spot,
                 whole: here.step_may,
                 pattern: Numbered::int(),
@@ -187,7 +189,7 @@ pub(crate) fn see<N: Numbers>(
         }
         PForm::Neg(a) => {
             let whole = see_operand(alloc, a.get(), here, first)?;
-            Ok(Sight {
+            Ok(SeenExpr {
                 spot,
                 whole,
                 pattern: Numbered::int(),
@@ -196,7 +198,7 @@ pub(crate) fn see<N: Numbers>(
         PForm::Op(_, a, b) => {
             let left = see_operand(alloc, a.get(), here, first)?;
             let right = see_operand(alloc, b.get(), here, first)?;
-            Ok(Sight {
+            Ok(SeenExpr {
                 spot,
                 whole: left & right,
                 pattern: Numbered::int(),
@@ -228,7 +230,7 @@ pub(crate) fn see_all<N: Numbers>(
     exprs: &[PExpr],
     here: &Here<N>,
     first: &mut First,
-) -> Result<Vec<Sight<N>>, NoMemory>
+) -> Result<Vec<SeenExpr<N>>, NoMemory>
     ensures sights { IfOk result (λ sights. sights.items
         ≡ map sight_of (map (λ seen. seen (where_of here.now)) (map seen_of exprs.now))) }
     ensures told { OnOk result (first.new.fault ≡ first_from first.old.fault
@@ -248,14 +250,14 @@ fn see_elements<N: Numbers>(
     spot: Spot,
     here: &Here<N>,
     first: &mut First,
-) -> Result<Sight<N>, NoMemory>
+) -> Result<SeenExpr<N>, NoMemory>
     ensures sight { IfOk result (λ s. s ≡ sight_of (with_elements (whole spot Form.Any)
         (map (λ seen. seen (where_of here.now)) (map seen_of elements.now)))) }
     ensures told { OnOk result (first.new.fault ≡ first_from first.old.fault
         (with_elements (whole spot Form.Any)
         (map (λ seen. seen (where_of here.now)) (map seen_of elements.now))).faults) }
 {
-    let mut before = Sight::whole(spot, Numbered::any());
+    let mut before = SeenExpr::whole(spot, Numbered::any());
     for element in elements {
         let sight = see(alloc, element, here, first)?;
         before = with_element(alloc, before, sight, first)?;
@@ -270,7 +272,7 @@ fn see_tuple<N: Numbers>(
     spot: Spot,
     here: &Here<N>,
     first: &mut First,
-) -> Result<Sight<N>, NoMemory>
+) -> Result<SeenExpr<N>, NoMemory>
     ensures sight { IfOk result (λ s. s ≡ sight_of (tuple_of spot
         (map (λ seen. seen (where_of here.now)) (map seen_of parts.now)))) }
     ensures told { OnOk result (first.new.fault ≡ first_from first.old.fault (tuple_of spot

@@ -1,4 +1,4 @@
-//! Transitions: what is broken in their inscriptions is told.
+//! Transitions: what is broken in their inscriptions is reported.
 ghost use Rattle.std.specs.Prelude.{◌≡◌, ◌<◌, ◌≤◌, ℕ, List, OnOk, IfOk, length, false};
 ghost use Rattle.rn_declared.specs.Faults.{first_from};
 ghost use Rattle.rn_declared.specs.Names.{number_among};
@@ -8,8 +8,8 @@ ghost use Rattle.rn_rules.specs.Scopes.{scope_in};
 ghost use Rattle.rn_rules.specs.Transitions.{is_uplink, inscriptions_faults, transition_faults};
 
 use crate::inscriptions::see_inscription;
-use crate::scope::{Known, Stand};
-use rn_declared::{First, Numbers, Table, tell_past};
+use crate::scope::{KnownNames, Stand};
+use rn_declared::{First, NameTable, Numbers, tell_past};
 use rn_inscript::{PInscribed, PInscription};
 use rn_model::limits::MOST_INSCRIPTIONS;
 use rn_net::PTransition;
@@ -19,7 +19,7 @@ use std::alloc::Global;
 /// The numbers of the actions that set variables, by the variables, and how many there are.
 #[derive(Drop)]
 struct Setters {
-    table: Table,
+    table: NameTable,
     count: usize,
 }
 
@@ -47,7 +47,7 @@ fn setters_of(alloc: Global, inscriptions: &[PInscription]) -> Result<Setters, N
         found_in setters.table name ≡ number_among (set_names inscriptions.now) name) }
     ensures count { IfOk result (λ setters. setters.count ≡ length (set_names inscriptions.now)) }
 {
-    let mut table = Table::new(alloc);
+    let mut table = NameTable::new(alloc);
     let mut count = 0;
     for inscription in inscriptions {
         if let PInscribed::Set { var, .. } = &inscription.form {
@@ -58,11 +58,11 @@ fn setters_of(alloc: Global, inscriptions: &[PInscription]) -> Result<Setters, N
     Ok(Setters { table, count })
 }
 
-/// Tells what is broken in inscriptions, of which these actions set variables.
+/// Reports what is broken in inscriptions, of which these actions set variables.
 fn see_inscriptions<N: Numbers>(
     alloc: Global,
     inscriptions: &[PInscription],
-    known: &Known<N>,
+    known: &KnownNames<N>,
     setters: &Setters,
     first: &mut First,
 ) -> Result<(), NoMemory>
@@ -90,11 +90,11 @@ fn see_inscriptions<N: Numbers>(
     Ok(())
 }
 
-/// Tells what is broken in the inscriptions of a transition.
+/// Reports what is broken in the inscriptions of a transition.
 pub(crate) fn see_transition<N: Numbers>(
     alloc: Global,
     transition: &PTransition,
-    known: &Known<N>,
+    known: &KnownNames<N>,
     first: &mut First,
 ) -> Result<(), NoMemory>
     ensures { OnOk result (first.new.fault ≡ first_from first.old.fault

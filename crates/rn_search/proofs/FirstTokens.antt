@@ -67,7 +67,7 @@ taken_counts (x ∷ xs) zero v at =
 taken_counts (x ∷ xs) (suc i) v at =
     omega (arith, taken_counts xs i v at, count_of-cons v x (take (suc i) xs))
 
--- what is told of a token that is there
+-- what is said of a token that is there
 told : (vs : List Value) (i : ℕ) (v : Value) (b : Bool) → slice_get vs i ≡ Some v →
     nat_eq (count_of v (take i vs)) 0 ≡ b → first_token vs i ≡ (if b then Some v else None)
 told vs i v b at e =

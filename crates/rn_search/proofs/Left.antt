@@ -59,7 +59,7 @@ from_filter p (y ∷ xs) x there =
           let rest = from_filter p xs x others in (later y x xs rest.0, rest.1)
     ]
 
--- decisions on one thing are told so by the test
+-- decisions on one thing are found so by the test
 told : (d e : Decision) → SameThing d e → on_one_thing d e ≡ true
 told (Entered h c) (Entered o f) same =
     subst (λ p. pointwise nat_eq h.path p ≡ true) same (numbers_themselves h.path)

@@ -29,7 +29,7 @@ module _ (more : MoreLevelsSuffice) (system : System) (t : Transition) (least : 
   as_many_suffice : (left : ℕ) → least ≤ left → suffices system left t ≡ true
   as_many_suffice left below = so_many_more (left - least) left (omega (arith, below))
 
--- what is told of the least height of a node's transition
+-- what is said of the least height of a node's transition
 abbrev pub Told : Uplinks → Head → Option ℕ → Type 0
 Told uplinks head o = (system : System) → AreUplinksOf system uplinks →
     head.net < length system.nets →

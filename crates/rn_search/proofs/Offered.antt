@@ -24,7 +24,7 @@ use Rattle.rn_model.specs.declared.binding.Node.{Node}
 use Rattle.rn_model.specs.declared.binding.Binding.{Binding}
 use Rattle.rn_model.specs.Systems.{net_at, transition_of, empty_transition, place_kind}
 use Rattle.rn_model.specs.Evaluation.{worth, IsTrueUnder}
-use Rattle.rn_model.specs.Bindings.{IsNodeOf, IsOfCreation, env_of, node_at, Answers}
+use Rattle.rn_model.specs.Bindings.{IsNodeOf, IsOfCreation, env_of, node_at, HasUplinkOf}
 use Rattle.rn_model.specs.Agreement.{ArcAgrees, NodeAgrees, inscribed_kind}
 use Rattle.rn_model.specs.Markings.{net_of, tokens}
 use Rattle.rn_model.specs.Demands.{Reading, readings, elements, clears, inhibits, asked_by_arc}
@@ -329,7 +329,7 @@ module _ (sought : Sought) (ds : List Decision) (b : Binding) (leads : Leads sou
       ∙ made.3 in
       ap (option_map (λ e. e.net)) at ∙ ap Some (sym made.4)
 
-  answers_at : (channel : ℕ) → Answers sought.system c channel →
+  answers_at : (channel : ℕ) → HasUplinkOf sought.system c channel →
       (a : ℕ) × (slice_get (answering sought.system c.net channel) a ≡ Some c.transition)
   answers_at channel (u, has, is) =
       let transitions = (net_at sought.system c.net).transitions in

@@ -35,7 +35,7 @@ use Rattle.rn_search.proofs.Following.{entered_node}
 use Rattle.rn_search.proofs.Known.{forced_are_its_values}
 use Rattle.rn_model.specs.declared.system.System.{System}
 
--- Nodes that ascend by path are told by which they are.
+-- Nodes that ascend by path are given by which they are.
 abbrev Before : Node → Node → Type 0
 Before x y = slice_cmp nat_cmp x.path y.path ≡ Less
 
@@ -105,7 +105,7 @@ same_lists (x ∷ xs) (y ∷ ys) a c there back =
     (rest_within x xs ys a there_too) (rest_within x ys xs also back_too) in
     ap (λ zs. x ∷ zs) rest ∙ ap (λ z. z ∷ ys) first
 
--- Values beside numbers that ascend are told by what stands beside each number.
+-- Values beside numbers that ascend are given by what stands beside each number.
 pub passed : (x y : ℕ) (w : Value) (rest : Option Value) (same : Bool) → nat_eq x y ≡ same → x < y →
     (if same then Some w else rest) ≡ rest
 passed x y w rest true e low =

@@ -1,4 +1,4 @@
-//! Where a search makes its decisions. A node is told by the index of a decision on it, so a point
+//! Where a search makes its decisions. A node is given by the index of a decision on it, so a point
 //! is a few numbers, and stays the same point as further decisions come in. So a choice is kept as
 //! its point and how far it has gone, without its alternatives (`docs/SEARCH.md`, 'Going back').
 

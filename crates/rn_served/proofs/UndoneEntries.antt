@@ -13,7 +13,7 @@ use Rattle.rn_model.specs.Liveness.{LivePart}
 use Rattle.rn_model.specs.Runs.{Firing, entries_of}
 use Rattle.rn_served.specs.Entries.{Entries, all_of, marking_of}
 use Rattle.rn_served.specs.Listed.{AreEnabled}
-use Rattle.rn_served.specs.Served.{Answers, FiresTo, TakesBack, UndoRefused, ok_text}
+use Rattle.rn_served.specs.Served.{AnswersRequest, FiresTo, TakesBack, UndoRefused, ok_text}
 use Rattle.rn_served.specs.Undoing.{AreAlike, FiredInTurn, IsDone, OneOutcome, UndoGivesAllBack, UndoGivesBack}
 use Rattle.rn_served.specs.declared.requests.FireAnswer.{FireAnswer}
 use Rattle.rn_served.specs.declared.requests.FireAnswer.TheVariants.{Fired, Faulted, Refused}
@@ -137,7 +137,7 @@ alike system options a b is = record {
 -- an undo of as many as came
 undone : (system : System) (options : Options) (n : ℕ) (es : List Entry) (old new back : Entries)
     (text : List ℕ) → length es ≡ suc n → Came es old new →
-    Answers system options new (Undo (suc n)) text back →
+    AnswersRequest system options new (Undo (suc n)) text back →
     (text ≡ ok_text) × AreAlike system options back old
 undone system options n es old new back text count came (inl (takes, ok)) =
     (ok, alike system options back old (given_back (suc n) es old new back count came takes))

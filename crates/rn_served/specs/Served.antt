@@ -87,24 +87,24 @@ abbrev pub UndoRefused : ℕ → Entries → Type 0
 UndoRefused k old = (k ≡ 0) ⊎ (length (all_of old) < k)
 
 -- What a line that asks for this writes, and the entries after it.
-abbrev pub Answers : System → Options → Entries → Request → List ℕ → Entries → Type 0
+abbrev pub AnswersRequest : System → Options → Entries → Request → List ℕ → Entries → Type 0
 -- the enabled bindings, and how many they are
-Answers system options old Ask.List text new =
+AnswersRequest system options old Ask.List text new =
     (found : List Binding) × AreEnabled system (marking_of system old) options.depth found
     × (text ≡ list_text system (names_of system old) found) × (new ≡ old)
 -- a firing, or why there is none
-Answers system options old (Ask.Fire k) text new =
+AnswersRequest system options old (Ask.Fire k) text new =
     (answer : FireAnswer) × FiresTo system options old k answer new
     × (text ≡ fire_text system old answer new)
 -- the marks of the live part
-Answers system options old Ask.Show text new =
+AnswersRequest system options old Ask.Show text new =
     (marks : List MarkLine) × LivePart system (marking_of system old) marks
     × (text ≡ show_text system (names_of system old) marks) × (new ≡ old)
 -- the last entries are taken back, or there aren't so many
-Answers system options old (Ask.Undo k) text new =
+AnswersRequest system options old (Ask.Undo k) text new =
     (TakesBack k old new × (text ≡ ok_text))
     ⊎ (UndoRefused k old × (text ≡ no_text 4) × (new ≡ old))
-Answers system options old Ask.Wrong text new = (text ≡ no_text 5) × (new ≡ old)
+AnswersRequest system options old Ask.Wrong text new = (text ≡ no_text 5) × (new ≡ old)
 
 -- The text of a session with these lines, after these entries: to each line, in order, what it
 -- writes, and nothing else.
@@ -112,5 +112,5 @@ abbrev pub Served : System → Options → List (List ℕ) → Entries → List 
 Served system options [] so_far text = text ≡ []
 Served system options (line ∷ lines) so_far text =
     (first : List ℕ) × (rest : List ℕ) × (after : Entries)
-    × Answers system options so_far (request_of line) first after
+    × AnswersRequest system options so_far (request_of line) first after
     × Served system options lines after rest × (text ≡ first ++ rest)

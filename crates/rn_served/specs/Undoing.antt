@@ -7,7 +7,7 @@ use Rattle.rn_model.specs.declared.log.Options.{Options}
 use Rattle.rn_model.specs.Liveness.{LivePart}
 use Rattle.rn_served.specs.Entries.{Entries, marking_of}
 use Rattle.rn_served.specs.Listed.{AreEnabled}
-use Rattle.rn_served.specs.Served.{Answers, FiresTo, TakesBack, ok_text}
+use Rattle.rn_served.specs.Served.{AnswersRequest, FiresTo, TakesBack, ok_text}
 use Rattle.rn_served.specs.declared.requests.Request.TheVariants as Ask
 use Rattle.rn_served.specs.declared.requests.FireAnswer.{FireAnswer}
 use Rattle.rn_served.specs.declared.requests.FireAnswer.TheVariants as Gives
@@ -41,7 +41,7 @@ abbrev pub UndoGivesBack : Type 0
 UndoGivesBack = (system : System) (options : Options) (before after back : Entries) (k : ℕ)
     (answer : FireAnswer) (text : List ℕ) →
     FiresTo system options before k answer after → IsDone answer →
-    Answers system options after (Ask.Undo 1) text back →
+    AnswersRequest system options after (Ask.Undo 1) text back →
     (text ≡ ok_text) × AreAlike system options back before
 
 -- After so many firings, where there was one, an undo of as many is done, and gives what was before
@@ -50,7 +50,7 @@ abbrev pub UndoGivesAllBack : Type 0
 UndoGivesAllBack = (system : System) (options : Options) (n : ℕ) (before after back : Entries)
     (text : List ℕ) →
     FiredInTurn system options (suc n) before after →
-    Answers system options after (Ask.Undo (suc n)) text back →
+    AnswersRequest system options after (Ask.Undo (suc n)) text back →
     (text ≡ ok_text) × AreAlike system options back before
 
 -- `undo` is done exactly where there are so many entries, and then has one outcome.

@@ -7,7 +7,7 @@ use Rattle.rn_record.specs.Writable.{HasEntry}
 use Rattle.rn_fire.specs.States.{State, logged}
 use Rattle.rn_served.specs.Entries.{names_of}
 use Rattle.rn_served.specs.Lines.{lines_of}
-use Rattle.rn_served.specs.Served.{Answers, Served}
+use Rattle.rn_served.specs.Served.{AnswersRequest, Served}
 use Rattle.rn_served.specs.declared.requests.FireAnswer.{FireAnswer}
 use Rattle.rn_served.specs.declared.requests.FireAnswer.TheVariants as Gives
 use Rattle.rn_served.specs.declared.requests.Request.{Request}
@@ -21,7 +21,7 @@ names_at s = names_of s.setup.system (so_far s)
 pub record IsAnswered (old : State) (asked : Request) (before : List ℕ) (new : State) (after : List ℕ)
     : Type 0 where
   pub text : List ℕ
-  pub answers : Answers old.setup.system old.setup.options (so_far old) asked text (so_far new)
+  pub answers : AnswersRequest old.setup.system old.setup.options (so_far old) asked text (so_far new)
   pub written : after ≡ before ++ text
   pub setup : new.setup ≡ old.setup
 

@@ -19,7 +19,7 @@ use Rattle.rn_table.specs.declared.change.Row.{Row}
 use Rattle.rn_table.specs.declared.change.Change.{Change}
 use Rattle.rn_table.specs.Changes.{changed, changed_tokens, new_from, values_at}
 use Rattle.rn_table.specs.Leaves.{Ascending, HasSortedPlaces}
-use Rattle.rn_table.specs.Steps.{Step, AreNet, step_at, after_step, steps_at, after_steps, steps_of, steps_in, all_steps, is_at, times}
+use Rattle.rn_table.specs.Steps.{Step, AreNet, step_at, after_step, steps_at, after_steps, steps_of, steps_in, all_steps, is_at, step_count}
 use Rattle.rn_table.specs.Tables.{started, starting_in}
 use Rattle.rn_model.specs.Systems.{may_start}
 use Rattle.rn_table.proofs.InstanceLemmas.{numbered_at, all_get}
@@ -93,14 +93,14 @@ module _ (n place : ℕ) (z : Value) (s : Step) (vs : List Value) (up : IsSorted
   count_step : hit false n place z s ≤ count_of z vs → count_of z (step_at s n place vs) + hit false n place z s ≡ count_of z vs + hit true n place z s
   count_step = count_case (nat_eq n s.inst && nat_eq place s.place) s.puts
 
-times_more : (puts : Bool) (n place : ℕ) (z : Value) (s : Step) (ss : List Step) → times puts n place z (s ∷ ss) ≡ hit puts n place z s + times puts n place z ss
+times_more : (puts : Bool) (n place : ℕ) (z : Value) (s : Step) (ss : List Step) → step_count puts n place z (s ∷ ss) ≡ hit puts n place z s + step_count puts n place z ss
 times_more puts n place z s ss = sum_by-cons (hit puts n place z) s ss
 
 steps_sorted : (ss : List Step) (n place : ℕ) (vs : List Value) → IsSorted value_cmp vs → IsSorted value_cmp (steps_at ss n place vs)
 steps_sorted [] n place vs up = up
 steps_sorted (s ∷ ss) n place vs up = steps_sorted ss n place (step_at s n place vs) (step_sorted s n place vs up)
 
-count_steps : (ss : List Step) (n place : ℕ) (z : Value) (vs : List Value) → IsSorted value_cmp vs → times false n place z ss ≤ count_of z vs → count_of z (steps_at ss n place vs) + times false n place z ss ≡ count_of z vs + times true n place z ss
+count_steps : (ss : List Step) (n place : ℕ) (z : Value) (vs : List Value) → IsSorted value_cmp vs → step_count false n place z ss ≤ count_of z vs → count_of z (steps_at ss n place vs) + step_count false n place z ss ≡ count_of z vs + step_count true n place z ss
 count_steps [] n place z vs up enough = refl
 count_steps (s ∷ ss) n place z vs up enough =
     let taken = times_more false n place z s ss in
@@ -136,13 +136,13 @@ module _ (puts q : Bool) (n place : ℕ) (z : Value) where
   abbrev of_row : Row → Bool
   of_row row = nat_eq n row.inst && nat_eq place row.place
 
-  values_times : (row : Row) (vs : List Value) → times puts n place z (map (one_step q row) vs) ≡ cond (of_row row && matches puts q) (count_of z vs) 0
+  values_times : (row : Row) (vs : List Value) → step_count puts n place z (map (one_step q row) vs) ≡ cond (of_row row && matches puts q) (count_of z vs) 0
   values_times row [] = none_hit (of_row row && matches puts q)
   values_times row (v ∷ vs) =
       let h : ℕ = cond (of_row row && matches puts q) (one_if (same_value z v)) 0 in
       let r : ℕ = cond (of_row row && matches puts q) (count_of z vs) 0 in
       times_more puts n place z (one_step q row v) (map (one_step q row) vs)
-      ∙ ap (λ k. k + times puts n place z (map (one_step q row) vs)) (step_hit (of_row row) (matches puts q) z v)
+      ∙ ap (λ k. k + step_count puts n place z (map (one_step q row) vs)) (step_hit (of_row row) (matches puts q) z v)
       ∙ ap (λ k. h + k) (values_times row vs) ∙ add_hit (of_row row && matches puts q) (one_if (same_value z v)) (count_of z vs)
       ∙ ap (λ k. cond (of_row row && matches puts q) k 0) (sym (count_of-cons z v vs))
 
@@ -150,20 +150,20 @@ module _ (puts q : Bool) (n place : ℕ) (z : Value) where
   row_count true h vs = refl
   row_count false h vs = none_hit h
 
-  rows_times : (rows : List Row) → times puts n place z (steps_in q rows) ≡ cond (matches puts q) (count_of z (values_at rows n place)) 0
+  rows_times : (rows : List Row) → step_count puts n place z (steps_in q rows) ≡ cond (matches puts q) (count_of z (values_at rows n place)) 0
   rows_times [] = none_hit (matches puts q)
   rows_times (row ∷ rows) =
       let vs : List Value = cond (of_row row) row.values [] in
       sum_by-append (hit puts n place z) (steps_of q row) (steps_in q rows)
-      ∙ ap (λ k. k + times puts n place z (steps_in q rows)) (values_times row row.values ∙ row_count (of_row row) (matches puts q) row.values)
+      ∙ ap (λ k. k + step_count puts n place z (steps_in q rows)) (values_times row row.values ∙ row_count (of_row row) (matches puts q) row.values)
       ∙ ap (λ k. cond (matches puts q) (count_of z vs) 0 + k) (rows_times rows)
       ∙ add_hit (matches puts q) (count_of z vs) (count_of z (values_at rows n place))
       ∙ ap (λ k. cond (matches puts q) k 0) (sym (count_append z vs (values_at rows n place)))
 
-all_times : (change : Change) (puts : Bool) (n place : ℕ) (z : Value) → times puts n place z (all_steps change) ≡ (times puts n place z (steps_in false change.taken) + times puts n place z (steps_in false change.cleared)) + times puts n place z (steps_in true change.put)
+all_times : (change : Change) (puts : Bool) (n place : ℕ) (z : Value) → step_count puts n place z (all_steps change) ≡ (step_count puts n place z (steps_in false change.taken) + step_count puts n place z (steps_in false change.cleared)) + step_count puts n place z (steps_in true change.put)
 all_times change puts n place z =
     sum_by-append (hit puts n place z) (steps_in false change.taken ++ steps_in false change.cleared) (steps_in true change.put)
-    ∙ ap (λ k. k + times puts n place z (steps_in true change.put)) (sum_by-append (hit puts n place z) (steps_in false change.taken) (steps_in false change.cleared))
+    ∙ ap (λ k. k + step_count puts n place z (steps_in true change.put)) (sum_by-append (hit puts n place z) (steps_in false change.taken) (steps_in false change.cleared))
 
 -- what the net steps of a change make of a place
 place_same : (change : Change) (ss : List Step) (n place : ℕ) (vs : List Value) → AreNet (all_steps change) ss → IsSorted value_cmp vs → IsWithin (values_at change.taken n place ++ values_at change.cleared n place) vs →
@@ -173,10 +173,10 @@ place_same change ss n place vs net up within =
     let c : List Value = values_at change.cleared n place in
     let p : List Value = values_at change.put n place in
     values_by_counts (steps_at ss n place vs) (changed_tokens change n place vs) (steps_sorted ss n place vs up) (ordered_values_ascend (without_each (without_each vs t) c ++ p)) (λ z.
-    let taken : times false n place z (all_steps change) ≡ (count_of z t + count_of z c) + 0 = all_times change false n place z ∙ ap (λ k. (k + times false n place z (steps_in false change.cleared)) + times false n place z (steps_in true change.put)) (rows_times false false n place z change.taken)
-    ∙ ap (λ k. (count_of z t + k) + times false n place z (steps_in true change.put)) (rows_times false false n place z change.cleared) ∙ ap (λ k. (count_of z t + count_of z c) + k) (rows_times false true n place z change.put) in
-    let put : times true n place z (all_steps change) ≡ (0 + 0) + count_of z p = all_times change true n place z ∙ ap (λ k. (k + times true n place z (steps_in false change.cleared)) + times true n place z (steps_in true change.put)) (rows_times true false n place z change.taken)
-    ∙ ap (λ k. (0 + k) + times true n place z (steps_in true change.put)) (rows_times true false n place z change.cleared) ∙ ap (λ k. (0 + 0) + k) (rows_times true true n place z change.put) in
+    let taken : step_count false n place z (all_steps change) ≡ (count_of z t + count_of z c) + 0 = all_times change false n place z ∙ ap (λ k. (k + step_count false n place z (steps_in false change.cleared)) + step_count false n place z (steps_in true change.put)) (rows_times false false n place z change.taken)
+    ∙ ap (λ k. (count_of z t + k) + step_count false n place z (steps_in true change.put)) (rows_times false false n place z change.cleared) ∙ ap (λ k. (count_of z t + count_of z c) + k) (rows_times false true n place z change.put) in
+    let put : step_count true n place z (all_steps change) ≡ (0 + 0) + count_of z p = all_times change true n place z ∙ ap (λ k. (k + step_count true n place z (steps_in false change.cleared)) + step_count true n place z (steps_in true change.put)) (rows_times true false n place z change.taken)
+    ∙ ap (λ k. (0 + k) + step_count true n place z (steps_in true change.put)) (rows_times true false n place z change.cleared) ∙ ap (λ k. (0 + 0) + k) (rows_times true true n place z change.put) in
     let inside = within z in
     let both = count_append z t c in
     let fewer = net.fewer n place z in

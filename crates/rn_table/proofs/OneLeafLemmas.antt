@@ -6,7 +6,7 @@ use Rattle.std.specs.List.{AllByRecursion}
 use Rattle.rn_model.specs.Markings.{Instance}
 use Rattle.rn_bag.specs.Words.{has_bit}
 use Rattle.rn_table.specs.Leaves.{Leaf, HasSortedPlaces, IsLeaf, bit_of, has_number, held_if, kept_in, leaf_with, page_of, starting_of}
-use Rattle.rn_table.specs.LeafSteps.{Grows, IsDropped, IsEdited, IsGrown, Steps}
+use Rattle.rn_table.specs.LeafSteps.{Grows, IsDropped, IsEdited, IsGrown, HoldsAfterStep}
 use Rattle.rn_table.specs.Steps.{Step}
 use Rattle.rn_table.proofs.DirLemmas.{held_some}
 use Rattle.rn_table.proofs.EditedLemmas.{edited_kept, edited_leaf, edited_below}
@@ -45,7 +45,7 @@ module _ (x : Instance) (starts : Bool) (h g : List Instance) (w s u new_s b : �
         below = λ n more. subst (AllByRecursion (λ i. i.number < n)) (sym held_is) (gr.2 n more);
       }
 
-pub edited_one : (s : Step) (h g : List Instance) (w st : ℕ) → IsLeaf (page_of s.inst) (leaf_with h w st) → Steps w s (held_if w h) (held_if w g) → IsEdited s (leaf_with h w st) (leaf_with g w st)
+pub edited_one : (s : Step) (h g : List Instance) (w st : ℕ) → IsLeaf (page_of s.inst) (leaf_with h w st) → HoldsAfterStep w s (held_if w h) (held_if w g) → IsEdited s (leaf_with h w st) (leaf_with g w st)
 edited_one s h g w st is at = record {
   instances = edited_kept s w (held_if w h) (held_if w g) at;
   starting = refl;

@@ -45,6 +45,6 @@ abbrev pub Grows : ℕ → Instance → List Instance → List Instance → Type
 Grows kept x h held = (held ≡ h ++ x ∷ []) ⊎ (held ≡ filter (has_number kept) h ++ x ∷ [])
 
 -- the same after a step
-abbrev pub Steps : ℕ → Step → List Instance → List Instance → Type 0
-Steps kept s h held =
+abbrev pub HoldsAfterStep : ℕ → Step → List Instance → List Instance → Type 0
+HoldsAfterStep kept s h held =
     (held ≡ map (after_step s) h) ⊎ (held ≡ map (after_step s) (filter (has_number kept) h))

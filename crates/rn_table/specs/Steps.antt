@@ -75,8 +75,8 @@ is_at puts n place v s =
     && (same_value v s.value && (if puts then s.puts else not s.puts))
 
 -- how often steps take it, or put it
-abbrev pub times : Bool → ℕ → ℕ → Value → List Step → ℕ
-times puts n place v = sum_by (λ s. if is_at puts n place v s then 1 else 0)
+abbrev pub step_count : Bool → ℕ → ℕ → Value → List Step → ℕ
+step_count puts n place v = sum_by (λ s. if is_at puts n place v s then 1 else 0)
 
 -- one step undoes another
 pub record Cancels (s t : Step) : Type 0 where
@@ -88,7 +88,7 @@ pub record Cancels (s t : Step) : Type 0 where
 -- steps that come to the same as others, and take no more
 pub record AreNet (before after : List Step) : Type 0 where
   pub balance : (n place : ℕ) (v : Value) →
-      times false n place v after + times true n place v before
-      ≡ times false n place v before + times true n place v after
+      step_count false n place v after + step_count true n place v before
+      ≡ step_count false n place v before + step_count true n place v after
   pub fewer : (n place : ℕ) (v : Value) →
-      times false n place v after ≤ times false n place v before
+      step_count false n place v after ≤ step_count false n place v before

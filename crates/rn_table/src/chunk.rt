@@ -16,11 +16,11 @@ use std::sync::Arc;
 /// Places one after another, which contracts see as the list of their tokens. Copies share the
 /// bags.
 #[derive(Drop)]
-pub(crate) struct Chunk {
+pub(crate) struct PlaceChunk {
     bags: Vec<Arc<Bag>>,
 }
 
-impl Model for Chunk {
+impl Model for PlaceChunk {
     ghost use Rattle.std.specs.Prelude.{List, map};
     ghost use Rattle.std.specs.Coded.{coded_list};
     ghost use Rattle.rn_value.specs.declared.value.Value.{Value as Token};
@@ -33,9 +33,9 @@ impl Model for Chunk {
     ghost view = { λ chunk. map (λ bag. bag.value) chunk.bags.items };
 }
 
-impl Chunk {
+impl PlaceChunk {
     /// These places with their initial tokens.
-    pub(crate) fn fresh(alloc: Global, places: &[Place]) -> Result<Chunk, NoMemory>
+    pub(crate) fn fresh(alloc: Global, places: &[Place]) -> Result<PlaceChunk, NoMemory>
         ensures { IfOk result (λ chunk. chunk ≡ map (λ p. ordered_values p.initial) places.now) }
     {
         let mut bags = Vec::with_capacity(alloc, places.len())?;
@@ -43,7 +43,7 @@ impl Chunk {
             let bag = bag_of(alloc, &place.initial)?;
             bags.push(Arc::new(alloc, bag)?)?;
         }
-        Ok(Chunk { bags })
+        Ok(PlaceChunk { bags })
     }
 
     /// The bag of an index.
@@ -57,11 +57,11 @@ impl Chunk {
     }
 
     /// The same places, which share their bags with the first.
-    pub(crate) fn copy(&self) -> Result<Chunk, NoMemory>
+    pub(crate) fn copy(&self) -> Result<PlaceChunk, NoMemory>
         ensures { IfOk result (λ chunk. chunk ≡ self.now) }
     {
         let bags = copy_all(&self.bags)?;
-        Ok(Chunk { bags })
+        Ok(PlaceChunk { bags })
     }
 
     /// One token is taken from the place of an index or put there.
@@ -98,7 +98,7 @@ pub(crate) fn copy_all<T: Drop>(pointers: &Vec<Arc<T>>) -> Result<Vec<Arc<T>>, N
 /// chunk, and else in a copy.
 pub(crate) fn edit_chunk(
     alloc: Global,
-    chunk: &mut Arc<Chunk>,
+    chunk: &mut Arc<PlaceChunk>,
     index: usize,
     edit: &Edit<'_>,
 ) -> Result<(), NoMemory>

@@ -2,7 +2,7 @@
 ghost use Rattle.std.specs.Prelude.{◌≡◌, ◌<◌, ◌≢◌, ◌%◌, ◌/◌, ℕ, [], length, map, slice_index_or, IfOk, OnOk};
 ghost use Rattle.std.specs.Option.{option_map_or};
 ghost use Rattle.rn_table.specs.Leaves.{Ascending, held_at, held_if};
-ghost use Rattle.rn_table.specs.LeafSteps.{Grows, Steps};
+ghost use Rattle.rn_table.specs.LeafSteps.{Grows, HoldsAfterStep};
 ghost use Rattle.rn_table.specs.declared.leaf.Words.{Words as PageWords};
 
 use crate::edits::Edit;
@@ -108,7 +108,7 @@ impl Dir {
     ) -> Result<(), NoMemory>
         requires inside { index < PAGES }
         requires ascending { Ascending (slice_index_or self.old index []) }
-        ensures here { OnOk result (Steps kept edit.now (slice_index_or self.old index []) (slice_index_or self.new index [])) }
+        ensures here { OnOk result (HoldsAfterStep kept edit.now (slice_index_or self.old index []) (slice_index_or self.new index [])) }
         ensures others { OnOk result ((i : ℕ) → i ≢ index → slice_index_or self.new i [] ≡ slice_index_or self.old i []) }
     {
         let page = &mut self.pages[index];
@@ -219,7 +219,7 @@ pub(crate) fn edit_in(
     requires there { index < length words.now }
     requires word { (w : PageWords) → w ≡ slice_index_or words.now index w → w.kept ≡ kept }
     requires ascending { Ascending (held_if kept (slice_index_or (option_map_or (λ d. d.value) dir.old []) index [])) }
-    ensures here { OnOk result (Steps kept edit.now (held_if kept (slice_index_or (option_map_or (λ d. d.value) dir.old []) index [])) (held_if kept (slice_index_or (option_map_or (λ d. d.value) dir.new []) index []))) }
+    ensures here { OnOk result (HoldsAfterStep kept edit.now (held_if kept (slice_index_or (option_map_or (λ d. d.value) dir.old []) index [])) (held_if kept (slice_index_or (option_map_or (λ d. d.value) dir.new []) index []))) }
     ensures others { OnOk result ((i : ℕ) (w : PageWords) → i < PAGES → i < length words.now → i ≢ index → w ≡ slice_index_or words.now i w → w.kept ≢ 0 → slice_index_or (option_map_or (λ d. d.value) dir.new []) i [] ≡ slice_index_or (option_map_or (λ d. d.value) dir.old []) i []) }
 {
     match dir {
@@ -241,7 +241,7 @@ fn edit_in_shared(
     requires there { index < length words.now }
     requires word { (w : PageWords) → w ≡ slice_index_or words.now index w → w.kept ≡ kept }
     requires ascending { Ascending (held_if kept (slice_index_or dir.old.value index [])) }
-    ensures here { OnOk result (Steps kept edit.now (held_if kept (slice_index_or dir.old.value index [])) (held_if kept (slice_index_or dir.new.value index []))) }
+    ensures here { OnOk result (HoldsAfterStep kept edit.now (held_if kept (slice_index_or dir.old.value index [])) (held_if kept (slice_index_or dir.new.value index []))) }
     ensures others { OnOk result ((i : ℕ) (w : PageWords) → i < PAGES → i < length words.now → i ≢ index → w ≡ slice_index_or words.now i w → w.kept ≢ 0 → slice_index_or dir.new.value i [] ≡ slice_index_or dir.old.value i []) }
 {
     if kept == 0 {

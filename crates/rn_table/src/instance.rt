@@ -5,7 +5,7 @@ ghost use Rattle.rn_model.specs.Lists.{ordered_values};
 ghost use Rattle.rn_table.specs.Steps.{after_step};
 
 use crate::edits::Edit;
-use crate::places::Places;
+use crate::places::InstancePlaces;
 use rn_bag::Bag;
 use rn_items::NoMemory;
 use rn_model::Place;
@@ -18,7 +18,7 @@ use std::marker::Model;
 pub struct Inst {
     number: u32,
     net: u32,
-    places: Places,
+    places: InstancePlaces,
 }
 
 impl Model for Inst {
@@ -44,7 +44,7 @@ impl Inst {
         ensures net { IfOk result (λ inst. inst.net ≡ net) }
         ensures places { IfOk result (λ inst. inst.places ≡ map (λ p. ordered_values p.initial) places.now) }
     {
-        let places = Places::fresh(alloc, places)?;
+        let places = InstancePlaces::fresh(alloc, places)?;
         Ok(Inst {
             number,
             net,

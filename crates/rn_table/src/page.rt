@@ -5,7 +5,7 @@ ghost use Rattle.std.specs.Option.{option_copied, option_map_or};
 ghost use Rattle.rn_model.specs.Markings.{Instance};
 ghost use Rattle.rn_bag.specs.Words.{has_bit};
 ghost use Rattle.rn_table.specs.Leaves.{Ascending, bit_of, has_number, held_if, numbered};
-ghost use Rattle.rn_table.specs.LeafSteps.{Grows, Steps};
+ghost use Rattle.rn_table.specs.LeafSteps.{Grows, HoldsAfterStep};
 ghost use Rattle.rn_table.specs.Steps.{after_step};
 
 use crate::edits::Edit;
@@ -201,7 +201,7 @@ pub(crate) fn edit_shared(
     edit: &Edit<'_>,
 ) -> Result<(), NoMemory>
     requires { Ascending (option_map_or (λ p. p.value) page.old []) }
-    ensures { OnOk result (Steps kept edit.now (option_map_or (λ p. p.value) page.old []) (option_map_or (λ p. p.value) page.new [])) }
+    ensures { OnOk result (HoldsAfterStep kept edit.now (option_map_or (λ p. p.value) page.old []) (option_map_or (λ p. p.value) page.new [])) }
 {
     match page {
         None => Ok(()),
@@ -217,7 +217,7 @@ fn edit_page(
     edit: &Edit<'_>,
 ) -> Result<(), NoMemory>
     requires { Ascending page.old.value }
-    ensures { OnOk result (Steps kept edit.now page.old.value page.new.value) }
+    ensures { OnOk result (HoldsAfterStep kept edit.now page.old.value page.new.value) }
 {
     if let Some(own) = Arc::get_mut(page) {
         return own.edit(alloc, edit);

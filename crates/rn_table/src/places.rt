@@ -5,7 +5,7 @@ ghost use Rattle.rn_model.specs.Lists.{ordered_values};
 ghost use Rattle.rn_table.specs.Chunks.{AreChunks, joined};
 ghost use Rattle.rn_table.specs.Steps.{with_step};
 
-use crate::chunk::{Chunk, copy_all, edit_chunk};
+use crate::chunk::{PlaceChunk, copy_all, edit_chunk};
 use crate::edits::Edit;
 use rn_bag::Bag;
 use rn_items::NoMemory;
@@ -19,7 +19,7 @@ pub(crate) const PLACES: usize = 32;
 
 /// The places of an instance, which contracts see as the list of their tokens.
 #[derive(Drop)]
-pub(crate) struct Places {
+pub(crate) struct InstancePlaces {
     form: Form,
 }
 
@@ -27,11 +27,11 @@ pub(crate) struct Places {
 /// last of which may have fewer, and copies share these.
 #[derive(Drop)]
 pub(crate) enum Form {
-    Few(Chunk),
-    Many(Vec<Arc<Chunk>>),
+    Few(PlaceChunk),
+    Many(Vec<Arc<PlaceChunk>>),
 }
 
-impl Model for Places {
+impl Model for InstancePlaces {
     ghost use Rattle.std.specs.Prelude.{List};
     ghost use Rattle.std.specs.Coded.{coded_list};
     ghost use Rattle.rn_value.specs.declared.value.Value.{Value as Token};
@@ -47,19 +47,19 @@ impl Model for Places {
     ghost invariant = { λ places. IsChunked places.form };
 }
 
-impl Places {
+impl InstancePlaces {
     /// These places with their initial tokens.
-    pub(crate) fn fresh(alloc: Global, places: &[Place]) -> Result<Places, NoMemory>
+    pub(crate) fn fresh(alloc: Global, places: &[Place]) -> Result<InstancePlaces, NoMemory>
         ensures { IfOk result (λ made. made ≡ map (λ p. ordered_values p.initial) places.now) }
     {
         if places.len() <= PLACES {
-            let chunk = Chunk::fresh(alloc, places)?;
-            return Ok(Places {
+            let chunk = PlaceChunk::fresh(alloc, places)?;
+            return Ok(InstancePlaces {
                 form: Form::Few(chunk),
             });
         }
         let chunks = chunks_of(alloc, places)?;
-        Ok(Places {
+        Ok(InstancePlaces {
             form: Form::Many(chunks),
         })
     }
@@ -75,17 +75,17 @@ impl Places {
     }
 
     /// The same places. Few of them share the bags with the first, and many the chunks.
-    pub(crate) fn copy(&self) -> Result<Places, NoMemory>
+    pub(crate) fn copy(&self) -> Result<InstancePlaces, NoMemory>
         ensures { IfOk result (λ places. places ≡ self.now) }
     {
         match &self.form {
             Form::Few(chunk) => {
                 let form = Form::Few(chunk.copy()?);
-                Ok(Places { form })
+                Ok(InstancePlaces { form })
             }
             Form::Many(chunks) => {
                 let form = Form::Many(copy_all(chunks)?);
-                Ok(Places { form })
+                Ok(InstancePlaces { form })
             }
         }
     }
@@ -103,21 +103,21 @@ impl Places {
 }
 
 /// Places with their initial tokens, in chunks of 32.
-fn chunks_of(alloc: Global, places: &[Place]) -> Result<Vec<Arc<Chunk>>, NoMemory>
+fn chunks_of(alloc: Global, places: &[Place]) -> Result<Vec<Arc<PlaceChunk>>, NoMemory>
     ensures places { IfOk result (λ chunks. joined (map (λ c. c.value) chunks.items)
         ≡ map (λ p. ordered_values p.initial) places.now) }
     ensures chunks { IfOk result (λ chunks. AreChunks (map (λ c. c.value) chunks.items)) }
 {
     let mut chunks = Vec::with_capacity(alloc, places.len() / PLACES + 1)?;
     for piece in places.chunks(PLACES) {
-        let chunk = Chunk::fresh(alloc, piece)?;
+        let chunk = PlaceChunk::fresh(alloc, piece)?;
         chunks.push(Arc::new(alloc, chunk)?)?;
     }
     Ok(chunks)
 }
 
 /// The bag of a place in chunks.
-fn bag_in(chunks: &[Arc<Chunk>], place: usize) -> Option<&Bag>
+fn bag_in(chunks: &[Arc<PlaceChunk>], place: usize) -> Option<&Bag>
     requires { AreChunks (map (λ c. c.value) chunks.now) }
     ensures { option_copied result ≡ slice_get (joined (map (λ c. c.value) chunks.now)) place }
 {
@@ -131,7 +131,7 @@ fn bag_in(chunks: &[Arc<Chunk>], place: usize) -> Option<&Bag>
 /// One token is taken from a place in chunks or put there.
 fn edit_in(
     alloc: Global,
-    chunks: &mut Vec<Arc<Chunk>>,
+    chunks: &mut Vec<Arc<PlaceChunk>>,
     place: usize,
     edit: &Edit<'_>,
 ) -> Result<(), NoMemory>

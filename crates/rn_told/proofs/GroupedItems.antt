@@ -14,7 +14,7 @@ use Rattle.rn_lines.specs.LineText.{AreItems, Held, IsCount, Token, count_of, ti
 use Rattle.rn_lines.specs.Reading.{number_after}
 use Rattle.rn_lines.specs.ValueText.{IsValue, Said, most_brackets}
 use Rattle.rn_lines.proofs.NumeralReading.{numeral_value}
-use Rattle.rn_lookup.specs.Found.{tokens_of}
+use Rattle.rn_lookup.specs.Found.{tokens_held}
 use Rattle.rn_told.specs.Marks.{are_parted, held_values, parted_from, values_told}
 use Rattle.rn_told.proofs.SpelledMarks.{some_times}
 
@@ -77,20 +77,20 @@ grouped_parted (h ∷ hs) = first_parted h (grouped hs) (grouped_parted hs)
 
 -- What holds for all tokens holds for those that are left.
 module _ (p : Token → Bool) where
-  first_all : (h : Held) (gs : List Held) → p h.token ≡ true → list_all p (tokens_of gs) ≡ true →
-      list_all p (tokens_of (grouped_first h gs)) ≡ true
+  first_all : (h : Held) (gs : List Held) → p h.token ≡ true → list_all p (tokens_held gs) ≡ true →
+      list_all p (tokens_held (grouped_first h gs)) ≡ true
   first_all h [] one rest = true_both (p h.token) true one refl
   first_all h (g ∷ gs) one rest = by (same_value h.token.value g.token.value)
     where
-      by : (same : Bool) → list_all p (tokens_of (cond same (joined h g ∷ gs) (h ∷ g ∷ gs))) ≡ true
-      by true = true_both (p h.token) (list_all p (tokens_of gs)) one (and_right (p g.token) (list_all p (tokens_of gs)) rest)
-      by false = true_both (p h.token) (list_all p (tokens_of (g ∷ gs))) one rest
+      by : (same : Bool) → list_all p (tokens_held (cond same (joined h g ∷ gs) (h ∷ g ∷ gs))) ≡ true
+      by true = true_both (p h.token) (list_all p (tokens_held gs)) one (and_right (p g.token) (list_all p (tokens_held gs)) rest)
+      by false = true_both (p h.token) (list_all p (tokens_held (g ∷ gs))) one rest
 
-  pub grouped_all : (items : List Held) → list_all p (tokens_of items) ≡ true → list_all p (tokens_of (grouped items)) ≡ true
+  pub grouped_all : (items : List Held) → list_all p (tokens_held items) ≡ true → list_all p (tokens_held (grouped items)) ≡ true
   grouped_all [] all = refl
   grouped_all (h ∷ hs) all =
-      first_all h (grouped hs) (and_left (p h.token) (list_all p (tokens_of hs)) all)
-      (grouped_all hs (and_right (p h.token) (list_all p (tokens_of hs)) all))
+      first_all h (grouped hs) (and_left (p h.token) (list_all p (tokens_held hs)) all)
+      (grouped_all hs (and_right (p h.token) (list_all p (tokens_held hs)) all))
 
 -- Grouped items have a text.
 module _ {v : Value} {named : List Said} {text times count : List ℕ} (is : IsValue most_brackets v named text) (counts : IsCount times count) where

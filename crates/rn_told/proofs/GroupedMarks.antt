@@ -13,7 +13,7 @@ use Rattle.rn_lines.specs.LineText.{Held, LineSaid}
 use Rattle.rn_lookup.specs.declared.refusal.Refusal.{Refusal}
 use Rattle.rn_lookup.specs.declared.refusal.Refusal.TheVariants.{Form, Name, Many}
 use Rattle.rn_lookup.specs.Faults.{has_place, mark_fault, tokens_fault}
-use Rattle.rn_lookup.specs.Found.{are_called, is_called, name_nets, net_said, place_said, tokens_are_called, tokens_of}
+use Rattle.rn_lookup.specs.Found.{are_called, is_called, name_nets, net_said, place_said, tokens_are_called, tokens_held}
 use Rattle.rn_told.specs.Marks.{Marked, count_fault, counted_after, fault_of_mark, first_reason, format_fault, mark_then, marked, marked_then, marks_from, most_told_values, size_of, told_mark, uncalled_mark, values_told}
 use Rattle.rn_told.proofs.GroupedItems.{grouped, grouped_all, grouped_parted, grouped_values}
 use Rattle.rn_told.proofs.GroupedLines.{regrouped}
@@ -36,19 +36,19 @@ marked_again line = refl
 
 module _ (system : System) (made : List ℕ) where
   -- Its tokens are fine, and it tells the same.
-  tokens_again : (kind : Kind) (items : List Held) → tokens_fault system kind (tokens_of items) ≡ None →
-      tokens_fault system kind (tokens_of (grouped items)) ≡ None
+  tokens_again : (kind : Kind) (items : List Held) → tokens_fault system kind (tokens_held items) ≡ None →
+      tokens_fault system kind (tokens_held (grouped items)) ≡ None
   tokens_again kind items fine =
-      let kinds = unfaulty (list_all (λ t. value_has_kind t.value kind) (tokens_of items)) Form _ fine in
-      let nets = unfaulty (list_all (λ t. name_nets system t.named) (tokens_of items)) Name None kinds.1 in
-      ap (λ b. cond (not b) (Some Form) (cond (not (list_all (λ t. name_nets system t.named) (tokens_of (grouped items)))) (Some Name) None))
+      let kinds = unfaulty (list_all (λ t. value_has_kind t.value kind) (tokens_held items)) Form _ fine in
+      let nets = unfaulty (list_all (λ t. name_nets system t.named) (tokens_held items)) Name None kinds.1 in
+      ap (λ b. cond (not b) (Some Form) (cond (not (list_all (λ t. name_nets system t.named) (tokens_held (grouped items)))) (Some Name) None))
       (grouped_all (λ t. value_has_kind t.value kind) items kinds.0)
       ∙ ap (λ b. cond (not b) (Some Name) None) (grouped_all (λ t. name_nets system t.named) items nets.0)
 
   fine_again : (m : Marked) (before held : ℕ) → fault_of_mark 1 system made before m ≡ None →
       held + length (values_told m.items) ≤ most_told_values → fault_of_mark 2 system made held (regrouped_mark m) ≡ None
   fine_again m before held fine few =
-      let tokens = tokens_of m.items in
+      let tokens = tokens_held m.items in
       let items : List Held = grouped m.items in
       let kind = place_kind_in (net_at system (net_said system m.inst)) (place_said system m.inst m.place) in
       let p = none_first (format_fault 1 m) _ fine in
@@ -57,15 +57,15 @@ module _ (system : System) (made : List ℕ) where
       let there = unfaulty (has_place system m.inst m.place) Name (tokens_fault system kind tokens) q.0 in
       let called = passes (is_called system made m.inst && tokens_are_called system made tokens) Name r.0 in
       let again =
-      true_both (is_called system made m.inst) (tokens_are_called system made (tokens_of items))
+      true_both (is_called system made m.inst) (tokens_are_called system made (tokens_held items))
       (and_left (is_called system made m.inst) (tokens_are_called system made tokens) called)
       (grouped_all (λ t. are_called system made t.named) m.items
       (and_right (is_called system made m.inst) (tokens_are_called system made tokens) called)) in
       let size = values_are items in
       let same = ap length (grouped_values m.items) in
       let third = first_reason (uncalled_mark system made (regrouped_mark m)) (count_fault 2 held (regrouped_mark m)) in
-      ap (λ b. first_reason (cond b None (Some Form)) (first_reason (mark_fault system m.inst m.place (tokens_of items)) third)) (grouped_parted m.items)
-      ∙ ap (λ b. first_reason (cond (not b) (Some Name) (tokens_fault system kind (tokens_of items))) third) there.0
+      ap (λ b. first_reason (cond b None (Some Form)) (first_reason (mark_fault system m.inst m.place (tokens_held items)) third)) (grouped_parted m.items)
+      ∙ ap (λ b. first_reason (cond (not b) (Some Name) (tokens_fault system kind (tokens_held items))) third) there.0
       ∙ ap (λ o. first_reason o third) (tokens_again kind m.items there.1)
       ∙ ap (λ b. first_reason (cond b None (Some Name)) (count_fault 2 held (regrouped_mark m))) again
       ∙ ap (λ b. cond b (Some Many) None) (not_over most_told_values (held + size_of items) (omega (arith, few, size, same)))

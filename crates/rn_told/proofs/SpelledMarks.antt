@@ -29,7 +29,7 @@ use Rattle.rn_lines.proofs.Counts.{written_count}
 use Rattle.rn_lookup.specs.declared.refusal.Refusal.{Refusal}
 use Rattle.rn_lookup.specs.declared.refusal.Refusal.TheVariants.{Form, Name}
 use Rattle.rn_lookup.specs.Faults.{has_place, mark_fault, tokens_fault}
-use Rattle.rn_lookup.specs.Found.{names_net, net_said, place_said, place_named, is_called, are_called, tokens_are_called, tokens_of}
+use Rattle.rn_lookup.specs.Found.{names_net, net_said, place_said, place_named, is_called, are_called, tokens_are_called, tokens_held}
 use Rattle.rn_record.specs.RecordText.{count_text, item_text, mark_text, place_name, token_text, tokens_text}
 use Rattle.rn_told.specs.Marks.{Marked, marked, held_values, values_told, told_mark, are_single, parted_from, are_parted, fits_format, counted_after, first_reason, format_fault, uncalled_mark, count_fault, fault_of_mark, mark_then, marked_then, marks_from}
 use Rattle.rn_told.proofs.SpelledLines.{Spell}
@@ -110,12 +110,12 @@ module _ (format : ℕ) (system : System) (all : List ℕ) where
   abbrev marks_text : List MarkLine → List ℕ
   marks_text = flat_map (mark_text format system names)
 
-  singles_spelled : {items : List Held} {a : List ℕ} → AreItems items a → tokens_are_called system all (tokens_of items) ≡ true → are_single items ≡ true →
+  singles_spelled : {items : List Held} {a : List ℕ} → AreItems items a → tokens_are_called system all (tokens_held items) ≡ true → are_single items ≡ true →
       a ≡ flat_map (token_text names) (values_told items)
   singles_spelled AreItems.none called single = refl
   singles_spelled (AreItems.some {text = text} {count = count} {rest = rest} {times = times} {v = v} {named = named} {items = items} is counts others) called single =
-      let first = value_spelled system all v named text is (and_left (are_called system all named) (tokens_are_called system all (tokens_of items)) called) in
-      let later = singles_spelled others (and_right (are_called system all named) (tokens_are_called system all (tokens_of items)) called)
+      let first = value_spelled system all v named text is (and_left (are_called system all named) (tokens_are_called system all (tokens_held items)) called) in
+      let later = singles_spelled others (and_right (are_called system all named) (tokens_are_called system all (tokens_held items)) called)
       (and_right (nat_eq (length times) 0) (are_single items) single) in
       let none = none_written counts (and_left (nat_eq (length times) 0) (are_single items) single) in
       ap (λ t. 32 ∷ (t ++ (count ++ rest))) first.1
@@ -123,12 +123,12 @@ module _ (format : ℕ) (system : System) (all : List ℕ) where
       ∙ ap (λ r. 32 ∷ (value_text v names ++ r)) later
       ∙ ap (λ ts. flat_map (token_text names) (replicate (count_of ts) v ++ values_told items)) (sym none.1)
 
-  items_spelled : {items : List Held} {a : List ℕ} → AreItems items a → tokens_are_called system all (tokens_of items) ≡ true →
+  items_spelled : {items : List Held} {a : List ℕ} → AreItems items a → tokens_are_called system all (tokens_held items) ≡ true →
       a ≡ flat_map (item_text names) (map repeat_of items)
   items_spelled AreItems.none called = refl
   items_spelled (AreItems.some {text = text} {count = count} {rest = rest} {times = times} {v = v} {named = named} {items = items} is counts others) called =
-      let first = value_spelled system all v named text is (and_left (are_called system all named) (tokens_are_called system all (tokens_of items)) called) in
-      let later = items_spelled others (and_right (are_called system all named) (tokens_are_called system all (tokens_of items)) called) in
+      let first = value_spelled system all v named text is (and_left (are_called system all named) (tokens_are_called system all (tokens_held items)) called) in
+      let later = items_spelled others (and_right (are_called system all named) (tokens_are_called system all (tokens_held items)) called) in
       let written = value_text v names in
       let number = count_text (count_of times) in
       let more = flat_map (item_text names) (map repeat_of items) in
@@ -137,7 +137,7 @@ module _ (format : ℕ) (system : System) (all : List ℕ) where
       ∙ ap (λ r. 32 ∷ (written ++ (number ++ r))) later
       ∙ ap (λ t. 32 ∷ t) (sym (append_assoc written number more))
 
-  tokens_spelled : {items : List Held} {a : List ℕ} → AreItems items a → tokens_are_called system all (tokens_of items) ≡ true → fits_format format items ≡ true →
+  tokens_spelled : {items : List Held} {a : List ℕ} → AreItems items a → tokens_are_called system all (tokens_held items) ≡ true → fits_format format items ≡ true →
       a ≡ tokens_text format names (values_told items)
   tokens_spelled {items} {a} are called fits = by (nat_eq format 1) fits
     where
@@ -148,12 +148,12 @@ module _ (format : ℕ) (system : System) (all : List ℕ) where
           items_spelled are called
           ∙ ap (flat_map (item_text names)) (sym (parted_again (map repeat_of items) (parted_items are fits)) ∙ ap repeats_of (repeats_values items))
 
-  values_named : {items : List Held} {a : List ℕ} → AreItems items a → tokens_are_called system all (tokens_of items) ≡ true →
+  values_named : {items : List Held} {a : List ℕ} → AreItems items a → tokens_are_called system all (tokens_held items) ≡ true →
       All (AreNamed names) (values_told items)
   values_named AreItems.none called = All-nil (AreNamed names)
   values_named (AreItems.some {text = text} {times = times} {v = v} {named = named} {items = items} is counts others) called =
-      let first = value_spelled system all v named text is (and_left (are_called system all named) (tokens_are_called system all (tokens_of items)) called) in
-      let later = values_named others (and_right (are_called system all named) (tokens_are_called system all (tokens_of items)) called) in
+      let first = value_spelled system all v named text is (and_left (are_called system all named) (tokens_are_called system all (tokens_held items)) called) in
+      let later = values_named others (and_right (are_called system all named) (tokens_are_called system all (tokens_held items)) called) in
       All-append (AreNamed names) (replicate (count_of times) v) (values_told items)
       (All-replicate (AreNamed names) (count_of times) v first.0) later
 
@@ -167,7 +167,7 @@ module _ (format : ℕ) (system : System) (all : List ℕ) where
       (rest : List ℕ) × Spell lines rest × (bytes ≡ mark_text format system names (told_mark system m) ++ rest)
       × All (AreNamed names) (values_told m.items)
   mark_spelled m held lines bytes fine (text, rest, IsLine.holds {inst = inst} {place = place} {a = a} {b = b} {h = h} {items = items} is_inst is_name are, is, spell) =
-      let tokens = tokens_of (h ∷ items) in
+      let tokens = tokens_held (h ∷ items) in
       let third = first_reason (uncalled_mark system all m) (count_fault format held m) in
       let second = first_reason (mark_fault system inst place tokens) third in
       let p = none_first (format_fault format m) second fine in

@@ -35,7 +35,7 @@ use Rattle.rn_lines.specs.ValueText.{Said}
 use Rattle.rn_lookup.specs.declared.refusal.Refusal.{Refusal}
 use Rattle.rn_lookup.specs.declared.refusal.Refusal.TheVariants.{Form, Name, Many}
 use Rattle.rn_lookup.specs.Faults.{has_place, mark_fault, tokens_fault}
-use Rattle.rn_lookup.specs.Found.{are_called, is_called, name_nets, names_net, net_of_made, net_said, place_named, place_said, tokens_are_called, tokens_of}
+use Rattle.rn_lookup.specs.Found.{are_called, is_called, name_nets, names_net, net_of_made, net_said, place_named, place_said, tokens_are_called, tokens_held}
 use Rattle.rn_model.specs.NodeText.{instance_text}
 use Rattle.rn_record.specs.RecordText.{count_text, item_text, mark_text, place_name, token_text, tokens_text}
 use Rattle.rn_record.proofs.NamedRepeats.{all_repeats}
@@ -139,9 +139,9 @@ module _ (system : System) (good : Good system) (all : List ℕ) (real : AllByRe
     items : List Held
     are : AreItems items text
     values : values_told items ≡ vs
-    nets : list_all (λ t. name_nets system t.named) (tokens_of items) ≡ true
-    called : tokens_are_called system all (tokens_of items) ≡ true
-    kinds : list_all (λ t. value_has_kind t.value kind) (tokens_of items) ≡ true
+    nets : list_all (λ t. name_nets system t.named) (tokens_held items) ≡ true
+    called : tokens_are_called system all (tokens_held items) ≡ true
+    kinds : list_all (λ t. value_has_kind t.value kind) (tokens_held items) ≡ true
 
   -- values one by one
   abbrev Singles : Kind → List Value → Type 0
@@ -159,9 +159,9 @@ module _ (system : System) (good : Good system) (all : List ℕ) (real : AllByRe
           items = h ∷ hs;
           are = subst (AreItems (h ∷ hs)) whole (AreItems.some one.1 IsCount.once rest.0.are);
           values = ap (λ ws. v ∷ ws) rest.0.values;
-          nets = true_both (name_nets system one.0) (list_all (λ t. name_nets system t.named) (tokens_of hs)) one.3 rest.0.nets;
-          called = true_both (are_called system all one.0) (tokens_are_called system all (tokens_of hs)) one.2 rest.0.called;
-          kinds = true_both (value_has_kind v kind) (list_all (λ t. value_has_kind t.value kind) (tokens_of hs)) right.0.2 rest.0.kinds;
+          nets = true_both (name_nets system one.0) (list_all (λ t. name_nets system t.named) (tokens_held hs)) one.3 rest.0.nets;
+          called = true_both (are_called system all one.0) (tokens_are_called system all (tokens_held hs)) one.2 rest.0.called;
+          kinds = true_both (value_has_kind v kind) (list_all (λ t. value_has_kind t.value kind) (tokens_held hs)) right.0.2 rest.0.kinds;
         },
         rest.1,
       )
@@ -187,9 +187,9 @@ module _ (system : System) (good : Good system) (all : List ℕ) (real : AllByRe
           items = h ∷ hs;
           are = subst (AreItems (h ∷ hs)) whole (AreItems.some one.1 count.stands rest.0.are);
           values = sym (repeats_values (h ∷ hs)) ∙ ap values_of same;
-          nets = true_both (name_nets system one.0) (list_all (λ t. name_nets system t.named) (tokens_of hs)) one.3 rest.0.nets;
-          called = true_both (are_called system all one.0) (tokens_are_called system all (tokens_of hs)) one.2 rest.0.called;
-          kinds = true_both (value_has_kind v kind) (list_all (λ t. value_has_kind t.value kind) (tokens_of hs)) right.0.2 rest.0.kinds;
+          nets = true_both (name_nets system one.0) (list_all (λ t. name_nets system t.named) (tokens_held hs)) one.3 rest.0.nets;
+          called = true_both (are_called system all one.0) (tokens_are_called system all (tokens_held hs)) one.2 rest.0.called;
+          kinds = true_both (value_has_kind v kind) (list_all (λ t. value_has_kind t.value kind) (tokens_held hs)) right.0.2 rest.0.kinds;
         },
         same,
       )
@@ -271,24 +271,24 @@ module _ (system : System) (good : Good system) (all : List ℕ) (real : AllByRe
           true_both (names_net system own) (is_some (place_named (net_at system (net_said system own)) word))
           (ap is_some (net_found system good line.net is.net)) (ap is_some named_there)
 
-      no_fault : mark_fault system own word (tokens_of items) ≡ None
+      no_fault : mark_fault system own word (tokens_held items) ≡ None
       no_fault =
-          ap (λ b. cond (not b) (Some Name) (tokens_fault system (place_kind_in (net_at system (net_said system own)) (place_said system own word)) (tokens_of items))) there
-          ∙ ap (λ k. tokens_fault system (place_kind_in (net_at system k) (place_said system own word)) (tokens_of items)) net_same
-          ∙ ap (λ p. tokens_fault system (place_kind system line.net p) (tokens_of items)) place_same
-          ∙ ap (λ b. cond (not b) (Some Form) (cond (not (list_all (λ t. name_nets system t.named) (tokens_of items))) (Some Name) None)) read.0.kinds
+          ap (λ b. cond (not b) (Some Name) (tokens_fault system (place_kind_in (net_at system (net_said system own)) (place_said system own word)) (tokens_held items))) there
+          ∙ ap (λ k. tokens_fault system (place_kind_in (net_at system k) (place_said system own word)) (tokens_held items)) net_same
+          ∙ ap (λ p. tokens_fault system (place_kind system line.net p) (tokens_held items)) place_same
+          ∙ ap (λ b. cond (not b) (Some Form) (cond (not (list_all (λ t. name_nets system t.named) (tokens_held items))) (Some Name) None)) read.0.kinds
           ∙ ap (λ b. cond (not b) (Some Name) None) read.0.nets
 
-      called : is_called system all own && tokens_are_called system all (tokens_of items) ≡ true
+      called : is_called system all own && tokens_are_called system all (tokens_held items) ≡ true
       called =
-          true_both (is_called system all own) (tokens_are_called system all (tokens_of items))
+          true_both (is_called system all own) (tokens_are_called system all (tokens_held items))
           (ap (λ o. option_map_or (λ k. bytes_eq (net_at system k).name net.name) o false) is.made
           ∙ (bytes_eq-Decides net.name net.name).1 refl) read.0.called
 
       fine : (held : ℕ) → counted_after format held items ≤ most_told_values → fault_of_mark format system all held said ≡ None
       fine held enough =
           let third = first_reason (uncalled_mark system all said) (count_fault format held said) in
-          ap (λ b. first_reason (cond b None (Some Form)) (first_reason (mark_fault system own word (tokens_of items)) third)) read.1
+          ap (λ b. first_reason (cond b None (Some Form)) (first_reason (mark_fault system own word (tokens_held items)) third)) read.1
           ∙ ap (λ o. first_reason o third) no_fault
           ∙ ap (λ b. first_reason (cond b None (Some Name)) (count_fault format held said)) called
           ∙ ap (λ b. cond b (Some Many) None) (not_over most_told_values (counted_after format held items) enough)

@@ -8,10 +8,10 @@ use Rattle.rn_told.specs.declared.lines.Next.{Next}
 use Rattle.rn_told.specs.declared.lines.Next.TheVariants.{End, Broken, Line}
 
 -- this comes first among the lines
-abbrev pub Follows : Next → List (Option LineSaid) → Type 0
-Follows End lines = lines ≡ []
-Follows Broken lines = lines ≡ None ∷ drop 1 lines
-Follows (Line l rest) lines = lines ≡ Some (line l) ∷ lines_in rest.now
+abbrev pub ComesFirst : Next → List (Option LineSaid) → Type 0
+ComesFirst End lines = lines ≡ []
+ComesFirst Broken lines = lines ≡ None ∷ drop 1 lines
+ComesFirst (Line l rest) lines = lines ≡ Some (line l) ∷ lines_in rest.now
 
 -- after a line fewer bytes are left
 abbrev pub IsShorter : Next → List ℕ → Type 0

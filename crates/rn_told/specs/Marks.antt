@@ -10,7 +10,7 @@ use Rattle.rn_lines.specs.ValueText.{Said}
 use Rattle.rn_lines.specs.LineText.{Held, LineSaid, times_of}
 use Rattle.rn_lookup.specs.declared.refusal.Refusal.{Refusal}
 use Rattle.rn_lookup.specs.declared.refusal.Refusal.TheVariants.{Form, Name, Many}
-use Rattle.rn_lookup.specs.Found.{net_said, place_said, is_called, tokens_are_called, tokens_of}
+use Rattle.rn_lookup.specs.Found.{net_said, place_said, is_called, tokens_are_called, tokens_held}
 use Rattle.rn_lookup.specs.Faults.{mark_fault}
 
 -- what a line of a mark says
@@ -87,7 +87,7 @@ format_fault format m = if fits_format format m.items then None else Some Form
 -- A mark names instances that firings made, and of the nets that it says.
 abbrev pub uncalled_mark : System → List ℕ → Marked → Option Refusal
 uncalled_mark system made m =
-    if is_called system made m.inst && tokens_are_called system made (tokens_of m.items) then None
+    if is_called system made m.inst && tokens_are_called system made (tokens_held m.items) then None
     else Some Name
 
 -- The values of the marks up to this one are too many.
@@ -99,7 +99,7 @@ count_fault format held m =
 abbrev pub fault_of_mark : ℕ → System → List ℕ → ℕ → Marked → Option Refusal
 fault_of_mark format system made held m =
     first_reason (format_fault format m)
-    (first_reason (mark_fault system m.inst m.place (tokens_of m.items))
+    (first_reason (mark_fault system m.inst m.place (tokens_held m.items))
     (first_reason (uncalled_mark system made m) (count_fault format held m)))
 
 -- marks, with one before them

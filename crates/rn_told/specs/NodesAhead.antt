@@ -27,17 +27,17 @@ Judges system (Refused refusal) judged = judged ≡ Judged.refused refusal
 
 -- What is read of these lines, where a node at the path and those paths are due after it, by what
 -- the code says of the first line. The other lines are left where it stands.
-abbrev pub Steps : System → Role → List ℕ → List (List ℕ) → List (Option LineSaid) → NodeLine →
+abbrev pub ReadsNode : System → Role → List ℕ → List (List ℕ) → List (Option LineSaid) → NodeLine →
     List (Option LineSaid) → Type 0
-Steps system role path due lines (Stands found n) rest =
+ReadsNode system role path due lines (Stands found n) rest =
     (nodes_from system role (path ∷ due) lines
     ≡ with_node (placed_at system path (node n))
     (nodes_from system role (children path (count_called system (node n)) ++ due) rest))
     × (found.net ≡ net_said system (node n).inst)
     × (found.transition ≡ transition_said system (node n))
-Steps system role path due lines (Late n) rest =
+ReadsNode system role path due lines (Late n) rest =
     nodes_from system role (path ∷ due) lines ≡ ([], Stop.late (node n))
-Steps system role path due lines (Refused refusal) rest =
+ReadsNode system role path due lines (Refused refusal) rest =
     nodes_from system role (path ∷ due) lines ≡ ([], Stop.refused refusal)
 
 -- fewer bytes are left where a node stands

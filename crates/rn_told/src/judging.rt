@@ -7,7 +7,7 @@ ghost use Rattle.rn_lookup.specs.Tables.{IsDirectoryOf};
 ghost use Rattle.rn_told.specs.Lines.{lines_in};
 ghost use Rattle.rn_told.specs.Nodes.{is_step, own_node, node_due, judged_node};
 ghost use Rattle.rn_told.specs.Paths.{is_root};
-ghost use Rattle.rn_told.specs.NodesAhead.{Judges, Steps, LeavesLess};
+ghost use Rattle.rn_told.specs.NodesAhead.{Judges, ReadsNode, LeavesLess};
 
 use crate::lines::{Next, next_line};
 use crate::role::Role;
@@ -123,7 +123,7 @@ pub(crate) fn judge_next<'a>(
     requires { IsDirectoryOf system.now directory.now }
     ensures steps { IfOk result (λ next. (path : List ℕ) (due : List (List ℕ)) →
         is_root path ≡ first →
-        Steps system.now role path due (lines_in bytes.now) next.0 (lines_in next.1.now)) }
+        ReadsNode system.now role path due (lines_in bytes.now) next.0 (lines_in next.1.now)) }
     ensures less { IfOk result (λ next. LeavesLess next.0 next.1.now bytes.now) }
 {
     match next_line(alloc, bytes)? {

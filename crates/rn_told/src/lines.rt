@@ -1,7 +1,7 @@
 //! The lines of a record, one after the other.
 ghost use Rattle.std.specs.Prelude.{◌<◌, IfOk};
 ghost use Rattle.rn_told.specs.Lines.{lines_in};
-ghost use Rattle.rn_told.specs.LinesAhead.{Follows, IsShorter};
+ghost use Rattle.rn_told.specs.LinesAhead.{ComesFirst, IsShorter};
 
 use rn_lines::{Line, Unread, first_line, read_line};
 use rn_value::NoMemory;
@@ -22,7 +22,7 @@ pub(crate) enum Next<'a> {
 
 /// What comes next in these bytes.
 pub(crate) fn next_line(alloc: Global, bytes: &[u8]) -> Result<Next<'_>, NoMemory>
-    ensures follows { IfOk result (λ next. Follows next (lines_in bytes.now)) }
+    ensures follows { IfOk result (λ next. ComesFirst next (lines_in bytes.now)) }
     ensures shorter { IfOk result (λ next. IsShorter next bytes.now) }
 {
     if bytes.is_empty() {

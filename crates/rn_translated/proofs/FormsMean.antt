@@ -40,7 +40,7 @@ use Rattle.rn_net.specs.Constants.{constant_at}
 use Rattle.rn_declared.specs.Names.{same_name, number_from, number_among}
 use Rattle.rn_numbered.specs.Numbered.{Numbers, kind_of, kind_of_form, value_of, value_of_form, capacity_of, expr_of, expr_of_form, inscribed, equality_of, guard_of, action_of, creation_of, uplink_of, downlink_of, arc_of}
 use Rattle.rn_occurring.specs.TransitionVars.{with_vars}
-use Rattle.rn_numbering.specs.Numbering.{numbers_of, transition_of, net_of, system_of}
+use Rattle.rn_numbering.specs.Numbering.{numbers_of, transition_of, numbered_net_of, system_of}
 use Rattle.rn_weighted.specs.declared.weighted.Weighted.{Weighted}
 use Rattle.rn_weighted.specs.declared.weighted.WPlace.{WPlace}
 use Rattle.rn_weighted.specs.declared.weighted.WTransition.{WTransition}
@@ -267,7 +267,7 @@ module _ (to : Numbers) (wps : List WPlace)
   transitions_mean (wt ∷ wts) [] good are = absurd are
 
 net_means : (net : Weighted) (plain : Plain) (main : PNet) → IsWeighted net →
-    IsNetForm net main → net_of plain main ≡ translated_net net
+    IsNetForm net main → numbered_net_of plain main ≡ translated_net net
 net_means net plain main good is =
     let to = numbers_of plain main in
     let names = names_are net.places main.places is.places in
@@ -320,12 +320,12 @@ means net plain good is =
     sym
     (ap
     (λ nets. record {
-      nets = map (net_of plain) nets;
+      nets = map (numbered_net_of plain) nets;
       channels = map (λ c. record { name = c.name.text; kinds = map kind_of c.kinds }) plain.channels;
     }) is.nets
     ∙ ap
     (λ channels. record {
-      nets = net_of plain is.main ∷ [];
+      nets = numbered_net_of plain is.main ∷ [];
       channels = map (λ c. record { name = c.name.text; kinds = map kind_of c.kinds }) channels;
     }) is.channels
     ∙ ap (λ main. record { nets = main ∷ []; channels = [] })

@@ -22,7 +22,7 @@ use Rattle.rn_net.specs.declared.plain.PNet.{PNet}
 use Rattle.rn_net.specs.Words.{semicolon, net_word, place_word, trans_word}
 use Rattle.rn_net.specs.Kinds.{IsKind, AreListed}
 use Rattle.rn_net.specs.Constants.{IsConstant, AreItems, AreConstants, AreMoreConstants}
-use Rattle.rn_net.specs.Nets.{IsKindOfPlace, IsCapacity, AreInitial, IsPlace, AreInscribed, AreInscriptions, IsTransition, AreParts, IsNet, IsSystem, net_of}
+use Rattle.rn_net.specs.Nets.{IsKindOfPlace, IsCapacity, AreInitial, IsPlace, AreInscribed, AreInscriptions, IsTransition, AreParts, IsNet, IsSystem, plain_net_of}
 use Rattle.rn_net.specs.Nets as Nets
 use Rattle.rn_weighted.specs.declared.weighted.Weighted.{Weighted}
 use Rattle.rn_weighted.specs.declared.weighted.WPlace.{WPlace}
@@ -212,16 +212,16 @@ places_tokens (wp ∷ wps) rest = place_tokens wp (places_tokens wps rest)
 
 transitions_read : (wps : List WPlace) (name : PName) (ps : List PPlace) (wts : List WTransition)
     (before : List PTransition) (rest : List Token) → All (IsWTransition (length wps)) wts →
-    AreParts 1 (net_of name [] ps before) (transitions_tokens wps wts rest)
-    (net_of name [] ps (before ++ map (plain_transition wps) wts)) rest
+    AreParts 1 (plain_net_of name [] ps before) (transitions_tokens wps wts rest)
+    (plain_net_of name [] ps (before ++ map (plain_transition wps) wts)) rest
 transitions_read wps name ps [] before rest are =
-    subst (λ all. AreParts 1 (net_of name [] ps before) rest (net_of name [] ps all) rest)
+    subst (λ all. AreParts 1 (plain_net_of name [] ps before) rest (plain_net_of name [] ps all) rest)
     (sym (append-nil before)) AreParts.no_more_parts
 transitions_read wps name ps (wt ∷ wts) before rest are =
     let after = transitions_tokens wps wts rest in
     subst
-    (λ all. AreParts 1 (net_of name [] ps before) (transition_tokens wps wt after)
-    (net_of name [] ps all) rest)
+    (λ all. AreParts 1 (plain_net_of name [] ps before) (transition_tokens wps wt after)
+    (plain_net_of name [] ps all) rest)
     (append_assoc before (plain_transition wps wt ∷ []) (map (plain_transition wps) wts))
     (AreParts.and_transition
     (transition wps wt after (All-head (IsWTransition (length wps)) wt wts are))
@@ -230,14 +230,14 @@ transitions_read wps name ps (wt ∷ wts) before rest are =
 
 places_read : (name : PName) (wps : List WPlace) (before : List PPlace) (net : PNet)
     (mid rest : List Token) →
-    AreParts 1 (net_of name [] (before ++ map plain_place wps) []) mid net rest →
-    AreParts 1 (net_of name [] before []) (places_tokens wps mid) net rest
+    AreParts 1 (plain_net_of name [] (before ++ map plain_place wps) []) mid net rest →
+    AreParts 1 (plain_net_of name [] before []) (places_tokens wps mid) net rest
 places_read name [] before net mid rest after =
-    subst (λ ps. AreParts 1 (net_of name [] ps []) mid net rest) (append-nil before) after
+    subst (λ ps. AreParts 1 (plain_net_of name [] ps []) mid net rest) (append-nil before) after
 places_read name (wp ∷ wps) before net mid rest after =
     AreParts.and_place (place wp (places_tokens wps mid))
     (places_read name wps (before ++ plain_place wp ∷ []) net mid rest
-    (subst (λ ps. AreParts 1 (net_of name [] ps []) mid net rest)
+    (subst (λ ps. AreParts 1 (plain_net_of name [] ps []) mid net rest)
     (sym (append_assoc before (plain_place wp ∷ []) (map plain_place wps))) after))
 
 abbrev pub net_tokens : Weighted → List Token

@@ -7,7 +7,7 @@ use Rattle.rn_words.specs.declared.table.Verb.{Verb}
 use Rattle.rn_words.specs.declared.table.Verb.TheVariants.{Run, Check, Print, Enabled, Replay, Gen}
 use Rattle.rn_words.specs.declared.table.Verb.TheVariants.{Session, Counts, Moves, Pt, Migrate}
 use Rattle.rn_words.specs.declared.table.Setting.{Setting}
-use Rattle.rn_words.specs.declared.chosen.Value.{Value}
+use Rattle.rn_words.specs.declared.chosen.OptionValue.{OptionValue}
 use Rattle.rn_words.specs.declared.chosen.Chosen.{Chosen}
 use Rattle.rn_words.specs.declared.command.Command.{Command}
 use Rattle.rn_words.specs.declared.command.WordsFault.{WordsFault}
@@ -22,7 +22,7 @@ use Rattle.rn_words.proofs.ReadingLemmas.{one_word}
 use Rattle.rn_words.proofs.WordParts.{MayStand, names_option, dashed_named, joined_named, dashed_value, joined_value}
 
 -- a value that goes with the options that were given is one of the word, and goes with them
-fit_of : (chosen : Chosen) (o : Option Value) (value : Value) → if_fit chosen o ≡ Some value →
+fit_of : (chosen : Chosen) (o : Option OptionValue) (value : OptionValue) → if_fit chosen o ≡ Some value →
     (o ≡ Some value) × (fits chosen value ≡ true)
 fit_of chosen None value is = let no : ⊥ = cc in absurd no
 fit_of chosen (Some v) value is = by (fits chosen v) refl is
@@ -38,7 +38,7 @@ fit_of chosen (Some v) value is = by (fits chosen v) refl is
 abbrev pub Rest : Verb → Chosen → Option Setting → List (List ℕ) → Chosen → Type 0
 Rest verb chosen None words all = GivesOptions verb chosen words all
 Rest verb chosen (Some s) words all =
-    (word : List ℕ) × (value : Value) × (rest : List (List ℕ)) × (words ≡ word ∷ rest)
+    (word : List ℕ) × (value : OptionValue) × (rest : List (List ℕ)) × (words ≡ word ∷ rest)
     × ((value_of s word ≡ Some value) × (fits chosen value ≡ true))
     × GivesOptions verb (with_given chosen s value) rest all
 
@@ -53,10 +53,10 @@ gives_options verb (word ∷ words) at chosen all (Some s) is =
     by (if_fit chosen (value_of s word)) refl is
     (λ v. gives_options verb words (suc at) (with_given chosen s v) all None)
   where
-    by : (o : Option Value) → if_fit chosen (value_of s word) ≡ o →
+    by : (o : Option OptionValue) → if_fit chosen (value_of s word) ≡ o →
         and_then (λ st. read_from verb (suc at) st.chosen st.awaits words)
         (with_one chosen s at o) ≡ Ok all →
-        ((v : Value) → read_from verb (suc at) (with_given chosen s v) None words ≡ Ok all →
+        ((v : OptionValue) → read_from verb (suc at) (with_given chosen s v) None words ≡ Ok all →
         GivesOptions verb (with_given chosen s v) words all) →
         Rest verb chosen (Some s) (word ∷ words) all
     by None e same rest = let no : ⊥ = cc in absurd no
@@ -67,11 +67,11 @@ gives_options verb (word ∷ words) at chosen all None is =
     (λ s. gives_options verb words (suc at) chosen all (Some s))
     (λ s v. gives_options verb words (suc at) (with_given chosen s v) all None)
   where
-    with_one_is : (s : Setting) (value : List ℕ) (o : Option Value) → MayStand verb chosen s →
+    with_one_is : (s : Setting) (value : List ℕ) (o : Option OptionValue) → MayStand verb chosen s →
         word ≡ dashed s ++ 61 ∷ value → if_fit chosen (value_of s value) ≡ o →
         and_then (λ st. read_from verb (suc at) st.chosen st.awaits words)
         (with_one chosen s at o) ≡ Ok all →
-        ((v : Value) → read_from verb (suc at) (with_given chosen s v) None words ≡ Ok all →
+        ((v : OptionValue) → read_from verb (suc at) (with_given chosen s v) None words ≡ Ok all →
         GivesOptions verb (with_given chosen s v) words all) →
         GivesOptions verb chosen (word ∷ words) all
     with_one_is s value None stands word_is e same rest = let no : ⊥ = cc in absurd no
@@ -92,7 +92,7 @@ gives_options verb (word ∷ words) at chosen all None is =
         and_then (λ st. read_from verb (suc at) st.chosen st.awaits words)
         (with_option chosen s at o) ≡ Ok all →
         (read_from verb (suc at) chosen (Some s) words ≡ Ok all → Rest verb chosen (Some s) words all) →
-        ((v : Value) → read_from verb (suc at) (with_given chosen s v) None words ≡ Ok all →
+        ((v : OptionValue) → read_from verb (suc at) (with_given chosen s v) None words ≡ Ok all →
         GivesOptions verb (with_given chosen s v) words all) →
         GivesOptions verb chosen (word ∷ words) all
     with_value_is s None named e same awaited rest =
@@ -120,7 +120,7 @@ gives_options verb (word ∷ words) at chosen all None is =
         (as_option chosen at word o) ≡ Ok all →
         ((s : Setting) → read_from verb (suc at) chosen (Some s) words ≡ Ok all →
         Rest verb chosen (Some s) words all) →
-        ((s : Setting) (v : Value) → read_from verb (suc at) (with_given chosen s v) None words ≡ Ok all →
+        ((s : Setting) (v : OptionValue) → read_from verb (suc at) (with_given chosen s v) None words ≡ Ok all →
         GivesOptions verb (with_given chosen s v) words all) →
         GivesOptions verb chosen (word ∷ words) all
     by None e same awaited rest = let no : ⊥ = cc in absurd no
@@ -128,7 +128,7 @@ gives_options verb (word ∷ words) at chosen all None is =
         with_value_is s (value_part word) e refl same (awaited s) (rest s)
 
 -- an option that may be next stands
-stands_of : {verb : Verb} {chosen : Chosen} {s : Setting} {word : List ℕ} {value : Value} →
+stands_of : {verb : Verb} {chosen : Chosen} {s : Setting} {word : List ℕ} {value : OptionValue} →
     IsNextOption verb chosen s word value → MayStand verb chosen s
 stands_of next = record { taken = next.taken; first = next.first; goes = next.goes }
 
@@ -140,7 +140,7 @@ one_option verb at chosen s stands =
     ∙ ap (with_option chosen s at) (dashed_value s)
 
 -- a word that is a value of an option, and goes with those that were given, is read as it
-one_value : (verb : Verb) (at : ℕ) (chosen : Chosen) (s : Setting) (word : List ℕ) (value : Value) →
+one_value : (verb : Verb) (at : ℕ) (chosen : Chosen) (s : Setting) (word : List ℕ) (value : OptionValue) →
     IsNextOption verb chosen s word value →
     with_one chosen s at (if_fit chosen (value_of s word))
     ≡ Ok (record { chosen = with_given chosen s value; awaits = None })
@@ -149,7 +149,7 @@ one_value verb at chosen s word value next =
     ∙ ap (λ b. with_one chosen s at (if b then Some value else None)) next.fit
 
 -- and with its value as both
-one_joined : (verb : Verb) (at : ℕ) (chosen : Chosen) (s : Setting) (word : List ℕ) (value : Value) →
+one_joined : (verb : Verb) (at : ℕ) (chosen : Chosen) (s : Setting) (word : List ℕ) (value : OptionValue) →
     IsNextOption verb chosen s word value →
     after_word verb at (dashed s ++ 61 ∷ word) chosen None
     ≡ Ok (record { chosen = with_given chosen s value; awaits = None })

@@ -8,8 +8,8 @@ use Rattle.rn_words.specs.declared.table.Verb.TheVariants.{Session, Counts, Move
 use Rattle.rn_words.specs.declared.table.Setting.{Setting}
 use Rattle.rn_words.specs.declared.table.Setting.TheVariants.{Workers, Steps, Depth, Sweep, Pick, Seed}
 use Rattle.rn_words.specs.declared.table.Picked.TheVariants.{Any}
-use Rattle.rn_words.specs.declared.chosen.Value.{Value}
-use Rattle.rn_words.specs.declared.chosen.Value.TheVariants.{Number, Picks}
+use Rattle.rn_words.specs.declared.chosen.OptionValue.{OptionValue}
+use Rattle.rn_words.specs.declared.chosen.OptionValue.TheVariants.{Number, Picks}
 use Rattle.rn_words.specs.declared.chosen.Chosen.{Chosen}
 use Rattle.rn_words.specs.declared.options.State.{State}
 use Rattle.rn_words.specs.declared.command.Command.{Command}
@@ -30,7 +30,7 @@ some_word Pick = codes "any"
 some_word s = codes "1"
 
 -- and its value
-abbrev some_value : Setting → Value
+abbrev some_value : Setting → OptionValue
 some_value Pick = Picks Any
 some_value s = Number 1
 
@@ -60,12 +60,12 @@ fault_here : (verb : Verb) (at : ℕ) (word : List ℕ) (chosen : Chosen) (await
     number_of_fault fault ≡ at
 fault_here verb at word chosen (Some s) fault is = by (if_fit chosen (value_of s word)) is
   where
-    by : (o : Option Value) → with_one chosen s at o ≡ Err fault → number_of_fault fault ≡ at
+    by : (o : Option OptionValue) → with_one chosen s at o ≡ Err fault → number_of_fault fault ≡ at
     by None same = let which : U3 at ≡ fault = cc in ap number_of_fault (sym which)
     by (Some n) same = let no : ⊥ = cc in absurd no
 fault_here verb at word chosen None fault is = by (option_of verb chosen word) is
   where
-    number : (s : Setting) (o : Option Value) → with_one chosen s at o ≡ Err fault →
+    number : (s : Setting) (o : Option OptionValue) → with_one chosen s at o ≡ Err fault →
         number_of_fault fault ≡ at
     number s None same = let which : U3 at ≡ fault = cc in ap number_of_fault (sym which)
     number s (Some n) same = let no : ⊥ = cc in absurd no

@@ -11,8 +11,8 @@ use Rattle.rn_words.specs.declared.table.Setting.{Setting}
 use Rattle.rn_words.specs.declared.table.Setting.TheVariants.{Workers, Steps, Depth, Sweep, Pick, Seed}
 use Rattle.rn_words.specs.declared.table.Picked.{Picked}
 use Rattle.rn_words.specs.declared.table.Picked.TheVariants.{Any, Least}
-use Rattle.rn_words.specs.declared.chosen.Value.{Value}
-use Rattle.rn_words.specs.declared.chosen.Value.TheVariants.{Number, Picks}
+use Rattle.rn_words.specs.declared.chosen.OptionValue.{OptionValue}
+use Rattle.rn_words.specs.declared.chosen.OptionValue.TheVariants.{Number, Picks}
 use Rattle.rn_words.specs.declared.chosen.Chosen.{Chosen}
 use Rattle.rn_words.specs.declared.command.Command.{Command}
 use Rattle.rn_words.specs.Choices.{nothing, with_given, options_of, run_of, gen_of, command_of}
@@ -97,7 +97,7 @@ number_within Pick word n is = by (pick_named word) is
     by (Some picked) same = let no : ⊥ = cc in absurd no
 
 -- one more value that a word spells
-with_value : (chosen : Chosen) (s : Setting) (word : List ℕ) (value : Value) → AreWithin chosen →
+with_value : (chosen : Chosen) (s : Setting) (word : List ℕ) (value : OptionValue) → AreWithin chosen →
     value_of s word ≡ Some value → AreWithin (with_given chosen s value)
 with_value chosen s word (Number n) are spells = with_one chosen s n are (number_within s word n spells)
 with_value chosen s word (Picks picked) are spells = record {

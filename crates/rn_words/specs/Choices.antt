@@ -7,8 +7,8 @@ use Rattle.rn_words.specs.declared.table.Setting.{Setting}
 use Rattle.rn_words.specs.declared.table.Setting.TheVariants.{Workers, Steps, Depth, Sweep, Pick, Seed}
 use Rattle.rn_words.specs.declared.table.Picked.{Picked}
 use Rattle.rn_words.specs.declared.table.Picked.TheVariants.{Least}
-use Rattle.rn_words.specs.declared.chosen.Value.{Value}
-use Rattle.rn_words.specs.declared.chosen.Value.TheVariants.{Number, Picks}
+use Rattle.rn_words.specs.declared.chosen.OptionValue.{OptionValue}
+use Rattle.rn_words.specs.declared.chosen.OptionValue.TheVariants.{Number, Picks}
 use Rattle.rn_words.specs.declared.chosen.Chosen.{Chosen}
 use Rattle.rn_words.specs.declared.chosen.TheConstants.{WORKERS, STEPS, GEN_STEPS, DEPTH, SWEEP_EVERY}
 use Rattle.rn_words.specs.declared.command.Command.{Command}
@@ -45,7 +45,7 @@ goes_with chosen Seed = not (is_least chosen.pick)
 goes_with chosen _ = true
 
 -- Whether a value may be given beside the others: `least` can't stand beside a seed.
-abbrev pub fits : Chosen → Value → Bool
+abbrev pub fits : Chosen → OptionValue → Bool
 fits chosen (Picks Least) = not (is_some chosen.seed)
 fits chosen _ = true
 
@@ -59,7 +59,7 @@ with_number_given chosen Seed n = record chosen { seed = Some n }
 with_number_given chosen Pick n = chosen
 
 -- the same with one more option given
-abbrev pub with_given : Chosen → Setting → Value → Chosen
+abbrev pub with_given : Chosen → Setting → OptionValue → Chosen
 with_given chosen s (Number n) = with_number_given chosen s n
 with_given chosen s (Picks picked) = record chosen { pick = Some picked }
 

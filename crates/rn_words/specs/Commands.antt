@@ -5,7 +5,7 @@ use Rattle.rn_words.specs.declared.table.Verb.TheVariants.{Gen}
 use Rattle.rn_words.specs.declared.table.Setting.{Setting}
 use Rattle.rn_words.specs.declared.chosen.Chosen.{Chosen}
 use Rattle.rn_words.specs.declared.command.Command.{Command}
-use Rattle.rn_words.specs.declared.chosen.Value.{Value}
+use Rattle.rn_words.specs.declared.chosen.OptionValue.{OptionValue}
 use Rattle.rn_words.specs.Table.{verb_word, setting_name, takes, most_copies}
 use Rattle.rn_words.specs.Values.{value_within, value_of}
 use Rattle.rn_words.specs.Choices.{nothing, is_given, goes_with, fits, with_given, command_of}
@@ -16,7 +16,7 @@ dashed s = codes "--" ++ setting_name s
 
 -- an option that the command takes, that wasn't given and goes with those that were, and a word
 -- that is a value of it, which goes with them too
-pub record IsNextOption (verb : Verb) (chosen : Chosen) (s : Setting) (word : List ℕ) (value : Value)
+pub record IsNextOption (verb : Verb) (chosen : Chosen) (s : Setting) (word : List ℕ) (value : OptionValue)
     : Type 0 where
   pub taken : takes verb s ≡ true
   pub first : is_given chosen s ≡ false
@@ -29,11 +29,11 @@ pub record IsNextOption (verb : Verb) (chosen : Chosen) (s : Setting) (word : Li
 pub data GivesOptions (verb : Verb) : Chosen → List (List ℕ) → Chosen → Type 0 where
   done : {chosen : Chosen} → GivesOptions verb chosen [] chosen
   joined : {chosen all : Chosen} {words : List (List ℕ)} (s : Setting) (word : List ℕ)
-      (value : Value) → IsNextOption verb chosen s word value →
+      (value : OptionValue) → IsNextOption verb chosen s word value →
       GivesOptions verb (with_given chosen s value) words all →
       GivesOptions verb chosen ((dashed s ++ 61 ∷ word) ∷ words) all
   apart : {chosen all : Chosen} {words : List (List ℕ)} (s : Setting) (word : List ℕ)
-      (value : Value) → IsNextOption verb chosen s word value →
+      (value : OptionValue) → IsNextOption verb chosen s word value →
       GivesOptions verb (with_given chosen s value) words all →
       GivesOptions verb chosen (dashed s ∷ word ∷ words) all
 

@@ -5,7 +5,7 @@ use Rattle.std.specs.List.{prefix_len}
 use Rattle.rn_words.specs.declared.table.Verb.{Verb}
 use Rattle.rn_words.specs.declared.table.Verb.TheVariants.{Gen}
 use Rattle.rn_words.specs.declared.table.Setting.{Setting}
-use Rattle.rn_words.specs.declared.chosen.Value.{Value}
+use Rattle.rn_words.specs.declared.chosen.OptionValue.{OptionValue}
 use Rattle.rn_words.specs.declared.chosen.Chosen.{Chosen}
 use Rattle.rn_words.specs.declared.options.State.{State}
 use Rattle.rn_words.specs.declared.command.Command.{Command}
@@ -51,12 +51,12 @@ option_of verb chosen word =
     (after_dashes word)
 
 -- a value that goes with the options that were given
-abbrev pub if_fit : Chosen → Option Value → Option Value
+abbrev pub if_fit : Chosen → Option OptionValue → Option OptionValue
 if_fit chosen None = None
 if_fit chosen (Some value) = if fits chosen value then Some value else None
 
 -- the option is given this value, where it is one
-abbrev pub with_one : Chosen → Setting → ℕ → Option Value → Result State WordsFault
+abbrev pub with_one : Chosen → Setting → ℕ → Option OptionValue → Result State WordsFault
 with_one chosen s at None = Err (U3 at)
 with_one chosen s at (Some value) =
     Ok (record { chosen = with_given chosen s value; awaits = None })

@@ -5,8 +5,8 @@ use Rattle.std.specs.List.{list_all}
 use Rattle.rn_value.specs.Characters.{is_digit}
 use Rattle.rn_words.specs.declared.table.Setting.{Setting}
 use Rattle.rn_words.specs.declared.table.Setting.TheVariants.{Pick}
-use Rattle.rn_words.specs.declared.chosen.Value.{Value}
-use Rattle.rn_words.specs.declared.chosen.Value.TheVariants.{Number, Picks}
+use Rattle.rn_words.specs.declared.chosen.OptionValue.{OptionValue}
+use Rattle.rn_words.specs.declared.chosen.OptionValue.TheVariants.{Number, Picks}
 use Rattle.rn_words.specs.declared.values.TheConstants.{MOST_DIGITS}
 use Rattle.rn_words.specs.Table.{pick_named, least, most}
 
@@ -27,6 +27,6 @@ value_within least most word =
     then Some (number_after 0 word) else None
 
 -- the value of an option that a word spells: which binding is picked, or a number
-abbrev pub value_of : Setting → List ℕ → Option Value
+abbrev pub value_of : Setting → List ℕ → Option OptionValue
 value_of Pick word = option_map Picks (pick_named word)
 value_of s word = option_map Number (value_within (least s) (most s) word)

@@ -24,7 +24,7 @@ const SWEEP_EVERY: u32 = 64;
 
 /// A value of an option.
 #[derive(Clone, Copy, Debug)]
-pub(crate) enum Value {
+pub(crate) enum OptionValue {
     Number(u32),
     Picks(Picked),
 }
@@ -80,25 +80,25 @@ impl Chosen {
     }
 
     /// Whether a value may be given beside the others: `least` can't stand beside a seed.
-    pub(crate) fn fits(&self, value: Value) -> bool
+    pub(crate) fn fits(&self, value: OptionValue) -> bool
         ensures { result ≡ fits self.now value }
     {
         match value {
-            Value::Picks(Picked::Least) => self.seed.is_none(),
+            OptionValue::Picks(Picked::Least) => self.seed.is_none(),
             _ => true,
         }
     }
 
     /// The same with one more option given.
-    pub(crate) fn with(self, setting: Setting, value: Value) -> Chosen
+    pub(crate) fn with(self, setting: Setting, value: OptionValue) -> Chosen
         ensures { result ≡ with_given self setting value }
     {
         match value {
-            Value::Picks(picked) => Chosen {
+            OptionValue::Picks(picked) => Chosen {
                 pick: Some(picked),
                 ..self
             },
-            Value::Number(number) => self.with_number(setting, number),
+            OptionValue::Number(number) => self.with_number(setting, number),
         }
     }
 

@@ -4,7 +4,7 @@ ghost use Rattle.std.specs.List.{list_all};
 ghost use Rattle.rn_value.specs.Characters.{is_digit};
 ghost use Rattle.rn_words.specs.Values.{is_number, number_after, value_within, value_of};
 
-use crate::chosen::Value;
+use crate::chosen::OptionValue;
 use crate::table::{Setting, least, most, pick_named};
 use rn_value::is_digit;
 
@@ -59,11 +59,11 @@ pub(crate) fn value_within(least: u32, most: u32, word: &[u8]) -> Option<u32>
 }
 
 /// The value of an option that a word spells.
-pub(crate) fn value_of(setting: Setting, word: &[u8]) -> Option<Value>
+pub(crate) fn value_of(setting: Setting, word: &[u8]) -> Option<OptionValue>
     ensures { result ≡ value_of setting word.now }
 {
     match setting {
-        Setting::Pick => pick_named(word).map(Value::Picks),
-        _ => value_within(least(setting), most(setting), word).map(Value::Number),
+        Setting::Pick => pick_named(word).map(OptionValue::Picks),
+        _ => value_within(least(setting), most(setting), word).map(OptionValue::Number),
     }
 }

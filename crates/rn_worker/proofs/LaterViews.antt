@@ -17,7 +17,7 @@ use Rattle.rn_fire.specs.declared.setup.Setup.{Setup}
 use Rattle.rn_fire.specs.States.{State, end_marking, firings_in, logged}
 use Rattle.rn_fire.proofs.EntryLemmas.{firings_of}
 use Rattle.rn_worker.specs.Plans.{AddsOwn}
-use Rattle.rn_worker.specs.Seen.{GoesOn, IsSightOf, Shows, marking_after}
+use Rattle.rn_worker.specs.Seen.{IsUnended, IsSightOf, Shows, marking_after}
 use Rattle.rn_worker.proofs.SeenEntries.{fired_then, had_seen, taken}
 use Rattle.rn_worker.proofs.SeenStates.{kept_setup, shows}
 use Rattle.rn_firsts.specs.Known.{ComesAfter}
@@ -139,7 +139,7 @@ follow_then setup es more v (Some w) Known shown begins later changed known =
 
 -- What a state's first entries lead to, after a turn in which one came at most.
 module _ (old new : State) (worker : ℕ) (fired : Bool) (setup : Setup) (es : List Entry)
-    (begins : StartsWith (logged old) es) (going : GoesOn es) (same : old.setup ≡ setup)
+    (begins : StartsWith (logged old) es) (going : IsUnended es) (same : old.setup ≡ setup)
     (adds : AddsOwn worker fired old new) (looked : ℕ) (count : looked ≡ length es) where
   fired_more_by : (fired : Bool) → AddsOwn worker fired old new →
       (rest : List Firing) × (new.fired ≡ old.fired ++ rest)

@@ -10,7 +10,7 @@ use Rattle.rn_model.specs.Runs.{Firing}
 use Rattle.rn_desk.specs.Entries.{StartsWith}
 use Rattle.rn_fire.specs.States.{State, end_in, firings_in, logged}
 use Rattle.rn_fire.proofs.EntryLemmas.{count_going, end_of_entries, firings_of}
-use Rattle.rn_worker.specs.Seen.{GoesOn, HasEnded}
+use Rattle.rn_worker.specs.Seen.{IsUnended, HasEnded}
 
 firings_joined : (xs ys : List Entry) → firings_in (xs ++ ys) ≡ firings_in xs ++ firings_in ys
 firings_joined [] ys = refl
@@ -26,7 +26,7 @@ end_joined (Fire worker binding outs ∷ xs) ys reason is = end_joined xs ys rea
 end_joined (End other ∷ xs) ys reason is = is
 
 -- how many firings were seen of a log that went on
-pub going_count : (es : List Entry) → GoesOn es → length es ≡ length (firings_in es)
+pub going_count : (es : List Entry) → IsUnended es → length es ≡ length (firings_in es)
 going_count es going = ap length going ∙ count_going (firings_in es)
 
 -- A state whose log begins with these entries.
@@ -36,14 +36,14 @@ module _ (t : State) (es : List Entry) (begins : StartsWith (logged t) es) where
       sym (firings_of t.fired t.ended) ∙ ap firings_in begins.1 ∙ firings_joined es begins.0
 
   -- where no end was seen, it has at least as many firings
-  pub had_seen : GoesOn es → length es ≤ length t.fired
+  pub had_seen : IsUnended es → length es ≤ length t.fired
   had_seen going =
       let whole = ap length fired_then ∙ length-append (firings_in es) (firings_in begins.0) in
       let count = going_count es going in
       omega (arith, whole, count)
 
   -- and the first of them are those that were seen
-  pub taken : GoesOn es → take (length es) t.fired ≡ firings_in es
+  pub taken : IsUnended es → take (length es) t.fired ≡ firings_in es
   taken going =
       ap (take (length es)) fired_then
       ∙ ap (λ k. take k (firings_in es ++ firings_in begins.0)) (going_count es going)

@@ -26,7 +26,7 @@ use Rattle.rn_fire.specs.States.{State, IsState, firings_in, logged}
 use Rattle.rn_fire.proofs.EntryLemmas.{firings_of}
 use Rattle.rn_worker.specs.declared.considering.Plan.{Plan}
 use Rattle.rn_worker.specs.declared.looking.Sight.{Sight}
-use Rattle.rn_worker.specs.Seen.{GoesOn, IsSightOf, Shows, marking_after}
+use Rattle.rn_worker.specs.Seen.{IsUnended, IsSightOf, Shows, marking_after}
 use Rattle.rn_worker.specs.Plans.{AddsOwn, AreDeadAt, FitsIn, GrowsBy, HasNoneLive, IsFoundAt, IsPlanAt, IsToSearch, Knows, WasFound}
 use Rattle.rn_worker.proofs.SeenEntries.{fired_then, going_count, had_seen, taken}
 
@@ -140,7 +140,7 @@ module _ (setup : Setup) (system : System) (options : Options)
 
 -- A later state.
 module _ (t : State) (is : IsState t) (es : List Entry) (begins : StartsWith (logged t) es)
-    (going : GoesOn es) where
+    (going : IsUnended es) where
   still_found : (found : Option Binding) →
       IsFoundAt t.setup.system t.setup.options.depth (marking_after t.setup es) found →
       WasFound t (length es) found

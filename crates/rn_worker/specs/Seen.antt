@@ -12,8 +12,8 @@ use Rattle.rn_fire.specs.States.{State, IsState, firings_in, logged}
 use Rattle.rn_worker.specs.declared.looking.Sight.{Sight}
 
 -- the entries are firings, without an end
-abbrev pub GoesOn : List Entry → Type 0
-GoesOn entries = entries ≡ entries_of (firings_in entries) None
+abbrev pub IsUnended : List Entry → Type 0
+IsUnended entries = entries ≡ entries_of (firings_in entries) None
 
 -- the entries are firings, and an end after them
 abbrev pub HasEnded : List Entry → Type 0
@@ -43,7 +43,7 @@ IsSightOf s v = IsState s × (s.ended ≡ None) × (v.table ≡ s.table) × (v.s
 pub record Shows (setup : Setup) (entries : List Entry) (v : Sight) : Type 0 where
   pub good : Good setup.system
   pub limits : IsInLimits setup.options
-  pub going : GoesOn entries
+  pub going : IsUnended entries
   pub log : Log setup.system setup.options (firings_in entries) None
   pub stands : Stands setup.system v.table.marking (marking_after setup entries)
   pub of_system : IsTableOf setup.system v.table

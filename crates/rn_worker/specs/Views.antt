@@ -41,5 +41,5 @@ abbrev pub FollowsIn : System → ℕ → Resting → View → Type 0
 FollowsIn system depth k v = FollowsOne system (λ m. KnowsIdle system m depth k) v
 
 -- the same of a system and its options
-abbrev pub Follows : Setup → Resting → View → Type 0
-Follows setup k v = FollowsIn setup.system setup.options.depth k v
+abbrev pub FollowsIdle : Setup → Resting → View → Type 0
+FollowsIdle setup k v = FollowsIn setup.system setup.options.depth k v

@@ -5,7 +5,7 @@ ghost use Rattle.rn_desk.specs.Entries.{StartsWith};
 ghost use Rattle.rn_desk.specs.Passes.{fixed_of, number, seen, mine, IsOf, HasNoTurn};
 ghost use Rattle.rn_fire.specs.Ends.{MayGoOn};
 ghost use Rattle.rn_fire.specs.States.{logged};
-ghost use Rattle.rn_worker.specs.Seen.{KeepsLog, GoesOn, marking_after};
+ghost use Rattle.rn_worker.specs.Seen.{KeepsLog, IsUnended, marking_after};
 ghost use Rattle.rn_worker.specs.Views.{ChangedBetween, ShowsView};
 ghost use Rattle.rn_worker.specs.Pacing.{DoesFiring, DropsListed, DropsThenFires, IsSwept};
 ghost use Rattle.rn_worker.specs.Pacing.{dropped_by, kept_among};
@@ -23,7 +23,7 @@ use std::sync::Wait;
 
 /// What came of a turn: what the worker did, and what it saw then, where it looked.
 #[derive(Drop)]
-pub(crate) struct Acted {
+pub(crate) struct TurnOutcome {
     pub done: Done,
     pub view: Option<View>,
 }
@@ -162,12 +162,12 @@ pub(crate) fn act<R: Wait>(
     next: u32,
     steps: u32,
     plan: &Result<Plan, Halt>,
-) -> Acted
+) -> TurnOutcome
     requires here { IsOf ⟦<SimState as Kept>⟧.fixed desk.now pass.old }
     requires free { HasNoTurn pass.old }
     requires worker { (1 ≤ worker) × (worker ≤ most_workers) }
     requires number { number pass.old ≡ worker }
-    requires going { GoesOn (seen pass.old) }
+    requires going { IsUnended (seen pass.old) }
     requires looked { looked ≡ length (seen pass.old) }
     requires next { next ≡ (marking_after (fixed_of ⟦<SimState as Kept>⟧.fixed desk.now)
         (seen pass.old)).next }
@@ -201,5 +201,5 @@ pub(crate) fn act<R: Wait>(
     let done = act_on(alloc, state, worker, looked, plan);
     let view = view_below(alloc, state, steps, looked, next);
     desk.give(pass, turn);
-    Acted { done, view }
+    TurnOutcome { done, view }
 }

@@ -4,9 +4,9 @@ ghost use Rattle.rn_desk.specs.Entries.{StartsWith};
 ghost use Rattle.rn_desk.specs.Passes.{fixed_of, number, seen, mine, IsOf, HasNoTurn};
 ghost use Rattle.rn_firsts.specs.Resting.{Resting};
 ghost use Rattle.rn_worker.specs.Seen.{HasEnded, IsSightOf, StaysOrEnds};
-ghost use Rattle.rn_worker.specs.Views.{ChangedSince, Follows, ShowsView, next_after};
+ghost use Rattle.rn_worker.specs.Views.{ChangedSince, FollowsIdle, ShowsView, next_after};
 
-use crate::standby::{Role, Standby};
+use crate::standby::{Standby, WorkerRole};
 use rn_desk::{Desk, Kept, Pass};
 use rn_fire::SimState;
 use rn_table::Table;
@@ -135,7 +135,7 @@ pub(crate) fn look<R: Wait>(
         (seen pass.new)) }
     ensures none { IfNone result (HasEnded (seen pass.new)) }
     ensures follows { (k : Resting) → IfSome result
-        (Follows (fixed_of ⟦<SimState as Kept>⟧.fixed desk.now) k) }
+        (FollowsIdle (fixed_of ⟦<SimState as Kept>⟧.fixed desk.now) k) }
 {
     let mut turn = desk.take(rt, pass);
     let sight = sight_of(turn.state());
@@ -158,7 +158,7 @@ pub(crate) fn look_on<R: Wait>(
     pass: &mut Pass<SimState>,
     left: Option<View>,
     standby: &Standby,
-    role: Role,
+    role: WorkerRole,
     rests: bool,
 ) -> Option<View>
     requires here { IsOf ⟦<SimState as Kept>⟧.fixed desk.now pass.old }
@@ -175,8 +175,8 @@ pub(crate) fn look_on<R: Wait>(
         (seen pass.new)) }
     ensures none { IfNone result (HasEnded (seen pass.new)) }
     ensures follows { (k : Resting) →
-        IfSome left (Follows (fixed_of ⟦<SimState as Kept>⟧.fixed desk.now) k) →
-        IfSome result (Follows (fixed_of ⟦<SimState as Kept>⟧.fixed desk.now) k) }
+        IfSome left (FollowsIdle (fixed_of ⟦<SimState as Kept>⟧.fixed desk.now) k) →
+        IfSome result (FollowsIdle (fixed_of ⟦<SimState as Kept>⟧.fixed desk.now) k) }
 {
     if rests {
         drop(left);

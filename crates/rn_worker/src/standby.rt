@@ -34,7 +34,7 @@ const ENDED: u64 = 2;
 
 /// What a worker is for.
 #[derive(Clone, Copy, Debug, PartialEq, Eq)]
-pub(crate) enum Role {
+pub(crate) enum WorkerRole {
     /// It never sleeps here, and calls others.
     First,
     /// It is called.
@@ -69,19 +69,19 @@ impl Standby {
     }
 
     /// What the worker of a number is for.
-    pub(crate) fn role_of(&self, worker: u32) -> Role {
+    pub(crate) fn role_of(&self, worker: u32) -> WorkerRole {
         if worker <= 1 {
-            Role::First
+            WorkerRole::First
         } else if worker <= self.processors {
-            Role::Helper
+            WorkerRole::Helper
         } else {
-            Role::Spare
+            WorkerRole::Spare
         }
     }
 
     /// A worker begins. From when the first one does others may sleep.
-    pub(crate) fn begin(&self, role: Role) {
-        if role == Role::First {
+    pub(crate) fn begin(&self, role: WorkerRole) {
+        if role == WorkerRole::First {
             self.helpers.fetch_max(UNDER_WAY, Ordering::SeqCst);
             self.spares.fetch_max(UNDER_WAY, Ordering::SeqCst);
         }
@@ -98,8 +98,8 @@ impl Standby {
 
     /// Sleeps until it is called or the log has ended, but not before the first worker has begun. It may
     /// return for no reason. Nobody who sleeps has a ticket, a turn or a snapshot.
-    pub(crate) fn sleep<R: Wait>(&self, rt: &R, role: Role) {
-        if role == Role::Spare {
+    pub(crate) fn sleep<R: Wait>(&self, rt: &R, role: WorkerRole) {
+        if role == WorkerRole::Spare {
             self.spares.park(rt, UNDER_WAY as u32);
         } else {
             self.helpers.park(rt, UNDER_WAY as u32);
@@ -134,7 +134,7 @@ impl Standby {
 #[derive(Drop)]
 pub(crate) struct Watch<'a> {
     standby: &'a Standby,
-    role: Role,
+    role: WorkerRole,
 
     /// What was spent when the search began, and the effort then.
     began: u64,
@@ -152,7 +152,7 @@ pub(crate) struct Watch<'a> {
 
 impl<'a> Watch<'a> {
     /// No round was made yet.
-    pub(crate) fn new(standby: &'a Standby, role: Role) -> Watch<'a> {
+    pub(crate) fn new(standby: &'a Standby, role: WorkerRole) -> Watch<'a> {
         Watch {
             standby,
             role,
@@ -174,10 +174,10 @@ impl<'a> Watch<'a> {
     pub(crate) fn note_round(&mut self, finding: &Finding, stopped: bool, fired: bool) {
         let effort = finding.effort().wrapping_sub(self.effort);
         match self.role {
-            Role::First => self.note_own(fired),
-            Role::Helper => self.note_helped(fired && effort >= SHORT),
-            Role::Spare if stopped => self.idle = PATIENCE,
-            Role::Spare => self.idle = self.idle.saturating_add(1),
+            WorkerRole::First => self.note_own(fired),
+            WorkerRole::Helper => self.note_helped(fired && effort >= SHORT),
+            WorkerRole::Spare if stopped => self.idle = PATIENCE,
+            WorkerRole::Spare => self.idle = self.idle.saturating_add(1),
         }
     }
 
@@ -202,7 +202,7 @@ impl<'a> Watch<'a> {
 
     /// Whether a worker stands by now.
     pub(crate) fn stands_by(&mut self) -> bool {
-        let rests = self.role != Role::First
+        let rests = self.role != WorkerRole::First
             && self.idle >= PATIENCE
             && self.standby.is_under_way();
         self.stood_by = self.stood_by || rests;
@@ -211,12 +211,12 @@ impl<'a> Watch<'a> {
 
     // Whether the search of a spare ends here, since it is long.
     fn is_cut_off(&self, spent: u64) -> bool {
-        self.role == Role::Spare && spent.wrapping_sub(self.began) >= SPARED
+        self.role == WorkerRole::Spare && spent.wrapping_sub(self.began) >= SPARED
     }
 
     // The first worker calls a helper where that is due.
     fn call_at(&self, spent: u64) {
-        if self.role == Role::First && spent >= self.next.load(Ordering::SeqCst) {
+        if self.role == WorkerRole::First && spent >= self.next.load(Ordering::SeqCst) {
             let every = self.standby.call();
             self.next
                 .store(spent.saturating_add(every), Ordering::SeqCst);

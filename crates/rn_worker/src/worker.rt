@@ -5,7 +5,7 @@ ghost use Rattle.rn_channel.specs.Uplinks.{AreUplinksOf};
 ghost use Rattle.rn_desk.specs.Passes.{fixed_of, number, seen, mine, IsOf, HasNoTurn};
 ghost use Rattle.rn_worker.specs.Seen.{HasEnded};
 
-use crate::acting::{Acted, act};
+use crate::acting::{TurnOutcome, act};
 use crate::considering::{
     Seed, count_round, go_beside, go_on_after, late_after, plan_at, searcher_of, start_beside,
     was_stopped,
@@ -133,7 +133,7 @@ pub(crate) fn work_while<R: Wait, G: Gate + Sync>(
         );
         let beside = start_beside(worker, seen, late, next, &plan);
         gate.between(worker, seen);
-        let Acted { done, view: left } = act(
+        let TurnOutcome { done, view: left } = act(
             rt,
             alloc,
             desk,

@@ -1,7 +1,7 @@
 //! The eight kinds of step at the desk, in the order of their use.
 ghost use Rattle.std.specs.Prelude.{◌≡◌, ℕ, ◌<◌, [], ◌∷◌, length, Option, Some, None};
 ghost use Rattle.std.specs.Bool.{OnTrue, OnFalse};
-ghost use Rattle.rn_desk.specs.declared.view.Role.TheVariants.{Maker, Idle, Waits};
+ghost use Rattle.rn_desk.specs.declared.view.SeatRole.TheVariants.{Maker, Idle, Waits};
 ghost use Rattle.rn_desk.specs.Turns.{wrapped};
 ghost use Rattle.rn_desk.specs.Steps.{maker_after, made_seat, in_role, GetsTurn, with_entries, MayCount, MayPassOn, joined};
 

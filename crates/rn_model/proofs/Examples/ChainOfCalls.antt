@@ -16,7 +16,7 @@ use Rattle.rn_model.specs.declared.system.Downlink.{Downlink}
 use Rattle.rn_model.specs.declared.binding.Node.{Node}
 use Rattle.rn_model.specs.declared.binding.Binding.{Binding}
 use Rattle.rn_model.specs.Systems.{empty_transition, transition_of}
-use Rattle.rn_model.specs.Bindings.{Shape, IsNodeOf, IsOfCreation, IsCalled, Calls, Answers}
+use Rattle.rn_model.specs.Bindings.{Shape, IsNodeOf, IsOfCreation, IsCalled, Calls, HasUplinkOf}
 
 abbrev call : Downlink
 call = record { target = E.This; channel = 0; args = [] }
@@ -79,7 +79,7 @@ ascending (suc (suc k)) d h = let no : ⊥ = omega (arith, h) in absurd no
 
 -- each downlink of each node has its child
 abbrev HasChild : Node → ℕ → Downlink → Type 0
-HasChild caller i d = (x : Node) × Calls sys b caller i d x × Answers sys x d.channel
+HasChild caller i d = (x : Node) × Calls sys b caller i d x × HasUplinkOf sys x d.channel
 
 child_of_root : (i : ℕ) (d : Downlink) → slice_get (call ∷ []) i ≡ Some d → HasChild root i d
 child_of_root zero d e = let same : call ≡ d = cc in subst (HasChild root 0) same (child, root_calls, (answer, refl, refl))

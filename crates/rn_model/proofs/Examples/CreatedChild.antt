@@ -26,7 +26,7 @@ use Rattle.rn_model.specs.declared.binding.Node.{Node}
 use Rattle.rn_model.specs.declared.binding.Binding.{Binding}
 use Rattle.rn_model.specs.Systems.{empty_transition, transition_of}
 use Rattle.rn_model.specs.Markings.{Marking, initial_marking, net_of}
-use Rattle.rn_model.specs.Bindings.{Shape, IsNodeOf, IsOfCreation, IsCalled, Calls, Answers}
+use Rattle.rn_model.specs.Bindings.{Shape, IsNodeOf, IsOfCreation, IsCalled, Calls, HasUplinkOf}
 use Rattle.rn_model.specs.Bindings.{env_of, node_at}
 use Rattle.rn_model.specs.Lists.{value_beside}
 use Rattle.rn_model.specs.Agreement.{Agrees, NodeAgrees, CallAgrees, HaveKindsOf}
@@ -119,12 +119,12 @@ HasDownlink i d caller = slice_get (transition_of sys caller).downlinks i ≡ So
 
 abbrev HasChild : ℕ → Downlink → Node → Type 0
 HasChild i d caller = HasDownlink i d caller →
-    (x : Node) × Calls sys b caller i d x × Answers sys x d.channel
+    (x : Node) × Calls sys b caller i d x × HasUplinkOf sys x d.channel
 
 child_of_root : (i : ℕ) (d : Downlink) → HasChild i d root
 child_of_root zero d e =
     let same : call ≡ d = cc in
-    subst (λ d. (x : Node) × Calls sys b root 0 d x × Answers sys x d.channel) same
+    subst (λ d. (x : Node) × Calls sys b root 0 d x × HasUplinkOf sys x d.channel) same
     (child, calls_child, (answer, refl, refl))
 child_of_root (suc i) d e = absurd (let no : ⊥ = cc in no)
 

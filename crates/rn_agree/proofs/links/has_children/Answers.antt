@@ -4,7 +4,7 @@ use Rattle.std.specs.Prelude.{Some}
 use Rattle.rn_model.specs.declared.binding.Node.{Node}
 use Rattle.rn_model.specs.declared.system.Downlink.{Downlink}
 use Rattle.rn_model.specs.Systems.{transition_of}
-use Rattle.rn_model.specs.Bindings.{Answers, node_at}
+use Rattle.rn_model.specs.Bindings.{HasUplinkOf, node_at}
 use Rattle.rn_agree.proofs.EachLemmas.{indexed_more, indexed_at, indexed_all}
 use Rattle.rn_agree.proofs.LinkLemmas.{no_more_downlinks}
 use Rattle.rn_agree.proofs.links.has_children.Goals as goal
@@ -29,7 +29,7 @@ returns-then-not-has_child c = (
       let child = indexed_at
       (λ j (d : Downlink). (n : Node) ×
       (node_at c.args.binding.now (c.args.node.now.path ++ j ∷ []) ≡ Some n)
-      × Answers c.args.system.now n d.channel)
+      × HasUplinkOf c.args.system.now n d.channel)
       c.as_slice-downlinks.result.now (transition_of c.args.system.now c.args.node.now).downlinks
       (c.as_slice-downlinks.ensures ∙ ap (λ t. t.downlinks) c.transition_of.ensures)
       c.loop-i.i c.index-downlinks-i.result c.loop-i-test.true has in
@@ -41,7 +41,7 @@ loop-i-preserved c =
     indexed_more
     (λ j (d : Downlink). (n : Node) ×
     (node_at c.args.binding.now (c.args.node.now.path ++ j ∷ []) ≡ Some n)
-    × Answers c.args.system.now n d.channel)
+    × HasUplinkOf c.args.system.now n d.channel)
     c.as_slice-downlinks.result.now (transition_of c.args.system.now c.args.node.now).downlinks
     (c.as_slice-downlinks.ensures ∙ ap (λ t. t.downlinks) c.transition_of.ensures)
     c.loop-i.i c.index-downlinks-i.result c.loop-i-test.true c.loop-i.invariant
@@ -52,7 +52,7 @@ returns c = (
   λ yes. indexed_all
       (λ j (d : Downlink). (n : Node) ×
       (node_at c.args.binding.now (c.args.node.now.path ++ j ∷ []) ≡ Some n)
-      × Answers c.args.system.now n d.channel)
+      × HasUplinkOf c.args.system.now n d.channel)
       c.as_slice-downlinks.result.now (transition_of c.args.system.now c.args.node.now).downlinks
       (c.as_slice-downlinks.ensures ∙ ap (λ t. t.downlinks) c.transition_of.ensures)
       c.loop-i.i c.loop-i-test.false c.loop-i.invariant,

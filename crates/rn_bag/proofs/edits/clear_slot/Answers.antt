@@ -1,7 +1,7 @@
 use Rattle.std.proofs.Common.{take, sym, ap, refl, ◌∙◌, subst, arith}
 use Rattle.std.proofs.lemmas.List.{take-set}
 use Rattle.rn_bag.specs.Cuts.{Ascends}
-use Rattle.rn_bag.specs.Chunks.{Slots, tokens_in, tokens_of, values_in}
+use Rattle.rn_bag.specs.Chunks.{Slots, tokens_in, tokens_in_chunk, values_in}
 use Rattle.rn_bag.proofs.EditLemmas.{cleared, same_values, dropped, dropped_ascends, nothing}
 use Rattle.rn_bag.proofs.edits.clear_slot.Goals as goal
 
@@ -22,7 +22,7 @@ pub returns-then-count-eq0-clause-tokens : goal.returns-then-count-eq0-clause-to
 returns-then-count-eq0-clause-tokens c =
     let y : Slots = record { values = c.at.result.values; there = c.without_slot-there.result.0; before = c.at.result.before } in
     ap tokens_in c.remove.ensures
-    ∙ dropped c.args.chunks.now c.args.at.chunk y c.requires.chunk (nothing (tokens_of y) (omega (arith, c.without_slot-there.ensures.chunk.counted, c.if-count-eq0.true)))
+    ∙ dropped c.args.chunks.now c.args.at.chunk y c.requires.chunk (nothing (tokens_in_chunk y) (omega (arith, c.without_slot-there.ensures.chunk.counted, c.if-count-eq0.true)))
     ∙ cleared c.args.chunks.now c.args.at.chunk c.args.at.slot c.at.result y c.requires.chunk c.at.ensures.chunk c.without_slot-there.ensures.tokens
 
 pub returns-then-count-eq0-clause-ascend : goal.returns-then-count-eq0-clause-ascend

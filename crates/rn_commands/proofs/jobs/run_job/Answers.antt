@@ -1,4 +1,4 @@
--- What is told of the state in which the workers leave a run.
+-- What is reported of the state in which the workers leave a run.
 use Rattle.rn_commands.proofs.JobLemmas.{job_recorded, job_tallied}
 use Rattle.rn_commands.proofs.jobs.run_job.Goals as goal
 

@@ -1,4 +1,4 @@
--- The net text or the record is refused, or the moves of the run are told.
+-- The net text or the record is refused, or the moves of the run are listed.
 use Rattle.std.proofs.Common.{sym, subst, arith, rules}
 use Rattle.rn_commands.specs.Moves.{MovesComeTo}
 use Rattle.rn_commands.proofs.PartLemmas.{rest_few}

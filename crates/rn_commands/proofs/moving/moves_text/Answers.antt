@@ -1,4 +1,4 @@
--- The log of a state can be told.
+-- The log of a state can be listed.
 use Rattle.std.proofs.Common.{length, sym, subst}
 use Rattle.std.specs.Prelude.{IfOk}
 use Rattle.rn_fire.specs.States.{logged}

@@ -1,5 +1,5 @@
--- The tables have the channels so far, and the patterns are theirs; what was told, and is to be told
--- of those that are left, is all.
+-- The tables have the channels so far, and the patterns are theirs; what was reported, and is to be
+-- reported of those that are left, is all.
 use Rattle.std.proofs.Common.{◌≡◌, List, ℕ, [], map, take, drop}
 use Rattle.rn_declared.specs.Faults.{first_from}
 use Rattle.rn_declared.specs.Patterns.{pattern_of}

@@ -1,4 +1,4 @@
--- What is told of the parts of a constant.
+-- What is reported of the parts of a constant.
 use Rattle.std.proofs.Common.{◌∙◌, ap, sym, map}
 use Rattle.std.proofs.lemmas.List.{take_all}
 use Rattle.std.proofs.lemmas.List.Folds.{flat_map-map}

@@ -1,4 +1,4 @@
--- What was told is that of the constants so far.
+-- What was reported is that of the constants so far.
 use Rattle.std.proofs.Common.{◌≡◌, take}
 use Rattle.std.specs.Prelude.{flat_map}
 use Rattle.rn_declared.specs.Faults.{first_from}

@@ -1,4 +1,4 @@
--- What is told of the parts of a kind.
+-- What is reported of the parts of a kind.
 use Rattle.std.proofs.Common.{◌∙◌, ap, map}
 use Rattle.std.proofs.lemmas.List.{take_all}
 use Rattle.std.specs.Prelude.{flat_map}

@@ -1,4 +1,5 @@
--- The table has the names so far; what was told, and is to be told of those that are left, is all.
+-- The table has the names so far; what was reported, and is to be reported of those that are left,
+-- is all.
 use Rattle.std.proofs.Common.{◌≡◌, List, ℕ, [], map, take, drop}
 use Rattle.rn_declared.specs.Faults.{first_from}
 use Rattle.rn_declared.specs.Names.{number_among, names_faults}

@@ -1,4 +1,5 @@
--- The patterns, whether there are capacities, and what was told, are those of the places so far.
+-- The patterns, whether there are capacities, and what was reported, are those of the places so
+-- far.
 use Rattle.std.proofs.Common.{◌≡◌, map, take}
 use Rattle.std.specs.Prelude.{flat_map, is_some}
 use Rattle.rn_declared.specs.Faults.{first_from}

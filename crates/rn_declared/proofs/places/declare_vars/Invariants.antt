@@ -1,4 +1,4 @@
--- The patterns, and what was told, are those of the variables so far.
+-- The patterns, and what was reported, are those of the variables so far.
 use Rattle.std.proofs.Common.{◌≡◌, map, take}
 use Rattle.std.specs.Prelude.{flat_map, IfSome, option_copied}
 use Rattle.rn_declared.specs.Faults.{first_from}

@@ -5,7 +5,7 @@ use Rattle.rn_model.specs.declared.log.Reason.TheVariants.{Memory}
 use Rattle.rn_fire.specs.declared.setup.Setup.{Setup}
 use Rattle.rn_fire.specs.States.{State}
 use Rattle.rn_incr.specs.Counts.{AreCounts}
-use Rattle.rn_incr.specs.Following.{Steps}
+use Rattle.rn_incr.specs.Following.{AdvancesListed}
 use Rattle.rn_incr.proofs.RunningLemmas.{count_fired, counts_ended, counts_fired, no_reason, same_reason, same_setup, still_going}
 use Rattle.rn_incr.proofs.running.go_on.Goals as goal
 
@@ -46,7 +46,7 @@ loop-preserved c =
     let new = c.step.new.state in
     let lists = c.step.new.lists in
     let was = c.loop.invariant in
-    let fires = subst (λ yes. Steps s yes new lists) c.if-not-fired.false c.in_ok-fired.ensures in
+    let fires = subst (λ yes. AdvancesListed s yes new lists) c.if-not-fired.false c.in_ok-fired.ensures in
     let one = count_fired s new fires.0 fires.1 in
     let so_far = was.count in
     record {
@@ -67,7 +67,7 @@ returns-then-not-fired c =
     let new = c.step.new.state in
     let lists = c.step.new.lists in
     let was = c.loop.invariant in
-    let ends = subst (λ yes. Steps s yes new lists) c.if-not-fired.true c.in_ok-fired.ensures in
+    let ends = subst (λ yes. AdvancesListed s yes new lists) c.if-not-fired.true c.in_ok-fired.ensures in
     record {
       setup = ap (λ (x : State). x.setup) ends.2 ∙ was.setup;
       reason = λ memory. ends.1 (same_reason ends.0 Memory (sym (ap (λ (x : State). x.ended) ends.2) ∙ memory));

@@ -8,7 +8,7 @@ use Rattle.rn_fire.specs.declared.setup.Setup.{Setup}
 use Rattle.rn_worker.specs.Seen.{Shows}
 use Rattle.rn_worker.proofs.SeenStates.{few_by, never_fewer, never_many, searched_by}
 use Rattle.rn_worker.specs.Views.{ShowsView}
-use Rattle.rn_least_workers.specs.Following.{Follows, FollowsIn}
+use Rattle.rn_least_workers.specs.Following.{FollowsKnown, FollowsIn}
 use Rattle.rn_firsts.specs.Known.{IsKnown}
 use Rattle.rn_worker.proofs.LaterViews.{follow_then}
 use Rattle.rn_least_workers.proofs.LeastSeen.{known_by, rounds_end}
@@ -69,7 +69,7 @@ plan_at-plan-requires-clause-follows g c =
     let setup : Setup = fixed_of (λ s. s.setup) c.args.desk.now in
     let k = c.loop-view.firsts in
     subst (λ (s : Setup). FollowsIn s.system s.options.depth k c.in-Some.now) c.requires.fixed
-    (subst (λ o. IfSome o (Follows setup k)) c.in-Some.is c.loop-view.invariant.follows)
+    (subst (λ o. IfSome o (FollowsKnown setup k)) c.in-Some.is c.loop-view.invariant.follows)
 
 pub act-left-requires-clause-next : goal.act-left-requires-clause-next
 act-left-requires-clause-next g c =

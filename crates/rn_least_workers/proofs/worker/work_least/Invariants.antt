@@ -4,7 +4,7 @@ use Rattle.std.specs.Prelude.{IfNone, IfSome}
 use Rattle.rn_desk.specs.Passes.{HasNoTurn, IsOf, fixed_of, mine, number, seen}
 use Rattle.rn_worker.specs.Seen.{HasEnded}
 use Rattle.rn_worker.specs.Views.{ShowsView}
-use Rattle.rn_least_workers.specs.Following.{Follows}
+use Rattle.rn_least_workers.specs.Following.{FollowsKnown}
 use Rattle.rn_least_workers.proofs.worker.work_least.Given as goal
 
 abbrev pub invariant-loop-view : goal.invariant-loop-view
@@ -17,7 +17,7 @@ invariant-loop-view g l = record {
   within : length (mine l.pass) ≤ length (seen l.pass);
   swept : l.options.sweep_every ≡ 0 → l.tally.swept ≡ 0;
   some : IfSome l.view (ShowsView (fixed_of (λ s. s.setup) l.desk) (seen l.pass));
-  follows : IfSome l.view (Follows (fixed_of (λ s. s.setup) l.desk) l.firsts);
+  follows : IfSome l.view (FollowsKnown (fixed_of (λ s. s.setup) l.desk) l.firsts);
   none : IfNone l.view (HasEnded (seen l.pass));
 }
 

@@ -3,7 +3,7 @@ use Rattle.std.proofs.Common.{◌≡◌, [], ◌∷◌, ◌++◌, ap, ◌∙◌}
 use Rattle.rn_model.specs.Systems.{main_net}
 use Rattle.rn_moves.specs.Connecting.{made_tokens}
 use Rattle.rn_moves.specs.Moves.{brought_at}
-use Rattle.rn_moves.specs.Order.{times}
+use Rattle.rn_moves.specs.Order.{token_count}
 use Rattle.rn_moves.proofs.Counted.{gathered, made_times}
 use Rattle.rn_moves.proofs.moving.first_moves.Goals as goal
 
@@ -19,5 +19,5 @@ returns c =
       taken = c.new.ensures;
       put = gathered (brought_at system 1 (main_net system ∷ [])) ts c.in_ok-ascending.field-0
           c.in_ok-ascending.ensures.sorted c.in_ok-ascending.ensures.same (λ n place v.
-          ap (λ ts. times ts n place v) are ∙ made_times system 1 (main_net system ∷ []) n place v);
+          ap (λ ts. token_count ts n place v) are ∙ made_times system 1 (main_net system ∷ []) n place v);
     }

@@ -3,7 +3,7 @@ use Rattle.rn_moves.specs.Movable.{HaveMoves}
 use Rattle.rn_moves.proofs.Continuing.{Continues}
 use Rattle.rn_moves.proofs.writing.put_entries.Given as goal
 
--- the lines so far go on with those of the entries that are left, and these can be told
+-- the lines so far go on with those of the entries that are left, and these can be listed
 abbrev pub invariant-loop-entry : goal.invariant-loop-entry
 invariant-loop-entry l = record {
   goes : Continues l.system l.nets l.names l.entries l.initial.out.items

@@ -4,7 +4,7 @@ use Rattle.rn_net.specs.Progress.{Stage}
 use Rattle.rn_net.proofs.Steps.{failed}
 use Rattle.rn_net.proofs.Sorts.{then_read, then_fails}
 use Rattle.rn_net.specs.Parts.{ArePartsUpTo, with_part}
-use Rattle.rn_net.specs.Nets.{net_of}
+use Rattle.rn_net.specs.Nets.{plain_net_of}
 use Rattle.rn_net.proofs.Steps.{begin}
 use Rattle.rn_net.proofs.NetPhrases.{parts, part_sort, many_on, many_next, many_close}
 use Rattle.rn_net.proofs.net_reader.parts_up_to.Goals as goal
@@ -26,6 +26,6 @@ parts-preserved c = record {
 pub parts-init : goal.parts-init
 parts-init c = record {
   moved = (omega arith, c.requires.inside);
-  reads = subst (λ n. Stage (ArePartsUpTo c.args.notation c.args.name) (drop c.args.at c.args.tokens.now) between (many_on (parts c.args.notation) n) (drop c.args.at c.args.tokens.now) between) (let h : net_of c.args.name [] [] [] ≡ net_of c.args.name c.new.result c.new-2.result c.new-3.result = cc (c.new.ensures, c.new-2.ensures, c.new-3.ensures) in h)
-      (begin (many_on (parts c.args.notation) (net_of c.args.name [] [] [])) (drop c.args.at c.args.tokens.now) between (λ ts e rest x. x) (λ ts e rest alike x. x));
+  reads = subst (λ n. Stage (ArePartsUpTo c.args.notation c.args.name) (drop c.args.at c.args.tokens.now) between (many_on (parts c.args.notation) n) (drop c.args.at c.args.tokens.now) between) (let h : plain_net_of c.args.name [] [] [] ≡ plain_net_of c.args.name c.new.result c.new-2.result c.new-3.result = cc (c.new.ensures, c.new-2.ensures, c.new-3.ensures) in h)
+      (begin (many_on (parts c.args.notation) (plain_net_of c.args.name [] [] [])) (drop c.args.at c.args.tokens.now) between (λ ts e rest x. x) (λ ts e rest alike x. x));
 }

@@ -3,7 +3,7 @@ use Rattle.std.proofs.Common.{◌∙◌, ap, map, List}
 use Rattle.rn_model.specs.declared.system.System.{System}
 use Rattle.rn_model.specs.declared.system.Net.{Net}
 use Rattle.rn_model.specs.declared.system.Channel.{Channel}
-use Rattle.rn_numbering.specs.Numbering.{net_of}
+use Rattle.rn_numbering.specs.Numbering.{numbered_net_of}
 use Rattle.rn_numbered.specs.NumbersFound.{channel_by}
 use Rattle.rn_numbering.specs.Making.{net_by}
 use Rattle.rn_numbering.proofs.NetNumbers.{nets_are}
@@ -21,4 +21,4 @@ returns c =
     ∙ ap (λ ks. of (map (net_by (map (λ n. n.name.text) plain.nets) (channel_by ks)) plain.nets) begun.made)
     c.in_ok-begun.ensures.channels
     ∙ ap (λ ns. of ns begun.made) (nets_are plain)
-    ∙ ap (of (map (net_of plain) plain.nets)) c.in_ok-begun.ensures.made
+    ∙ ap (of (map (numbered_net_of plain) plain.nets)) c.in_ok-begun.ensures.made

@@ -4,7 +4,7 @@ use Rattle.rn_reading.specs.Stages.{done}
 use Rattle.rn_reading.specs.Single as read
 use Rattle.rn_reading.proofs.Sorts.{and_then, many}
 use Rattle.rn_reading.proofs.Uncounted.{At, started, reads, fails, another, no_more, so_fails, so_reads}
-use Rattle.rn_pt.specs.Grammar.{PartsUpTo, net_of}
+use Rattle.rn_pt.specs.Grammar.{PartsUpTo, weighted_net_of}
 use Rattle.rn_pt.proofs.Phrases.{place, parts_end, no_place, place_begins, transitions_up_to}
 use Rattle.rn_pt.proofs.net_reader.parts_up_to.Goals as goal
 
@@ -28,7 +28,7 @@ loop-places-preserved c = record {
 
 pub returns-in_err-transitions-clause-reads : goal.returns-in_err-transitions-clause-reads
 returns-in_err-transitions-clause-reads c = so_fails PartsUpTo c.args.tokens.now c.args.at c.from_residual-in_err-transitions.result c.in_err-transitions.field-0.0 c.from_residual-in_err-transitions.ensures.1
-    (fails transitions_up_to (λ transitions. done (net_of c.loop-places.places.items transitions)) c.args.tokens.now c.loop-places.now c.in_err-transitions.field-0.0 (no_more (read.word word.PLACE) place parts_end c.loop-places.places.items c.args.tokens.now c.loop-places.now place_begins c.loop-places.invariant.reads c.in_default.ensures) c.in_err-transitions.ensures.reads)
+    (fails transitions_up_to (λ transitions. done (weighted_net_of c.loop-places.places.items transitions)) c.args.tokens.now c.loop-places.now c.in_err-transitions.field-0.0 (no_more (read.word word.PLACE) place parts_end c.loop-places.places.items c.args.tokens.now c.loop-places.now place_begins c.loop-places.invariant.reads c.in_default.ensures) c.in_err-transitions.ensures.reads)
 
 pub returns-clause-reads : goal.returns-clause-reads
-returns-clause-reads c = so_reads c.args.tokens.now c.in_ok-transitions.end (ap (λ ps. net_of ps c.in_ok-transitions.transitions) c.from_vec-places.ensures) (reads transitions_up_to (λ transitions. done (net_of c.loop-places.places.items transitions)) c.args.tokens.now c.loop-places.now c.in_ok-transitions.end (no_more (read.word word.PLACE) place parts_end c.loop-places.places.items c.args.tokens.now c.loop-places.now place_begins c.loop-places.invariant.reads c.in_default.ensures) c.in_ok-transitions.ensures.reads)
+returns-clause-reads c = so_reads c.args.tokens.now c.in_ok-transitions.end (ap (λ ps. weighted_net_of ps c.in_ok-transitions.transitions) c.from_vec-places.ensures) (reads transitions_up_to (λ transitions. done (weighted_net_of c.loop-places.places.items transitions)) c.args.tokens.now c.loop-places.now c.in_ok-transitions.end (no_more (read.word word.PLACE) place parts_end c.loop-places.places.items c.args.tokens.now c.loop-places.now place_begins c.loop-places.invariant.reads c.in_default.ensures) c.in_ok-transitions.ensures.reads)

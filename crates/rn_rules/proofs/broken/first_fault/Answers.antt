@@ -1,4 +1,4 @@
--- What was told first is what counts first.
+-- What was reported first is what counts first.
 use Rattle.std.proofs.Common.{◌≡◌, sym, subst, None, Some, [], Option}
 use Rattle.std.specs.Prelude.{◌↔◌}
 use Rattle.rn_declared.specs.declared.fault.Fault.{Fault}

@@ -1,4 +1,4 @@
--- Past the end nothing is left to be told.
+-- Past the end nothing is left to be reported.
 use Rattle.std.proofs.Common.{◌∙◌, ap, sym, arith}
 use Rattle.rn_declared.specs.Faults.{first_from}
 use Rattle.rn_rules.proofs.CallLemmas.{misfits_past}

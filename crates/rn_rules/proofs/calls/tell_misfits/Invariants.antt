@@ -1,4 +1,4 @@
--- What was told, and what is to be told of those that are left, are all.
+-- What was reported, and what is to be reported of those that are left, are all.
 use Rattle.std.proofs.Common.{◌≡◌, drop}
 use Rattle.rn_declared.specs.Faults.{first_from}
 use Rattle.rn_rules.specs.Sights.{misfits_of}

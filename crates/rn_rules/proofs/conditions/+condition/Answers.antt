@@ -1,4 +1,4 @@
--- What is told of the lists of a condition.
+-- What is reported of the lists of a condition.
 use Rattle.std.proofs.Common.{◌∙◌, ap, sym}
 use Rattle.std.proofs.lemmas.List.{take_all}
 use Rattle.std.specs.Prelude.{flat_map}

@@ -1,4 +1,4 @@
--- What was seen and told is that of the expressions so far.
+-- What was seen and reported is that of the expressions so far.
 use Rattle.std.proofs.Common.{◌≡◌, map, take}
 use Rattle.std.specs.Prelude.{flat_map}
 use Rattle.rn_declared.specs.declared.pattern.Pattern.TheVariants as Form

@@ -1,4 +1,4 @@
--- What was told, and is to be told of the inscriptions that are left, is all.
+-- What was reported, and is to be reported of the inscriptions that are left, is all.
 use Rattle.std.proofs.Common.{◌≡◌, ◌≤◌, ℕ, Bool, false, drop}
 use Rattle.rn_declared.specs.Faults.{first_from}
 use Rattle.rn_declared.specs.Tables.{found_in}

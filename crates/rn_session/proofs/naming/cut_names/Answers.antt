@@ -1,4 +1,4 @@
--- There are as many names as the next number tells.
+-- There are as many names as the next number says.
 use Rattle.std.proofs.Common.{◌≡◌, ◌+◌, ◌-◌, length, ap, ◌∙◌, arith}
 use Rattle.rn_table.specs.Tables.{Kept}
 use Rattle.rn_fire.specs.States.{State}

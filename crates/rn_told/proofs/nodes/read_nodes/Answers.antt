@@ -5,7 +5,7 @@ use Rattle.rn_lines.specs.NodeSeen.{node}
 use Rattle.rn_model.specs.Systems.{transition_at}
 use Rattle.rn_told.specs.Lines.{lines_in}
 use Rattle.rn_told.specs.Nodes.{placed_at, count_called, Stop}
-use Rattle.rn_told.specs.NodesAhead.{Steps, placed, stop}
+use Rattle.rn_told.specs.NodesAhead.{ReadsNode, placed, stop}
 use Rattle.rn_told.specs.DueAhead.{due_paths, path_due, later}
 use Rattle.rn_told.proofs.NodeLemmas.{node_on, node_stops, paths_due}
 use Rattle.rn_told.proofs.nodes.read_nodes.Goals as goal
@@ -21,7 +21,7 @@ loop-alloc-preserved c =
     let rest = lines_in c.in_ok-line.more.now in
     let n = node c.in-Stands.node in
     let undone : due.done ≡ false = search rules in
-    let step = subst (λ j. Steps system c.args.role path (drop 1 before) lines j rest) c.in-Stands.is
+    let step = subst (λ j. ReadsNode system c.args.role path (drop 1 before) lines j rest) c.in-Stands.is
     (c.in_ok-line.ensures.steps path (drop 1 before) (sym c.is_first.ensures)) in
     let is : placed (record { path = c.in_ok-path-in-Stands.path; found = c.in-Stands.found; node = c.in-Stands.node }) ≡ placed_at system path n
     = λ i. record { path = c.in_ok-path-in-Stands.ensures i; net = step.1 i; transition = step.2 i; said = n } in
@@ -49,10 +49,10 @@ returns-in-loop-alloc c =
     elim c.match-line.branch [
       | in-Late w ↦
           stops (Stop.late (node w.in-Late.node)) (stop c.match-line.end) paths
-          (subst (λ j. Steps system c.args.role path (drop 1 before) lines j rest) w.in-Late.is steps)
+          (subst (λ j. ReadsNode system c.args.role path (drop 1 before) lines j rest) w.in-Late.is steps)
           (ap stop w.end-is) c.loop-alloc.invariant
       | in-Refused w ↦
           stops (Stop.refused w.in-Refused.refusal) (stop c.match-line.end) paths
-          (subst (λ j. Steps system c.args.role path (drop 1 before) lines j rest) w.in-Refused.is steps)
+          (subst (λ j. ReadsNode system c.args.role path (drop 1 before) lines j rest) w.in-Refused.is steps)
           (ap stop w.end-is) c.loop-alloc.invariant
     ]

@@ -1,4 +1,4 @@
--- What the view tells of changes is told to the searcher.
+-- What the view says of changes is told to the searcher.
 use Rattle.rn_firsts.specs.Resting.{KnowsIdle}
 use Rattle.rn_worker.proofs.LaterViews.{follows_lent}
 use Rattle.rn_worker.proofs.considering.find_at.Goals as goal

@@ -5,7 +5,7 @@ use Rattle.rn_desk.specs.Passes.{fixed_of, mine, seen}
 use Rattle.rn_fire.specs.declared.setup.Setup.{Setup}
 use Rattle.rn_firsts.specs.Resting.{KnowsIdle}
 use Rattle.rn_worker.specs.Seen.{Shows}
-use Rattle.rn_worker.specs.Views.{Follows, FollowsIn, ShowsView}
+use Rattle.rn_worker.specs.Views.{FollowsIdle, FollowsIn, ShowsView}
 use Rattle.rn_worker.proofs.LaterViews.{follow_then}
 use Rattle.rn_worker.proofs.SeenStates.{few_by, known_by, never_fewer, never_many, own_within, rounds_end, searched_by}
 use Rattle.rn_worker.proofs.worker.work_while.Goals as goal
@@ -54,7 +54,7 @@ plan_at-plan-requires-clause-follows g c =
     let setup : Setup = fixed_of (λ s. s.setup) c.args.desk.now in
     let k = c.loop-view.searcher.idle in
     subst (λ (s : Setup). FollowsIn s.system s.options.depth k c.in-Some.now) c.requires.fixed
-    (subst (λ o. IfSome o (Follows setup k)) c.in-Some.is c.loop-view.invariant.follows)
+    (subst (λ o. IfSome o (FollowsIdle setup k)) c.in-Some.is c.loop-view.invariant.follows)
 
 pub act-left-requires-clause-next : goal.act-left-requires-clause-next
 act-left-requires-clause-next g c =

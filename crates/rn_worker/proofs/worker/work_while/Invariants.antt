@@ -3,7 +3,7 @@ use Rattle.std.proofs.Common.{◌≡◌, ◌+◌, ◌*◌, ◌-◌, ◌≤◌, c
 use Rattle.std.specs.Prelude.{IfNone, IfSome}
 use Rattle.rn_desk.specs.Passes.{HasNoTurn, IsOf, fixed_of, mine, number, seen}
 use Rattle.rn_worker.specs.Seen.{HasEnded}
-use Rattle.rn_worker.specs.Views.{Follows, ShowsView}
+use Rattle.rn_worker.specs.Views.{FollowsIdle, ShowsView}
 use Rattle.rn_worker.proofs.worker.work_while.Given as goal
 
 abbrev pub invariant-loop-view : goal.invariant-loop-view
@@ -16,7 +16,7 @@ invariant-loop-view g l = record {
   within : length (mine l.pass) ≤ length (seen l.pass);
   swept : l.options.sweep_every ≡ 0 → l.tally.swept ≡ 0;
   some : IfSome l.view (ShowsView (fixed_of (λ s. s.setup) l.desk) (seen l.pass));
-  follows : IfSome l.view (Follows (fixed_of (λ s. s.setup) l.desk) l.searcher.idle);
+  follows : IfSome l.view (FollowsIdle (fixed_of (λ s. s.setup) l.desk) l.searcher.idle);
   none : IfNone l.view (HasEnded (seen l.pass));
 }
 

@@ -3,7 +3,7 @@ use Rattle.std.proofs.Common.{take, ◌∙◌}
 use Rattle.std.specs.Prelude.{true, false, slice_get}
 use Rattle.std.specs.List.{slice_range}
 use Rattle.rn_value.specs.declared.value.Value.{Value}
-use Rattle.rn_bag.specs.Chunks.{Slots, HasRoom, tokens_of}
+use Rattle.rn_bag.specs.Chunks.{Slots, HasRoom, tokens_in_chunk}
 use Rattle.rn_bag.specs.Slots.{there_from}
 use Rattle.rn_bag.specs.Words.{has_bit}
 use Rattle.rn_bag.proofs.CountLemmas.{IsRun, run_bound, run_found, run_here, run_some}
@@ -37,7 +37,7 @@ returns-clause-some c =
 pub returns-clause-bound : goal.returns-clause-bound
 returns-clause-bound c =
     subst (λ (vs : List Value). c.args.index
-    + length (slice_range vs c.slot_of-slot.result c.min-end.result) ≤ length (tokens_of c.args.self.now))
+    + length (slice_range vs c.slot_of-slot.result c.min-end.result) ≤ length (tokens_in_chunk c.args.self.now))
     (sym c.values-values.ensures.value)
     (run_bound (has_bit c.args.self.now.there) c.args.self.now.values c.slot_of-slot.result
     c.min-end.result c.args.index
@@ -50,7 +50,7 @@ returns-clause-bound c =
 pub returns-clause-tokens : goal.returns-clause-tokens
 returns-clause-tokens c k =
     subst (λ (vs : List Value). k < length (slice_range vs c.slot_of-slot.result c.min-end.result) →
-    slice_get (tokens_of c.args.self.now) (c.args.index + k)
+    slice_get (tokens_in_chunk c.args.self.now) (c.args.index + k)
     ≡ slice_get (slice_range vs c.slot_of-slot.result c.min-end.result) k)
     (sym c.values-values.ensures.value)
     (run_found (has_bit c.args.self.now.there) c.args.self.now.values c.slot_of-slot.result

@@ -1,5 +1,5 @@
 use Rattle.std.proofs.Common.{◌≡◌, ℕ, []}
-use Rattle.rn_desk.specs.declared.view.Role.TheVariants.{Waits}
+use Rattle.rn_desk.specs.declared.view.SeatRole.TheVariants.{Waits}
 use Rattle.rn_desk.specs.Turns.{wrapped}
 use Rattle.rn_desk.specs.Steps.{in_role}
 use Rattle.rn_desk.proofs.desk.Desk.take.Given as goal

@@ -1,4 +1,4 @@
--- The last entry tells.
+-- The last entry says it.
 use Rattle.std.proofs.Common.{ap, sym, ◌∙◌, subst, refl}
 use Rattle.std.specs.Prelude.{Some}
 use Rattle.std.specs.Option.{option_copied}

@@ -1,7 +1,7 @@
 use Rattle.std.proofs.Common.{◌≡◌, [], ◌-◌, ◌/◌, ◌%◌, ◌<◌, drop, get_or, length, map, set, refl, sym, ap, ◌∙◌, subst, arith}
 use Rattle.std.specs.Option.{option_map_or}
 use Rattle.rn_table.specs.Leaves.{Ascending, Leaf, held_at, held_if, leaf_with, leaves_by}
-use Rattle.rn_table.specs.LeafSteps.{Steps}
+use Rattle.rn_table.specs.LeafSteps.{HoldsAfterStep}
 use Rattle.rn_table.specs.declared.leaf.Words.{Words}
 use Rattle.rn_table.proofs.DirLemmas.{length_drop, page_changed, seen_leaf, seen_len, set_word, was_here, word_there}
 use Rattle.rn_table.proofs.OneLeafLemmas.{edited_one}
@@ -42,5 +42,5 @@ returns c =
           ∙ page_changed (λ dir. option_map_or (λ d. d.value) dir []) c.self.inside.dirs.items c.self.inside.words.items c.args.self.now c.args.at (c.args.at - c.args.at % 32) c.index_mut-dir.result.now c.edit_in.new.dir u c.self.view_is (omega (arith, c.requires.inside, seen_len (held_at (map (λ dir. option_map_or (λ d. d.value) dir []) c.self.inside.dirs.items)) c.self.inside.words.items c.args.self.now c.self.view_is, c.self.invariant)) c.index_mut-dir.ensures.value refl
           (λ i v low within differ is some. c.in_ok-edit_in.ensures.others i v low (subst (λ ws. i < length ws) (sym (c.words_of_dir-rest.ensures ∙ ap (drop (c.args.at - c.args.at % 32)) c.as_slice.ensures.value)) within) differ (is ∙ ap (λ ws. get_or ws i v) (sym (c.words_of_dir-rest.ensures ∙ ap (drop (c.args.at - c.args.at % 32)) c.as_slice.ensures.value))) some);
       so = edited_one c.args.edit.now (held_at (map (λ dir. option_map_or (λ d. d.value) dir []) c.self.inside.dirs.items) c.args.at) (get_or (option_map_or (λ d. d.value) c.edit_in.new.dir []) (c.args.at % 32) []) u.kept u.starting (c.requires.leaf old was)
-          (subst (λ r. Steps u.kept c.args.edit.now (held_if u.kept r) (held_if u.kept (get_or (option_map_or (λ d. d.value) c.edit_in.new.dir []) (c.args.at % 32) []))) (ap (λ d. get_or d (c.args.at % 32) []) (was_here (λ dir. option_map_or (λ d. d.value) dir []) c.self.inside.dirs.items (c.args.at / 32) c.index_mut-dir.result.now (omega (arith, c.requires.inside, seen_len (held_at (map (λ dir. option_map_or (λ d. d.value) dir []) c.self.inside.dirs.items)) c.self.inside.words.items c.args.self.now c.self.view_is, c.self.invariant)) c.index_mut-dir.ensures.value)) c.in_ok-edit_in.ensures.here);
+          (subst (λ r. HoldsAfterStep u.kept c.args.edit.now (held_if u.kept r) (held_if u.kept (get_or (option_map_or (λ d. d.value) c.edit_in.new.dir []) (c.args.at % 32) []))) (ap (λ d. get_or d (c.args.at % 32) []) (was_here (λ dir. option_map_or (λ d. d.value) dir []) c.self.inside.dirs.items (c.args.at / 32) c.index_mut-dir.result.now (omega (arith, c.requires.inside, seen_len (held_at (map (λ dir. option_map_or (λ d. d.value) dir []) c.self.inside.dirs.items)) c.self.inside.words.items c.args.self.now c.self.view_is, c.self.invariant)) c.index_mut-dir.ensures.value)) c.in_ok-edit_in.ensures.here);
     }
