@@ -15,7 +15,8 @@ use Rattle.rn_model.specs.Firing.{Acts, Effects, with_set, with_out, after_actio
 use Rattle.rn_model.specs.Firing.{outputs_defined, node_acts, effects_with, all_effects}
 use Rattle.rn_model.specs.Systems.{transition_of}
 use Rattle.rn_table.specs.Changes.{values_at}
-use Rattle.rn_acts.specs.Acted.{ArePut, node_rows, nothing, with_acts, with_node, with_effects}
+use Rattle.rn_acts.specs.Acted.{ArePut}
+use Rattle.rn_acts.specs.link.Acted.{node_rows, nothing, with_acts, with_node, with_effects}
 use Rattle.rn_acts.specs.declared.acts.Acted.{Acted}
 use Rattle.rn_acts.proofs.RowLemmas.{OwnThis, rows_are}
 

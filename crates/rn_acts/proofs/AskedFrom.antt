@@ -8,7 +8,7 @@ use Rattle.std.specs.Cmp.{Equal-is}
 use Rattle.std.proofs.lemmas.Bool.{eqb-true, eq-eqb}
 use Rattle.std.proofs.lemmas.Option.{same_Some}
 use Rattle.rn_value.specs.Order.{inst_cmp}
-use Rattle.rn_value.specs.OrderLaws.{insts_apart}
+use Rattle.rn_value.specs.link.OrderLaws.{insts_apart}
 use Rattle.rn_value.specs.declared.value.InstRef.{InstRef}
 use Rattle.rn_value.specs.declared.value.InstRef.TheVariants.{Old}
 use Rattle.rn_value.specs.declared.value.Value.{Value}

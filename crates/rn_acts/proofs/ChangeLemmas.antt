@@ -26,7 +26,7 @@ use Rattle.rn_table.specs.Laws.{IsChangeOf, LeavesNew}
 use Rattle.rn_table.specs.declared.change.Change.{Change}
 use Rattle.rn_table.specs.declared.change.Row.{Row}
 use Rattle.rn_acts.specs.Acted.{ArePut}
-use Rattle.rn_acts.specs.ChangeRows.{row_at, numbered_row}
+use Rattle.rn_acts.specs.link.ChangeRows.{row_at, numbered_row}
 use Rattle.rn_acts.proofs.RowLemmas.{same_number}
 
 -- all values of these lists

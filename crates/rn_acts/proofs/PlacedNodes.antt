@@ -31,7 +31,7 @@ use Rattle.rn_model.proofs.MarkingsOfRuns.{good_transition, found_is_there}
 use Rattle.rn_model.proofs.NodesByPath.{node_at-path}
 use Rattle.rn_table.proofs.InstanceLemmas.{all_lower, numbered_kept, numbered_later}
 use Rattle.rn_table.specs.Changes.{ArePlaced, new_from, with_made}
-use Rattle.rn_table.specs.Leaves.{numbered}
+use Rattle.rn_table.specs.link.Leaves.{numbered}
 use Rattle.rn_table.specs.declared.change.Row.{Row}
 use Rattle.rn_acts.specs.Acted.{AreOfArcs, IsOfArc}
 use Rattle.rn_acts.proofs.AskedFrom.{numbered_from}

@@ -21,7 +21,7 @@ use Rattle.rn_model.specs.Evaluation.{worth}
 use Rattle.rn_model.specs.Systems.{transition_of}
 use Rattle.rn_table.specs.Changes.{values_at}
 use Rattle.rn_table.specs.declared.change.Row.{Row}
-use Rattle.rn_acts.specs.Acted.{row_of, arc_rows, node_rows}
+use Rattle.rn_acts.specs.link.Acted.{row_of, arc_rows, node_rows}
 
 flipped : (p q : ℕ) → nat_eq p q ≡ nat_eq q p
 flipped p q =

@@ -24,8 +24,9 @@ use Rattle.rn_arcs.specs.Places.{is_at}
 use Rattle.rn_arcs.specs.declared.demands.Place2.{Place2}
 use Rattle.rn_arcs.specs.declared.demands.Takings.{Takings}
 use Rattle.rn_table.specs.declared.change.Row.{Row}
-use Rattle.rn_acts.specs.Acted.{AreOfArcs, IsOfArc, arc_rows, node_rows, nothing, row_of, with_effects}
-use Rattle.rn_acts.specs.ChangeRows.{numbered_row, row_at}
+use Rattle.rn_acts.specs.Acted.{AreOfArcs, IsOfArc}
+use Rattle.rn_acts.specs.link.Acted.{arc_rows, node_rows, nothing, row_of, with_effects}
+use Rattle.rn_acts.specs.link.ChangeRows.{numbered_row, row_at}
 use Rattle.rn_acts.specs.declared.acts.Acted.{Acted}
 use Rattle.rn_acts.proofs.AskedFrom.{asked_from}
 use Rattle.rn_items.proofs.Lists.{in_filter}

@@ -1,4 +1,3 @@
-pub mod Acting
+pub mod link
 pub mod Acted
-pub mod ChangeRows
 pub mod Laws

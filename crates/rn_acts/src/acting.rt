@@ -21,7 +21,7 @@ pub(crate) struct Acting<'a> {
 }
 
 impl<'a> Acting<'a> {
-    ghost use Rattle.rn_acts.specs.Acting.{acts_of, action_of, if_done};
+    ghost use Rattle.rn_acts.specs.link.Acting.{acts_of, action_of, if_done};
 
     /// A node before its actions, in the firing with this number.
     pub(crate) fn new(alloc: Global, system: &'a System, node: &'a Node, step: u64) -> Acting<'a>
@@ -81,7 +81,7 @@ impl<'a> Acting<'a> {
 }
 
 impl Values for Acting<'_> {
-    ghost use Rattle.rn_acts.specs.Acting.{env_acting};
+    ghost use Rattle.rn_acts.specs.link.Acting.{env_acting};
 
     ghost env = { env_acting };
 

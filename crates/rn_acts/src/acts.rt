@@ -3,8 +3,9 @@ ghost use Rattle.std.specs.Prelude.{◌≡◌, ◌≤◌, All, IfOk, IfSome, Som
 ghost use Rattle.rn_model.specs.Bindings.{IsNodeOf};
 ghost use Rattle.rn_model.specs.Firing.{Effects, all_effects};
 ghost use Rattle.rn_model.specs.Limits.{greatest_step};
-ghost use Rattle.rn_acts.specs.Acting.{if_done};
-ghost use Rattle.rn_acts.specs.Acted.{AreOfArcs, ArePut, nothing, with_node, with_effects};
+ghost use Rattle.rn_acts.specs.link.Acting.{if_done};
+ghost use Rattle.rn_acts.specs.Acted.{AreOfArcs, ArePut};
+ghost use Rattle.rn_acts.specs.link.Acted.{nothing, with_node, with_effects};
 
 use crate::acting::Acting;
 use crate::outputs::put_outputs;

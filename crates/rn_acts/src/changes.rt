@@ -8,7 +8,7 @@ ghost use Rattle.rn_model.specs.Markings.{Marking};
 ghost use Rattle.rn_table.specs.Changes.{changed, values_at};
 ghost use Rattle.rn_table.specs.Laws.{LeavesNew};
 ghost use Rattle.rn_acts.specs.Acted.{AreOfArcs, ArePut};
-ghost use Rattle.rn_acts.specs.ChangeRows.{numbered_row};
+ghost use Rattle.rn_acts.specs.link.ChangeRows.{numbered_row};
 
 use crate::creations::nets_made;
 use rn_arcs::{Place2, Places2, Takings, takings_of};

@@ -3,8 +3,8 @@ ghost use Rattle.std.specs.Prelude.{◌≡◌, ◌++◌, IfOk, IsTrue, OnOk, fla
 ghost use Rattle.std.specs.List.{list_all};
 ghost use Rattle.rn_model.specs.Demands.{puts};
 ghost use Rattle.rn_model.specs.Firing.{output_defined};
-ghost use Rattle.rn_acts.specs.Acting.{env_acting};
-ghost use Rattle.rn_acts.specs.Acted.{row_of, arc_rows};
+ghost use Rattle.rn_acts.specs.link.Acting.{env_acting};
+ghost use Rattle.rn_acts.specs.link.Acted.{row_of, arc_rows};
 
 use crate::acting::Acting;
 use rn_agree::awaits_action;

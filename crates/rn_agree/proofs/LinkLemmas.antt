@@ -22,7 +22,7 @@ use Rattle.rn_model.specs.Limits.{most_nodes}
 use Rattle.rn_model.specs.Systems.{transition_of}
 use Rattle.rn_model.specs.Bindings.{node_at, Shape, IsStart}
 use Rattle.rn_agree.specs.Paths.{AscendByPath}
-use Rattle.rn_agree.specs.Parts.{IsInRange, HasChildren, HasCaller, IsLinked}
+use Rattle.rn_agree.specs.link.Parts.{IsInRange, HasChildren, HasCaller, IsLinked}
 use Rattle.rn_agree.proofs.PathLemmas.{found_there, lower_first}
 
 find_passes : {X : Type 0} (test : X → Bool) (xs : List X) (y : X) → find test xs ≡ Some y →

@@ -27,7 +27,7 @@ use Rattle.rn_model.proofs.MarkingsOfRuns.{good_transition}
 use Rattle.rn_model.proofs.OperandKinds.{values_have_kinds}
 use Rattle.rn_model.proofs.AskedValues.{got_contained}
 use Rattle.rn_model.proofs.AgreeingValues.{beside_kind}
-use Rattle.rn_agree.specs.Agreeing.{IsReadable, NodeHolds, CallsAgree, AgreesInParts}
+use Rattle.rn_agree.specs.link.Agreeing.{IsReadable, NodeHolds, CallsAgree, AgreesInParts}
 use Rattle.rn_agree.proofs.LinkLemmas.{found_itself, on_its_path, links_of_shape, no_more_downlinks}
 
 -- arguments with values, of which each has a kind, have values of these kinds

@@ -1,3 +1,2 @@
-pub mod Agreeing
-pub mod Parts
+pub mod link
 pub mod Paths

@@ -3,7 +3,7 @@ ghost use Rattle.std.specs.Prelude.{◌↔◌, All, IfOk, IsTrue};
 ghost use Rattle.rn_model.specs.Agreement.{Agrees};
 ghost use Rattle.rn_model.specs.Bindings.{Shape};
 ghost use Rattle.rn_model.specs.Good.{Good};
-ghost use Rattle.rn_agree.specs.Agreeing.{AgreesInParts, CallsAgree, IsReadable, NodeHolds};
+ghost use Rattle.rn_agree.specs.link.Agreeing.{AgreesInParts, CallsAgree, IsReadable, NodeHolds};
 ghost use Rattle.rn_agree.specs.Paths.{AscendByPath};
 
 use crate::calls::calls_agree;

@@ -6,8 +6,8 @@ ghost use Rattle.rn_model.specs.Lists.{HaveOneValue};
 ghost use Rattle.rn_model.specs.Systems.{uplink_args};
 ghost use Rattle.rn_model.specs.Evaluation.{worth};
 ghost use Rattle.rn_model.specs.Agreement.{CallAgrees};
-ghost use Rattle.rn_calc.specs.NodeValues.{lent_env};
-ghost use Rattle.rn_agree.specs.Agreeing.{CallAgreesAt, CallsAgree, IsReadable};
+ghost use Rattle.rn_calc.specs.link.NodeValues.{lent_env};
+ghost use Rattle.rn_agree.specs.link.Agreeing.{CallAgreesAt, CallsAgree, IsReadable};
 ghost use Rattle.rn_agree.specs.Paths.{AscendByPath};
 
 use crate::lookup::child_on;

@@ -7,10 +7,10 @@ ghost use Rattle.rn_value.specs.declared.value.Value.TheVariants as Of;
 ghost use Rattle.rn_model.specs.Lists.{value_beside};
 ghost use Rattle.rn_model.specs.Systems.{var_kind_in};
 ghost use Rattle.rn_model.specs.Evaluation.{IsTrueUnder};
-ghost use Rattle.rn_calc.specs.NodeValues.{lent_env};
-ghost use Rattle.rn_agree.specs.Agreeing.{AreCreated, ArcHasValue, HaveOwnKinds, HoldUnder};
-ghost use Rattle.rn_agree.specs.Agreeing.{IsEqual};
-ghost use Rattle.rn_agree.specs.Agreeing.{IsReadable, NodeHolds};
+ghost use Rattle.rn_calc.specs.link.NodeValues.{lent_env};
+ghost use Rattle.rn_agree.specs.link.Agreeing.{AreCreated, ArcHasValue, HaveOwnKinds, HoldUnder};
+ghost use Rattle.rn_agree.specs.link.Agreeing.{IsEqual};
+ghost use Rattle.rn_agree.specs.link.Agreeing.{IsReadable, NodeHolds};
 
 use crate::mentions::awaits_action;
 use rn_calc::{NodeValues, Values, have_one_value, is_true, read};

@@ -5,7 +5,7 @@ ghost use Rattle.rn_model.specs.declared.binding.Node.{Node as Occurrence};
 ghost use Rattle.rn_model.specs.Bindings.{IsNodeOf, HasUplinkOf, IsOfCreation, node_at};
 ghost use Rattle.rn_model.specs.Limits.{most_nodes};
 ghost use Rattle.rn_agree.specs.Paths.{AscendByPath};
-ghost use Rattle.rn_agree.specs.Parts.{HasChildren, HasCaller, IsLinked};
+ghost use Rattle.rn_agree.specs.link.Parts.{HasChildren, HasCaller, IsLinked};
 
 use crate::lookup::{child_on, node_on};
 use crate::nodes::answers;

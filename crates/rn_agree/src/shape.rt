@@ -4,7 +4,7 @@ ghost use Rattle.rn_model.specs.declared.binding.Node.{Node as Occurrence};
 ghost use Rattle.rn_model.specs.Bindings.{IsNodeOf, IsStart, Shape, node_at};
 ghost use Rattle.rn_model.specs.Limits.{most_nodes};
 ghost use Rattle.rn_agree.specs.Paths.{AscendByPath};
-ghost use Rattle.rn_agree.specs.Parts.{IsInRange, IsLinked};
+ghost use Rattle.rn_agree.specs.link.Parts.{IsInRange, IsLinked};
 
 use crate::links::is_linked;
 use crate::lookup::node_on;

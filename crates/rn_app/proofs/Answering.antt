@@ -16,7 +16,7 @@ use Rattle.rn_commands.specs.declared.jobs.Job.{Job}
 use Rattle.rn_app.specs.declared.beginning.Begun.TheVariants.{Done, Working}
 use Rattle.rn_app.specs.declared.preparing.Prepared.{Prepared}
 use Rattle.rn_app.specs.declared.preparing.Prepared.TheVariants.{Answered}
-use Rattle.rn_app.specs.Begun.{PreparesOrStops}
+use Rattle.rn_app.specs.link.Begun.{PreparesOrStops}
 use Rattle.rn_app.specs.TopCall.{Comes, IsFaultStatus, IsFine, IsNoInput, IsNoRecord, IsUnread, MayFault}
 use Rattle.rn_app.proofs.Causes.{IsDoneBut, Laws, RefusesRecords, fine_status, input_status, migrate_refuses, moves_refuse, record_status}
 use Rattle.rn_app.proofs.Causes.{replay_refuses, words_status}

@@ -17,7 +17,8 @@ use Rattle.rn_commands.specs.Runs.{RunsTo}
 use Rattle.rn_commands.specs.Workloads.{GensTo}
 use Rattle.rn_app.specs.declared.preparing.Prepared.{Prepared}
 use Rattle.rn_app.specs.declared.preparing.Prepared.TheVariants.{Due}
-use Rattle.rn_app.specs.Begun.{AsksFor, IsDue, NeedsThreads, PreparesOrStops}
+use Rattle.rn_app.specs.Begun.{AsksFor, IsDue, NeedsThreads}
+use Rattle.rn_app.specs.link.Begun.{PreparesOrStops}
 use Rattle.rn_app.specs.Commands.{ComesTo}
 use Rattle.rn_app.specs.TopCall.{Comes}
 use Rattle.rn_app.proofs.WordsAndInput.{done_on, one_command}

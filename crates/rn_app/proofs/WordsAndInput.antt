@@ -20,7 +20,8 @@ use Rattle.rn_answer.specs.Refusing.{Stops, refusal}
 use Rattle.rn_app.specs.declared.preparing.Prepared.{Prepared}
 use Rattle.rn_app.specs.declared.preparing.Prepared.TheVariants.{Answered, Due}
 use Rattle.rn_app.specs.Commands.{ComesTo}
-use Rattle.rn_app.specs.Begun.{AnswersTo, IfAnswered, IsPrepared, IsStoppedBy, NeedsThreads, PreparesOrStops}
+use Rattle.rn_app.specs.Begun.{NeedsThreads}
+use Rattle.rn_app.specs.link.Begun.{AnswersTo, IfAnswered, IsPrepared, IsStoppedBy, PreparesOrStops}
 use Rattle.rn_app.specs.TopCall.{Comes}
 
 -- accepted words give one command

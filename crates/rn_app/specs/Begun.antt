@@ -1,18 +1,13 @@
 -- What is done without threads, and what is left to them.
-use Rattle.std.specs.Prelude.{ℕ, ◌≡◌, ◌≤◌, List, [], length, Option, Some, None, Result, Ok, Err, ⊤}
+use Rattle.std.specs.Prelude.{ℕ, ◌≡◌, ◌≤◌, List, [], length, Option, Some, None, ⊤}
 use Rattle.rn_model.specs.Good.{Good, IsInLimits}
 use Rattle.rn_record.specs.RecordText.{IsFormat}
 use Rattle.rn_outside.specs.Bytes.{GivesAll}
-use Rattle.rn_outside.specs.Faults.{Rose}
 use Rattle.rn_words.specs.declared.command.Command.{Command}
 use Rattle.rn_words.specs.declared.command.Command.TheVariants as command
 use Rattle.rn_words.specs.Commands.{WordsOk}
 use Rattle.rn_gen.specs.Workload.{workload}
-use Rattle.rn_answer.specs.declared.answer.Answer.{Answer}
-use Rattle.rn_answer.specs.declared.stopped.Stopped.{Stopped}
-use Rattle.rn_answer.specs.declared.stopped.Stopped.TheVariants.{Refused, ReadFault, NoMemory}
-use Rattle.rn_answer.specs.NetTexts.{Accepted, AcceptedIn, RefusesNet}
-use Rattle.rn_answer.specs.Refusing.{Stops}
+use Rattle.rn_answer.specs.NetTexts.{Accepted, AcceptedIn}
 use Rattle.rn_answer.specs.Input.{longest_input}
 use Rattle.rn_commands.specs.declared.jobs.Job.{Job}
 use Rattle.rn_commands.specs.declared.jobs.Pick.TheVariants.{Any, Seeded, Least}
@@ -20,10 +15,6 @@ use Rattle.rn_commands.specs.declared.jobs.Telling.TheVariants.{Record, Tally}
 use Rattle.rn_commands.specs.Jobs.{IsAskedBy}
 use Rattle.rn_app.specs.declared.beginning.Begun.{Begun}
 use Rattle.rn_app.specs.declared.beginning.Begun.TheVariants.{Done, Working}
-use Rattle.rn_app.specs.declared.preparing.Prepared.{Prepared}
-use Rattle.rn_app.specs.declared.preparing.Prepared.TheVariants.{Answered, Due}
-use Rattle.rn_app.specs.Commands.{ComesTo}
-use Rattle.rn_app.specs.TopCall.{Comes}
 
 -- the commands whose work is a run by workers, which needs threads
 abbrev pub NeedsThreads : Command → Type 0
@@ -80,45 +71,3 @@ IsDone (Working job) P = ⊥
 abbrev pub IfWorking : Begun → (Job → Type 0) → Type 0
 IfWorking (Done status) P = ⊤
 IfWorking (Working job) P = P job
-
--- What follows only connects the code to the definitions.
-
--- what a command comes to where no run is due: those that need threads come to a refusal alone
-abbrev pub AnswersTo : Command → List ℕ → Answer → Type 0
-AnswersTo (command.Run options) bytes a = RefusesNet bytes a
-AnswersTo (command.RunLeast options) bytes a = RefusesNet bytes a
-AnswersTo (command.RunSeeded options seed) bytes a = RefusesNet bytes a
-AnswersTo (command.Gen copies options) bytes a = ⊥
-AnswersTo (command.GenSeeded copies options seed) bytes a = ⊥
-AnswersTo c bytes a = ComesTo c bytes a
-
--- what a command comes to on its input, or the run that it asks for; or why there is neither
-abbrev pub IsPrepared : Command → List ℕ → Result Prepared Stopped → Type 0
-IsPrepared c bytes (Ok (Answered a)) = AnswersTo c bytes a
-IsPrepared c bytes (Ok (Due job)) = AsksFor c bytes job × CanRun job
-IsPrepared c bytes (Err stopped) = Stops (AnswersTo c bytes) stopped
-
--- why words and input come to nothing: they are refused, a read failed, or memory ran out
-abbrev pub IsStoppedBy : List (List ℕ) → Option (List ℕ) → Option (List ℕ) → ℕ → ℕ → Stopped →
-    Type 0
-IsStoppedBy words left left_after faults faults_after (Refused a) = Comes words left left_after a
-IsStoppedBy words left left_after faults faults_after ReadFault = Rose faults faults_after
-IsStoppedBy words left left_after faults faults_after (NoMemory _) = ⊤
-
--- the same where there may be an answer, or a run that is due
-abbrev pub PreparesOrStops : List (List ℕ) → Option (List ℕ) → Option (List ℕ) → ℕ → ℕ →
-    Result Prepared Stopped → Type 0
-PreparesOrStops words left left_after faults faults_after (Ok (Answered a)) =
-    Comes words left left_after a
-PreparesOrStops words left left_after faults faults_after (Ok (Due job)) =
-    IsDue words left left_after job
-PreparesOrStops words left left_after faults faults_after (Err stopped) =
-    IsStoppedBy words left left_after faults faults_after stopped
-
--- an answer, or one by which words and input are refused, has this
-abbrev pub IfAnswered : Result Prepared Stopped → (Answer → Type 0) → Type 0
-IfAnswered (Ok (Answered a)) P = P a
-IfAnswered (Ok (Due job)) P = ⊤
-IfAnswered (Err (Refused a)) P = P a
-IfAnswered (Err ReadFault) P = ⊤
-IfAnswered (Err (NoMemory _)) P = ⊤

@@ -1,4 +1,5 @@
-pub mod Commands
-pub mod TopCall
-pub mod Laws
+pub mod link
 pub mod Begun
+pub mod Commands
+pub mod Laws
+pub mod TopCall

@@ -10,7 +10,8 @@ ghost use Rattle.rn_words.specs.Commands.{WordsOk};
 ghost use Rattle.rn_words.specs.Reading.{reading};
 ghost use Rattle.rn_answer.specs.declared.status.TheConstants.{NET_REFUSED};
 ghost use Rattle.rn_answer.specs.Input.{longest_input};
-ghost use Rattle.rn_app.specs.Begun.{IfAnswered, IsPrepared, NeedsThreads, PreparesOrStops};
+ghost use Rattle.rn_app.specs.Begun.{NeedsThreads};
+ghost use Rattle.rn_app.specs.link.Begun.{IfAnswered, IsPrepared, PreparesOrStops};
 
 use rn_answer::{Answer, Stopped, check, command_of, input_of, print};
 use rn_commands::{

@@ -18,7 +18,7 @@ use Rattle.rn_model.specs.Bindings.{env_of}
 use Rattle.rn_model.specs.Demands.{Reading, readings, asked_by_arc, asked_by_node, asked_at}
 use Rattle.rn_model.specs.Evaluation.{Env, worth}
 use Rattle.rn_model.specs.Systems.{transition_of}
-use Rattle.rn_arcs.specs.Asks.{place_asked, is_wanted, arc_asks, node_asks, binding_asks}
+use Rattle.rn_arcs.specs.link.Asks.{place_asked, is_wanted, arc_asks, node_asks, binding_asks}
 use Rattle.rn_arcs.specs.Places.{InstPlace}
 use Rattle.rn_arcs.specs.declared.ask.Ask.{Ask}
 use Rattle.rn_arcs.proofs.Gathering.{at_place, at_place-one, at_place-flat, flat_nothing, nil}

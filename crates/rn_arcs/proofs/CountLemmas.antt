@@ -10,7 +10,7 @@ use Rattle.std.proofs.lemmas.List.Sorted.{searchable_from_sorted}
 use Rattle.std.proofs.lemmas.List.Sums.{sum_by-cons}
 use Rattle.std.proofs.lemmas.Bool.{false≢true}
 use Rattle.rn_value.specs.Order.{value_cmp}
-use Rattle.rn_value.specs.OrderLaws.{value_cmp-total}
+use Rattle.rn_value.specs.link.OrderLaws.{value_cmp-total}
 use Rattle.rn_value.specs.declared.value.Value.{Value}
 use Rattle.rn_model.specs.Lists.{same_value, count_of, IsWithin}
 use Rattle.rn_model.proofs.ValueLists.{one_if, count_of-cons}

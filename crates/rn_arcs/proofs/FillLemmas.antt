@@ -28,10 +28,10 @@ use Rattle.rn_model.specs.Systems.{transition_of, puts_awaited}
 use Rattle.rn_model.proofs.LengthsByCounts.{ordered_length}
 use Rattle.rn_model.proofs.EachElement.{each_append}
 use Rattle.rn_arcs.specs.Demanded.{HasFills, fill_place, one_count}
-use Rattle.rn_arcs.specs.Fillings.{known_count, awaited_count, pours_of, arc_pours, node_pours}
-use Rattle.rn_arcs.specs.Fillings.{binding_pours, pour_place, fill_of, joined_pour, with_pour}
-use Rattle.rn_arcs.specs.Fillings.{fills_of}
-use Rattle.rn_arcs.specs.Joining.{Rising}
+use Rattle.rn_arcs.specs.link.Fillings.{known_count, awaited_count, pours_of, arc_pours, node_pours}
+use Rattle.rn_arcs.specs.link.Fillings.{binding_pours, pour_place, fill_of, joined_pour, with_pour}
+use Rattle.rn_arcs.specs.link.Fillings.{fills_of}
+use Rattle.rn_arcs.specs.link.Joining.{Rising}
 use Rattle.rn_arcs.specs.Places.{InstPlace, place_cmp, is_at}
 use Rattle.rn_arcs.specs.declared.demands.Fill.{Fill}
 use Rattle.rn_arcs.specs.declared.filling.Pour.{Pour}

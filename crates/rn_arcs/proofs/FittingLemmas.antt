@@ -19,9 +19,9 @@ use Rattle.rn_model.proofs.AskedValues.{counted, is_counted}
 use Rattle.rn_model.proofs.EnablingLemmas.{idle, not_in_nil}
 use Rattle.rn_model.proofs.ReadConditions.{each_in}
 use Rattle.rn_model.proofs.ValueLists.{others_are_taken}
-use Rattle.rn_arcs.specs.Groups.{place_of, AreAsked}
-use Rattle.rn_arcs.specs.Meeting.{Meets}
-use Rattle.rn_arcs.specs.Room.{AllHaveRoom}
+use Rattle.rn_arcs.specs.link.Groups.{place_of, AreAsked}
+use Rattle.rn_arcs.specs.link.Meeting.{Meets}
+use Rattle.rn_arcs.specs.link.Room.{AllHaveRoom}
 use Rattle.rn_arcs.specs.Places.{InstPlace}
 use Rattle.rn_arcs.specs.declared.asked.Asked.{Asked}
 use Rattle.rn_arcs.proofs.TokenLemmas.{part_fails}

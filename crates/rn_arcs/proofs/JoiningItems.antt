@@ -5,7 +5,7 @@ use Rattle.std.proofs.Common.{append_assoc}
 use Rattle.std.specs.Prelude.{fold}
 use Rattle.std.proofs.lemmas.List.{append-nil}
 use Rattle.std.proofs.Math.ListN.{set}
-use Rattle.rn_arcs.specs.Joining.{with_item}
+use Rattle.rn_arcs.specs.link.Joining.{with_item}
 use Rattle.rn_arcs.specs.Places.{InstPlace, is_at}
 use Rattle.rn_arcs.proofs.Gathering.{at_place, at_place-append, at_place-one}
 use Rattle.rn_arcs.proofs.PlaceOrder.{same_place}

@@ -3,7 +3,7 @@ use Rattle.std.proofs.Common.{◌≡◌, Bool, List, [], sym, subst}
 use Rattle.std.specs.Prelude.{◌⊎◌, ◌↔◌, IsTrue}
 use Rattle.rn_value.specs.declared.value.Value.{Value}
 use Rattle.rn_model.specs.Lists.{IsWithin}
-use Rattle.rn_arcs.specs.Meeting.{Meets, IsWhole, AreAbsent, AreLeft}
+use Rattle.rn_arcs.specs.link.Meeting.{Meets, IsWhole, AreAbsent, AreLeft}
 use Rattle.rn_arcs.specs.declared.asked.Asked.{Asked}
 
 module _ (held ts taken tested inhibited : List Value) (cleared : List (List Value)) (g : Asked)

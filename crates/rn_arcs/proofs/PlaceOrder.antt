@@ -11,7 +11,7 @@ use Rattle.std.proofs.lemmas.Bool.{eqb-true, eq-eqb, false≢true}
 use Rattle.std.proofs.lemmas.Cmp.{then_total, on_total, nat_cmp_total}
 use Rattle.std.proofs.lemmas.Map.Lookups.{exact_unsigned}
 use Rattle.rn_value.specs.Order.{inst_cmp}
-use Rattle.rn_value.specs.OrderLaws.{inst_alike, insts_apart, then_equal}
+use Rattle.rn_value.specs.link.OrderLaws.{inst_alike, insts_apart, then_equal}
 use Rattle.rn_value.specs.declared.value.InstRef.{InstRef}
 use Rattle.rn_value.specs.contracts.value.InstRefPartialOrd.TheImpl.Laws as inst_laws
 use Rattle.rn_arcs.specs.Places.{InstPlace, place_cmp, is_at}

@@ -18,9 +18,9 @@ use Rattle.rn_model.specs.declared.binding.Binding.{Binding}
 use Rattle.rn_model.specs.Lists.{ordered_values}
 use Rattle.rn_model.specs.Demands.{readings, asked_at, takes, puts, tests, inhibits, clears}
 use Rattle.rn_model.proofs.ValueLists.{ordered_values_ascend}
-use Rattle.rn_arcs.specs.Asks.{place_asked, is_wanted, binding_asks}
-use Rattle.rn_arcs.specs.Groups.{place_of, fresh, with_arc, first_of, joined_ask, groups_of}
-use Rattle.rn_arcs.specs.Groups.{in_order, Rises, asked_in, AreAsked}
+use Rattle.rn_arcs.specs.link.Asks.{place_asked, is_wanted, binding_asks}
+use Rattle.rn_arcs.specs.link.Groups.{place_of, fresh, with_arc, first_of, joined_ask, groups_of}
+use Rattle.rn_arcs.specs.link.Groups.{in_order, Rises, asked_in, AreAsked}
 use Rattle.rn_arcs.specs.Places.{InstPlace, place_cmp, is_at}
 use Rattle.rn_arcs.specs.declared.ask.Ask.{Ask}
 use Rattle.rn_arcs.specs.declared.asked.Asked.{Asked}

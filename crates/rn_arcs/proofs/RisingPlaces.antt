@@ -8,7 +8,7 @@ use Rattle.std.specs.Ordering.{is_eq, is_lt, ordering_reverse}
 use Rattle.std.specs.declared.cmp.Ordering.TheVariants.{Less}
 use Rattle.std.proofs.lemmas.List.Elements.{recursion_from_All}
 use Rattle.std.proofs.lemmas.List.Sorted.{ranks_by, sorted_far}
-use Rattle.rn_arcs.specs.Joining.{Rising, with_item}
+use Rattle.rn_arcs.specs.link.Joining.{Rising, with_item}
 use Rattle.rn_arcs.specs.Places.{InstPlace, place_cmp, is_at}
 use Rattle.rn_arcs.proofs.PlaceOrder.{place_total, is_above, stays_below, same_place}
 use Rattle.rn_arcs.proofs.PlaceOrder.{not_at_above, at_itself}

@@ -23,11 +23,11 @@ use Rattle.rn_model.specs.Markings.{Marking, tokens, tokens_at}
 use Rattle.rn_model.specs.Systems.{net_at, transition_of, capacity}
 use Rattle.rn_model.proofs.EachElement.{each_append}
 use Rattle.rn_arcs.specs.Demanded.{HasFills, fill_place, one_count}
-use Rattle.rn_arcs.specs.Groups.{AreAsked, place_of}
+use Rattle.rn_arcs.specs.link.Groups.{AreAsked, place_of}
 use Rattle.rn_arcs.specs.Places.{InstPlace, is_at}
-use Rattle.rn_arcs.specs.Room.{net_is_limited, node_is_limited, remaining_in, filled_in, staying}
-use Rattle.rn_arcs.specs.Room.{PlacesHaveRoom, NodeHasRoom, AllHaveRoom}
-use Rattle.rn_arcs.specs.Seats.{seat_inst}
+use Rattle.rn_arcs.specs.link.Room.{net_is_limited, node_is_limited, remaining_in, filled_in, staying}
+use Rattle.rn_arcs.specs.link.Room.{PlacesHaveRoom, NodeHasRoom, AllHaveRoom}
+use Rattle.rn_arcs.specs.link.Seats.{seat_inst}
 use Rattle.rn_arcs.specs.declared.asked.Asked.{Asked}
 use Rattle.rn_arcs.specs.declared.demands.Fill.{Fill}
 use Rattle.rn_arcs.specs.declared.room.Firing.{Firing}

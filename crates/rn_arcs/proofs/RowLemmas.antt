@@ -16,10 +16,10 @@ use Rattle.rn_model.specs.Demands.{filled_at}
 use Rattle.rn_model.specs.Demands.{taken_at, tested_at, inhibited_at, cleared_at, put_at}
 use Rattle.rn_arcs.specs.Demanded.{HasRows, HasFills, AreDemandsOf, AreTakingsOf, one_row}
 use Rattle.rn_arcs.specs.Demanded.{row_place, rows_at}
-use Rattle.rn_arcs.specs.Groups.{place_of, asked_in, AreAsked, Rises}
+use Rattle.rn_arcs.specs.link.Groups.{place_of, asked_in, AreAsked, Rises}
 use Rattle.rn_arcs.specs.Places.{InstPlace, place_cmp, is_at}
-use Rattle.rn_arcs.specs.Rows.{row_of, rows_of, taken_rows, tested_rows, inhibited_rows}
-use Rattle.rn_arcs.specs.Rows.{cleared_rows, put_rows}
+use Rattle.rn_arcs.specs.link.Rows.{row_of, rows_of, taken_rows, tested_rows, inhibited_rows}
+use Rattle.rn_arcs.specs.link.Rows.{cleared_rows, put_rows}
 use Rattle.rn_arcs.specs.declared.asked.Asked.{Asked}
 use Rattle.rn_arcs.specs.declared.demands.Place2.{Place2}
 use Rattle.rn_arcs.specs.declared.demands.Demands.{Demands}

@@ -11,7 +11,7 @@ use Rattle.std.specs.declared.cmp.Ordering.TheVariants.{Less, Equal, Greater}
 use Rattle.std.proofs.lemmas.Bool.{cases_lt}
 use Rattle.std.proofs.lemmas.List.Elements.{All-contains, All-from_recursion, recursion_from_All}
 use Rattle.std.proofs.lemmas.List.Sorted.{searchable_from_sorted}
-use Rattle.rn_arcs.specs.Joining.{Rising}
+use Rattle.rn_arcs.specs.link.Joining.{Rising}
 use Rattle.rn_arcs.specs.Places.{InstPlace, place_cmp, is_at}
 use Rattle.rn_arcs.proofs.PlaceOrder.{place_total, same_place}
 use Rattle.rn_arcs.proofs.RisingPlaces.{those_at, none_at, each_one, rising_is_sorted}

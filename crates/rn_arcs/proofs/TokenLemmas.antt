@@ -7,7 +7,7 @@ use Rattle.std.proofs.lemmas.Bool.{false≢true}
 use Rattle.std.proofs.lemmas.List.Sums.{sum_by-append}
 use Rattle.rn_model.specs.Lists.{same_value, count_of}
 use Rattle.rn_model.proofs.ValueLists.{one_if, count_of-cons, same_is}
-use Rattle.rn_value.specs.OrderLaws.{equal_iff_same}
+use Rattle.rn_value.specs.link.OrderLaws.{equal_iff_same}
 use Rattle.std.proofs.lemmas.List.{take_more}
 use Rattle.rn_value.specs.declared.value.Value.{Value}
 

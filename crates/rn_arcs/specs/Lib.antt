@@ -1,10 +1,3 @@
-pub mod Asks
+pub mod link
 pub mod Demanded
-pub mod Fillings
-pub mod Groups
-pub mod Joining
-pub mod Meeting
 pub mod Places
-pub mod Room
-pub mod Rows
-pub mod Seats

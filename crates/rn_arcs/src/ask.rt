@@ -2,7 +2,7 @@
 ghost use Rattle.std.specs.Prelude.{◌≡◌, OnOk, filter};
 ghost use Rattle.std.specs.List.Sorted.{IsSortedByKey};
 ghost use Rattle.rn_arcs.specs.Places.{InstPlace, place_cmp, is_at};
-ghost use Rattle.rn_arcs.specs.Asks.{place_asked};
+ghost use Rattle.rn_arcs.specs.link.Asks.{place_asked};
 
 use rn_items::NoMemory;
 use rn_model::ArcKind;
@@ -19,7 +19,7 @@ pub(crate) struct Ask {
 }
 
 /// How two places stand in the order: by instance, then by number.
-#[tactic(auto, using(rn_value::specs::OrderLaws::inst_alike))]
+#[tactic(auto, using(rn_value::specs::link::OrderLaws::inst_alike))]
 pub(crate) fn compare_places(inst: &InstRef, place: u32, other: &InstRef, number: u32) -> Ordering
     ensures { result ≡ place_cmp (inst.now, place) (other.now, number) }
 {

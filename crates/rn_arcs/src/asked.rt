@@ -1,7 +1,7 @@
 //! What a binding asks of one place of an instance.
 ghost use Rattle.std.specs.Prelude.{◌≡◌, IfOk, OnOk};
 ghost use Rattle.rn_model.specs.Lists.{ordered_values};
-ghost use Rattle.rn_arcs.specs.Groups.{with_arc, fresh, in_order};
+ghost use Rattle.rn_arcs.specs.link.Groups.{with_arc, fresh, in_order};
 
 use crate::values::{append, elements_of};
 use rn_items::{Items, NoMemory};

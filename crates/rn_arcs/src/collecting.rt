@@ -1,6 +1,6 @@
 //! The walk over the nodes and arcs of a binding.
 ghost use Rattle.std.specs.Prelude.{◌≡◌, ◌++◌, IfOk, OnOk};
-ghost use Rattle.rn_arcs.specs.Asks.{arc_asks, node_asks, binding_asks};
+ghost use Rattle.rn_arcs.specs.link.Asks.{arc_asks, node_asks, binding_asks};
 
 use crate::ask::Ask;
 use rn_calc::{NodeValues, Values, evaluate};

@@ -6,10 +6,10 @@ ghost use Rattle.std.specs.List.Sorted.{IsPermutation, IsSortedByKey};
 ghost use Rattle.rn_model.specs.Demands.{puts, filled_at};
 ghost use Rattle.rn_model.specs.Systems.{puts_awaited};
 ghost use Rattle.rn_arcs.specs.Demanded.{HasFills, fill_place};
-ghost use Rattle.rn_arcs.specs.Fillings.{may_put, known_count, pours_of, arc_pours, node_pours};
-ghost use Rattle.rn_arcs.specs.Fillings.{binding_pours, pour_place, fill_of, joined_pour};
-ghost use Rattle.rn_arcs.specs.Fillings.{with_pour, fills_of};
-ghost use Rattle.rn_arcs.specs.Joining.{Rising};
+ghost use Rattle.rn_arcs.specs.link.Fillings.{may_put, known_count, pours_of, arc_pours, node_pours};
+ghost use Rattle.rn_arcs.specs.link.Fillings.{binding_pours, pour_place, fill_of, joined_pour};
+ghost use Rattle.rn_arcs.specs.link.Fillings.{with_pour, fills_of};
+ghost use Rattle.rn_arcs.specs.link.Joining.{Rising};
 ghost use Rattle.rn_arcs.specs.Places.{InstPlace, place_cmp, is_at};
 
 use crate::ask::compare_places;

@@ -6,7 +6,7 @@ ghost use Rattle.rn_value.specs.Order.{value_cmp};
 ghost use Rattle.rn_value.specs.declared.value.InstRef.TheVariants.{Old};
 ghost use Rattle.rn_model.specs.Enabling.{Fits};
 ghost use Rattle.rn_model.specs.Markings.{net_of, tokens};
-ghost use Rattle.rn_arcs.specs.Meeting.{AreAbsent, AreLeft, IsWhole, Meets};
+ghost use Rattle.rn_arcs.specs.link.Meeting.{AreAbsent, AreLeft, IsWhole, Meets};
 
 use crate::asked::Asked;
 use crate::counting::count_among;

@@ -2,7 +2,7 @@
 ghost use Rattle.std.specs.Prelude.{◌≡◌, IfOk, OnOk, All, map};
 ghost use Rattle.std.specs.List.Sorted.{IsSorted};
 ghost use Rattle.rn_value.specs.Order.{value_cmp};
-ghost use Rattle.rn_arcs.specs.Groups.{with_ask, groups_of, in_order, AreAsked};
+ghost use Rattle.rn_arcs.specs.link.Groups.{with_ask, groups_of, in_order, AreAsked};
 
 use crate::ask::{Ask, compare_places, sort_asks};
 use crate::asked::Asked;

@@ -2,11 +2,11 @@
 ghost use Rattle.std.specs.Prelude.{◌≡◌, ◌≤◌, ◌+◌, ◌-◌, ◌↔◌, ℕ, false, All, IsTrue, IfOk, length};
 ghost use Rattle.std.specs.List.{flat_map, list_any};
 ghost use Rattle.rn_value.specs.declared.value.InstRef.TheVariants.{Old};
-ghost use Rattle.rn_arcs.specs.Groups.{AreAsked};
-ghost use Rattle.rn_arcs.specs.Room.{net_is_limited, node_is_limited, remaining_in, filled_in};
-ghost use Rattle.rn_arcs.specs.Room.{IsInOrder, staying, PlaceHasRoom, EachHasRoom};
-ghost use Rattle.rn_arcs.specs.Room.{PlacesHaveRoom, MadeHaveRoom, NodeHasRoom, AllHaveRoom};
-ghost use Rattle.rn_arcs.specs.Seats.{seat_inst};
+ghost use Rattle.rn_arcs.specs.link.Groups.{AreAsked};
+ghost use Rattle.rn_arcs.specs.link.Room.{net_is_limited, node_is_limited, remaining_in, filled_in};
+ghost use Rattle.rn_arcs.specs.link.Room.{IsInOrder, staying, PlaceHasRoom, EachHasRoom};
+ghost use Rattle.rn_arcs.specs.link.Room.{PlacesHaveRoom, MadeHaveRoom, NodeHasRoom, AllHaveRoom};
+ghost use Rattle.rn_arcs.specs.link.Seats.{seat_inst};
 
 use crate::asked::Asked;
 use crate::demands::Fill;

@@ -1,8 +1,8 @@
 //! The demands of a binding, as rows.
 ghost use Rattle.std.specs.Prelude.{◌≡◌, ◌++◌, IfOk, OnOk, flat_map};
 ghost use Rattle.rn_arcs.specs.Demanded.{AreDemandsOf, AreTakingsOf, one_row};
-ghost use Rattle.rn_arcs.specs.Rows.{rows_of, taken_rows, tested_rows, inhibited_rows};
-ghost use Rattle.rn_arcs.specs.Rows.{cleared_rows, put_rows};
+ghost use Rattle.rn_arcs.specs.link.Rows.{rows_of, taken_rows, tested_rows, inhibited_rows};
+ghost use Rattle.rn_arcs.specs.link.Rows.{cleared_rows, put_rows};
 
 use crate::asked::Asked;
 use crate::demands::{Demands, Fills, Place2, Places2, Takings};

@@ -2,10 +2,10 @@
 ghost use Rattle.std.specs.Prelude.{◌≡◌, ◌∷◌, [], MatchOption, filter};
 ghost use Rattle.rn_value.specs.Order.{inst_cmp};
 ghost use Rattle.rn_arcs.specs.Demanded.{fill_place};
-ghost use Rattle.rn_arcs.specs.Groups.{place_of};
-ghost use Rattle.rn_arcs.specs.Joining.{Rising};
+ghost use Rattle.rn_arcs.specs.link.Groups.{place_of};
+ghost use Rattle.rn_arcs.specs.link.Joining.{Rising};
 ghost use Rattle.rn_arcs.specs.Places.{place_cmp, is_at};
-ghost use Rattle.rn_arcs.specs.Seats.{seat_inst};
+ghost use Rattle.rn_arcs.specs.link.Seats.{seat_inst};
 
 use crate::asked::Asked;
 use crate::demands::Fill;

@@ -10,7 +10,7 @@ use Rattle.std.specs.Ordering.{is_lt, is_eq, ordering_reverse}
 use Rattle.std.specs.declared.cmp.Ordering.{Ordering}
 use Rattle.std.specs.declared.cmp.Ordering.TheVariants.{Less, Equal, Greater}
 use Rattle.rn_value.specs.Order.{value_cmp}
-use Rattle.rn_value.specs.OrderLaws.{value_cmp-total, value_cmp-apart}
+use Rattle.rn_value.specs.link.OrderLaws.{value_cmp-total, value_cmp-apart}
 use Rattle.rn_value.specs.declared.value.Value.{Value}
 use Rattle.rn_value.proofs.SortedLists.{neither_way}
 use Rattle.rn_model.specs.Lists.{same_value, with_value, without_one}

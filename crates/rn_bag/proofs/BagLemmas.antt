@@ -8,7 +8,7 @@ use Rattle.std.specs.Ordering.{is_lt, is_eq, ordering_reverse}
 use Rattle.std.specs.declared.cmp.Ordering.{Ordering}
 use Rattle.std.specs.declared.cmp.Ordering.TheVariants.{Less, Equal, Greater}
 use Rattle.rn_value.specs.Order.{value_cmp}
-use Rattle.rn_value.specs.OrderLaws.{value_cmp-total, value_cmp-apart}
+use Rattle.rn_value.specs.link.OrderLaws.{value_cmp-total, value_cmp-apart}
 use Rattle.rn_value.specs.declared.value.Value.{Value}
 use Rattle.rn_model.specs.Lists.{same_value, count_of, with_value, without_one}
 use Rattle.rn_model.proofs.ValueLists.{one_if, count_of-cons}
@@ -18,8 +18,8 @@ use Rattle.rn_bag.specs.declared.cut.Cut.{Cut}
 use Rattle.rn_bag.specs.declared.cut.Cut.TheVariants.{UpTo}
 use Rattle.rn_bag.specs.Cuts.{is_before, AllBefore, NoneBefore, AllBelow, NoneBelow, Ascends}
 use Rattle.rn_bag.specs.Slots.{there_from}
-use Rattle.rn_bag.specs.Chunks.{Slots, AreCounted, tokens_in, values_in}
-use Rattle.rn_bag.specs.SlotIndices.{tokens_before, tokens_after, values_before, values_after}
+use Rattle.rn_bag.specs.link.Chunks.{Slots, AreCounted, tokens_in, values_in}
+use Rattle.rn_bag.specs.link.SlotIndices.{tokens_before, tokens_after, values_before, values_after}
 use Rattle.rn_bag.specs.Words.{has_bit}
 use Rattle.rn_bag.proofs.SlotLemmas.{there_all, there_parts, there_joined, all_joined, all_prefix, all_suffix, all_weaker}
 use Rattle.rn_bag.proofs.AscendingLemmas.{below, below_differs, without_at, with_at, with_past, none_below, ascends_suffix}

@@ -9,7 +9,7 @@ use Rattle.rn_value.specs.declared.value.Value.{Value}
 use Rattle.rn_value.specs.declared.value.Value.TheVariants as Value
 use Rattle.rn_bag.specs.Slots.{there_from}
 use Rattle.rn_bag.specs.Words.{has_bit}
-use Rattle.rn_bag.specs.Chunks.{Slots, AreCounted, tokens_in_chunk, tokens_in, values_in}
+use Rattle.rn_bag.specs.link.Chunks.{Slots, AreCounted, tokens_in_chunk, tokens_in, values_in}
 use Rattle.std.proofs.lemmas.List.{take_more, take-take, get_or-take, get_or-drop}
 use Rattle.std.proofs.lemmas.Option.{slice_get-get_or, get_or_from_slice_get}
 use Rattle.std.specs.List.{slice_range}

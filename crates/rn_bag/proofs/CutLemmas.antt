@@ -9,7 +9,7 @@ use Rattle.std.specs.Cmp.Lexicographic.{slice_cmp}
 use Rattle.std.specs.declared.cmp.Ordering.{Ordering}
 use Rattle.std.specs.declared.cmp.Ordering.TheVariants.{Less, Equal, Greater}
 use Rattle.rn_value.specs.Order.{value_cmp}
-use Rattle.rn_value.specs.OrderLaws.{value_cmp-out, value_cmp-apart}
+use Rattle.rn_value.specs.link.OrderLaws.{value_cmp-out, value_cmp-apart}
 use Rattle.rn_value.specs.declared.value.InstRef.{InstRef}
 use Rattle.rn_value.specs.declared.value.Value.{Value, out-Value, roll-Value, roll-out-Value}
 use Rattle.rn_value.specs.declared.value.Value.TheVariants as Value

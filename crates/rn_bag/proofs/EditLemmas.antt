@@ -8,9 +8,9 @@ use Rattle.rn_value.specs.declared.value.Value.{Value}
 use Rattle.rn_bag.specs.declared.cut.Cut.TheVariants.{UpTo}
 use Rattle.rn_bag.specs.Cuts.{is_before, AllBefore, NoneBefore, NoneBelow, Ascends}
 use Rattle.rn_bag.specs.Slots.{there_from}
-use Rattle.rn_bag.specs.Chunks.{Slots, HasRoom, IsChunk, AreCounted, AreSound, tokens_in_chunk, tokens_in, values_in, Replaces}
-use Rattle.rn_bag.specs.Tags.{IsFull}
-use Rattle.rn_bag.specs.SlotIndices.{tokens_before, tokens_after, values_before, values_after}
+use Rattle.rn_bag.specs.link.Chunks.{Slots, HasRoom, IsChunk, AreCounted, AreSound, tokens_in_chunk, tokens_in, values_in, Replaces}
+use Rattle.rn_bag.specs.link.Tags.{IsFull}
+use Rattle.rn_bag.specs.link.SlotIndices.{tokens_before, tokens_after, values_before, values_after}
 use Rattle.rn_bag.specs.Words.{has_bit}
 use Rattle.rn_bag.proofs.SlotLemmas.{there_all, there_whole, there_parts, there_next, there_agrees, all_joined, all_prefix, all_suffix, all_weaker}
 use Rattle.rn_bag.proofs.AscendingLemmas.{below, order, none_below, ascends_suffix, ascends_prefix}

@@ -7,8 +7,8 @@ use Rattle.rn_value.specs.declared.value.Value.{Value}
 use Rattle.rn_bag.specs.declared.cut.Cut.{Cut}
 use Rattle.rn_bag.specs.Cuts.{is_before, AllBefore, NoneBefore, Ascends}
 use Rattle.rn_bag.specs.Slots.{there_from}
-use Rattle.rn_bag.specs.Chunks.{Slots, tokens_in_chunk, tokens_in, values_in}
-use Rattle.rn_bag.specs.SlotIndices.{tokens_before, tokens_after, values_before, values_after}
+use Rattle.rn_bag.specs.link.Chunks.{Slots, tokens_in_chunk, tokens_in, values_in}
+use Rattle.rn_bag.specs.link.SlotIndices.{tokens_before, tokens_after, values_before, values_after}
 use Rattle.rn_bag.specs.Words.{has_bit}
 use Rattle.rn_bag.proofs.SlotLemmas.{there_all, there_parts, all_joined, all_prefix, all_suffix}
 use Rattle.rn_bag.proofs.AscendingLemmas.{ascends_suffix, ascends_prefix}

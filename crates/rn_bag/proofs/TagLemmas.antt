@@ -4,8 +4,8 @@ use Rattle.std.proofs.lemmas.List.{length-map, get_or-map, get_or_append_left, g
 use Rattle.std.specs.List.{AllByRecursion}
 use Rattle.rn_value.specs.declared.value.Value.{Value}
 use Rattle.rn_bag.specs.declared.tag.Tag.{Tag}
-use Rattle.rn_bag.specs.Chunks.{Slots, IsChunk}
-use Rattle.rn_bag.specs.Tags.{slots_at, chunks_of, IsTag, AreTags, IsFull, IsKept}
+use Rattle.rn_bag.specs.link.Chunks.{Slots, IsChunk}
+use Rattle.rn_bag.specs.link.Tags.{slots_at, chunks_of, IsTag, AreTags, IsFull, IsKept}
 use Rattle.rn_bag.proofs.SlotLemmas.{all_joined, all_prefix, all_suffix}
 
 -- the chunk of a tag's index

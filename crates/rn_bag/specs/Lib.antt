@@ -1,7 +1,4 @@
-pub mod Chunks
+pub mod link
 pub mod Cuts
-pub mod Pools
-pub mod SlotIndices
 pub mod Slots
-pub mod Tags
 pub mod Words

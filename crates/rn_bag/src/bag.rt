@@ -31,7 +31,7 @@ impl Model for Bag {
     ghost use Rattle.std.specs.Coded.{coded_list};
     ghost use Rattle.rn_value.specs.declared.value.Value.{Value as Token};
     ghost use Rattle.rn_value.specs.contracts.value.Value as token;
-    ghost use Rattle.rn_bag.specs.Chunks.{tokens_in, AreSound};
+    ghost use Rattle.rn_bag.specs.link.Chunks.{tokens_in, AreSound};
 
     ghost Value = { List Token };
 

@@ -2,7 +2,7 @@
 ghost use Rattle.std.specs.Prelude.{◌≡◌, ◌+◌, ◌<◌, ◌≤◌, ◌↔◌, ℕ, suc, [], ◌∷◌, ◌++◌, true, false, take, drop, length, IfOk, IfSome, IfNone, IsTrue, slice_get, Some};
 ghost use Rattle.std.specs.List.{AllByRecursion};
 ghost use Rattle.rn_value.specs.declared.value.Value.{Value};
-ghost use Rattle.rn_bag.specs.Chunks.{Slots, HasRoom, IsChunk, tokens_in_chunk};
+ghost use Rattle.rn_bag.specs.link.Chunks.{Slots, HasRoom, IsChunk, tokens_in_chunk};
 ghost use Rattle.rn_bag.specs.Cuts.{AllBefore, NoneBelow, Ascends};
 ghost use Rattle.rn_bag.specs.Slots.{there_from};
 ghost use Rattle.rn_bag.specs.Words.{has_bit};
@@ -27,7 +27,7 @@ pub(crate) struct Chunk<'a> {
 }
 
 impl<'a> Model for Chunk<'a> {
-    ghost use Rattle.rn_bag.specs.Chunks.{Slots, IsChunk, slots_code};
+    ghost use Rattle.rn_bag.specs.link.Chunks.{Slots, IsChunk, slots_code};
 
     ghost Value = { Slots };
 

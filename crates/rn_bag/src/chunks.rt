@@ -1,7 +1,7 @@
 //! The chunks of a bag, which contracts see as a list of chunks.
 ghost use Rattle.std.specs.Prelude.{◌≡◌, ◌+◌, ◌*◌, ◌^◌, ◌<◌, ◌≤◌, [], ◌∷◌, ◌++◌, length, take, drop, suc, set, slice_index_or as get_or, IfOk, OnOk, OnErr};
-ghost use Rattle.rn_bag.specs.Chunks.{Slots, HasRoom, IsChunk, tokens_in_chunk};
-ghost use Rattle.rn_bag.specs.Tags.{IsFull};
+ghost use Rattle.rn_bag.specs.link.Chunks.{Slots, HasRoom, IsChunk, tokens_in_chunk};
+ghost use Rattle.rn_bag.specs.link.Tags.{IsFull};
 
 use crate::chunk::Chunk;
 use crate::pool::Pool;
@@ -24,8 +24,8 @@ pub(crate) struct Chunks {
 impl Model for Chunks {
     ghost use Rattle.std.specs.Prelude.{List};
     ghost use Rattle.std.specs.Coded.{coded_list};
-    ghost use Rattle.rn_bag.specs.Chunks.{Slots, slots_code};
-    ghost use Rattle.rn_bag.specs.Tags.{chunks_of, AreTags};
+    ghost use Rattle.rn_bag.specs.link.Chunks.{Slots, slots_code};
+    ghost use Rattle.rn_bag.specs.link.Tags.{chunks_of, AreTags};
 
     ghost Value = { List Slots };
 

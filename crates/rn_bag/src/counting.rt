@@ -1,6 +1,6 @@
 //! How many tokens stand before each chunk, and looking for a token by its index.
 ghost use Rattle.std.specs.Prelude.{◌≡◌, ◌<◌, ◌≤◌, ◌+◌, ◌*◌, ℕ, length, take, slice_get, Some};
-ghost use Rattle.rn_bag.specs.Chunks.{AreCounted, tokens_in, values_in};
+ghost use Rattle.rn_bag.specs.link.Chunks.{AreCounted, tokens_in, values_in};
 
 use crate::chunks::Chunks;
 use crate::words::ROOM;

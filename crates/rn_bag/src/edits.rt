@@ -1,10 +1,10 @@
 //! Changes of one chunk among others.
 ghost use Rattle.std.specs.Prelude.{◌≡◌, ◌<◌, ◌≤◌, suc, [], ◌∷◌, ◌++◌, true, false, length, take, drop, slice_index_or, slice_get, Some, OnOk, OnErr, ◌+◌};
 ghost use Rattle.rn_value.specs.declared.value.Value.{Value};
-ghost use Rattle.rn_bag.specs.Chunks.{Slots, AreSound, Replaces, tokens_in_chunk, tokens_in, values_in};
+ghost use Rattle.rn_bag.specs.link.Chunks.{Slots, AreSound, Replaces, tokens_in_chunk, tokens_in, values_in};
 ghost use Rattle.rn_bag.specs.Cuts.{AllBefore, NoneBefore, Ascends};
 ghost use Rattle.rn_bag.specs.declared.cut.Cut.TheVariants.{UpTo};
-ghost use Rattle.rn_bag.specs.SlotIndices.{tokens_before, tokens_after, values_before, values_after};
+ghost use Rattle.rn_bag.specs.link.SlotIndices.{tokens_before, tokens_after, values_before, values_after};
 ghost use Rattle.rn_bag.specs.Slots.{there_from};
 ghost use Rattle.rn_bag.specs.Words.{has_bit};
 

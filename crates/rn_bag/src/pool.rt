@@ -1,7 +1,7 @@
 //! The lists of values that chunks have, found by their positions.
 ghost use Rattle.std.specs.Prelude.{◌≡◌, ◌<◌, [], ◌∷◌, ◌++◌, length, slice_index_or, IfOk, OnOk, OnErr};
-ghost use Rattle.rn_bag.specs.Chunks.{HasRoom};
-ghost use Rattle.rn_bag.specs.Tags.{IsKept};
+ghost use Rattle.rn_bag.specs.link.Chunks.{HasRoom};
+ghost use Rattle.rn_bag.specs.link.Tags.{IsKept};
 
 use crate::tag::Tag;
 use crate::words;
@@ -36,7 +36,7 @@ impl Model for Pool {
     ghost use Rattle.std.specs.Coded.{coded_list};
     ghost use Rattle.rn_value.specs.declared.value.Value.{Value as Token};
     ghost use Rattle.rn_value.specs.contracts.value.Value as token;
-    ghost use Rattle.rn_bag.specs.Pools.{lists_in};
+    ghost use Rattle.rn_bag.specs.link.Pools.{lists_in};
 
     ghost Value = { List (List Token) };
 

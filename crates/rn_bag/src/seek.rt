@@ -1,8 +1,8 @@
 //! Slots by their indices, and looking for them by halving.
 ghost use Rattle.std.specs.Prelude.{◌≡◌, ◌<◌, ◌≤◌, [], true, take, drop, length, slice_index_or as get_or, IfSome, IfNone, Some};
-ghost use Rattle.rn_bag.specs.Chunks.{Slots, values_in};
+ghost use Rattle.rn_bag.specs.link.Chunks.{Slots, values_in};
 ghost use Rattle.rn_bag.specs.Cuts.{AllBefore, NoneBefore, Ascends};
-ghost use Rattle.rn_bag.specs.SlotIndices.{tokens_before, tokens_after, values_before, values_after};
+ghost use Rattle.rn_bag.specs.link.SlotIndices.{tokens_before, tokens_after, values_before, values_after};
 ghost use Rattle.rn_bag.specs.Words.{has_bit};
 
 use crate::chunks::Chunks;

@@ -14,7 +14,7 @@ use Rattle.rn_growing.specs.Grown.{Grown, IsNew, Tries, with_decision}
 use Rattle.rn_growing.specs.Turns.{MayCome, AreInTurn}
 use Rattle.rn_growing.proofs.Growth.{turns_more, contains_last}
 use Rattle.rn_growing.proofs.Followers.{equations, decision_in, follows_on}
-use Rattle.rn_binding.specs.Passing.{IsGiven, IsFollowed, BringsItem}
+use Rattle.rn_binding.specs.link.Passing.{IsGiven, IsFollowed, BringsItem}
 
 module _ (system : System) (b : Binding) (given : IsGiven system b) (g : Grown)
     (same : g.system ≡ system) (items : List Item) (on : AreOn system b g.decisions items)

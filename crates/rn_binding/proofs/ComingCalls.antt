@@ -27,7 +27,7 @@ use Rattle.rn_growing.specs.Turns.{AreInTurn, MayCome}
 use Rattle.rn_growing.proofs.Followers.{decision_in, equations, entered_by}
 use Rattle.rn_growing.proofs.Growth.{some_equal}
 use Rattle.rn_growing.specs.Decided.{enters}
-use Rattle.rn_binding.specs.Passing.{IsGiven, IsOut}
+use Rattle.rn_binding.specs.link.Passing.{IsGiven, IsOut}
 use Rattle.rn_binding.proofs.Deciding.{not_entered, entered_is_in}
 use Rattle.rn_growing.proofs.NewThings.{none_passes}
 use Rattle.rn_items.proofs.Numbers.{numbers_themselves}

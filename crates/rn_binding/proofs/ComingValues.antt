@@ -23,13 +23,13 @@ use Rattle.rn_growing.specs.declared.decision.Decision.TheVariants.{Entered, Fou
 use Rattle.rn_growing.specs.Decisions.{site_of, head_of, IsOn, AreOn}
 use Rattle.rn_growing.specs.Equations.{IsForced}
 use Rattle.rn_growing.specs.Grown.{Grown, IsNew, Tries}
-use Rattle.rn_growing.specs.Layouts.{same_site}
+use Rattle.rn_growing.specs.link.Layouts.{same_site}
 use Rattle.rn_growing.specs.Turns.{MayCome, IsEntered, IsVarForced}
 use Rattle.rn_growing.proofs.SameUnknowns.{site_itself, as_site, site_of-is}
 use Rattle.rn_growing.proofs.SoundItems.{items_sound}
 use Rattle.rn_growing.proofs.Followers.{decision_in, forced_over, entered_by, each_is_decided}
 use Rattle.rn_growing.specs.Decided.{enters, finds, computes}
-use Rattle.rn_binding.specs.Passing.{IsGiven, IsFollowed, BringsItem, IsVarForcedOn}
+use Rattle.rn_binding.specs.link.Passing.{IsGiven, IsFollowed, BringsItem, IsVarForcedOn}
 use Rattle.rn_binding.proofs.Coming.{tried}
 use Rattle.rn_binding.proofs.Deciding.{entered_is_in, not_entered, found_is_in, not_found}
 use Rattle.rn_binding.proofs.Deciding.{computed_is_in, not_computed, in_is_decided}

@@ -17,7 +17,7 @@ use Rattle.rn_growing.specs.declared.decision.Caller.{Caller}
 use Rattle.rn_growing.specs.declared.decision.Decision.{Decision}
 use Rattle.rn_growing.specs.declared.decision.Decision.TheVariants.{Entered, Found, Computed}
 use Rattle.rn_growing.specs.Decisions.{site_of, head_of, IsOn, AreOn}
-use Rattle.rn_growing.specs.Layouts.{same_site}
+use Rattle.rn_growing.specs.link.Layouts.{same_site}
 use Rattle.rn_growing.specs.Turns.{SameThing}
 use Rattle.rn_growing.proofs.SameUnknowns.{site_is}
 use Rattle.rn_growing.proofs.SameUnknowns.{site_itself, as_site, site_of-is}
@@ -26,7 +26,7 @@ use Rattle.rn_growing.proofs.SoundItems.{items_sound}
 use Rattle.rn_growing.proofs.Followers.{item_in, decision_in, closed_entry, closed_found}
 use Rattle.rn_growing.proofs.Followers.{closed_computed}
 use Rattle.rn_growing.specs.Decided.{enters, finds, computes}
-use Rattle.rn_binding.specs.Passing.{IsDecided}
+use Rattle.rn_binding.specs.link.Passing.{IsDecided}
 use Rattle.rn_items.proofs.Numbers.{same_numbers}
 use Rattle.rn_items.proofs.Bools.{both_true}
 

@@ -6,8 +6,8 @@ use Rattle.rn_model.specs.declared.system.System.{System}
 use Rattle.rn_model.specs.declared.binding.Binding.{Binding}
 use Rattle.rn_growing.specs.Grown.{Grown}
 use Rattle.rn_binding.specs.declared.part.Part.{Part}
-use Rattle.rn_binding.specs.Parts.{picked, AllWithin}
-use Rattle.rn_binding.specs.Passing.{AreLeft, IsPassed, Ends}
+use Rattle.rn_binding.specs.link.Parts.{picked, AllWithin}
+use Rattle.rn_binding.specs.link.Passing.{AreLeft, IsPassed, Ends}
 use Rattle.rn_binding.proofs.Passes.{left_then, stuck_then}
 use Rattle.rn_binding.proofs.PickedParts.{as_many}
 

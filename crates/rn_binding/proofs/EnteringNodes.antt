@@ -23,7 +23,7 @@ use Rattle.rn_growing.specs.Equations.{read_at, IsForcedTo}
 use Rattle.rn_growing.specs.Grown.{Grown, IsNew, Tries}
 use Rattle.rn_growing.specs.Turns.{MayCome, AreInTurn}
 use Rattle.rn_growing.specs.Decided.{enters}
-use Rattle.rn_binding.specs.Passing.{IsGiven, IsFollowed, IsOut, BringsItem}
+use Rattle.rn_binding.specs.link.Passing.{IsGiven, IsFollowed, IsOut, BringsItem}
 use Rattle.rn_binding.proofs.Coming.{tried}
 use Rattle.rn_binding.proofs.Deciding.{entered_is_in}
 use Rattle.rn_binding.proofs.ComingCalls.{unforced_out, may_be_called, is_new}

@@ -9,7 +9,7 @@ use Rattle.rn_model.specs.declared.system.Transition.{Transition}
 use Rattle.rn_model.specs.declared.binding.Node.{Node}
 use Rattle.rn_model.specs.Systems.{transition_of}
 use Rattle.rn_growing.specs.Grown.{Grown}
-use Rattle.rn_binding.specs.Passing.{IsVarForcedOn, AreVarsForced}
+use Rattle.rn_binding.specs.link.Passing.{IsVarForcedOn, AreVarsForced}
 
 pub of_node : (system : System) (g : Grown) (node : Node) (t : Transition) (path vars : List ℕ) →
     path ≡ node.path → vars ≡ t.vars → t ≡ transition_of system node →

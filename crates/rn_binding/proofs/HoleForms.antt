@@ -11,7 +11,7 @@ use Rattle.rn_model.specs.Derivation.{within_part}
 use Rattle.rn_model.proofs.DerivationLemmas.{holes_in-Int, holes_in-Text, holes_in-Var, holes_in-This}
 use Rattle.rn_model.proofs.DerivationLemmas.{holes_in-Tuple, holes_in-List, holes_in-Cons, holes_in-Neg}
 use Rattle.rn_model.proofs.DerivationLemmas.{holes_in-Op}
-use Rattle.rn_binding.specs.Applications.{with_holes, hole_within}
+use Rattle.rn_binding.specs.link.Applications.{with_holes, hole_within}
 use Rattle.rn_binding.proofs.PuttingParts.{moved}
 
 with_last : (parts : List Expr) (tail : Expr) (i : ℕ) →

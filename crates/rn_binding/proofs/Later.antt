@@ -7,8 +7,8 @@ use Rattle.rn_model.specs.declared.binding.Binding.{Binding}
 use Rattle.rn_model.specs.Derivation.{Item}
 use Rattle.rn_growing.specs.Grown.{Grown}
 use Rattle.rn_binding.specs.declared.part.Part.{Part}
-use Rattle.rn_binding.specs.Parts.{item_of}
-use Rattle.rn_binding.specs.Passing.{IsFollowed, IsLater, BringsItem, AreLeft}
+use Rattle.rn_binding.specs.link.Parts.{item_of}
+use Rattle.rn_binding.specs.link.Passing.{IsFollowed, IsLater, BringsItem, AreLeft}
 use Rattle.rn_binding.proofs.Passes.{stays_decided}
 
 module _ (system : System) (b : Binding) where

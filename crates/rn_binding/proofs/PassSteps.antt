@@ -5,8 +5,8 @@ use Rattle.rn_model.specs.declared.system.System.{System}
 use Rattle.rn_model.specs.declared.binding.Binding.{Binding}
 use Rattle.rn_growing.specs.Grown.{Grown}
 use Rattle.rn_binding.specs.declared.part.Part.{Part}
-use Rattle.rn_binding.specs.Parts.{item_of, picked, AllWithin}
-use Rattle.rn_binding.specs.Passing.{IsFollowed, BringsItem, IsPassed}
+use Rattle.rn_binding.specs.link.Parts.{item_of, picked, AllWithin}
+use Rattle.rn_binding.specs.link.Passing.{IsFollowed, BringsItem, IsPassed}
 use Rattle.rn_binding.proofs.Passes.{one_tried, one_stays}
 use Rattle.rn_binding.proofs.PickedParts.{picked_before, pick_more, more_within}
 

@@ -18,10 +18,10 @@ use Rattle.rn_growing.specs.Equations.{IsForced}
 use Rattle.rn_growing.specs.Grown.{Grown}
 use Rattle.rn_growing.proofs.Growth.{contains_last, only_one}
 use Rattle.rn_growing.proofs.Followers.{followers_are_decided, forced_over}
-use Rattle.rn_binding.specs.Parts.{HaveTheSame}
-use Rattle.rn_binding.specs.Passing.{IsGiven, IsFollowed, IsDecided, Stay, IsOut, BringsItem}
-use Rattle.rn_binding.specs.Passing.{IsPassed, AreLeft, AreStuck, Ends, AreVarsForced}
-use Rattle.rn_binding.specs.Passing.{IsVarForcedOn}
+use Rattle.rn_binding.specs.link.Parts.{HaveTheSame}
+use Rattle.rn_binding.specs.link.Passing.{IsGiven, IsFollowed, IsDecided, Stay, IsOut, BringsItem}
+use Rattle.rn_binding.specs.link.Passing.{IsPassed, AreLeft, AreStuck, Ends, AreVarsForced}
+use Rattle.rn_binding.specs.link.Passing.{IsVarForcedOn}
 use Rattle.rn_binding.proofs.Deciding.{decided_is_in}
 
 none_in : {A : Type 0} (x : A) → Contains [] x → ⊥

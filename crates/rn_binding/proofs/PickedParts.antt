@@ -9,7 +9,7 @@ use Rattle.std.proofs.lemmas.List.Elements.{Contains-append_cases}
 use Rattle.rn_model.specs.Derivation.{Item}
 use Rattle.std.proofs.lemmas.Grind.{flat_map-append}
 use Rattle.rn_binding.specs.declared.part.Part.{Part}
-use Rattle.rn_binding.specs.Parts.{item_of, item_at, picked, AllWithin, HaveTheSame}
+use Rattle.rn_binding.specs.link.Parts.{item_of, item_at, picked, AllWithin, HaveTheSame}
 
 -- one more item
 pub pick_more : (parts : List Part) (ks : List ℕ) (i : ℕ) (part : Part) → i < length parts →

@@ -19,8 +19,8 @@ use Rattle.rn_model.specs.Derivation.{sides_of, args_of, sites_of}
 use Rattle.rn_model.specs.Derivation.{uplink_arg}
 use Rattle.rn_model.specs.Derivation.{computed_at, downlink_arg, arc, finds_token, finds_values}
 use Rattle.rn_model.specs.Derivation.{node_items}
-use Rattle.rn_binding.specs.Applications.{holes_at, arc_site}
-use Rattle.rn_binding.specs.Parts.{found_at}
+use Rattle.rn_binding.specs.link.Applications.{holes_at, arc_site}
+use Rattle.rn_binding.specs.link.Parts.{found_at}
 
 -- what is put and what is left are as before where the next piece was put
 pub moved : {A : Type 0} (done after piece rest next all : List A) → done ++ rest ≡ all →

@@ -1,4 +1,2 @@
-pub mod Applications
-pub mod Parts
-pub mod Passing
+pub mod link
 pub mod Soundness

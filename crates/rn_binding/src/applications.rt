@@ -5,8 +5,8 @@ ghost use Rattle.rn_model.specs.Systems.{uplink_args};
 ghost use Rattle.rn_model.specs.Derivation.{sites_of, sides_of, args_of, uplink_arg, downlink_arg};
 ghost use Rattle.rn_model.specs.Derivation.{holes_in, holes_of_parts};
 ghost use Rattle.rn_growing.specs.Decisions.{site_of};
-ghost use Rattle.rn_binding.specs.Applications.{application_of, with_holes, hole_within};
-ghost use Rattle.rn_binding.specs.Applications.{holes_at, arc_site};
+ghost use Rattle.rn_binding.specs.link.Applications.{application_of, with_holes, hole_within};
+ghost use Rattle.rn_binding.specs.link.Applications.{holes_at, arc_site};
 
 use rn_growing::{Site, Way};
 use rn_model::{Downlink, Expr, NetArc, Transition, finds_token};

@@ -5,8 +5,8 @@ ghost use Rattle.rn_model.specs.Bindings.{node_at};
 ghost use Rattle.rn_model.specs.Derivation.{entry, found, computed, items_of};
 ghost use Rattle.rn_agree.specs.Paths.{AscendByPath};
 ghost use Rattle.rn_growing.specs.Decisions.{head_of, site_of};
-ghost use Rattle.rn_binding.specs.Parts.{item_of};
-ghost use Rattle.rn_binding.specs.Passing.{IsGiven, IsFollowed, BringsItem};
+ghost use Rattle.rn_binding.specs.link.Parts.{item_of};
+ghost use Rattle.rn_binding.specs.link.Passing.{IsGiven, IsFollowed, BringsItem};
 
 use crate::forcing::is_expr_forced;
 use crate::headed::Headed;

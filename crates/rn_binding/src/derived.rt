@@ -1,8 +1,8 @@
 //! Whether a binding that is given is derived.
 ghost use Rattle.std.specs.Prelude.{◌≡◌, ◌↔◌, Contains, IfOk, IsTrue, map};
 ghost use Rattle.rn_model.specs.Derivation.{Derived, Item, items_of};
-ghost use Rattle.rn_binding.specs.Parts.{item_of, picked, AllWithin, HaveTheSame};
-ghost use Rattle.rn_binding.specs.Passing.{IsGiven, IsFollowed, IsPassed, AreLeft, Ends};
+ghost use Rattle.rn_binding.specs.link.Parts.{item_of, picked, AllWithin, HaveTheSame};
+ghost use Rattle.rn_binding.specs.link.Passing.{IsGiven, IsFollowed, IsPassed, AreLeft, Ends};
 
 use crate::bringing::{bring, enter_start};
 use crate::forcing::are_all_forced;

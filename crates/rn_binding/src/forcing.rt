@@ -2,7 +2,7 @@
 ghost use Rattle.std.specs.Prelude.{◌↔◌, All, IfOk, IsTrue};
 ghost use Rattle.rn_model.specs.Systems.{vars_in};
 ghost use Rattle.rn_model.specs.Bindings.{IsNodeOf};
-ghost use Rattle.rn_binding.specs.Passing.{IsVarForcedOn, AreVarsForced};
+ghost use Rattle.rn_binding.specs.link.Passing.{IsVarForcedOn, AreVarsForced};
 
 use rn_growing::Growing;
 use rn_model::{Expr, Node, System, put_vars, transition_of};

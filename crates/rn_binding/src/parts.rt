@@ -3,7 +3,7 @@ ghost use Rattle.std.specs.Prelude.{◌≡◌, ◌++◌, All, OnOk, IfOk, map, f
 ghost use Rattle.std.specs.List.{enumerate_from};
 ghost use Rattle.rn_model.specs.Bindings.{IsNodeOf};
 ghost use Rattle.rn_model.specs.Derivation.{computed_at, sites_of, node_items};
-ghost use Rattle.rn_binding.specs.Parts.{item_of, found_at};
+ghost use Rattle.rn_binding.specs.link.Parts.{item_of, found_at};
 
 use crate::applications::{Application, applications_of};
 use crate::headed::Headed;

@@ -1,8 +1,8 @@
 //! What follows from what came in: items and variables, one after another.
 ghost use Rattle.std.specs.Prelude.{◌≡◌, OnOk, map};
 ghost use Rattle.rn_model.specs.Derivation.{items_of};
-ghost use Rattle.rn_binding.specs.Parts.{item_of};
-ghost use Rattle.rn_binding.specs.Passing.{IsGiven, IsFollowed, IsLater};
+ghost use Rattle.rn_binding.specs.link.Parts.{item_of};
+ghost use Rattle.rn_binding.specs.link.Passing.{IsGiven, IsFollowed, IsLater};
 
 use crate::bringing::bring;
 use crate::edges::edges_of;

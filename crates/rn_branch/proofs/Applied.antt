@@ -9,7 +9,7 @@ use Rattle.rn_growing.specs.Grown.{Grown, first_decisions, with_decision}
 use Rattle.rn_search.specs.Points.{holes_of, node_of, node_on}
 use Rattle.rn_search.specs.Sought.{Sought}
 use Rattle.rn_binding.specs.declared.applications.Application.{Application}
-use Rattle.rn_binding.specs.Applications.{application_of}
+use Rattle.rn_binding.specs.link.Applications.{application_of}
 use Rattle.rn_looking.specs.Applying.{AreApplied, AreAppliedIn}
 use Rattle.rn_branch.specs.GoingOn.{IsEntryAt}
 use Rattle.rn_branch.specs.Keeping.{KeepsApplied}

@@ -14,7 +14,7 @@ use Rattle.rn_search.specs.declared.point.Point.TheVariants as P
 use Rattle.rn_search.specs.Sought.{Sought}
 use Rattle.rn_search.specs.Points.{node_of, holes_of, only_at, offered}
 use Rattle.rn_binding.specs.declared.applications.Application.{Application}
-use Rattle.rn_binding.specs.Applications.{application_of}
+use Rattle.rn_binding.specs.link.Applications.{application_of}
 
 module _ (sought : Sought) (ds : List Decision) (node k : ℕ) (n : ℤ) (a : ℕ) where
   abbrev head : Head

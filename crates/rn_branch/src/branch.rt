@@ -3,7 +3,7 @@
 //! given up before their decision; the rest of *enabled* is looked at where the binding is made
 //! (`docs/SEARCH.md`, 'What it does next').
 ghost use Rattle.std.specs.Prelude.{◌≡◌, ◌↔◌, IfOk, [], IsTrue, map};
-ghost use Rattle.rn_binding.specs.Applications.{application_of};
+ghost use Rattle.rn_binding.specs.link.Applications.{application_of};
 ghost use Rattle.rn_growing.specs.Decisions.{transition_in};
 ghost use Rattle.rn_growing.specs.Grown.{HasFewCreations};
 ghost use Rattle.rn_search.specs.Allowing.{Allows};

@@ -1,3 +1,2 @@
-pub mod Given
-pub mod NodeValues
+pub mod link
 pub mod Readings

@@ -3,7 +3,7 @@ ghost use Rattle.std.specs.Prelude.{◌≡◌, ◌↔◌, ◌≤◌, IfOk, IfSom
 ghost use Rattle.rn_model.specs.Evaluation.{IsTrueUnder, all_true, comparison_of};
 ghost use Rattle.rn_model.specs.Evaluation.{simple_truth, truth};
 ghost use Rattle.rn_model.specs.Limits.{greatest_step};
-ghost use Rattle.rn_calc.specs.Given.{env_given};
+ghost use Rattle.rn_calc.specs.link.Given.{env_given};
 ghost use Rattle.rn_calc.specs.Readings.{seen};
 
 use crate::given::Given;

@@ -4,7 +4,7 @@ ghost use Rattle.rn_model.specs.Lists.{value_beside};
 ghost use Rattle.rn_value.specs.declared.value.Value.TheVariants as Value;
 ghost use Rattle.rn_model.specs.Evaluation.{int_of, int_result, list_onto, neg_value, worth, worths};
 ghost use Rattle.rn_model.specs.Limits.{greatest_step};
-ghost use Rattle.rn_calc.specs.Given.{env_given};
+ghost use Rattle.rn_calc.specs.link.Given.{env_given};
 
 use crate::given::Given;
 use crate::integers::{operate, opposite};

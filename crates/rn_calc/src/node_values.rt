@@ -1,7 +1,7 @@
 //! The values of a node's variables, lent.
 ghost use Rattle.std.specs.Prelude.{◌≡◌};
 ghost use Rattle.rn_model.specs.Bindings.{env_of};
-ghost use Rattle.rn_calc.specs.NodeValues.{lent_env};
+ghost use Rattle.rn_calc.specs.link.NodeValues.{lent_env};
 
 use crate::values::Values;
 use rn_model::{Node, System, find_transition};
@@ -29,7 +29,7 @@ impl<'a> NodeValues<'a> {
 }
 
 impl Values for NodeValues<'_> {
-    ghost use Rattle.rn_calc.specs.NodeValues.{lent_env};
+    ghost use Rattle.rn_calc.specs.link.NodeValues.{lent_env};
 
     ghost env = { lent_env };
 

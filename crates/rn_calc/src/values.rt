@@ -25,7 +25,7 @@ pub trait Values {
 }
 
 impl Values for Given {
-    ghost use Rattle.rn_calc.specs.Given.{env_given};
+    ghost use Rattle.rn_calc.specs.link.Given.{env_given};
 
     ghost env = { env_given };
 

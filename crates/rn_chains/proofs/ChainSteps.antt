@@ -8,7 +8,7 @@ use Rattle.std.proofs.Math.Nat.{mod-lt}
 use Rattle.std.proofs.Math.Seq.{get_or-append_seam}
 use Rattle.std.proofs.lemmas.Bool.{eqb-true, eq-eqb, ltb-true, ltb-false}
 use Rattle.std.proofs.lemmas.List.{get_or-set_same, get_or-set_other, length-set}
-use Rattle.rn_chains.specs.Chains.{AreChained, AreLinked, InBucket, IsUpToLast, IsBackTo}
+use Rattle.rn_chains.specs.link.Chains.{AreChained, AreLinked, InBucket, IsUpToLast, IsBackTo}
 
 -- it depends on the first n keys alone
 pub up_to_same : (IsSo : ℕ → Type 0) (keys others : List ℕ) (n told : ℕ) →

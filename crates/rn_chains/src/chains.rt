@@ -2,7 +2,7 @@
 //! the last of a key is found without going through all.
 ghost use Rattle.std.specs.Prelude.{ℕ, ◌≡◌, ◌∷◌, ◌++◌, ◌<◌, ◌≤◌, ◌-◌, [], length, take, get_or};
 ghost use Rattle.std.specs.Prelude.{IfOk, OnErr, OnOk};
-ghost use Rattle.rn_chains.specs.Chains.{AreChained, AreLinked, InBucket, IsUpToLast};
+ghost use Rattle.rn_chains.specs.link.Chains.{AreChained, AreLinked, InBucket, IsUpToLast};
 
 use rn_items::NoMemory;
 use std::alloc::Global;
@@ -27,7 +27,7 @@ pub struct Chains {
 
 impl Model for Chains {
     ghost use Rattle.std.specs.Prelude.{ℕ, List};
-    ghost use Rattle.rn_chains.specs.Chains.{AreChained};
+    ghost use Rattle.rn_chains.specs.link.Chains.{AreChained};
 
     ghost Value = { List ℕ };
 

@@ -7,7 +7,7 @@ use Rattle.rn_model.specs.declared.system.System.{System}
 use Rattle.rn_model.specs.declared.system.Transition.{Transition}
 use Rattle.rn_model.specs.Systems.{empty_transition}
 use Rattle.rn_channel.specs.Heights.{suffices, IsLeastHeight}
-use Rattle.rn_channel.specs.Kept.{least_height}
+use Rattle.rn_channel.specs.link.Kept.{least_height}
 
 -- what a search from k on, over so many numbers, found
 abbrev Found : System → Transition → ℕ → ℕ → Option ℕ → Type 0

@@ -12,7 +12,7 @@ use Rattle.rn_model.specs.declared.system.Net.{Net}
 use Rattle.rn_model.specs.declared.system.Transition.{Transition}
 use Rattle.rn_channel.specs.Answering.{is_of}
 use Rattle.rn_channel.specs.Heights.{calls_answered, net_answers, is_answered, suffices}
-use Rattle.rn_channel.specs.Kept.{IsLevel, AreLevelsFrom, least_height}
+use Rattle.rn_channel.specs.link.Kept.{IsLevel, AreLevelsFrom, least_height}
 
 -- tests that agree are passed by all alike
 all_same : {X : Type 0} (p q : X → Bool) → ((x : X) → p x ≡ q x) → (xs : List X) →

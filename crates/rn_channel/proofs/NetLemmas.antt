@@ -6,7 +6,7 @@ use Rattle.rn_model.specs.declared.system.System.{System}
 use Rattle.rn_model.specs.declared.system.Net.{Net}
 use Rattle.rn_model.specs.Systems.{empty_net}
 use Rattle.rn_channel.specs.declared.uplinks.NetUplinks.{NetUplinks}
-use Rattle.rn_channel.specs.Uplinks.{AreOfNet, AreOfNets}
+use Rattle.rn_channel.specs.link.Uplinks.{AreOfNet, AreOfNets}
 
 -- one more net
 pub one_more_net : (system : System) (nets : List Net) (others : List NetUplinks) (net : Net)

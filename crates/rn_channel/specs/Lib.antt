@@ -1,4 +1,3 @@
+pub mod link
 pub mod Answering
 pub mod Heights
-pub mod Kept
-pub mod Uplinks

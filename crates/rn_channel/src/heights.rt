@@ -5,7 +5,7 @@ ghost use Rattle.rn_channel.specs.Answering.{is_of};
 ghost use Rattle.std.specs.List.{list_any};
 ghost use Rattle.std.specs.Prelude.{suc, map};
 ghost use Rattle.rn_channel.specs.Heights.{calls_answered, net_answers};
-ghost use Rattle.rn_channel.specs.Kept.{IsLevel, AreLevelsFrom, least_height};
+ghost use Rattle.rn_channel.specs.link.Kept.{IsLevel, AreLevelsFrom, least_height};
 
 use rn_items::{Items, NoMemory};
 use rn_model::limits::GREATEST_DEPTH;

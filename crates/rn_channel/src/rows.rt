@@ -1,6 +1,6 @@
 //! The transitions of one net by the channel of their uplink.
 ghost use Rattle.std.specs.Prelude.{◌≡◌, ◌++◌, ◌∷◌, [], ◌<◌, ◌^◌, ℕ, IfOk, OnOk, length, nat_eq, if◌then◌else◌};
-ghost use Rattle.rn_channel.specs.Kept.{HasRows, looked_up};
+ghost use Rattle.rn_channel.specs.link.Kept.{HasRows, looked_up};
 
 use rn_items::{Items, NoMemory};
 use rn_model::{Net, Nums};

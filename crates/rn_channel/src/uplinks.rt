@@ -4,7 +4,7 @@ ghost use Rattle.rn_model.specs.declared.system.System.{System as Whole};
 ghost use Rattle.rn_model.specs.Systems.{net_at, transition_at};
 ghost use Rattle.rn_channel.specs.Answering.{answering};
 ghost use Rattle.rn_channel.specs.Heights.{IsLeastHeight};
-ghost use Rattle.rn_channel.specs.Uplinks.{AreUplinksOf};
+ghost use Rattle.rn_channel.specs.link.Uplinks.{AreUplinksOf};
 
 use crate::heights::{heights_of, levels_of};
 use crate::rows::{Rows, row_of, rows_of};

@@ -17,8 +17,8 @@ use Rattle.rn_declared.specs.Declarations.{kind_faults, place_faults}
 use Rattle.rn_declared.specs.Channels.{channels_faults}
 use Rattle.rn_rules.specs.Transitions.{transition_faults}
 use Rattle.rn_rules.specs.Systems.{scope_of, net_faults, system_faults, text_start}
-use Rattle.rn_numbered.specs.NumbersFound.{AreFew}
-use Rattle.rn_numbering.specs.Making.{HasNetNumbers, HasNumbers}
+use Rattle.rn_numbered.specs.link.NumbersFound.{AreFew}
+use Rattle.rn_numbering.specs.link.Making.{HasNetNumbers, HasNumbers}
 use Rattle.rn_declared.proofs.Faultless.{both_nil, each_nil, within_limit}
 use Rattle.rn_declared.proofs.DeclaredNames.{declared_few}
 

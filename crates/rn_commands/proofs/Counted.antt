@@ -12,7 +12,8 @@ use Rattle.rn_fire.specs.States.{State}
 use Rattle.rn_incr.specs.Counts.{IsCounted}
 use Rattle.rn_answer.specs.declared.answer.Answer.{Answer}
 use Rattle.rn_answer.specs.NetTexts.{Accepted}
-use Rattle.rn_commands.specs.Counting.{CountsTo, IsCountedBy, count_line, count_lines}
+use Rattle.rn_commands.specs.Counting.{CountsTo, count_line, count_lines}
+use Rattle.rn_commands.specs.link.Counting.{IsCountedBy}
 use Rattle.rn_commands.specs.Ends.{end_message, end_status}
 
 -- what is written of a number of 128 bits

@@ -15,9 +15,11 @@ use Rattle.rn_fire.specs.States.{State, end_marking}
 use Rattle.rn_gen.specs.Workload.{workload}
 use Rattle.rn_answer.specs.declared.answer.Answer.{Answer}
 use Rattle.rn_answer.specs.NetTexts.{Accepted, AcceptedIn}
-use Rattle.rn_commands.specs.Ends.{IsWrittenBy, end_message, end_status}
+use Rattle.rn_commands.specs.Ends.{end_message, end_status}
+use Rattle.rn_commands.specs.link.Ends.{IsWrittenBy}
 use Rattle.rn_commands.specs.Runs.{IsOfWorkers, RunsTo, run_text}
-use Rattle.rn_commands.specs.Workloads.{CountsLive, GensTo, IsTalliedBy, tally_text}
+use Rattle.rn_commands.specs.Workloads.{CountsLive, GensTo, tally_text}
+use Rattle.rn_commands.specs.link.Workloads.{IsTalliedBy}
 
 -- the instances that are live in its table are those that are at its end
 pub counts_live : (s : State) (system : System) (table : Kept) (numbers : List ℕ) (count : ℕ) →

@@ -10,7 +10,8 @@ use Rattle.rn_model.specs.Good.{Good}
 use Rattle.rn_model.specs.Markings.{Marking, initial_marking}
 use Rattle.rn_record.specs.RecordText.{binding_text, first_names}
 use Rattle.rn_written.proofs.TextsOfLogs.{enabled_have_lines}
-use Rattle.rn_commands.specs.Bindings.{AreEnabledFirst, HasFirstLines, IsBelow, bindings_text, numbered_lead}
+use Rattle.rn_commands.specs.Bindings.{AreEnabledFirst, IsBelow, bindings_text, numbered_lead}
+use Rattle.rn_commands.specs.link.Bindings.{HasFirstLines}
 
 pub first_lines : (system : System) (depth : ℕ) (found : List Binding) → Good system →
     AreEnabledFirst system depth found → All (HasFirstLines system) found

@@ -7,10 +7,10 @@ use Rattle.rn_answer.specs.declared.answer.Answer.{Answer}
 use Rattle.rn_commands.specs.declared.jobs.Job.{Job}
 use Rattle.rn_commands.specs.declared.jobs.Pick.TheVariants.{Least}
 use Rattle.rn_commands.specs.declared.jobs.Telling.TheVariants.{Record, Tally}
-use Rattle.rn_commands.specs.Ends.{IsWrittenBy}
+use Rattle.rn_commands.specs.link.Ends.{IsWrittenBy}
 use Rattle.rn_commands.specs.Jobs.{JobComesTo}
 use Rattle.rn_commands.specs.Runs.{IsOfWorkers}
-use Rattle.rn_commands.specs.Workloads.{IsTalliedBy}
+use Rattle.rn_commands.specs.link.Workloads.{IsTalliedBy}
 use Rattle.rn_commands.proofs.EndedRuns.{gens_to, runs_to}
 use Rattle.rn_commands.proofs.LeastEnds.{runs_least_to}
 

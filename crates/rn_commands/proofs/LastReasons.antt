@@ -7,7 +7,7 @@ use Rattle.rn_model.specs.declared.log.Reason.{Reason}
 use Rattle.rn_model.specs.Runs.{entries_of}
 use Rattle.rn_fire.specs.States.{State, logged}
 use Rattle.rn_fire.proofs.EntryLemmas.{count_ended}
-use Rattle.rn_replay.specs.Parts.{last_of}
+use Rattle.rn_replay.specs.link.Parts.{last_of}
 use Rattle.rn_replay.proofs.LastEntries.{last_end}
 
 end_there : (ended : Option Reason) → ended ≢ None → (reason : Reason) × (ended ≡ Some reason)

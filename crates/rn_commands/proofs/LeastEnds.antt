@@ -9,7 +9,7 @@ use Rattle.rn_fire.specs.States.{State}
 use Rattle.rn_answer.specs.declared.answer.Answer.{Answer}
 use Rattle.rn_answer.specs.NetTexts.{AcceptedIn}
 use Rattle.rn_least_state.specs.LeastStates.{HasLeastLog}
-use Rattle.rn_commands.specs.Ends.{IsWrittenBy}
+use Rattle.rn_commands.specs.link.Ends.{IsWrittenBy}
 use Rattle.rn_commands.specs.LeastRuns.{RunsLeastTo}
 use Rattle.rn_commands.specs.Runs.{IsOfWorkers}
 use Rattle.rn_commands.proofs.EndedRuns.{runs_to}

@@ -11,7 +11,7 @@ use Rattle.rn_model.specs.declared.log.Told.{Told}
 use Rattle.rn_lookup.specs.declared.refusal.Refusal.{Refusal}
 use Rattle.rn_lookup.specs.declared.refusal.Refusal.TheVariants.{Form, Name, Step, Many}
 use Rattle.rn_told.specs.Runs.{Verdict, TellsRecord}
-use Rattle.rn_told.specs.RunsAhead.{FaultTells}
+use Rattle.rn_told.specs.link.RunsAhead.{FaultTells}
 use Rattle.rn_told.specs.declared.fault.RecordFault.{RecordFault}
 use Rattle.rn_told.specs.declared.fault.RecordFault.TheVariants.{Q1, Q2, Q3, Q4}
 use Rattle.rn_told.specs.declared.fault.RecordFault.TheVariants as Q
@@ -29,7 +29,8 @@ use Rattle.rn_answer.specs.Refusing.{Stops, done, refusal}
 use Rattle.rn_answer.proofs.Causes.{net_refused}
 use Rattle.rn_commands.specs.Migrating.{MigrateComesTo, NetMigratesTo, migrated_pair}
 use Rattle.rn_commands.specs.Parts.{HasParts, after_line, first_line, is_parting, line_length}
-use Rattle.rn_commands.specs.Replaying.{line_code, record_line}
+use Rattle.rn_commands.specs.Replaying.{line_code}
+use Rattle.rn_commands.specs.link.Replaying.{record_line}
 
 -- all of the input is net text, or the net text is shorter than it
 pub all_or_shorter : {bytes net rest : List ℕ} → HasParts bytes net rest → (net ≡ bytes) ⊎ (length net < length bytes)

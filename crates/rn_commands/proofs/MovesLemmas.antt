@@ -20,7 +20,8 @@ use Rattle.rn_answer.specs.declared.status.TheConstants.{RECORD_REFUSED}
 use Rattle.rn_commands.specs.Laws.{MovesGoWithReplay}
 use Rattle.rn_commands.specs.Moves.{MovesComeTo, RecordMovesTo}
 use Rattle.rn_commands.specs.Parts.{HasParts}
-use Rattle.rn_commands.specs.Replaying.{IsRecordOfRun, RecordTo, RefusesRecord, replayed_text}
+use Rattle.rn_commands.specs.Replaying.{IsRecordOfRun, RecordTo, replayed_text}
+use Rattle.rn_commands.specs.link.Replaying.{RefusesRecord}
 use Rattle.rn_commands.proofs.ReplayLemmas.{entries_are, replayed_ended}
 
 module _ (options : Options) (bytes net rest : List ℕ) (parts : HasParts bytes net rest) where

@@ -11,7 +11,7 @@ use Rattle.rn_model.specs.declared.log.Told.{Told}
 use Rattle.rn_model.specs.Liveness.{LivePart}
 use Rattle.rn_model.specs.Runs.{Firing, end_of, entries_of}
 use Rattle.rn_lookup.specs.declared.refusal.Refusal.{Refusal}
-use Rattle.rn_fire.specs.States.{end_in, firings_in}
+use Rattle.rn_fire.specs.link.States.{end_in, firings_in}
 use Rattle.rn_fire.proofs.EntryLemmas.{end_of_entries, firings_of}
 use Rattle.rn_record.specs.RecordText.{IsFormat}
 use Rattle.rn_told.specs.Laws.{OneReading}

@@ -8,12 +8,13 @@ use Rattle.rn_model.specs.declared.log.Told.{Told}
 use Rattle.rn_model.specs.Liveness.{LivePart}
 use Rattle.rn_model.specs.Runs.{Log, end_of, entries_of}
 use Rattle.rn_lookup.specs.declared.refusal.Refusal.TheVariants.{Form, Name, Step, Many}
-use Rattle.rn_fire.specs.States.{State, IsState, end_in}
+use Rattle.rn_fire.specs.States.{State, IsState}
+use Rattle.rn_fire.specs.link.States.{end_in}
 use Rattle.rn_fire.proofs.EntryLemmas.{end_of_entries}
 use Rattle.rn_record.specs.RecordText.{IsFormat, record_text}
 use Rattle.rn_told.specs.Laws.{TellsWholeRuns}
 use Rattle.rn_told.specs.Runs.{Verdict, TellsRecord}
-use Rattle.rn_told.specs.RunsAhead.{FaultTells}
+use Rattle.rn_told.specs.link.RunsAhead.{FaultTells}
 use Rattle.rn_told.specs.declared.fault.RecordFault.{RecordFault}
 use Rattle.rn_told.specs.declared.fault.RecordFault.TheVariants.{Q1, Q2, Q3, Q4}
 use Rattle.rn_told.specs.declared.fault.RecordFault.TheVariants as Q
@@ -29,8 +30,10 @@ use Rattle.rn_answer.specs.Refusing.{Stops, done, refusal}
 use Rattle.rn_answer.specs.NetTexts.{AcceptedIn, RefusesNet}
 use Rattle.rn_commands.specs.NetCommands.{ReplayComesTo}
 use Rattle.rn_commands.specs.Parts.{HasParts}
-use Rattle.rn_commands.specs.Replaying.{IsNoRunBy, IsRecordOfRun, RecordTo, RefusesRecord}
-use Rattle.rn_commands.specs.Replaying.{entry_line, record_line, replayed_text}
+use Rattle.rn_commands.specs.Replaying.{IsNoRunBy, IsRecordOfRun, RecordTo}
+use Rattle.rn_commands.specs.link.Replaying.{RefusesRecord}
+use Rattle.rn_commands.specs.Replaying.{entry_line, replayed_text}
+use Rattle.rn_commands.specs.link.Replaying.{record_line}
 
 -- a record that tells no run is refused by the line of its first bad line
 pub record_refused : (format : ℕ) (system : System) (options : Options) (bytes : List ℕ) (fault : RecordFault) (s : Stopped) →

@@ -9,7 +9,6 @@ use Rattle.rn_model.specs.Order.{binding_cmp}
 use Rattle.rn_model.specs.Enabling.{Enabled}
 use Rattle.rn_model.specs.Markings.{initial_marking}
 use Rattle.rn_record.specs.RecordText.{binding_text, first_names}
-use Rattle.rn_record.specs.Writable.{HasLines}
 
 -- a binding comes before another
 abbrev pub IsBelow : Binding → Binding → Type 0
@@ -29,7 +28,3 @@ abbrev pub bindings_text : System → ℕ → List Binding → List ℕ
 bindings_text system k [] = []
 bindings_text system k (b ∷ bs) =
     binding_text system first_names (numbered_lead k) b ++ bindings_text system (suc k) bs
-
--- the lines of a binding at the start can be written
-abbrev pub HasFirstLines : System → Binding → Type 0
-HasFirstLines system b = HasLines system first_names b

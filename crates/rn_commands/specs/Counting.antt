@@ -7,11 +7,10 @@ use Rattle.rn_model.specs.declared.log.Reason.{Reason}
 use Rattle.rn_model.specs.declared.log.Reason.TheVariants.{Memory}
 use Rattle.rn_model.specs.Runs.{Firing}
 use Rattle.rn_least.specs.LeastRuns.{LeastLog}
-use Rattle.rn_fire.specs.States.{State}
 use Rattle.rn_incr.specs.Counts.{AreCounts}
 use Rattle.rn_answer.specs.declared.answer.Answer.{Answer}
 use Rattle.rn_answer.specs.NetTexts.{Accepted}
-use Rattle.rn_commands.specs.Ends.{end_line, end_message, end_status, IsClosedBy}
+use Rattle.rn_commands.specs.Ends.{end_line, end_message, end_status}
 
 -- the line of a number of firings and of how many bindings are enabled after them, as `3 2`
 abbrev pub count_line : ℕ → ℕ → List ℕ
@@ -42,14 +41,3 @@ pub record CountsTo (options : Options) (bytes : List ℕ) (a : Answer) : Type 0
   pub counts : CountsText options bytes a.text reason
   pub status : a.status ≡ end_status reason
   pub line : a.line ≡ end_message reason (suc (length counts.firings))
-
--- What follows only connects the code to the definitions.
-
--- the lines of a state whose log has ended, and of these numbers
-abbrev pub AreLinesOf : State → List ℕ → List ℕ → Type 0
-AreLinesOf s counts text =
-    (reason : Reason) × (s.ended ≡ Some reason) × (text ≡ count_lines 0 counts ++ end_line reason)
-
--- the answer of such a state
-abbrev pub IsCountedBy : State → List ℕ → Answer → Type 0
-IsCountedBy s counts a = AreLinesOf s counts a.text × IsClosedBy s a.status a.line

@@ -1,13 +1,9 @@
 -- The end of a log, as the program reports it.
-use Rattle.std.specs.Prelude.{ℕ, suc, ◌≡◌, List, [], Some, length, codes}
+use Rattle.std.specs.Prelude.{ℕ, List, [], codes}
 use Rattle.rn_model.specs.declared.log.FaultKind.{FaultKind}
 use Rattle.rn_model.specs.declared.log.FaultKind.TheVariants.{Action, Instances}
 use Rattle.rn_model.specs.declared.log.Reason.{Reason}
 use Rattle.rn_model.specs.declared.log.Reason.TheVariants.{Dead, Steps, Fault, Memory}
-use Rattle.rn_model.specs.Runs.{Log}
-use Rattle.rn_fire.specs.States.{State}
-use Rattle.rn_written.specs.Written.{IsRecordOf}
-use Rattle.rn_answer.specs.declared.answer.Answer.{Answer}
 use Rattle.rn_answer.specs.declared.status.TheConstants.{DONE, FAULTED, NO_MEMORY}
 use Rattle.rn_answer.specs.Lines.{number_line}
 
@@ -44,15 +40,3 @@ end_word Dead = codes "dead"
 end_word Steps = codes "steps"
 end_word (Fault cause b) = codes "fault"
 end_word Memory = codes "memory"
-
--- What follows only connects the code to the definitions.
-
--- the status and the line of a state whose log has ended, truly
-abbrev pub IsClosedBy : State → ℕ → List ℕ → Type 0
-IsClosedBy s status line = (reason : Reason) × (s.ended ≡ Some reason)
-    × Log s.setup.system s.setup.options s.fired (Some reason)
-    × (status ≡ end_status reason) × (line ≡ end_message reason (suc (length s.fired)))
-
--- the answer of a run that is written in this format
-abbrev pub IsWrittenBy : ℕ → State → Answer → Type 0
-IsWrittenBy format s a = IsRecordOf format s a.text × IsClosedBy s a.status a.line

@@ -11,9 +11,6 @@ use Rattle.rn_model.specs.Liveness.{LivePart}
 use Rattle.rn_lookup.specs.declared.refusal.Refusal.{Refusal}
 use Rattle.rn_lookup.specs.declared.refusal.Refusal.TheVariants.{Form, Name, Step, Many, Memory}
 use Rattle.rn_told.specs.Runs.{Verdict, TellsRecord}
-use Rattle.rn_told.specs.declared.fault.RecordFault.{RecordFault}
-use Rattle.rn_told.specs.declared.fault.RecordFault.TheVariants.{Q1, Q2, Q3, Q4}
-use Rattle.rn_told.specs.declared.fault.RecordFault.TheVariants as Q
 use Rattle.rn_replay.specs.declared.fault.ReplayFault.{ReplayFault}
 use Rattle.rn_replay.specs.declared.fault.ReplayFault.TheVariants.{V1, V2, V3, V4, V5}
 use Rattle.rn_replay.specs.declared.fault.ReplayFault.TheVariants as R
@@ -82,18 +79,3 @@ pub data RecordTo (format : ℕ) (system : System) (options : Options) (bytes : 
       (run : IsRecordOfRun format system options bytes count reason) →
       TellsRecord system format bytes (Verdict.tells (entries_of run.firings (Some reason)) run.marks) →
       RecordTo format system options bytes (done (replayed_text count reason))
-
--- What follows only connects the code to the definitions.
-
--- the line of a record that tells no run; want of memory has none
-abbrev pub record_line : RecordFault → List ℕ
-record_line (Q1 n) = number_line (codes "Q1") n
-record_line (Q2 n) = number_line (codes "Q2") n
-record_line (Q3 n) = number_line (codes "Q3") n
-record_line (Q4 n) = number_line (codes "Q4") n
-record_line (Q.NoMemory _) = []
-
--- a record is refused
-abbrev pub RefusesRecord : ℕ → System → Options → List ℕ → Answer → Type 0
-RefusesRecord format system options bytes a =
-    (line : List ℕ) × IsNoRunBy format system options bytes line × (a ≡ refusal RECORD_REFUSED line)

@@ -11,8 +11,7 @@ use Rattle.rn_model.specs.Liveness.{IsLive}
 use Rattle.rn_gen.specs.Workload.{workload}
 use Rattle.rn_answer.specs.declared.answer.Answer.{Answer}
 use Rattle.rn_answer.specs.NetTexts.{Accepted}
-use Rattle.rn_fire.specs.States.{State, end_marking}
-use Rattle.rn_commands.specs.Ends.{end_status, end_message, end_line, IsClosedBy}
+use Rattle.rn_commands.specs.Ends.{end_status, end_message, end_line}
 use Rattle.rn_commands.specs.Runs.{IsOfWorkers}
 
 -- a word and a number, as `steps 10`
@@ -46,15 +45,3 @@ pub record GensTo (copies : ℕ) (options : Options) (a : Answer) : Type 0 where
       ≡ tally_text (length firings) ((end_of system firings).next - 1) live reason
   pub status : a.status ≡ end_status reason
   pub line : a.line ≡ end_message reason (suc (length firings))
-
--- What follows only connects the code to the definitions.
-
--- the four lines of a state whose log has ended
-abbrev pub IsTallyOf : State → List ℕ → Type 0
-IsTallyOf s text = (reason : Reason) × (live : ℕ) × (s.ended ≡ Some reason)
-    × CountsLive s.setup.system (end_marking s) live
-    × (text ≡ tally_text (length s.fired) ((end_marking s).next - 1) live reason)
-
--- the answer of a run that is reported in four lines
-abbrev pub IsTalliedBy : State → Answer → Type 0
-IsTalliedBy s a = IsTallyOf s a.text × IsClosedBy s a.status a.line

@@ -5,7 +5,8 @@ ghost use Rattle.rn_model.specs.Limits.{greatest_depth};
 ghost use Rattle.rn_commands.specs.NetCommands.{EnabledTo};
 ghost use Rattle.rn_answer.specs.NetTexts.{RefusesNet};
 ghost use Rattle.rn_answer.specs.Refusing.{Concludes};
-ghost use Rattle.rn_commands.specs.Bindings.{AreEnabledFirst, bindings_text, numbered_lead, HasFirstLines};
+ghost use Rattle.rn_commands.specs.Bindings.{AreEnabledFirst, bindings_text, numbered_lead};
+ghost use Rattle.rn_commands.specs.link.Bindings.{HasFirstLines};
 
 use rn_answer::{Answer, Stopped, done, system_of};
 use rn_binding::Candidate;

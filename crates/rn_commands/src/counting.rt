@@ -4,7 +4,8 @@ ghost use Rattle.rn_model.specs.Good.{Good, IsInLimits};
 ghost use Rattle.rn_incr.specs.Counts.{IsCounted};
 ghost use Rattle.rn_answer.specs.NetTexts.{RefusesNet};
 ghost use Rattle.rn_answer.specs.Refusing.{Concludes};
-ghost use Rattle.rn_commands.specs.Counting.{count_line, count_lines, AreLinesOf, CountsTo, IsCountedBy};
+ghost use Rattle.rn_commands.specs.Counting.{count_line, count_lines, CountsTo};
+ghost use Rattle.rn_commands.specs.link.Counting.{AreLinesOf, IsCountedBy};
 
 use crate::runs::closed_by;
 use crate::workload::end_line;

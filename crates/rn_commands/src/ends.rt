@@ -2,7 +2,7 @@
 ghost use Rattle.std.specs.Prelude.{◌≡◌, ◌≢◌, None, Some, length};
 ghost use Rattle.rn_model.specs.declared.log.Entry.TheVariants as EntryIs;
 ghost use Rattle.rn_fire.specs.States.{IsState};
-ghost use Rattle.rn_replay.specs.Parts.{IsEnd};
+ghost use Rattle.rn_replay.specs.link.Parts.{IsEnd};
 ghost use Rattle.rn_commands.specs.Ends.{end_word};
 
 use rn_fire::SimState;

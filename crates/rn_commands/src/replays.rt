@@ -11,7 +11,8 @@ ghost use Rattle.rn_commands.specs.NetCommands.{ReplayComesTo};
 ghost use Rattle.rn_answer.specs.Lines.{number_line};
 ghost use Rattle.rn_commands.specs.Parts.{HasParts, line_length, is_parting};
 ghost use Rattle.rn_answer.specs.Refusing.{Concludes, Stops, refusal};
-ghost use Rattle.rn_commands.specs.Replaying.{RefusesRecord, record_line, entry_line, replayed_text};
+ghost use Rattle.rn_commands.specs.Replaying.{entry_line, replayed_text};
+ghost use Rattle.rn_commands.specs.link.Replaying.{RefusesRecord, record_line};
 
 use crate::ends::{end_reason, end_word, fired_count};
 use rn_answer::{Answer, RECORD_REFUSED, Stopped, done, net_of, number_line, refused};

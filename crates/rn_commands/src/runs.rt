@@ -2,7 +2,8 @@
 ghost use Rattle.std.specs.Prelude.{◌≡◌, ◌≢◌, ◌⊎◌, None, IfOk};
 ghost use Rattle.rn_model.specs.Good.{IsInLimits};
 ghost use Rattle.rn_record.specs.RecordText.{IsFormat};
-ghost use Rattle.rn_commands.specs.Ends.{fault_line, IsClosedBy, IsWrittenBy};
+ghost use Rattle.rn_commands.specs.Ends.{fault_line};
+ghost use Rattle.rn_commands.specs.link.Ends.{IsClosedBy, IsWrittenBy};
 ghost use Rattle.rn_answer.specs.NetTexts.{RefusesNet};
 ghost use Rattle.rn_answer.specs.Refusing.{Concludes};
 ghost use Rattle.rn_commands.specs.LeastRuns.{RunsLeastTo};

@@ -7,7 +7,8 @@ ghost use Rattle.rn_commands.specs.Ends.{end_line};
 ghost use Rattle.rn_answer.specs.NetTexts.{Accepted};
 ghost use Rattle.rn_answer.specs.Refusing.{Concludes};
 ghost use Rattle.rn_answer.specs.declared.stopped.Stopped.TheVariants.{NoMemory as Memory};
-ghost use Rattle.rn_commands.specs.Workloads.{counted_line, GensTo, IsTallyOf, IsTalliedBy};
+ghost use Rattle.rn_commands.specs.Workloads.{counted_line, GensTo};
+ghost use Rattle.rn_commands.specs.link.Workloads.{IsTallyOf, IsTalliedBy};
 
 use crate::ends::fired_count;
 use crate::jobs::{Pick, run_job, workload_job};

@@ -9,8 +9,8 @@ use Rattle.rn_model.specs.Limits.{most_channels}
 use Rattle.rn_net.specs.declared.plain.PChannel.{PChannel}
 use Rattle.rn_declared.specs.declared.fault.Fault.{Fault}
 use Rattle.rn_declared.specs.Faults.{first_from, past_limit}
-use Rattle.rn_declared.specs.Tables.{or_number}
-use Rattle.rn_declared.specs.Tables.{channel_told}
+use Rattle.rn_declared.specs.link.Tables.{or_number}
+use Rattle.rn_declared.specs.link.Tables.{channel_told}
 use Rattle.rn_declared.specs.Channels.{same_channel, channel_from, channel_faults, channels_faults}
 use Rattle.rn_declared.proofs.ToldLemmas.{first_from-append}
 

@@ -6,7 +6,7 @@ use Rattle.rn_declared.specs.declared.pattern.Pattern.TheVariants as Pattern
 use Rattle.rn_declared.specs.declared.pattern.Pattern.TheOpen as P
 use Rattle.rn_declared.specs.declared.numbered.Form.{Form}
 use Rattle.rn_declared.specs.declared.numbered.Form.TheVariants as F
-use Rattle.rn_declared.specs.Forms.{pattern_of_form}
+use Rattle.rn_declared.specs.link.Forms.{pattern_of_form}
 use Rattle.rn_declared.specs.Patterns.{both_of, both_step, all_both}
 use Rattle.rn_declared.proofs.PatternKinds.{by_pattern, both-out}
 use Rattle.rn_declared.proofs.SamePatterns.{opened, opened_is}

@@ -11,7 +11,7 @@ use Rattle.rn_inscript.specs.declared.inscriptions.PName.{PName}
 use Rattle.rn_declared.specs.declared.fault.Fault.{Fault}
 use Rattle.rn_declared.specs.Faults.{first_from, past_limit}
 use Rattle.rn_declared.specs.Names.{same_name, number_from, number_among, names_faults, name_faults, declared_faults}
-use Rattle.rn_declared.specs.Tables.{or_number, with_name, name_told}
+use Rattle.rn_declared.specs.link.Tables.{or_number, with_name, name_told}
 use Rattle.rn_declared.proofs.ToldLemmas.{first_from-append}
 
 -- one more name

@@ -17,7 +17,7 @@ use Rattle.rn_declared.specs.Patterns.{pattern_of}
 use Rattle.rn_declared.specs.Names.{number_among}
 use Rattle.rn_declared.specs.Declarations.{kind_faults, place_faults, token_faults, const_part, fits}
 use Rattle.rn_declared.specs.Declarations.{capacity_faults, has_capacity}
-use Rattle.rn_declared.specs.Tables.{capped_by}
+use Rattle.rn_declared.specs.link.Tables.{capped_by}
 use Rattle.rn_declared.proofs.ToldLemmas.{told_of_three}
 use Rattle.rn_declared.proofs.ToldLemmas.{first_from-append}
 use Rattle.rn_declared.proofs.ToldLemmas.{const_spot}

@@ -6,7 +6,7 @@ use Rattle.rn_declared.specs.declared.pattern.Pattern.TheVariants as Pattern
 use Rattle.rn_declared.specs.declared.pattern.Pattern.TheOpen as P
 use Rattle.rn_declared.specs.declared.numbered.Form.{Form}
 use Rattle.rn_declared.specs.declared.numbered.Form.TheVariants as F
-use Rattle.rn_declared.specs.Forms.{pattern_of_form}
+use Rattle.rn_declared.specs.link.Forms.{pattern_of_form}
 use Rattle.rn_declared.proofs.PatternKinds.{by_pattern, share-out}
 use Rattle.rn_declared.specs.Patterns.{share, share_step, all_share}
 

@@ -1,10 +1,7 @@
-pub mod Faults
-pub mod Patterns
-pub mod Names
-pub mod Declarations
+pub mod link
 pub mod Channels
-pub mod Tables
-pub mod SeenBefore
+pub mod Declarations
+pub mod Faults
+pub mod Names
 pub mod PatternLaws
-pub mod Forms
-pub mod Sizes
+pub mod Patterns

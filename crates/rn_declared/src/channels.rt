@@ -6,8 +6,8 @@ ghost use Rattle.rn_model.specs.Limits.{most_channels};
 ghost use Rattle.rn_declared.specs.Patterns.{pattern_of};
 ghost use Rattle.rn_declared.specs.Names.{same_name};
 ghost use Rattle.rn_declared.specs.Channels.{same_channel, channel_from, channels_faults};
-ghost use Rattle.rn_declared.specs.Tables.{or_number};
-ghost use Rattle.rn_declared.specs.Tables.{channel_in, number_in_tables, channel_told};
+ghost use Rattle.rn_declared.specs.link.Tables.{or_number};
+ghost use Rattle.rn_declared.specs.link.Tables.{channel_in, number_in_tables, channel_told};
 
 use crate::fault::Rule;
 use crate::first::First;

@@ -1,6 +1,6 @@
 //! Names that were declared with a kind.
 ghost use Rattle.std.specs.Prelude.{◌≡◌, option_copied};
-ghost use Rattle.rn_declared.specs.Tables.{pattern_in};
+ghost use Rattle.rn_declared.specs.link.Tables.{pattern_in};
 
 use crate::pattern::Pattern;
 use crate::table::Declared;

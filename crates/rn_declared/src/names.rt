@@ -2,7 +2,7 @@
 ghost use Rattle.std.specs.Prelude.{◌≡◌, ℕ, List, OnOk, IfOk, map, is_some, length};
 ghost use Rattle.rn_declared.specs.Faults.{first_from, past_limit};
 ghost use Rattle.rn_declared.specs.Names.{number_among, declared_faults};
-ghost use Rattle.rn_declared.specs.Tables.{found_in, with_name, name_told};
+ghost use Rattle.rn_declared.specs.link.Tables.{found_in, with_name, name_told};
 
 use crate::fault::Rule;
 use crate::first::First;

@@ -2,7 +2,7 @@
 ghost use Rattle.std.specs.Prelude.{◌≡◌, IsTrue, IfOk, Some, IfSome, map, slice_get, unwrap_or};
 ghost use Rattle.rn_declared.specs.Patterns.{share, all_share, both_of, all_both};
 ghost use Rattle.rn_declared.specs.declared.pattern.Pattern.TheVariants as Pattern;
-ghost use Rattle.rn_declared.specs.Forms.{pattern_of_form};
+ghost use Rattle.rn_declared.specs.link.Forms.{pattern_of_form};
 
 use crate::pattern::Pattern;
 use rn_items::Items;
@@ -55,13 +55,13 @@ impl<N: Numbers> Model for Numbered<N> {
 
     ghost coded = { Prim.hlevel (codes, pattern.the_row.coded) };
 
-    ghost use Rattle.rn_declared.specs.Forms.{pattern_of_form};
+    ghost use Rattle.rn_declared.specs.link.Forms.{pattern_of_form};
 
     ghost view = { λ k. pattern_of_form k.form };
 
     ghost invariant = { λ k. IfSome k.number (λ n. slice_get N.patterns n ≡ Some (pattern_of_form k.form)) };
 
-    ghost use Rattle.rn_declared.specs.Sizes.{size_of, size-Tuple, size-List};
+    ghost use Rattle.rn_declared.specs.link.Sizes.{size_of, size-Tuple, size-List};
 
     ghost size = { size_of };
 

@@ -10,8 +10,8 @@ ghost use Rattle.rn_declared.specs.Patterns.{pattern_of};
 ghost use Rattle.rn_declared.specs.Names.{number_among, declared_faults};
 ghost use Rattle.rn_declared.specs.Declarations.{kind_faults, place_faults, token_faults, const_part};
 ghost use Rattle.rn_declared.specs.Declarations.{capacity_faults, has_capacity};
-ghost use Rattle.rn_declared.specs.SeenBefore.{WasSeen};
-ghost use Rattle.rn_declared.specs.Tables.{pattern_in, capped_in};
+ghost use Rattle.rn_declared.specs.link.SeenBefore.{WasSeen};
+ghost use Rattle.rn_declared.specs.link.Tables.{pattern_in, capped_in};
 
 use crate::fault::Rule;
 use crate::first::First;

@@ -1,6 +1,6 @@
 //! Tables of names: the number of the first declaration of each.
 ghost use Rattle.std.specs.Prelude.{◌≡◌, ◌<◌, ℕ, Option, None, IfOk, OnOk, List, is_none};
-ghost use Rattle.rn_declared.specs.Tables.{found_in, with_name};
+ghost use Rattle.rn_declared.specs.link.Tables.{found_in, with_name};
 
 use crate::pattern::Patterns;
 use rn_items::Items;

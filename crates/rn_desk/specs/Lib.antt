@@ -1,7 +1,6 @@
+pub mod link
 pub mod Entries
 pub mod Numbered
-pub mod Turns
-pub mod Steps
-pub mod Seats
-pub mod Taken
 pub mod Passes
+pub mod Steps
+pub mod Turns

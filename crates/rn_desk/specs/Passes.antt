@@ -3,7 +3,7 @@ use Rattle.std.specs.Prelude.{ℕ, List}
 use Rattle.rn_desk.specs.declared.desk.Desk.{Desk}
 use Rattle.rn_desk.specs.declared.desk.Pass.{Pass}
 use Rattle.rn_desk.specs.declared.desk.Turn.{Turn}
-use Rattle.rn_desk.specs.Seats as seat
+use Rattle.rn_desk.specs.link.Seats as seat
 
 module _ {S I F : Type 0} where
   -- the number of seats

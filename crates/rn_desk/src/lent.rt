@@ -4,7 +4,7 @@
 ghost use Rattle.std.specs.Prelude.{◌≡◌};
 ghost use Rattle.std.specs.Borrow.{Lends, sem};
 ghost use Rattle.rn_desk.specs.contracts.desk.Turn.{the_row};
-ghost use Rattle.rn_desk.specs.Taken.{state_of, with_state};
+ghost use Rattle.rn_desk.specs.link.Taken.{state_of, with_state};
 
 use crate::desk::Turn;
 

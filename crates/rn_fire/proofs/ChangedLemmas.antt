@@ -16,7 +16,7 @@ use Rattle.rn_reach.specs.Changes.{HaveNodeOn, MayChange}
 use Rattle.rn_reach.specs.Reach.{DifferAtMostIn}
 use Rattle.rn_reach.proofs.OtherInstances.{firings_change_no_other}
 use Rattle.rn_fire.proofs.EntryLemmas.{entry_of}
-use Rattle.rn_fire.specs.Changed.{EntryHasNodeOn, Gets, OneHas}
+use Rattle.rn_fire.specs.link.Changed.{EntryHasNodeOn, Gets, OneHas}
 
 -- nothing more
 pub gets_nothing : (Has : ℕ → Type 0) (xs : List ℕ) → ((n : ℕ) → ¬ Has n) → Gets Has xs xs

@@ -9,7 +9,7 @@ use Rattle.rn_model.specs.LivenessLaws.{without_instances}
 use Rattle.rn_model.specs.Markings.{Marking}
 use Rattle.rn_model.proofs.AskedValues.{later}
 use Rattle.rn_model.proofs.StandingTables.{dropping_keeps, tables_have_the_same_live}
-use Rattle.rn_table.specs.Leaves.{stays}
+use Rattle.rn_table.specs.Staying.{stays}
 use Rattle.rn_table.specs.Tables.{Kept}
 
 -- the numbers that are dropped

@@ -7,7 +7,8 @@ use Rattle.rn_model.specs.declared.log.Entry.TheVariants.{Fire, End}
 use Rattle.rn_model.specs.declared.log.Reason.{Reason}
 use Rattle.rn_model.specs.Runs.{Firing, entries_of}
 use Rattle.rn_model.proofs.AskedValues.{got_contained, map_source}
-use Rattle.rn_fire.specs.States.{firings_in, end_in, State, logged}
+use Rattle.rn_fire.specs.States.{State, logged}
+use Rattle.rn_fire.specs.link.States.{firings_in, end_in}
 
 abbrev pub entry_of : Firing → Entry
 entry_of f = Fire f.worker f.binding f.outs

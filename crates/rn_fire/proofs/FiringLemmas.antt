@@ -26,8 +26,9 @@ use Rattle.rn_table.specs.Tables.{Kept, IsTableOf}
 use Rattle.rn_table.specs.declared.change.Change.{Change}
 use Rattle.rn_fire.specs.declared.setup.Setup.{Setup}
 use Rattle.rn_fire.specs.Commits.{HasFired}
-use Rattle.rn_fire.specs.Outcomes.{FiresBy}
-use Rattle.rn_fire.specs.States.{State, KeepsState, state_of, firings_in, end_in}
+use Rattle.rn_fire.specs.link.Outcomes.{FiresBy}
+use Rattle.rn_fire.specs.States.{State}
+use Rattle.rn_fire.specs.link.States.{KeepsState, state_of, firings_in, end_in}
 use Rattle.rn_fire.proofs.EntryLemmas.{fired_more}
 use Rattle.rn_fire.proofs.StateLemmas.{are_firings, keeps, state_with}
 

@@ -29,7 +29,7 @@ use Rattle.rn_table.specs.Changes.{changed, values_at}
 use Rattle.rn_table.specs.Laws.{LeavesNew}
 use Rattle.rn_table.specs.declared.change.Change.{Change}
 use Rattle.rn_fire.specs.Commits.{IsEnabledNow}
-use Rattle.rn_fire.specs.Outcomes.{FiresBy, IsOutcome}
+use Rattle.rn_fire.specs.link.Outcomes.{FiresBy, IsOutcome}
 use Rattle.rn_fire.specs.States.{State, IsState, end_marking, logged}
 use Rattle.rn_fire.specs.declared.outcome.Outcome.{Outcome}
 use Rattle.rn_fire.specs.declared.outcome.Outcome.TheVariants.{Undefined}

@@ -9,7 +9,7 @@ use Rattle.rn_model.specs.Runs.{Firing, Log, end_entries, end_of, entries_of}
 use Rattle.rn_model.proofs.RunLemmas.{prefixes_are_logs}
 use Rattle.rn_table.specs.Tables.{Kept, IsTableOf}
 use Rattle.rn_fire.specs.declared.setup.Setup.{Setup}
-use Rattle.rn_fire.specs.States.{KeepsState, state_of, firings_in, end_in}
+use Rattle.rn_fire.specs.link.States.{KeepsState, state_of, firings_in, end_in}
 use Rattle.rn_fire.proofs.EntryLemmas.{entry_of}
 use Rattle.rn_fire.proofs.StateLemmas.{keeps, state_with}
 

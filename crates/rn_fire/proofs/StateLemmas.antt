@@ -10,7 +10,8 @@ use Rattle.rn_model.specs.Enabling.{DeadAt}
 use Rattle.rn_model.proofs.RunLemmas.{dead_runs_stop}
 use Rattle.rn_table.specs.Tables.{Kept}
 use Rattle.rn_fire.specs.declared.setup.Setup.{Setup}
-use Rattle.rn_fire.specs.States.{State, IsState, KeepsState, end_marking, state_of, firings_in, end_in}
+use Rattle.rn_fire.specs.States.{State, IsState, end_marking}
+use Rattle.rn_fire.specs.link.States.{KeepsState, state_of, firings_in, end_in}
 use Rattle.rn_fire.specs.Ends.{MayEndBy, WasDead, with_end}
 use Rattle.rn_fire.proofs.EntryLemmas.{firings_of, end_of_entries, ended_more, count_going}
 

@@ -1,5 +1,4 @@
-pub mod Changed
+pub mod link
 pub mod Commits
 pub mod Ends
-pub mod Outcomes
 pub mod States

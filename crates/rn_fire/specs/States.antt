@@ -1,5 +1,5 @@
 -- What contracts see of a state: its system and options, its log and its table.
-use Rattle.std.specs.Prelude.{ℕ, ◌≡◌, ◌≤◌, ◌+◌, List, [], ◌∷◌, Option, Some, None}
+use Rattle.std.specs.Prelude.{ℕ, List, Option}
 use Rattle.rn_model.specs.declared.log.Entry.{Entry}
 use Rattle.rn_model.specs.declared.log.Entry.TheVariants.{Fire, End}
 use Rattle.rn_model.specs.declared.log.Reason.{Reason}
@@ -40,31 +40,3 @@ pub record IsState (s : State) : Type 0 where
   pub log : Log s.setup.system s.setup.options s.fired s.ended
   pub stands : Stands s.setup.system s.table.marking (end_marking s)
   pub of_system : IsTableOf s.setup.system s.table
-
--- What follows only connects the code to the definitions.
-
--- the firings among entries
-abbrev pub firings_in : List Entry → List Firing
-firings_in [] = []
-firings_in (Fire worker binding outs ∷ entries) =
-    record { worker = worker; binding = binding; outs = outs } ∷ firings_in entries
-firings_in (End reason ∷ entries) = firings_in entries
-
--- the first end among entries
-abbrev pub end_in : List Entry → Option Reason
-end_in [] = None
-end_in (Fire worker binding outs ∷ entries) = end_in entries
-end_in (End reason ∷ entries) = Some reason
-
--- the state with these entries
-abbrev pub state_of : Setup → List Entry → Kept → State
-state_of setup entries table =
-    record { setup = setup; fired = firings_in entries; ended = end_in entries; table = table }
-
--- What the fields of a state keep: entries with an end at their end alone, and room for as many
--- firings as there may be and for the end.
-pub record KeepsState (setup : Setup) (entries : List Entry) (room : ℕ) (table : Kept)
-    : Type 0 where
-  pub state : IsState (state_of setup entries table)
-  pub whole : entries ≡ entries_of (firings_in entries) (end_in entries)
-  pub enough : setup.options.steps + 1 ≤ room

@@ -5,7 +5,7 @@ ghost use Rattle.rn_model.specs.Runs.{end_of};
 ghost use Rattle.rn_reach.specs.Changes.{HasNodeOn, MayChange};
 ghost use Rattle.rn_reach.specs.Reach.{DifferAtMostIn};
 ghost use Rattle.rn_fire.specs.States.{end_marking};
-ghost use Rattle.rn_fire.specs.Changed.{EntryHasNodeOn, Gets, OneHas};
+ghost use Rattle.rn_fire.specs.link.Changed.{EntryHasNodeOn, Gets, OneHas};
 
 use crate::state::SimState;
 use rn_items::NoMemory;

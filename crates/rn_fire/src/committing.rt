@@ -4,7 +4,7 @@ ghost use Rattle.rn_model.specs.Limits.{most_workers};
 ghost use Rattle.rn_binding.specs.Soundness.{IsSound};
 ghost use Rattle.rn_fire.specs.Commits.{Commits, FiresOrFaults, HasFired, IsEnabledNow, WasEnabled};
 ghost use Rattle.rn_fire.specs.Ends.{MayGoOn};
-ghost use Rattle.rn_fire.specs.Outcomes.{FiresBy};
+ghost use Rattle.rn_fire.specs.link.Outcomes.{FiresBy};
 
 use crate::outcome::{Outcome, outcome_of};
 use crate::state::SimState;

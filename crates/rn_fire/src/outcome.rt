@@ -4,7 +4,7 @@ ghost use Rattle.rn_model.specs.Bindings.{IsNodeOf};
 ghost use Rattle.rn_model.specs.Firing.{creations_of};
 ghost use Rattle.rn_model.specs.Good.{Good};
 ghost use Rattle.rn_model.specs.Limits.{greatest_instance, greatest_step};
-ghost use Rattle.rn_fire.specs.Outcomes.{IsOutcome};
+ghost use Rattle.rn_fire.specs.link.Outcomes.{IsOutcome};
 
 use rn_acts::{Acted, act, change_of, gives_too_many};
 use rn_items::NoMemory;

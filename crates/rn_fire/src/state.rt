@@ -34,7 +34,8 @@ impl Model for SimState {
     ghost use Rattle.rn_model.specs.contracts.expr.Expr as expr;
     ghost use Rattle.rn_model.specs.contracts.expr.Cond as cond;
     ghost use Rattle.rn_table.specs.Tables.{kept_code};
-    ghost use Rattle.rn_fire.specs.States.{State, state_of, KeepsState};
+    ghost use Rattle.rn_fire.specs.States.{State};
+    ghost use Rattle.rn_fire.specs.link.States.{state_of, KeepsState};
 
     ghost Value = { State };
 

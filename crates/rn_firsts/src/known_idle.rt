@@ -7,7 +7,7 @@ ghost use Rattle.rn_model.specs.declared.system.System.{System as Whole};
 ghost use Rattle.rn_model.specs.Enabling.{Enabled, DeadAt};
 ghost use Rattle.rn_model.specs.Good.{Good};
 ghost use Rattle.rn_model.specs.Markings.{Marking};
-ghost use Rattle.rn_channel.specs.Uplinks.{AreUplinksOf};
+ghost use Rattle.rn_channel.specs.link.Uplinks.{AreUplinksOf};
 ghost use Rattle.rn_search.specs.Problems.{HasFitTokens};
 ghost use Rattle.rn_table.specs.Tables.{IsTableOf};
 ghost use Rattle.rn_found.specs.Idle.{IsIn};

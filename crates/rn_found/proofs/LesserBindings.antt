@@ -17,7 +17,7 @@ use Rattle.rn_model.specs.Bindings.{IsNodeOf}
 use Rattle.rn_model.specs.Good.{Good}
 use Rattle.rn_model.specs.Lists.{value_beside}
 use Rattle.rn_model.specs.Order.{binding_cmp, node_cmp}
-use Rattle.rn_model.specs.OrderLaws.{binding_cmp-total}
+use Rattle.rn_model.specs.link.OrderLaws.{binding_cmp-total}
 use Rattle.rn_model.specs.Systems.{transition_of}
 use Rattle.rn_model.proofs.EnablingLemmas.{not_in_nil}
 use Rattle.rn_model.proofs.ItemsOfNodes.{below_each}

@@ -14,7 +14,7 @@ use Rattle.std.proofs.lemmas.Map.Keys.{IsDistinct-IsPermutation}
 use Rattle.std.proofs.lemmas.Map.Made.{AllPairs-from_IsDistinct, IsDistinct-from_AllPairs}
 use Rattle.rn_model.specs.declared.binding.Binding.{Binding}
 use Rattle.rn_model.specs.Order.{binding_cmp}
-use Rattle.rn_model.specs.OrderLaws.{binding_cmp-total}
+use Rattle.rn_model.specs.link.OrderLaws.{binding_cmp-total}
 use Rattle.rn_model.proofs.BindingOrder.{binding_cmp-apart, equal_iff_same}
 
 -- whether two bindings are the same

@@ -5,7 +5,7 @@ use Rattle.std.specs.Ordering.{ordering_reverse}
 use Rattle.std.specs.declared.cmp.Ordering.TheVariants.{Less, Greater}
 use Rattle.rn_model.specs.declared.binding.Binding.{Binding}
 use Rattle.rn_model.specs.Order.{binding_cmp}
-use Rattle.rn_model.specs.OrderLaws.{binding_cmp-total}
+use Rattle.rn_model.specs.link.OrderLaws.{binding_cmp-total}
 use Rattle.rn_choices.specs.Leading.{IsOnly}
 use Rattle.rn_growing.specs.declared.decision.Decision.{Decision}
 use Rattle.rn_search.specs.Sought.{Sought, Leads, StartsAt}

@@ -18,7 +18,7 @@ use Rattle.rn_model.specs.RoomLaws.{puts_one, takers_at, putters_at, is_plain_at
 use Rattle.rn_model.specs.Systems.{capacity, transition_at}
 use Rattle.rn_search.specs.Problems.{HasFitTokens}
 use Rattle.rn_channel.specs.declared.uplinks.Uplinks.{Uplinks}
-use Rattle.rn_channel.specs.Uplinks.{AreUplinksOf}
+use Rattle.rn_channel.specs.link.Uplinks.{AreUplinksOf}
 use Rattle.rn_table.specs.Tables.{Kept, IsTableOf}
 use Rattle.rn_growing.specs.declared.decision.Head.{Head}
 use Rattle.rn_search.specs.Sought.{StartsAt}

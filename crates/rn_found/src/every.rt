@@ -11,7 +11,7 @@ ghost use Rattle.rn_model.specs.Good.{Good};
 ghost use Rattle.rn_model.specs.Enabling.{Enabled};
 ghost use Rattle.rn_search.specs.Problems.{HasFitTokens};
 ghost use Rattle.rn_model.specs.Systems.{net_at};
-ghost use Rattle.rn_channel.specs.Uplinks.{AreUplinksOf};
+ghost use Rattle.rn_channel.specs.link.Uplinks.{AreUplinksOf};
 ghost use Rattle.rn_search.specs.Sought.{StartsAt};
 ghost use Rattle.rn_table.specs.Tables.{IsTableOf};
 ghost use Rattle.rn_found.specs.Starting.{AreJust, IsKept, IsMore, IsSearchable, start_of};

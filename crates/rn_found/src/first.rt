@@ -10,7 +10,7 @@ ghost use Rattle.rn_model.specs.declared.binding.Binding.{Binding};
 ghost use Rattle.rn_model.specs.Good.{Good};
 ghost use Rattle.rn_model.specs.Enabling.{Enabled, DeadAt};
 ghost use Rattle.rn_model.specs.Systems.{net_at};
-ghost use Rattle.rn_channel.specs.Uplinks.{AreUplinksOf};
+ghost use Rattle.rn_channel.specs.link.Uplinks.{AreUplinksOf};
 ghost use Rattle.rn_search.specs.Problems.{HasFitTokens};
 ghost use Rattle.rn_choices.specs.Leading.{NoneLeads};
 ghost use Rattle.rn_growing.specs.Grown.{HasFewCreations};

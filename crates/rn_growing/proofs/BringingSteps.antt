@@ -22,12 +22,12 @@ use Rattle.rn_growing.specs.declared.decision.Caller.{Caller}
 use Rattle.rn_growing.specs.declared.decision.Decision.TheVariants.{Found}
 use Rattle.rn_growing.specs.Decisions.{transition_in}
 use Rattle.rn_growing.specs.Equations.{Brings, EntryBrings, read_at}
-use Rattle.rn_growing.specs.Entering.{EqualityHolds, CreationHolds, ArgHolds, AllBelow, AllHold}
-use Rattle.rn_growing.specs.Entering.{ArgsHold}
-use Rattle.rn_growing.specs.Layouts.{id_of, IsLaidIn, IsReadAs}
-use Rattle.rn_growing.specs.Building.{GetsValue}
-use Rattle.rn_growing.specs.Laid.{LaidState, Adds, Grows, Builds, NeverHas, Equates}
-use Rattle.rn_growing.specs.Grown.{BringsIn}
+use Rattle.rn_growing.specs.link.Entering.{EqualityHolds, CreationHolds, ArgHolds, AllBelow, AllHold}
+use Rattle.rn_growing.specs.link.Entering.{ArgsHold}
+use Rattle.rn_growing.specs.link.Layouts.{id_of, IsLaidIn, IsReadAs}
+use Rattle.rn_growing.specs.link.Building.{GetsValue}
+use Rattle.rn_growing.specs.link.Laid.{LaidState, Adds, Grows, Builds, NeverHas, Equates}
+use Rattle.rn_growing.specs.link.Grown.{BringsIn}
 use Rattle.rn_growing.proofs.LaidSteps.{goes_back-same, brings_alike, read_later, two_terms}
 
 -- what was laid grew from itself

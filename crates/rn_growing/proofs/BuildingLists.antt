@@ -13,9 +13,9 @@ use Rattle.rn_unify.proofs.EarlierMarks.{grown}
 use Rattle.rn_model.specs.Evaluation.{list_onto, list_of, list_step}
 use Rattle.rn_model.specs.Derivation.{Assignment}
 use Rattle.rn_model.proofs.EvaluationLemmas.{list_of-List}
-use Rattle.rn_growing.specs.Building.{BuildsAll, BuildsOr, IsPutBefore, PutsBefore}
-use Rattle.rn_growing.specs.Layouts.{id_of, IsLaidIn, IsReadAs}
-use Rattle.rn_growing.specs.Laid.{LaidState, GivesAssignment, Grows, Builds, NeverHas}
+use Rattle.rn_growing.specs.link.Building.{BuildsAll, BuildsOr, IsPutBefore, PutsBefore}
+use Rattle.rn_growing.specs.link.Layouts.{id_of, IsLaidIn, IsReadAs}
+use Rattle.rn_growing.specs.link.Laid.{LaidState, GivesAssignment, Grows, Builds, NeverHas}
 use Rattle.rn_growing.proofs.BuildingSteps.{values_kept}
 use Rattle.rn_growing.proofs.LaidSteps.{reads_before, read_later}
 

@@ -24,9 +24,9 @@ use Rattle.rn_model.proofs.DerivationLemmas.{term_value-Int, term_value-Text, te
 use Rattle.rn_model.proofs.DerivationLemmas.{term_value-This, term_value-Tuple, term_value-List}
 use Rattle.rn_model.proofs.DerivationLemmas.{term_value-Cons, term_value-Neg, term_value-Op}
 use Rattle.rn_growing.specs.declared.decision.Head.{Head}
-use Rattle.rn_growing.specs.Building.{along, unknowns_at, part_at, parts_at, BuildsAll, IsMade}
-use Rattle.rn_growing.specs.Layouts.{id_of, AreRead}
-use Rattle.rn_growing.specs.Laid.{LaidState, GivesAssignment, Grows, Builds, NeverHas}
+use Rattle.rn_growing.specs.link.Building.{along, unknowns_at, part_at, parts_at, BuildsAll, IsMade}
+use Rattle.rn_growing.specs.link.Layouts.{id_of, AreRead}
+use Rattle.rn_growing.specs.link.Laid.{LaidState, GivesAssignment, Grows, Builds, NeverHas}
 use Rattle.rn_growing.proofs.LaidSteps.{reads_before}
 
 -- a term that always has the value of another

@@ -17,9 +17,9 @@ use Rattle.rn_model.proofs.DerivationLemmas.{term_value-List, term_value-Cons}
 use Rattle.rn_growing.specs.declared.decision.Decision.{Decision}
 use Rattle.rn_growing.specs.declared.slot.Unknown.{Unknown}
 use Rattle.rn_growing.specs.Equations.{IsForcedTo}
-use Rattle.rn_growing.specs.Grown.{Says}
-use Rattle.rn_growing.specs.Laid.{LaidState, IsGiven}
-use Rattle.rn_growing.specs.Layouts.{asked}
+use Rattle.rn_growing.specs.link.Grown.{Says}
+use Rattle.rn_growing.specs.link.Laid.{LaidState, IsGiven}
+use Rattle.rn_growing.specs.link.Layouts.{asked}
 use Rattle.rn_growing.proofs.Growth.{solvable}
 use Rattle.rn_growing.proofs.Telling.{forced_answer}
 

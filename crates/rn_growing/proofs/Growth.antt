@@ -18,11 +18,13 @@ use Rattle.rn_growing.specs.declared.decision.Decision.{Decision}
 use Rattle.rn_growing.specs.declared.slot.Frame.{Frame}
 use Rattle.rn_growing.specs.Equations.{Brings, Solves, IsSolvable}
 use Rattle.rn_growing.specs.Turns.{AreInTurn, MayCome, SameThing}
-use Rattle.rn_growing.specs.Layouts.{id_of, IsLaidIn}
-use Rattle.rn_growing.specs.Laid.{LaidState, GivesAssignment, Grows, Adds}
+use Rattle.rn_growing.specs.link.Layouts.{id_of, IsLaidIn}
+use Rattle.rn_growing.specs.link.Laid.{LaidState, GivesAssignment, Grows, Adds}
 use Rattle.rn_growing.proofs.Telling.{assigned, assigned_reads}
-use Rattle.rn_growing.specs.Grown.{Grown, IsNew, Says, laid_at, IsEarlier}
-use Rattle.rn_growing.specs.Grown.{KeepsGrowing, Tries, TriesIn}
+use Rattle.rn_growing.specs.Grown.{Grown, IsNew}
+use Rattle.rn_growing.specs.link.Grown.{Says, laid_at, IsEarlier}
+use Rattle.rn_growing.specs.Grown.{Tries}
+use Rattle.rn_growing.specs.link.Grown.{KeepsGrowing, TriesIn}
 
 -- equal options hold equal values
 pub some_equal : {A : Type 0} (x y : A) → Some x ≡ Some y → x ≡ y

@@ -13,10 +13,10 @@ use Rattle.std.proofs.lemmas.Option.{slice_get-map, slice_get_within}
 use Rattle.std.proofs.lemmas.Option.{get_or_from_slice_get}
 use Rattle.rn_growing.specs.declared.slot.Slot.{Slot}
 use Rattle.rn_growing.specs.declared.slot.Unknown.{Unknown}
-use Rattle.rn_chains.specs.Chains.{IsUpToLast}
-use Rattle.rn_growing.specs.Keys.{slot_key, unknown_key}
-use Rattle.rn_growing.specs.Layouts.{id_of, same_unknown}
-use Rattle.rn_growing.specs.Indexed.{AreIndexed, IsSought, is_slot}
+use Rattle.rn_chains.specs.link.Chains.{IsUpToLast}
+use Rattle.rn_growing.specs.link.Keys.{slot_key, unknown_key}
+use Rattle.rn_growing.specs.link.Layouts.{id_of, same_unknown}
+use Rattle.rn_growing.specs.link.Indexed.{AreIndexed, IsSought, is_slot}
 use Rattle.rn_chains.proofs.ChainSteps.{either}
 use Rattle.rn_growing.proofs.Growth.{either_at, front_at}
 use Rattle.rn_growing.proofs.SameUnknowns.{unknown_is}

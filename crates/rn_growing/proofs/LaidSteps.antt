@@ -23,15 +23,15 @@ use Rattle.rn_model.specs.Lists.{HaveOneValue}
 use Rattle.rn_model.specs.Derivation.{Assignment}
 use Rattle.rn_growing.specs.declared.slot.Slot.{Slot}
 use Rattle.rn_growing.specs.declared.slot.Unknown.{Unknown}
-use Rattle.rn_growing.specs.Layouts.{Layout, asked, id_of, same_unknown, IsLaidIn, AreRead, IsReadAs}
-use Rattle.rn_growing.specs.Building.{IsMade}
+use Rattle.rn_growing.specs.link.Layouts.{Layout, asked, id_of, same_unknown, IsLaidIn, AreRead, IsReadAs}
+use Rattle.rn_growing.specs.link.Building.{IsMade}
 use Rattle.std.specs.Prelude.{Contains, All, map}
 use Rattle.std.proofs.lemmas.List.Elements.{All-contains}
 use Rattle.std.proofs.lemmas.Option.{same_Some}
 use Rattle.rn_growing.proofs.SameUnknowns.{unknown_itself}
 use Rattle.rn_growing.proofs.SameUnknowns.{unknown_is}
-use Rattle.rn_growing.specs.Grown.{BringsIn}
-use Rattle.rn_growing.specs.Laid.{LaidState, GivesAssignment, Grows, GoesBack, Builds, Equates}
+use Rattle.rn_growing.specs.link.Grown.{BringsIn}
+use Rattle.rn_growing.specs.link.Laid.{LaidState, GivesAssignment, Grows, GoesBack, Builds, Equates}
 use Rattle.rn_items.proofs.Numbers.{same_numbers, numbers_themselves}
 use Rattle.rn_items.proofs.Bools.{both_true}
 

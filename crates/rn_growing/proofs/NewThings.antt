@@ -11,7 +11,7 @@ use Rattle.rn_growing.specs.Decided.{enters, finds, computes}
 use Rattle.rn_growing.specs.Decisions.{site_of}
 use Rattle.rn_growing.specs.Following.{NewEntries, NewFinds, NewValues}
 use Rattle.rn_growing.specs.Grown.{IsNew}
-use Rattle.rn_growing.specs.Layouts.{same_site}
+use Rattle.rn_growing.specs.link.Layouts.{same_site}
 use Rattle.rn_growing.specs.Turns.{SameThing}
 use Rattle.rn_growing.proofs.SameUnknowns.{site_is}
 use Rattle.rn_growing.proofs.SameUnknowns.{site_itself, as_site, site_of-is}

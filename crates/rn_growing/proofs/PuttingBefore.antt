@@ -17,9 +17,9 @@ use Rattle.rn_unify.specs.Unifying.{SaysBoth, AreOne}
 use Rattle.rn_unify.proofs.EarlierMarks.{grown}
 use Rattle.rn_model.specs.Derivation.{Assignment}
 use Rattle.rn_growing.specs.declared.slot.Slot.{Slot}
-use Rattle.rn_growing.specs.Layouts.{id_of, IsLaidIn, AreRead}
-use Rattle.rn_growing.specs.Laid.{LaidState}
-use Rattle.rn_growing.specs.Building.{PutsBefore}
+use Rattle.rn_growing.specs.link.Layouts.{id_of, IsLaidIn, AreRead}
+use Rattle.rn_growing.specs.link.Laid.{LaidState}
+use Rattle.rn_growing.specs.link.Building.{PutsBefore}
 use Rattle.rn_growing.proofs.LaidSteps.{term_before, term_after, reads_before, reads_on}
 use Rattle.rn_growing.proofs.LaidSteps.{laid_later, both_before}
 use Rattle.rn_growing.proofs.BuildingSteps.{values_kept}

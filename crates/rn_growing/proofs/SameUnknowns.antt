@@ -10,7 +10,7 @@ use Rattle.rn_growing.specs.declared.decision.Site.TheVariants.{DownlinkArg, Ins
 use Rattle.rn_growing.specs.declared.slot.Unknown.{Unknown}
 use Rattle.rn_growing.specs.declared.slot.Unknown.TheVariants.{Var, Hole}
 use Rattle.rn_growing.specs.Decisions.{site_of}
-use Rattle.rn_growing.specs.Layouts.{same_site, same_unknown}
+use Rattle.rn_growing.specs.link.Layouts.{same_site, same_unknown}
 use Rattle.rn_items.proofs.Numbers.{same_numbers, numbers_themselves}
 use Rattle.rn_items.proofs.Bools.{both_true}
 

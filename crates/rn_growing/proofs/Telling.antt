@@ -19,11 +19,11 @@ use Rattle.rn_model.specs.Evaluation.{int_of}
 use Rattle.rn_model.proofs.EvaluationLemmas.{int_of-Int}
 use Rattle.rn_growing.specs.declared.decision.Decision.{Decision}
 use Rattle.rn_growing.specs.Equations.{IsForcedTo, IsForced as IsDecided}
-use Rattle.rn_growing.specs.Layouts.{Layout, asked, id_of, AreRead}
-use Rattle.rn_growing.specs.Laid.{LaidState, IsGiven}
+use Rattle.rn_growing.specs.link.Layouts.{Layout, asked, id_of, AreRead}
+use Rattle.rn_growing.specs.link.Laid.{LaidState, IsGiven}
 use Rattle.rn_growing.specs.declared.slot.Unknown.{Unknown}
 use Rattle.rn_growing.specs.declared.slot.Unknown.TheVariants.{Var, Hole}
-use Rattle.rn_growing.specs.Grown.{Says}
+use Rattle.rn_growing.specs.link.Grown.{Says}
 use Rattle.rn_growing.proofs.SameUnknowns.{as_site, site_of-is}
 
 -- the unknowns' values by an assignment of a store, and another value for those without an id

@@ -8,9 +8,10 @@ use Rattle.rn_growing.specs.declared.decision.Decision.{Decision}
 use Rattle.rn_growing.specs.declared.decision.Decision.TheVariants.{Entered, Found, Computed}
 use Rattle.rn_growing.specs.declared.thing.Thing.{Thing}
 use Rattle.rn_growing.specs.declared.thing.Thing.TheVariants as T
-use Rattle.rn_growing.specs.Layouts.{same_site}
-use Rattle.rn_growing.specs.Keys.{stirred, path_key, hole_key}
-use Rattle.rn_growing.specs.Decided.{decision_key, thing_key, is_on}
+use Rattle.rn_growing.specs.link.Layouts.{same_site}
+use Rattle.rn_growing.specs.link.Keys.{stirred, path_key, hole_key}
+use Rattle.rn_growing.specs.Decided.{is_on}
+use Rattle.rn_growing.specs.link.DecisionKeys.{decision_key, thing_key}
 use Rattle.rn_growing.proofs.SameUnknowns.{site_is}
 use Rattle.rn_items.proofs.Numbers.{same_numbers}
 use Rattle.rn_items.proofs.Bools.{both_true}

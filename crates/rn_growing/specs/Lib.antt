@@ -1,12 +1,7 @@
-pub mod Building
+pub mod link
 pub mod Decided
 pub mod Decisions
-pub mod Entering
 pub mod Equations
 pub mod Following
 pub mod Grown
-pub mod Indexed
-pub mod Keys
-pub mod Laid
-pub mod Layouts
 pub mod Turns

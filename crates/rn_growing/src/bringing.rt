@@ -6,13 +6,14 @@ ghost use Rattle.std.specs.Prelude.{◌≡◌, ◌<◌, ◌≤◌, IfOk, OnErr, 
 ghost use Rattle.std.specs.Option.{option_copied};
 ghost use Rattle.rn_model.specs.Lists.{HaveOneValue};
 ghost use Rattle.rn_model.specs.Systems.{empty_transition, uplink_args};
-ghost use Rattle.rn_growing.specs.Building.{GetsValue};
+ghost use Rattle.rn_growing.specs.link.Building.{GetsValue};
 ghost use Rattle.rn_growing.specs.Decisions.{site_of, transition_in};
-ghost use Rattle.rn_growing.specs.Entering.{AllHold, ArgHolds, ArgsHold};
-ghost use Rattle.rn_growing.specs.Entering.{CreationHolds, EqualityHolds};
+ghost use Rattle.rn_growing.specs.link.Entering.{AllHold, ArgHolds, ArgsHold};
+ghost use Rattle.rn_growing.specs.link.Entering.{CreationHolds, EqualityHolds};
 ghost use Rattle.rn_growing.specs.Equations.{Brings, read_at};
-ghost use Rattle.rn_growing.specs.Grown.{BringsIn, HasFewCreations, TriesIn, most_numbered};
-ghost use Rattle.rn_growing.specs.Laid.{Grows};
+ghost use Rattle.rn_growing.specs.Grown.{HasFewCreations, most_numbered};
+ghost use Rattle.rn_growing.specs.link.Grown.{BringsIn, TriesIn};
+ghost use Rattle.rn_growing.specs.link.Laid.{Grows};
 ghost use Rattle.rn_growing.specs.declared.decision.Decision.TheVariants as D;
 
 use crate::building::{build, build_hole};

@@ -3,9 +3,9 @@
 //! tail makes the tail a list at once, so nothing is built before its equation comes in.
 ghost use Rattle.std.specs.Prelude.{◌≡◌, IfOk, Some};
 ghost use Rattle.rn_value.specs.declared.value.Value.TheVariants as Worth;
-ghost use Rattle.rn_growing.specs.Building.{BuildsAllOr, BuildsOr, part_at, parts_at};
+ghost use Rattle.rn_growing.specs.link.Building.{BuildsAllOr, BuildsOr, part_at, parts_at};
 ghost use Rattle.rn_growing.specs.Decisions.{site_of};
-ghost use Rattle.rn_growing.specs.Laid.{Builds, Grows};
+ghost use Rattle.rn_growing.specs.link.Laid.{Builds, Grows};
 
 use crate::decision::{Head, Site};
 use crate::laid::Laid;

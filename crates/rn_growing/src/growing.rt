@@ -8,12 +8,14 @@ ghost use Rattle.rn_value.specs.declared.value.InstRef.{InstRef};
 ghost use Rattle.rn_value.specs.declared.value.Value.{Value};
 ghost use Rattle.rn_value.specs.declared.value.Value.TheVariants as Worth;
 ghost use Rattle.std.specs.List.{list_any};
-ghost use Rattle.rn_growing.specs.Decided.{computes, decision_key, enters, finds};
+ghost use Rattle.rn_growing.specs.Decided.{computes, enters, finds};
+ghost use Rattle.rn_growing.specs.link.DecisionKeys.{decision_key};
 ghost use Rattle.rn_growing.specs.Decisions.{site_of};
 ghost use Rattle.rn_growing.specs.Equations.{Brings, IsForced, IsForcedTo, IsSolvable, read_at};
-ghost use Rattle.rn_growing.specs.Grown.{HasFewCreations, IsNew, Tries, TriesIn, first_decisions};
-ghost use Rattle.rn_growing.specs.Laid.{Grows};
-ghost use Rattle.rn_growing.specs.Layouts.{asked};
+ghost use Rattle.rn_growing.specs.Grown.{HasFewCreations, IsNew, Tries, first_decisions};
+ghost use Rattle.rn_growing.specs.link.Grown.{TriesIn};
+ghost use Rattle.rn_growing.specs.link.Laid.{Grows};
+ghost use Rattle.rn_growing.specs.link.Layouts.{asked};
 ghost use Rattle.rn_growing.specs.Turns.{MayCome};
 ghost use Rattle.rn_growing.specs.declared.decision.Decision.TheVariants as D;
 
@@ -43,8 +45,9 @@ pub struct Growing<'a> {
 
 impl<'a> Model for Growing<'a> {
     ghost use Rattle.std.specs.Prelude.{◌≡◌, map};
-    ghost use Rattle.rn_growing.specs.Decided.{decision_key};
-    ghost use Rattle.rn_growing.specs.Grown.{Grown, KeepsGrowing};
+    ghost use Rattle.rn_growing.specs.link.DecisionKeys.{decision_key};
+    ghost use Rattle.rn_growing.specs.Grown.{Grown};
+    ghost use Rattle.rn_growing.specs.link.Grown.{KeepsGrowing};
     ghost use Rattle.rn_value.specs.contracts.value.Value as value;
     ghost use Rattle.rn_value.specs.contracts.value.Kind as kind;
     ghost use Rattle.rn_model.specs.contracts.expr.Expr as expr;

@@ -2,7 +2,7 @@
 //! that are the same have one key, but two with one key may differ, since keys wrap around. So
 //! whoever finds one compares it, and no answer depends on how keys spread.
 ghost use Rattle.std.specs.Prelude.{◌≡◌};
-ghost use Rattle.rn_growing.specs.Keys.{hole_key, path_key, site_key, stirred};
+ghost use Rattle.rn_growing.specs.link.Keys.{hole_key, path_key, site_key, stirred};
 
 use crate::decision::Site;
 
@@ -10,7 +10,7 @@ use crate::decision::Site;
 const FACTOR: usize = 16777619;
 
 /// One more number goes into a key.
-#[tactic(auto, unfolding(crate::specs::Keys::stirred))]
+#[tactic(auto, unfolding(crate::specs::link::Keys::stirred))]
 pub(crate) fn stir(key: usize, n: usize) -> usize
     ensures { result ≡ stirred key n }
 {

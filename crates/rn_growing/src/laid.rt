@@ -6,10 +6,10 @@ ghost use Rattle.std.specs.Prelude.{◌≡◌, ◌↔◌, ◌<◌, [], All, IfOk
 ghost use Rattle.rn_value.specs.declared.value.Value.{Value};
 ghost use Rattle.rn_value.specs.declared.value.Value.TheVariants as Worth;
 ghost use Rattle.rn_term.specs.Assignments.{Keeps};
-ghost use Rattle.rn_growing.specs.Building.{IsMade, PutsBefore};
-ghost use Rattle.rn_growing.specs.Grown.{IsEarlier, laid_at};
-ghost use Rattle.rn_growing.specs.Laid.{Builds, Equates, Grows, IsGiven};
-ghost use Rattle.rn_growing.specs.Layouts.{IsLaidIn, asked, id_of};
+ghost use Rattle.rn_growing.specs.link.Building.{IsMade, PutsBefore};
+ghost use Rattle.rn_growing.specs.link.Grown.{IsEarlier, laid_at};
+ghost use Rattle.rn_growing.specs.link.Laid.{Builds, Equates, Grows, IsGiven};
+ghost use Rattle.rn_growing.specs.link.Layouts.{IsLaidIn, asked, id_of};
 
 use crate::slot::{Frame, Slot, Unknown};
 use crate::slots::Slots;
@@ -29,8 +29,8 @@ pub(crate) struct Laid {
 }
 
 impl Model for Laid {
-    ghost use Rattle.rn_growing.specs.Laid.{LaidState};
-    ghost use Rattle.rn_growing.specs.Layouts.{IsLaidIn, id_of};
+    ghost use Rattle.rn_growing.specs.link.Laid.{LaidState};
+    ghost use Rattle.rn_growing.specs.link.Layouts.{IsLaidIn, id_of};
     ghost use Rattle.rn_value.specs.contracts.value.Value as value;
     ghost use Rattle.std.specs.Coded.{codes};
 

@@ -2,7 +2,7 @@
 //! unknown as a variable is: unification doesn't compute it, and its value comes in by a decision
 //! of its own. A frame has the sizes before a decision, to go back to.
 ghost use Rattle.std.specs.Prelude.{◌≡◌};
-ghost use Rattle.rn_growing.specs.Layouts.{same_site, same_unknown};
+ghost use Rattle.rn_growing.specs.link.Layouts.{same_site, same_unknown};
 
 use crate::decision::{Site, Way};
 use rn_shared::Shared;

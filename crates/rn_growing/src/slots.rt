@@ -2,9 +2,9 @@
 //! and each is compared with what is looked for, since two unknowns may have one key. They stand in
 //! the order in which they came, so taking decisions back cuts them off at the end.
 ghost use Rattle.std.specs.Prelude.{◌≡◌, ◌++◌, ◌∷◌, [], IfOk, None, OnErr, OnOk, length, take};
-ghost use Rattle.rn_growing.specs.Indexed.{is_slot};
-ghost use Rattle.rn_growing.specs.Keys.{unknown_key};
-ghost use Rattle.rn_growing.specs.Layouts.{id_of};
+ghost use Rattle.rn_growing.specs.link.Indexed.{is_slot};
+ghost use Rattle.rn_growing.specs.link.Keys.{unknown_key};
+ghost use Rattle.rn_growing.specs.link.Layouts.{id_of};
 
 use crate::keys::{hole_key, path_key, stir};
 use crate::slot::{Slot, Unknown, are_same};
@@ -39,7 +39,7 @@ pub(crate) struct Slots {
 impl Model for Slots {
     ghost use Rattle.std.specs.Prelude.{List};
     ghost use Rattle.rn_growing.specs.declared.slot.Slot.{Slot};
-    ghost use Rattle.rn_growing.specs.Indexed.{AreIndexed};
+    ghost use Rattle.rn_growing.specs.link.Indexed.{AreIndexed};
 
     ghost Value = { List Slot };
 

@@ -3,7 +3,8 @@
 //! all decisions would make each such question dearer with each decision.
 ghost use Rattle.std.specs.Prelude.{◌≡◌, map};
 ghost use Rattle.std.specs.List.{list_any};
-ghost use Rattle.rn_growing.specs.Decided.{decision_key, is_on, thing_key};
+ghost use Rattle.rn_growing.specs.Decided.{is_on};
+ghost use Rattle.rn_growing.specs.link.DecisionKeys.{decision_key, thing_key};
 
 use crate::decision::{Decision, Site};
 use crate::keys::{hole_key, path_key, stir};

@@ -6,7 +6,7 @@ use Rattle.std.proofs.lemmas.List.Elements.{Contains-append_left}
 use Rattle.std.specs.Prelude.{Some, slice_get, Contains}
 use Rattle.rn_live.proofs.TokenLemmas.{got}
 use Rattle.rn_holders.specs.Holders.{HasItsHolders, held_by}
-use Rattle.rn_holders.specs.Puts.{Joins}
+use Rattle.rn_holders.specs.link.Puts.{Joins}
 use Rattle.rn_holders.proofs.ReachingLemmas.{get_or_is, less_or_same}
 
 -- A list that has been gone through as far as an index: the holders of those before it are there.

@@ -7,7 +7,7 @@ use Rattle.std.proofs.lemmas.List.Elements.{Contains-push_cases}
 use Rattle.std.proofs.lemmas.Bool.{eqb-true}
 use Rattle.std.specs.Prelude.{◌⊎◌, nat_eq, Contains}
 use Rattle.rn_items.proofs.Bools.{or_true, or_left, or_right}
-use Rattle.rn_holders.specs.Puts.{Puts}
+use Rattle.rn_holders.specs.link.Puts.{Puts}
 
 pub one : (k : ℕ) (xs : List ℕ) → Puts (nat_eq k) xs (xs ++ k ∷ [])
 one k xs = record {

@@ -14,7 +14,7 @@ use Rattle.rn_model.proofs.EnablingLemmas.{not_in_nil}
 use Rattle.rn_model.proofs.LiveByRounds.{any_contained}
 use Rattle.rn_live.proofs.TokenLemmas.{got}
 use Rattle.rn_reach.specs.Reach.{RefersTo, Reach, itself, further, ReachesOne}
-use Rattle.rn_holders.specs.Puts.{Joins, IsFound, first, back, AreFound}
+use Rattle.rn_holders.specs.link.Puts.{Joins, IsFound, first, back, AreFound}
 
 -- one that refers to another reaches all that this one reaches
 pub reach_before : (m : Marking) (holder n k : ℕ) → RefersTo m holder n → Reach m n k →

@@ -8,11 +8,11 @@ use Rattle.rn_model.specs.Liveness.{mentions}
 use Rattle.rn_model.specs.Markings.{Marking, tokens_at}
 use Rattle.rn_model.proofs.EnablingLemmas.{not_in_nil}
 use Rattle.rn_model.proofs.LiveByRounds.{any_contained}
-use Rattle.rn_live.specs.Marks.{holds, places_of}
+use Rattle.rn_live.specs.link.Marks.{holds, places_of}
 use Rattle.rn_live.proofs.HolderLemmas.{any_mentions, held_by, holds_mentioned, place_at}
 use Rattle.rn_reach.specs.Reach.{RefersTo}
 use Rattle.rn_holders.specs.Holders.{MentionNear}
-use Rattle.rn_holders.specs.Puts.{Puts}
+use Rattle.rn_holders.specs.link.Puts.{Puts}
 
 pub just_referred : (m : Marking) (holder : ℕ) (before after : List ℕ) → before ≡ [] →
     Puts (holds m holder) before after → (n : ℕ) → Contains after n ↔ RefersTo m holder n

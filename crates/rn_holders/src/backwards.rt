@@ -3,7 +3,7 @@ ghost use Rattle.std.specs.Prelude.{◌≡◌, ◌↔◌, ◌<◌, ℕ, Some, Is
 ghost use Rattle.std.specs.List.{IsDistinct};
 ghost use Rattle.rn_reach.specs.Reach.{ReachesOne, RefersTo};
 ghost use Rattle.rn_holders.specs.Holders.{MentionNear, HaveHolders, HasItsHolders, held_by};
-ghost use Rattle.rn_holders.specs.Puts.{Joins, AreFound};
+ghost use Rattle.rn_holders.specs.link.Puts.{Joins, AreFound};
 
 use crate::references::referred;
 use indexmap::IndexSet;

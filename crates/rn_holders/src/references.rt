@@ -2,10 +2,10 @@
 ghost use Rattle.std.specs.Prelude.{◌↔◌, ℕ, Contains, IfOk, OnOk};
 ghost use Rattle.std.specs.List.{list_any};
 ghost use Rattle.rn_model.specs.Liveness.{mentions};
-ghost use Rattle.rn_live.specs.Marks.{holds};
+ghost use Rattle.rn_live.specs.link.Marks.{holds};
 ghost use Rattle.rn_reach.specs.Reach.{RefersTo};
 ghost use Rattle.rn_holders.specs.Holders.{MentionNear};
-ghost use Rattle.rn_holders.specs.Puts.{Puts};
+ghost use Rattle.rn_holders.specs.link.Puts.{Puts};
 
 use crate::values::put_value;
 use rn_bag::Bag;

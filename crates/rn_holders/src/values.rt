@@ -2,7 +2,7 @@
 ghost use Rattle.std.specs.Prelude.{map, nat_eq, OnOk};
 ghost use Rattle.std.specs.List.{list_any};
 ghost use Rattle.rn_model.specs.Liveness.{mentions};
-ghost use Rattle.rn_holders.specs.Puts.{Puts};
+ghost use Rattle.rn_holders.specs.link.Puts.{Puts};
 
 use rn_items::NoMemory;
 use rn_value::{InstRef, Value};

@@ -8,7 +8,7 @@ use Rattle.std.specs.Ordering.{nat_cmp}
 use Rattle.std.specs.declared.cmp.Ordering.{Ordering}
 use Rattle.std.specs.declared.cmp.Ordering.TheVariants.{Less, Equal, Greater}
 use Rattle.std.proofs.lemmas.Cmp.{ranked}
-use Rattle.rn_incr.specs.Kept.{some_in, AreBusy, AreNear, GrowsBy}
+use Rattle.rn_incr.specs.link.Kept.{some_in, AreBusy, AreNear, GrowsBy}
 
 -- the first lists of some are seen in a set, and no others
 pub record AreBusyBelow {X : Type 0} (i : ℕ) (lists : List (List X)) (busy : BTreeSet ℕ)

@@ -12,7 +12,7 @@ use Rattle.rn_model.specs.declared.system.System.{System}
 use Rattle.rn_model.specs.Enabling.{Enabled, DeadAt}
 use Rattle.rn_model.specs.Markings.{Marking}
 use Rattle.rn_model.specs.Order.{binding_cmp}
-use Rattle.rn_model.specs.OrderLaws.{binding_cmp-total}
+use Rattle.rn_model.specs.link.OrderLaws.{binding_cmp-total}
 use Rattle.rn_model.proofs.EnablingLemmas.{not_in_nil}
 use Rattle.rn_least.specs.LeastRuns.{IsLeast}
 use Rattle.rn_found.specs.Starting.{AreJust, HasStartIn}

@@ -12,8 +12,8 @@ use Rattle.std.proofs.lemmas.List.Elements.{All-head, All-tail, All-push}
 use Rattle.rn_model.specs.declared.binding.Binding.{Binding}
 use Rattle.rn_found.proofs.Numbers.{less_or_not}
 use Rattle.rn_incr.specs.declared.fresh.Fresh.{Fresh}
-use Rattle.rn_incr.specs.Kept.{some_in, AreBusy, AreNear, AreNoted, ArePut, GrowsBy}
-use Rattle.rn_incr.specs.Kept.{numbers_of, put_in}
+use Rattle.rn_incr.specs.link.Kept.{some_in, AreBusy, AreNear, AreNoted, ArePut, GrowsBy}
+use Rattle.rn_incr.specs.link.Kept.{numbers_of, put_in}
 use Rattle.rn_incr.proofs.BusyLemmas.{not_both, now_in, still_in, grows_on, grown_near}
 use Rattle.rn_incr.proofs.ListedLemmas.{past_default}
 use Rattle.rn_items.proofs.Numbers.{in_or_not}

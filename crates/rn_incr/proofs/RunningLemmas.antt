@@ -24,7 +24,7 @@ use Rattle.rn_fire.proofs.EntryLemmas.{count_going}
 use Rattle.rn_least_state.specs.CommitsAt.{WasLeast}
 use Rattle.rn_least_state.specs.LeastStates.{HasLeastLog}
 use Rattle.rn_incr.specs.Counts.{AreCounts, IsCounted}
-use Rattle.rn_incr.specs.Following.{IsFollowed}
+use Rattle.rn_incr.specs.link.Following.{IsFollowed}
 use Rattle.rn_incr.specs.Lists.{AreListsOf, IsCount, Listed}
 
 -- what is enabled is sound

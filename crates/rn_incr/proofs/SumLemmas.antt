@@ -4,7 +4,7 @@ use Rattle.std.proofs.Common.{length, get_or, length-append, sym, ap, subst, ari
 use Rattle.std.specs.Prelude.{All, flat_map, slice_set, take}
 use Rattle.std.proofs.lemmas.List.{get_or_default, take_more}
 use Rattle.std.proofs.lemmas.List.Elements.{All-head, All-tail, All-set, All-push}
-use Rattle.rn_incr.specs.Kept.{IsSum}
+use Rattle.rn_incr.specs.link.Kept.{IsSum}
 
 abbrev pub joined : {X : Type 0} → List (List X) → List X
 joined = flat_map (λ xs. xs)

@@ -1,4 +1,3 @@
+pub mod link
 pub mod Counts
-pub mod Following
-pub mod Kept
 pub mod Lists

@@ -2,7 +2,7 @@
 ghost use Rattle.std.specs.Prelude.{◌≡◌, ◌<◌, ◌∷◌, ℕ, [], List, IfOk, OnOk, IfSome, IfNone};
 ghost use Rattle.std.specs.Prelude.{length, slice_index_or};
 ghost use Rattle.std.specs.Option.{option_copied};
-ghost use Rattle.rn_incr.specs.Kept.{AreBusy, AreNear, AreNoted, GrowsBy, numbers_of};
+ghost use Rattle.rn_incr.specs.link.Kept.{AreBusy, AreNear, AreNoted, GrowsBy, numbers_of};
 
 use crate::fresh::Fresh;
 use crate::lists::Cands;

@@ -4,7 +4,7 @@ ghost use Rattle.std.specs.Option.{option_copied};
 ghost use Rattle.rn_model.specs.declared.system.System.{System as Whole};
 ghost use Rattle.rn_model.specs.Enabling.{DeadAt};
 ghost use Rattle.rn_least.specs.LeastRuns.{IsLeast};
-ghost use Rattle.rn_incr.specs.Kept.{IsSum};
+ghost use Rattle.rn_incr.specs.link.Kept.{IsSum};
 ghost use Rattle.rn_incr.specs.Lists.{AreListsOf, IsCount};
 
 use crate::lists::{Cands, Lists};

@@ -2,7 +2,7 @@
 ghost use Rattle.std.specs.Prelude.{◌≡◌, ◌<◌, [], ℕ, IfOk, IfSome, IfNone, OnOk, OnErr};
 ghost use Rattle.std.specs.Prelude.{length, flat_map, slice_index_or};
 ghost use Rattle.std.specs.Option.{option_copied};
-ghost use Rattle.rn_incr.specs.Kept.{ArePut, numbers_of};
+ghost use Rattle.rn_incr.specs.link.Kept.{ArePut, numbers_of};
 
 use crate::busy::{busy_of, first_of, note_all, settle};
 use crate::counting::count_of;
@@ -29,7 +29,7 @@ impl Model for KeptLists {
     ghost use Rattle.std.specs.Coded.{codes};
     ghost use Rattle.rn_value.specs.contracts.value.Value as value;
     ghost use Rattle.rn_model.specs.declared.binding.Binding.{Binding};
-    ghost use Rattle.rn_incr.specs.Kept.{AreBusy, IsSum};
+    ghost use Rattle.rn_incr.specs.link.Kept.{AreBusy, IsSum};
 
     ghost Value = { List (List Binding) };
 

@@ -2,7 +2,7 @@
 ghost use Rattle.std.specs.Prelude.{◌≡◌, [], ℕ, IfOk, slice_index_or};
 ghost use Rattle.rn_model.specs.Good.{Good};
 ghost use Rattle.rn_search.specs.Problems.{HasFitTokens};
-ghost use Rattle.rn_channel.specs.Uplinks.{AreUplinksOf};
+ghost use Rattle.rn_channel.specs.link.Uplinks.{AreUplinksOf};
 ghost use Rattle.rn_table.specs.Tables.{IsTableOf};
 ghost use Rattle.rn_incr.specs.Lists.{AreListsOf, IsListOf};
 
@@ -35,7 +35,7 @@ pub struct Lists {
 impl Model for Lists {
     ghost use Rattle.std.specs.Coded.{codes};
     ghost use Rattle.rn_value.specs.contracts.value.Value as value;
-    ghost use Rattle.rn_model.specs.MarkingCodes.{marking_code};
+    ghost use Rattle.rn_model.specs.link.MarkingCodes.{marking_code};
     ghost use Rattle.rn_holders.specs.Holders.{HaveHolders};
     ghost use Rattle.rn_incr.specs.Lists.{Listed};
 

@@ -2,7 +2,7 @@
 //! memory.
 ghost use Rattle.std.specs.Prelude.{◌≡◌, ◌≤◌, [], ℕ, OnOk};
 ghost use Rattle.std.specs.Prelude.{length, slice_index_or, slice_set, vec_capacity};
-ghost use Rattle.rn_incr.specs.Kept.{IsSum, put_in};
+ghost use Rattle.rn_incr.specs.link.Kept.{IsSum, put_in};
 
 use crate::fresh::Fresh;
 use crate::lists::Cands;

@@ -3,7 +3,7 @@ ghost use Rattle.std.specs.Prelude.{◌≡◌, ℕ, [], IfOk, OnOk, OnErr, slice
 ghost use Rattle.rn_model.specs.Good.{Good};
 ghost use Rattle.rn_model.specs.Markings.{Marking};
 ghost use Rattle.rn_search.specs.Problems.{HasFitTokens};
-ghost use Rattle.rn_channel.specs.Uplinks.{AreUplinksOf};
+ghost use Rattle.rn_channel.specs.link.Uplinks.{AreUplinksOf};
 ghost use Rattle.rn_table.specs.Tables.{IsTableOf};
 ghost use Rattle.rn_reach.specs.Reach.{DifferAtMostIn};
 ghost use Rattle.rn_holders.specs.Holders.{HaveHolders};

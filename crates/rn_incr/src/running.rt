@@ -1,12 +1,12 @@
 //! A least run with the numbers of bindings that are enabled before and after each firing.
 ghost use Rattle.std.specs.Prelude.{◌≡◌, ◌≢◌, ◌<◌, ◌≤◌, [], None, Some, IfOk, OnOk, length, take};
-ghost use Rattle.rn_channel.specs.Uplinks.{AreUplinksOf};
+ghost use Rattle.rn_channel.specs.link.Uplinks.{AreUplinksOf};
 ghost use Rattle.rn_model.specs.declared.log.Reason.TheVariants.{Memory as OutOfMemory};
 ghost use Rattle.rn_model.specs.Good.{Good, IsInLimits};
 ghost use Rattle.rn_model.specs.Runs.{end_of};
 ghost use Rattle.rn_fire.specs.States.{end_marking};
 ghost use Rattle.rn_incr.specs.Counts.{AreCounts, IsCounted};
-ghost use Rattle.rn_incr.specs.Following.{Advances, IsFollowed, AdvancesListed};
+ghost use Rattle.rn_incr.specs.link.Following.{Advances, IsFollowed, AdvancesListed};
 ghost use Rattle.rn_incr.specs.Lists.{AreListsOf};
 
 use crate::lists::{Lists, open_lists};

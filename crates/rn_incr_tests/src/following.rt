@@ -1,10 +1,10 @@
 //! Lists that follow the firings of a state, against lists that are opened anew.
 ghost use Rattle.std.specs.Prelude.{◌≡◌, ◌<◌, ◌≤◌, [], None, true, IfOk, OnOk, IsTrue};
 ghost use Rattle.std.specs.Prelude.{length, take};
-ghost use Rattle.rn_channel.specs.Uplinks.{AreUplinksOf};
+ghost use Rattle.rn_channel.specs.link.Uplinks.{AreUplinksOf};
 ghost use Rattle.rn_model.specs.Runs.{end_of};
 ghost use Rattle.rn_fire.specs.States.{end_marking};
-ghost use Rattle.rn_incr.specs.Following.{Advances, IsFollowed, AdvancesListed};
+ghost use Rattle.rn_incr.specs.link.Following.{Advances, IsFollowed, AdvancesListed};
 ghost use Rattle.rn_incr.specs.Lists.{AreListsOf};
 
 use crate::nets::{options_of, system_of};

@@ -1,6 +1,6 @@
 //! How many instances `refresh` says that a change touches.
 ghost use Rattle.std.specs.Prelude.{◌≡◌, ◌≤◌, IfOk, OnOk};
-ghost use Rattle.rn_channel.specs.Uplinks.{AreUplinksOf};
+ghost use Rattle.rn_channel.specs.link.Uplinks.{AreUplinksOf};
 ghost use Rattle.rn_model.specs.Limits.{most_steps};
 ghost use Rattle.rn_incr.specs.Lists.{AreListsOf};
 

@@ -8,7 +8,7 @@ use Rattle.rn_inscript.specs.declared.cursor.Seen.{Seen}
 use Rattle.rn_inscript.specs.declared.fault.InscriptFault.{InscriptFault}
 use Rattle.rn_inscript.specs.declared.fault.InscriptFault.TheVariants as Fault
 use Rattle.rn_inscript.specs.Levels.{Level, bracket, Count, without_minuses, levels_at, goes_too_far, after_token}
-use Rattle.rn_inscript.specs.Stages.{Phrases, Then, Done, Takes, Ends, Stage, CanEnd, Fails, IsSoFar, ReadsFrom, IsNext, IsNextSign, strength, ready, ended}
+use Rattle.rn_inscript.specs.link.Stages.{Phrases, Then, Done, Takes, Ends, Stage, CanEnd, Fails, IsSoFar, ReadsFrom, IsNext, IsNextSign, strength, ready, ended}
 use Rattle.rn_inscript.proofs.StageLemmas.{change, inner, inner_fails}
 use Rattle.rn_inscript.proofs.CountSteps.{le-false, le-true}
 use Rattle.rn_inscript.proofs.Passing.{pass, far_next}

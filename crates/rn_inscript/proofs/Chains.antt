@@ -8,7 +8,7 @@ use Rattle.rn_inscript.specs.Levels.{Level, Count, without_minuses, goes_too_far
 use Rattle.rn_inscript.specs.declared.cursor.Seen.{Seen}
 use Rattle.rn_inscript.specs.declared.fault.InscriptFault.{InscriptFault}
 use Rattle.rn_inscript.specs.declared.fault.InscriptFault.TheVariants as Fault
-use Rattle.rn_inscript.specs.Stages.{Phrases, Then, Done, BeginAlike, Ends, Stage, CanEnd, Fails, IsSoFar, IsNextOf, IsNoneOf, strength, ready, ended}
+use Rattle.rn_inscript.specs.link.Stages.{Phrases, Then, Done, BeginAlike, Ends, Stage, CanEnd, Fails, IsSoFar, IsNextOf, IsNoneOf, strength, ready, ended}
 use Rattle.rn_inscript.proofs.StageLemmas.{begin, change, inner, inner_fails}
 use Rattle.rn_inscript.proofs.CountSteps.{IsBinary, binary-small, binary-after, binary-far}
 use Rattle.rn_inscript.proofs.Passing.{alike-cons, pass, far_next}

@@ -18,7 +18,7 @@ use Rattle.rn_inscript.specs.Signs.{not_sign, compare_of}
 use Rattle.rn_inscript.specs.Expressions.{IsExpr}
 use Rattle.rn_inscript.specs.Conditions.{IsCond, IsAlternatives, IsMoreAlternatives, IsBoth, IsMoreBoth, IsSimple, any_of}
 use Rattle.rn_inscript.specs.Levels.{Level, Count, without_minuses}
-use Rattle.rn_inscript.specs.Stages.{Phrases, Then, Done, BeginAlike, Ends, Stage, CanEnd, Fails, IsSoFar, Reads, IsNextOf, IsNoneOf, IsNotNextSign, strength, ready, past_operator}
+use Rattle.rn_inscript.specs.link.Stages.{Phrases, Then, Done, BeginAlike, Ends, Stage, CanEnd, Fails, IsSoFar, Reads, IsNextOf, IsNoneOf, IsNotNextSign, strength, ready, past_operator}
 use Rattle.rn_inscript.proofs.StageLemmas.{begin, change, inner, inner_fails}
 use Rattle.rn_inscript.proofs.CountSteps.{IsBinary, binary-sign, binary-small, binary-after, binary-far}
 use Rattle.rn_inscript.proofs.Passing.{alike-cons, pass, far_next}

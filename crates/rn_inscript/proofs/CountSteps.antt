@@ -9,7 +9,7 @@ use Rattle.rn_notation.specs.declared.token.TokenKind.TheVariants.{Name, Word, N
 use Rattle.rn_model.specs.declared.expr.OpKind.{OpKind}
 use Rattle.rn_inscript.specs.Signs.{plus_of, times_of}
 use Rattle.rn_inscript.specs.Levels.{Level, after_token, goes_too_far, without_minuses, opens, closes, is_operator, is_minus, is_paren, ends_operand}
-use Rattle.rn_inscript.specs.Stages.{ready, ended, strength}
+use Rattle.rn_inscript.specs.link.Stages.{ready, ended, strength}
 
 pub le-false : (m n : ℕ) → n < m → nat_le m n ≡ false
 le-false m n h = grind (arith, nat_tests)

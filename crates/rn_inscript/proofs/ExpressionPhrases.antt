@@ -7,7 +7,7 @@ use Rattle.rn_model.specs.declared.expr.OpKind.{OpKind}
 use Rattle.rn_inscript.specs.declared.exprs.PExpr.{PExpr}
 use Rattle.rn_inscript.specs.Signs.{plus_of, times_of}
 use Rattle.rn_inscript.specs.Expressions.{IsExpr, IsTerms, IsProduct, IsFactors, IsUnary, IsPrimary, IsExprs, IsMoreExprs, joined}
-use Rattle.rn_inscript.specs.Stages.{Then, CanEnd, strength}
+use Rattle.rn_inscript.specs.link.Stages.{Then, CanEnd, strength}
 use Rattle.rn_inscript.proofs.CountSteps.{times-strength, plus-strength}
 use Rattle.rn_inscript.proofs.Chains.{Joined}
 use Rattle.rn_inscript.proofs.BracketSteps.{any}

@@ -20,8 +20,8 @@ use Rattle.rn_inscript.specs.Expressions.{IsExpr}
 use Rattle.rn_inscript.specs.Conditions.{IsCond}
 use Rattle.rn_inscript.specs.Inscriptions.{IsInscribed, absent}
 use Rattle.rn_inscript.specs.Levels.{Count, goes_too_far, after_token}
-use Rattle.rn_inscript.specs.Stages.{Phrases, Then, Done, BeginAlike, Ends, Stage, CanEnd, IsSoFar, Reads, IsNext, IsNextKind, ready, ended, past}
-use Rattle.rn_inscript.specs.NextNames.{IsNotNextKind, IsNextName, IsNoName}
+use Rattle.rn_inscript.specs.link.Stages.{Phrases, Then, Done, BeginAlike, Ends, Stage, CanEnd, IsSoFar, Reads, IsNext, IsNextKind, ready, ended, past}
+use Rattle.rn_inscript.specs.link.NextNames.{IsNotNextKind, IsNextName, IsNoName}
 use Rattle.rn_inscript.proofs.StageLemmas.{begin, change}
 use Rattle.rn_inscript.proofs.Passing.{alike-cons, pass}
 use Rattle.rn_inscript.proofs.BracketSteps.{can_end_then, can_end_done}

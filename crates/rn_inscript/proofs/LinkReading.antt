@@ -18,8 +18,8 @@ use Rattle.rn_inscript.specs.Signs.{colon, equals, open_paren, close_paren, new_
 use Rattle.rn_inscript.specs.Expressions.{IsExpr, IsListed, at_spot}
 use Rattle.rn_inscript.specs.Inscriptions.{IsInscribed, IsCall, name_at}
 use Rattle.rn_inscript.specs.Levels.{bracket, Count, goes_too_far, after_token}
-use Rattle.rn_inscript.specs.Stages.{Phrases, Then, Done, BeginAlike, Ends, Stage, CanEnd, IsSoFar, Reads, ReadsFrom, IsNext, IsNextKind, HasNoNext, strength, ready, ended, past}
-use Rattle.rn_inscript.specs.NextNames.{IsNotNextKind, IsNextName, IsNoName, IsEquality, IsNoCreation}
+use Rattle.rn_inscript.specs.link.Stages.{Phrases, Then, Done, BeginAlike, Ends, Stage, CanEnd, IsSoFar, Reads, ReadsFrom, IsNext, IsNextKind, HasNoNext, strength, ready, ended, past}
+use Rattle.rn_inscript.specs.link.NextNames.{IsNotNextKind, IsNextName, IsNoName, IsEquality, IsNoCreation}
 use Rattle.rn_inscript.proofs.StageLemmas.{alike-append, begin, change, inner, inner_fails}
 use Rattle.rn_inscript.proofs.Passing.{alike-cons, pass, stuck_next}
 use Rattle.rn_inscript.proofs.BracketSteps.{any, can_end_then, can_end_done, can_end_by, done_follow}

@@ -13,7 +13,7 @@ use Rattle.rn_inscript.specs.declared.fault.InscriptFault.TheVariants as Fault
 use Rattle.rn_inscript.specs.Signs.{open_paren, close_paren, open_brace, close_brace, colon}
 use Rattle.rn_inscript.specs.Expressions.{IsExpr, IsPrimary, IsListed, IsExprs, at_spot}
 use Rattle.rn_inscript.specs.Levels.{Level, bracket, Count}
-use Rattle.rn_inscript.specs.Stages.{Phrases, Then, Done, Takes, BeginAlike, Ends, Stage, CanEnd, Fails, IsSoFar, Reads, ReadsFrom, IsNext, IsNextSign, IsNotNextSign, IsClose, strength, ready, ended, past}
+use Rattle.rn_inscript.specs.link.Stages.{Phrases, Then, Done, Takes, BeginAlike, Ends, Stage, CanEnd, Fails, IsSoFar, Reads, ReadsFrom, IsNext, IsNextSign, IsNotNextSign, IsClose, strength, ready, ended, past}
 use Rattle.rn_inscript.proofs.StageLemmas.{begin, change, inner, inner_fails}
 use Rattle.rn_inscript.proofs.Passing.{alike-cons, pass, stuck_sign}
 use Rattle.rn_inscript.proofs.BracketSteps.{can_end_takes, can_end_by, takes_follow, opening-brace, opening-paren, opening_passed, opening_far}

@@ -11,7 +11,7 @@ use Rattle.rn_inscript.specs.declared.conds.PSimple.TheVariants as S
 use Rattle.rn_inscript.specs.Signs.{not_sign, open_paren, close_paren}
 use Rattle.rn_inscript.specs.Conditions.{IsCond, IsSimple}
 use Rattle.rn_inscript.specs.Levels.{Level, bracket, Count}
-use Rattle.rn_inscript.specs.Stages.{Phrases, Then, Done, Takes, BeginAlike, Stage, CanEnd, IsSoFar, Reads, IsNextSign, IsNotNextSign, IsBadOpening, ready, past, past_operator}
+use Rattle.rn_inscript.specs.link.Stages.{Phrases, Then, Done, Takes, BeginAlike, Stage, CanEnd, IsSoFar, Reads, IsNextSign, IsNotNextSign, IsBadOpening, ready, past, past_operator}
 use Rattle.rn_inscript.proofs.StageLemmas.{begin, change}
 use Rattle.rn_inscript.proofs.CountSteps.{le-false, le-true}
 use Rattle.rn_inscript.proofs.Passing.{alike-cons, pass, far_next, stuck_next, stuck_sign}

@@ -7,7 +7,7 @@ use Rattle.std.proofs.lemmas.List.{drop_more, drop_all}
 use Rattle.rn_notation.specs.StoredTokens.{lent}
 use Rattle.rn_notation.specs.declared.token.Token.{Token}
 use Rattle.rn_notation.specs.declared.token.TokenRef.{TokenRef}
-use Rattle.rn_inscript.specs.Stages.{IsNext, HasNoNext}
+use Rattle.rn_inscript.specs.link.Stages.{IsNext, HasNoNext}
 
 -- a token that is lent at an index is next there, and where none is, none is next
 pub next_lent : (tokens : List Token) (at : ℕ) (t : Option TokenRef) → option_map lent t ≡ slice_get tokens at →

@@ -18,8 +18,8 @@ use Rattle.rn_inscript.specs.Signs.{colon, not_sign, close_paren, compare_of, ta
 use Rattle.rn_inscript.specs.Expressions.{IsExpr, IsListed, at_spot}
 use Rattle.rn_inscript.specs.Conditions.{IsCond, IsAlternatives, IsMoreAlternatives, IsBoth, IsMoreBoth, IsSimple, any_of}
 use Rattle.rn_inscript.specs.Inscriptions.{IsInscribed, IsInscription, IsCall, name_at, absent}
-use Rattle.rn_inscript.specs.Stages.{Then, Ends, strength}
-use Rattle.rn_inscript.specs.NextNames.{IsEquality}
+use Rattle.rn_inscript.specs.link.Stages.{Then, Ends, strength}
+use Rattle.rn_inscript.specs.link.NextNames.{IsEquality}
 use Rattle.rn_inscript.proofs.Chains.{chain_follow}
 use Rattle.rn_inscript.proofs.ConditionPhrases.{conjunctions, disjunctions, SimpleEnd, cond-part, simple-only, end-follow, compare-strength}
 use Rattle.rn_inscript.proofs.NegationReading.{not-only}

@@ -7,7 +7,7 @@ use Rattle.rn_notation.specs.declared.token.Token.{Token}
 use Rattle.rn_notation.specs.declared.token.TokenKind.{TokenKind}
 use Rattle.rn_notation.specs.declared.token.TokenKind.TheVariants.{Name, Word, Number, Text, Sign}
 use Rattle.rn_inscript.specs.Levels.{Level, goes_too_far, after_token}
-use Rattle.rn_inscript.specs.Stages.{IsNextOf, IsNoneOf, IsNextSign, IsNotNextSign, ready, ended}
+use Rattle.rn_inscript.specs.link.Stages.{IsNextOf, IsNoneOf, IsNextSign, IsNotNextSign, ready, ended}
 use Rattle.rn_inscript.proofs.Chains.{Separates}
 
 abbrev pub sign_of : ℕ → TokenKind → Option ⊤

@@ -12,7 +12,7 @@ use Rattle.rn_inscript.specs.declared.fault.InscriptFault.TheVariants as Fault
 use Rattle.rn_inscript.specs.Signs.{minus, open_paren, close_paren, open_bracket, close_bracket}
 use Rattle.rn_inscript.specs.Expressions.{IsExpr, IsUnary, IsPrimary, IsListed, at_spot}
 use Rattle.rn_inscript.specs.Levels.{Level, bracket, negative, goes_too_far, after_token}
-use Rattle.rn_inscript.specs.Stages.{Then, Done, Takes, BeginAlike, Stage, CanEnd, IsSoFar, Reads, ReadsFrom, IsNext, HasNoNext, ready, ended, past, past_operator}
+use Rattle.rn_inscript.specs.link.Stages.{Then, Done, Takes, BeginAlike, Stage, CanEnd, IsSoFar, Reads, ReadsFrom, IsNext, HasNoNext, ready, ended, past, past_operator}
 use Rattle.rn_inscript.proofs.StageLemmas.{begin, change, inner, inner_fails}
 use Rattle.rn_inscript.proofs.CountSteps.{le-false, le-true}
 use Rattle.rn_inscript.proofs.Passing.{alike-cons, pass, far_next, stuck_next}

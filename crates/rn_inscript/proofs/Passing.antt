@@ -6,7 +6,7 @@ use Rattle.rn_notation.specs.declared.token.TokenKind.{TokenKind}
 use Rattle.rn_notation.specs.declared.token.TokenKind.TheVariants.{Sign}
 use Rattle.rn_inscript.specs.declared.fault.InscriptFault.TheVariants as Fault
 use Rattle.rn_inscript.specs.Levels.{Count, after_token, goes_too_far}
-use Rattle.rn_inscript.specs.Stages.{Phrases, Takes, BeginAlike, Ends, Stage, CanEnd, IsTooFar, Fails, IsNext, IsNotNextSign}
+use Rattle.rn_inscript.specs.link.Stages.{Phrases, Takes, BeginAlike, Ends, Stage, CanEnd, IsTooFar, Fails, IsNext, IsNotNextSign}
 use Rattle.rn_inscript.proofs.StageLemmas.{take, stuck, too_far}
 
 pub index-of : (at : ℕ) (tokens : List Token) → at ≤ length tokens → at + length (drop at tokens) ≡ length tokens

@@ -7,7 +7,7 @@ use Rattle.rn_notation.specs.declared.token.Token.{Token}
 use Rattle.rn_inscript.specs.declared.cursor.Seen.{Seen}
 use Rattle.rn_inscript.specs.declared.fault.InscriptFault.{InscriptFault}
 use Rattle.rn_inscript.specs.Levels.{Level, Count}
-use Rattle.rn_inscript.specs.Stages.{Phrases, Done, Fails, IsSoFar, ReadsFrom}
+use Rattle.rn_inscript.specs.link.Stages.{Phrases, Done, Fails, IsSoFar, ReadsFrom}
 
 pub failed : {A : Type 0} (n : ℕ) (X : Phrases A) (tokens : List Token) (before : Seen) (first : Count) (around : List Level) (r : Result (A × Seen) InscriptFault) (e : InscriptFault) →
     IsErrAnd r (λ y. y ≡ e) → Fails n X (drop before.at tokens) first (length tokens) e → ReadsFrom n X tokens before first around r

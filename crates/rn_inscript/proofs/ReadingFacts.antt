@@ -10,7 +10,7 @@ use Rattle.rn_inscript.specs.declared.cursor.Seen.{Seen}
 use Rattle.rn_inscript.specs.declared.fault.InscriptFault.{InscriptFault}
 use Rattle.rn_inscript.specs.declared.fault.InscriptFault.TheVariants as Fault
 use Rattle.rn_inscript.specs.Levels.{Count, IsWithin, at_first, count_after, goes_too_far, after_token}
-use Rattle.rn_inscript.specs.Stages.{Phrases, Done, BeginAlike, Fails, IsSoFar, ready}
+use Rattle.rn_inscript.specs.link.Stages.{Phrases, Done, BeginAlike, Fails, IsSoFar, ready}
 use Rattle.rn_inscript.specs.Readings.{Wholes, IsPrefix, IsLongest, IsReading, IsStopped, IsDeep, IsRefusal, IsAnswer, Answers}
 use Rattle.rn_inscript.proofs.Passing.{index-of}
 

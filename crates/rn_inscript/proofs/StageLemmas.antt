@@ -4,7 +4,7 @@ use Rattle.rn_notation.specs.declared.token.Token.{Token}
 use Rattle.rn_inscript.specs.declared.fault.InscriptFault.{InscriptFault}
 use Rattle.rn_inscript.specs.declared.fault.InscriptFault.TheVariants as Fault
 use Rattle.rn_inscript.specs.Levels.{Count, IsWithin, count_after, after_token, goes_too_far}
-use Rattle.rn_inscript.specs.Stages.{Phrases, Then, Done, BeginAlike, Ends, Stage, CanEnd, IsStuck, IsTooFar, Fails}
+use Rattle.rn_inscript.specs.link.Stages.{Phrases, Then, Done, BeginAlike, Ends, Stage, CanEnd, IsStuck, IsTooFar, Fails}
 
 pub alike-append : (ts us vs : List Token) → BeginAlike us vs → BeginAlike (ts ++ us) (ts ++ vs)
 alike-append [] us vs alike = alike

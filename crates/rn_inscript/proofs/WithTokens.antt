@@ -9,8 +9,8 @@ use Rattle.rn_inscript.specs.declared.fault.InscriptFault.TheVariants as Fault
 use Rattle.rn_inscript.specs.declared.inscriptions.PName.{PName}
 use Rattle.rn_inscript.specs.Inscriptions.{name_at}
 use Rattle.rn_inscript.specs.Levels.{Level, Count, goes_too_far, after_token}
-use Rattle.rn_inscript.specs.Stages.{Phrases, Then, Done, BeginAlike, Ends, Stage, CanEnd, Fails, IsSoFar, IsNextKind, ready, ended}
-use Rattle.rn_inscript.specs.NextNames.{IsNotNextKind, IsNextName, IsNoName}
+use Rattle.rn_inscript.specs.link.Stages.{Phrases, Then, Done, BeginAlike, Ends, Stage, CanEnd, Fails, IsSoFar, IsNextKind, ready, ended}
+use Rattle.rn_inscript.specs.link.NextNames.{IsNotNextKind, IsNextName, IsNoName}
 use Rattle.rn_inscript.proofs.StageLemmas.{change, inner, inner_fails}
 use Rattle.rn_inscript.proofs.Passing.{alike-cons, pass, stuck_next}
 use Rattle.rn_inscript.proofs.BracketSteps.{any, can_end_done}

@@ -1,9 +1,8 @@
-pub mod Signs
-pub mod Expressions
+pub mod link
 pub mod Conditions
+pub mod Expressions
 pub mod Inscriptions
+pub mod Laws
 pub mod Levels
 pub mod Readings
-pub mod Laws
-pub mod Stages
-pub mod NextNames
+pub mod Signs

@@ -4,8 +4,8 @@ ghost use Rattle.rn_notation.specs.declared.sign.TheConstants as sign;
 ghost use Rattle.rn_inscript.specs.Conditions.{IsCond, IsAlternatives, IsBoth, IsSimple};
 ghost use Rattle.rn_inscript.specs.Levels.{Level, without_minuses};
 ghost use Rattle.rn_inscript.specs.Signs.{compare_of};
-ghost use Rattle.rn_inscript.specs.Stages.{Reads, MovesOn, IsNextOf, IsNoneOf, IsNextSign};
-ghost use Rattle.rn_inscript.specs.Stages.{IsNotNextSign, or_strength, and_strength, comparing_strength};
+ghost use Rattle.rn_inscript.specs.link.Stages.{Reads, MovesOn, IsNextOf, IsNoneOf, IsNextSign};
+ghost use Rattle.rn_inscript.specs.link.Stages.{IsNotNextSign, or_strength, and_strength, comparing_strength};
 
 use crate::conds::{PAlts, PCond, PSimple, PSimples};
 use crate::cursor::{Seen, expect_opening, expect_sign, next, past_sign};

@@ -2,8 +2,8 @@
 ghost use Rattle.std.specs.Prelude.{◌≡◌, ◌+◌, ◌<◌, ◌≤◌, ◌⊎◌, length, MatchOption, MatchResult};
 ghost use Rattle.rn_notation.specs.declared.sign.TheConstants as sign;
 ghost use Rattle.rn_notation.specs.StoredTokens.{lent};
-ghost use Rattle.rn_inscript.specs.Stages.{IsNext, HasNoNext, IsNextSign, IsNotNextSign, past, past_operator};
-ghost use Rattle.rn_inscript.specs.Stages.{IsBadOpening};
+ghost use Rattle.rn_inscript.specs.link.Stages.{IsNext, HasNoNext, IsNextSign, IsNotNextSign, past, past_operator};
+ghost use Rattle.rn_inscript.specs.link.Stages.{IsBadOpening};
 
 use crate::fault::InscriptFault;
 use rn_notation::{TokenKind, TokenRef, Tokens, sign};

@@ -10,9 +10,9 @@ ghost use Rattle.rn_inscript.specs.Expressions.{IsExprs, joined, at_spot};
 ghost use Rattle.rn_inscript.specs.Signs.{open_brace, open_bracket, open_paren, minus, plus_of};
 ghost use Rattle.rn_inscript.specs.Signs.{times_of};
 ghost use Rattle.rn_inscript.specs.Levels.{Level, bracket, without_minuses};
-ghost use Rattle.rn_inscript.specs.Stages.{Reads, ReadsFrom, MovesOn, IsNext, IsNextOf, IsNoneOf};
-ghost use Rattle.rn_inscript.specs.Stages.{IsClose, IsNotNextSign, ready, comparing_strength};
-ghost use Rattle.rn_inscript.specs.Stages.{sum_strength, product_strength, call_strength};
+ghost use Rattle.rn_inscript.specs.link.Stages.{Reads, ReadsFrom, MovesOn, IsNext, IsNextOf, IsNoneOf};
+ghost use Rattle.rn_inscript.specs.link.Stages.{IsClose, IsNotNextSign, ready, comparing_strength};
+ghost use Rattle.rn_inscript.specs.link.Stages.{sum_strength, product_strength, call_strength};
 
 use crate::cursor::{Seen, expect_sign, next, past_sign};
 use crate::exprs::{PExpr, PExprs, PForm};

@@ -5,9 +5,9 @@ ghost use Rattle.rn_notation.specs.StoredTokens.{lent};
 ghost use Rattle.rn_inscript.specs.Inscriptions.{IsInscribed, IsCall, absent};
 ghost use Rattle.rn_inscript.specs.Signs.{arc_of, target_of, guard_word, action_word, colon, new_word};
 ghost use Rattle.rn_inscript.specs.Signs.{this_word};
-ghost use Rattle.rn_inscript.specs.NextNames.{IsNotNextKind, IsNextName, IsNoName, IsEquality};
-ghost use Rattle.rn_inscript.specs.NextNames.{IsNoCreation};
-ghost use Rattle.rn_inscript.specs.Stages.{Reads, MovesOn, or_strength, IsNext, IsNextKind, past};
+ghost use Rattle.rn_inscript.specs.link.NextNames.{IsNotNextKind, IsNextName, IsNoName, IsEquality};
+ghost use Rattle.rn_inscript.specs.link.NextNames.{IsNoCreation};
+ghost use Rattle.rn_inscript.specs.link.Stages.{Reads, MovesOn, or_strength, IsNext, IsNextKind, past};
 
 use crate::conditions::cond;
 use crate::cursor::{Seen, expect_sign, next, past_sign};

@@ -7,7 +7,7 @@ use Rattle.std.specs.declared.cmp.Ordering.TheVariants.{Less, Equal, Greater}
 use Rattle.rn_model.specs.declared.system.System.{System}
 use Rattle.rn_model.specs.Markings.{Marking, initial_marking}
 use Rattle.rn_model.specs.Order.{binding_cmp}
-use Rattle.rn_model.specs.OrderLaws.{binding_cmp-total}
+use Rattle.rn_model.specs.link.OrderLaws.{binding_cmp-total}
 use Rattle.rn_model.specs.Runs.{Firing, after_firing, end_from}
 use Rattle.rn_model.proofs.BindingOrder.{binding_cmp-apart}
 use Rattle.rn_model.proofs.RunLemmas.{prefixes_are_runs, runs_grow}

@@ -19,7 +19,8 @@ use Rattle.rn_fire.specs.Ends.{with_end}
 use Rattle.rn_fire.specs.States.{State, IsState, end_marking, logged}
 use Rattle.rn_fire.proofs.EntryLemmas.{count_going}
 use Rattle.rn_model.specs.Runs.{entries_of}
-use Rattle.rn_least_state.specs.CommitsAt.{CommitsAt, WasLeast, answer_at}
+use Rattle.rn_least_state.specs.CommitsAt.{CommitsAt, WasLeast}
+use Rattle.rn_least_state.specs.link.CommitsAt.{answer_at}
 use Rattle.rn_least_state.specs.LeastStates.{HasLeastLog}
 
 no_end : {A : Type 0} (a : A) → None ≡ Some a → ⊥

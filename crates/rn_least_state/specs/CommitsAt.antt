@@ -4,8 +4,6 @@ use Rattle.rn_model.specs.declared.binding.Binding.{Binding}
 use Rattle.rn_model.specs.Runs.{end_of}
 use Rattle.rn_least.specs.LeastRuns.{IsLeast}
 use Rattle.rn_fire.specs.Commits.{FiresOrFaults}
-use Rattle.rn_fire.specs.declared.committing.Commit.{Commit}
-use Rattle.rn_fire.specs.declared.committing.Commit.TheVariants as Was
 use Rattle.rn_fire.specs.States.{State}
 use Rattle.rn_least_state.specs.declared.committing.CommitAt.{CommitAt}
 use Rattle.rn_least_state.specs.declared.committing.CommitAt.TheVariants.{Fired, Late, Faulted, Ended}
@@ -31,13 +29,3 @@ CommitsAt old worker b seen Faulted new =
 CommitsAt old worker b seen Ended new = (old.ended ≢ None) × (new ≡ old)
 CommitsAt old worker b seen (NoMemory _) new =
     (old.ended ≡ None) × (length old.fired ≡ seen) × (new ≡ old)
-
--- What follows only connects the code to the definitions.
-
--- the answer of the commit beneath
-abbrev pub answer_at : Commit → CommitAt
-answer_at (Was.Fired step) = Fired step
-answer_at (Was.Conflict at now) = Late at now
-answer_at Was.Faulted = Faulted
-answer_at Was.Ended = Ended
-answer_at (Was.NoMemory refused) = NoMemory refused

@@ -3,7 +3,8 @@ ghost use Rattle.std.specs.Prelude.{◌≡◌, ◌≤◌};
 ghost use Rattle.rn_model.specs.Limits.{most_workers};
 ghost use Rattle.rn_binding.specs.Soundness.{IsSound};
 ghost use Rattle.rn_fire.specs.Ends.{MayGoOn};
-ghost use Rattle.rn_least_state.specs.CommitsAt.{CommitsAt, WasLeast, answer_at};
+ghost use Rattle.rn_least_state.specs.CommitsAt.{CommitsAt, WasLeast};
+ghost use Rattle.rn_least_state.specs.link.CommitsAt.{answer_at};
 
 use crate::state::LeastState;
 use rn_binding::Candidate;

@@ -17,15 +17,16 @@ use Rattle.rn_model.proofs.StandingTables.{tables_enable_the_same}
 use Rattle.rn_least.specs.LeastRuns.{IsLeast, LeastLog}
 use Rattle.rn_desk.specs.Entries.{StartsWith}
 use Rattle.rn_fire.specs.declared.setup.Setup.{Setup}
-use Rattle.rn_fire.specs.States.{State, IsState, firings_in, logged}
+use Rattle.rn_fire.specs.States.{State, IsState, logged}
+use Rattle.rn_fire.specs.link.States.{firings_in}
 use Rattle.rn_worker.specs.declared.looking.Sight.{Sight}
-use Rattle.rn_worker.specs.Seen.{IsUnended, KeepsLog, Shows, marking_after}
+use Rattle.rn_worker.specs.link.Seen.{IsUnended, KeepsLog, Shows, marking_after}
 use Rattle.rn_worker.proofs.SeenEntries.{had_seen, taken}
-use Rattle.rn_worker.specs.Plans.{IsFoundAt, WasFound as PlanFound}
+use Rattle.rn_worker.specs.link.Plans.{IsFoundAt, WasFound as PlanFound}
 use Rattle.rn_worker.proofs.SeenStates.{knows as plan_known, fits_in as plan_fits}
 use Rattle.rn_least_state.specs.LeastStates.{HasLeastLog}
 use Rattle.rn_least_workers.specs.declared.considering.LeastPlan.{LeastPlan}
-use Rattle.rn_least_workers.specs.LeastPlans.{FitsIn, IsLeastAt, IsPlanAt, Knows, WasFound}
+use Rattle.rn_least_workers.specs.link.LeastPlans.{FitsIn, IsLeastAt, IsPlanAt, Knows, WasFound}
 
 -- what the search for the least binding says
 least_at : (system : System) (depth : ℕ) (m : Marking) (found : Option Binding) →

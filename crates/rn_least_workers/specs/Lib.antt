@@ -1,3 +1,1 @@
-pub mod LeastPlans
-pub mod LeastPosts
-pub mod Following
+pub mod link

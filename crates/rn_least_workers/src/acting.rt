@@ -4,11 +4,11 @@ ghost use Rattle.rn_model.specs.Limits.{most_workers};
 ghost use Rattle.rn_desk.specs.Passes.{fixed_of, number, seen, mine, IsOf, HasNoTurn};
 ghost use Rattle.rn_fire.specs.Ends.{MayGoOn};
 ghost use Rattle.rn_fire.specs.States.{logged};
-ghost use Rattle.rn_worker.specs.Seen.{KeepsLog, IsUnended, marking_after};
-ghost use Rattle.rn_worker.specs.Plans.{AddsOwn, GrowsBy, HasNoneLive};
+ghost use Rattle.rn_worker.specs.link.Seen.{KeepsLog, IsUnended, marking_after};
+ghost use Rattle.rn_worker.specs.link.Plans.{AddsOwn, GrowsBy, HasNoneLive};
 ghost use Rattle.rn_desk.specs.Entries.{StartsWith};
-ghost use Rattle.rn_least_workers.specs.LeastPlans.{DropsNone, FitsIn, Knows, WasFound};
-ghost use Rattle.rn_worker.specs.Views.{ChangedBetween, ShowsView};
+ghost use Rattle.rn_least_workers.specs.link.LeastPlans.{DropsNone, FitsIn, Knows, WasFound};
+ghost use Rattle.rn_worker.specs.link.Views.{ChangedBetween, ShowsView};
 
 use crate::considering::LeastPlan;
 use rn_desk::{Desk, Kept, Pass};

@@ -1,10 +1,10 @@
 //! What a worker does between its turns: it searches its snapshot for the first binding that is
 //! enabled.
 ghost use Rattle.std.specs.Prelude.{◌≡◌, IfOk, false};
-ghost use Rattle.rn_worker.specs.Plans.{IsToSearch};
+ghost use Rattle.rn_worker.specs.link.Plans.{IsToSearch};
 ghost use Rattle.rn_firsts.specs.Known.{IsKnown};
-ghost use Rattle.rn_least_workers.specs.Following.{FollowsIn};
-ghost use Rattle.rn_least_workers.specs.LeastPlans.{DropsNone, IsLeastAt, IsPlanAt};
+ghost use Rattle.rn_least_workers.specs.link.Following.{FollowsIn};
+ghost use Rattle.rn_least_workers.specs.link.LeastPlans.{DropsNone, IsLeastAt, IsPlanAt};
 
 use rn_binding::Candidate;
 use rn_channel::Uplinks;

@@ -2,10 +2,10 @@
 ghost use Rattle.std.specs.Prelude.{◌≡◌, ◌≢◌, ◌≤◌, None, IfNone, IfSome};
 ghost use Rattle.rn_desk.specs.Entries.{StartsWith};
 ghost use Rattle.rn_desk.specs.Passes.{fixed_of, number, seen, mine, IsOf, HasNoTurn};
-ghost use Rattle.rn_worker.specs.Seen.{HasEnded, IsSightOf, StaysOrEnds};
+ghost use Rattle.rn_worker.specs.link.Seen.{HasEnded, IsSightOf, StaysOrEnds};
 ghost use Rattle.rn_firsts.specs.Known.{Known};
-ghost use Rattle.rn_worker.specs.Views.{ShowsView};
-ghost use Rattle.rn_least_workers.specs.Following.{FollowsKnown};
+ghost use Rattle.rn_worker.specs.link.Views.{ShowsView};
+ghost use Rattle.rn_least_workers.specs.link.Following.{FollowsKnown};
 
 use rn_desk::{Desk, Kept, Pass};
 use rn_least_state::LeastState;

@@ -2,7 +2,7 @@
 ghost use Rattle.std.specs.Prelude.{◌≡◌, ◌^◌, ◌<◌, IfOk, map, vec_len};
 ghost use Rattle.rn_desk.specs.Numbered.{EachAt};
 ghost use Rattle.rn_desk.specs.Passes.{IsFresh};
-ghost use Rattle.rn_least_workers.specs.LeastPosts.{IsAtWork};
+ghost use Rattle.rn_least_workers.specs.link.LeastPosts.{IsAtWork};
 
 use rn_desk::{Desk, Kept, Pass};
 use rn_items::NoMemory;

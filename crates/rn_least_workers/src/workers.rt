@@ -2,12 +2,12 @@
 ghost use Rattle.std.specs.Prelude.{◌≡◌, ◌≢◌, ◌<◌, ◌≤◌, ◌+◌, None, IfOk, length};
 ghost use Rattle.rn_model.specs.Good.{Good, IsInLimits};
 ghost use Rattle.rn_model.specs.Limits.{most_workers};
-ghost use Rattle.rn_channel.specs.Uplinks.{AreUplinksOf};
+ghost use Rattle.rn_channel.specs.link.Uplinks.{AreUplinksOf};
 ghost use Rattle.rn_desk.specs.Numbered.{EachAt};
 ghost use Rattle.rn_worker.specs.Ends.{AreOfWorkers, IsTallyOf, KeepsJustLive};
-ghost use Rattle.rn_worker.specs.Posts.{IsOfSetup};
+ghost use Rattle.rn_worker.specs.link.Posts.{IsOfSetup};
 ghost use Rattle.rn_least_state.specs.LeastStates.{HasLeastLog};
-ghost use Rattle.rn_least_workers.specs.LeastPosts.{IsAtWork, IsDone};
+ghost use Rattle.rn_least_workers.specs.link.LeastPosts.{IsAtWork, IsDone};
 
 use crate::posts::{LeastPost, parted, posts_of};
 use crate::worker::work_least;

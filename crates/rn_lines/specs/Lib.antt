@@ -1,10 +1,8 @@
+pub mod link
 pub mod Laws
 pub mod LineReading
 pub mod LineText
-pub mod LinesSeen
 pub mod NodeReading
-pub mod NodeSeen
 pub mod NodeText
 pub mod Reading
-pub mod Said
 pub mod ValueText

@@ -4,7 +4,7 @@ ghost use Rattle.std.specs.List.{prefix_len};
 ghost use Rattle.rn_value.specs.Characters.{is_name_byte};
 ghost use Rattle.rn_value.specs.Words.{is_identifier, is_name};
 ghost use Rattle.rn_lines.specs.Reading.{ReturnsRead, byte_at, bracketed_at, name_at, inst_at};
-ghost use Rattle.rn_lines.specs.Said.{said};
+ghost use Rattle.rn_lines.specs.link.Said.{said};
 
 use crate::numerals::numeral_at;
 use crate::unread::Unread;

@@ -2,7 +2,7 @@
 ghost use Rattle.std.specs.Prelude.{◌≡◌, nat_le, if◌then◌else◌, length, map, Some, None};
 ghost use Rattle.rn_lines.specs.LineReading.{count_at, item_at, items_at};
 ghost use Rattle.rn_lines.specs.LineText.{times_of};
-ghost use Rattle.rn_lines.specs.LinesSeen.{item};
+ghost use Rattle.rn_lines.specs.link.LinesSeen.{item};
 ghost use Rattle.rn_lines.specs.Reading.{ReturnsRead};
 
 use crate::instances::byte_at;

@@ -3,7 +3,7 @@ ghost use Rattle.std.specs.Prelude.{◌≡◌, IfOk, Some};
 ghost use Rattle.rn_lines.specs.LineReading.{worker_at, lead_at, last_at, mark_at};
 ghost use Rattle.rn_lines.specs.LineReading.{firing_at, fault_at, ending_at, line_at};
 ghost use Rattle.rn_lines.specs.LineText.{LineSaid, IsLine};
-ghost use Rattle.rn_lines.specs.LinesSeen.{lead, token, line};
+ghost use Rattle.rn_lines.specs.link.LinesSeen.{lead, token, line};
 ghost use Rattle.rn_lines.specs.Reading.{ReturnsRead};
 
 use crate::instances::{Mention, byte_at, inst_at, name_at};

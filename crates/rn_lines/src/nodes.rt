@@ -3,7 +3,7 @@ ghost use Rattle.std.specs.Prelude.{length, map, IfOk, Some};
 ghost use Rattle.rn_lines.specs.Reading.{ReturnsRead};
 ghost use Rattle.rn_lines.specs.NodeReading.{given_at, all_given_at, node_at};
 ghost use Rattle.rn_lines.specs.NodeText.{NodeSaid, IsNode};
-ghost use Rattle.rn_lines.specs.NodeSeen.{given, node};
+ghost use Rattle.rn_lines.specs.link.NodeSeen.{given, node};
 
 use crate::instances::{Mention, byte_at, inst_at, name_at};
 use crate::unread::Unread;

@@ -2,7 +2,7 @@
 ghost use Rattle.std.specs.Prelude.{◌≡◌, ◌-◌, ◌<◌, [], map, IfOk, Some};
 ghost use Rattle.rn_lines.specs.Reading.{ReturnsRead, with_front, after, tail_at, rows_at, value_at};
 ghost use Rattle.rn_lines.specs.Reading.{front_at, is_delimited, seen_at};
-ghost use Rattle.rn_lines.specs.Said.{said, seen};
+ghost use Rattle.rn_lines.specs.link.Said.{said, seen};
 ghost use Rattle.rn_lines.specs.ValueText.{Seen, Begins, most_brackets};
 
 use crate::instances::{Mention, byte_at, bytes_after, inst_at};

@@ -12,7 +12,7 @@ use Rattle.rn_model.specs.Markings.{Marking, IsThere}
 use Rattle.std.specs.Prelude.{Option, Some, None, is_none, option_map}
 use Rattle.std.proofs.lemmas.List.{take_all}
 use Rattle.rn_model.specs.Markings.{Instance, instance_at, net_of}
-use Rattle.rn_live.specs.Marks.{Marked, Finds}
+use Rattle.rn_live.specs.link.Marks.{Marked, Finds}
 
 net_there : (o : Option Instance) → is_none (option_map (λ i. i.net) o) ≡ false → (i : Instance) × (o ≡ Some i)
 net_there None e = absurd (let no : ⊥ = cc in no)

@@ -10,7 +10,7 @@ use Rattle.rn_model.specs.Liveness.{mentions}
 use Rattle.rn_model.specs.Markings.{Marking, Instance, instance_at, tokens_at}
 use Rattle.rn_model.proofs.EnablingLemmas.{not_in_nil}
 use Rattle.rn_model.proofs.LiveByRounds.{any_at, any_contained, contained_any, got_any}
-use Rattle.rn_live.specs.Marks.{places_of, holds}
+use Rattle.rn_live.specs.link.Marks.{places_of, holds}
 
 place_got : (o : Option Instance) (k : ℕ) → slice_get (option_map_or (λ i. i.places) o []) k ≡ option_and_then (λ i. slice_get i.places k) o
 place_got None k = refl

@@ -6,7 +6,7 @@ use Rattle.rn_model.specs.Liveness.{IsLive}
 use Rattle.rn_model.specs.Markings.{Marking, IsThere, instance_at}
 use Rattle.rn_model.proofs.EnablingLemmas.{not_in_nil}
 use Rattle.rn_model.proofs.LiveBindings.{live_is_there}
-use Rattle.rn_live.specs.Marks.{Marked, is_marked, is_unmarked}
+use Rattle.rn_live.specs.link.Marks.{Marked, is_marked, is_unmarked}
 use Rattle.rn_live.proofs.HolderLemmas.{numbered, there_numbered}
 use Rattle.rn_live.proofs.LiveMarks.{net_there}
 

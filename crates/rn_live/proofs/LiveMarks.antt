@@ -11,7 +11,7 @@ use Rattle.rn_model.specs.Liveness.{IsLive, starts, held}
 use Rattle.rn_model.specs.Markings.{Marking, Instance, IsThere, instance_at, net_of}
 use Rattle.rn_model.proofs.EnablingLemmas.{not_in_nil}
 use Rattle.rn_model.proofs.AfterFiring.{found_number}
-use Rattle.rn_live.specs.Marks.{Marked, Finds, holds, is_start}
+use Rattle.rn_live.specs.link.Marks.{Marked, Finds, holds, is_start}
 use Rattle.rn_live.proofs.HolderLemmas.{held_by, holds_mentioned, numbered, of_each}
 use Rattle.rn_live.proofs.StartLemmas.{starting, numbers, is_starting, starting_live, live_starting}
 

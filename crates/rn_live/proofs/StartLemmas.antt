@@ -11,7 +11,7 @@ use Rattle.rn_model.specs.Systems.{empty_net, may_start}
 use Rattle.rn_model.specs.Liveness.{IsLive, starts}
 use Rattle.rn_model.specs.Markings.{Marking, net_of}
 use Rattle.rn_model.proofs.LiveByRounds.{any_contained, contained_any}
-use Rattle.rn_live.specs.Marks.{is_start}
+use Rattle.rn_live.specs.link.Marks.{is_start}
 
 abbrev pub starts_net : Net → Bool
 starts_net net = list_any (λ t. is_none t.uplink) net.transitions

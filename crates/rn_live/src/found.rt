@@ -1,6 +1,6 @@
 //! The instances that were found so far.
 ghost use Rattle.std.specs.Prelude.{◌≡◌, [], nat_eq, replicate, false, IfOk, OnOk};
-ghost use Rattle.rn_live.specs.Marks.{Finds};
+ghost use Rattle.rn_live.specs.link.Marks.{Finds};
 
 use rn_items::NoMemory;
 use rn_table::Table;

@@ -2,7 +2,7 @@
 ghost use Rattle.std.specs.Prelude.{◌<◌, ◌^◌, length, OnOk};
 ghost use Rattle.std.specs.List.{list_any};
 ghost use Rattle.rn_model.specs.Liveness.{mentions};
-ghost use Rattle.rn_live.specs.Marks.{Finds, places_of, holds};
+ghost use Rattle.rn_live.specs.link.Marks.{Finds, places_of, holds};
 
 use crate::found::Found;
 use crate::visiting::visit;

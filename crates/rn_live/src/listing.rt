@@ -3,7 +3,7 @@ ghost use Rattle.std.specs.Prelude.{◌≡◌, ◌<◌, ◌^◌, ◌↔◌, ℕ,
 ghost use Rattle.std.specs.List.Sorted.{IsStrictlyIncreasing};
 ghost use Rattle.rn_model.specs.Markings.{Instance, IsThere, instance_at};
 ghost use Rattle.rn_model.specs.Liveness.{IsLive};
-ghost use Rattle.rn_live.specs.Marks.{is_marked, is_unmarked};
+ghost use Rattle.rn_live.specs.link.Marks.{is_marked, is_unmarked};
 
 use crate::marking::live_marks;
 use rn_items::NoMemory;

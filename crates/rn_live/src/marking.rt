@@ -3,7 +3,7 @@ ghost use Rattle.std.specs.Prelude.{◌≡◌, ◌<◌, ◌^◌, ◌↔◌, ℕ,
 ghost use Rattle.std.specs.List.Sorted.{IsStrictlyIncreasing};
 ghost use Rattle.rn_model.specs.Liveness.{IsLive};
 ghost use Rattle.rn_model.specs.Markings.{Instance, instance_at};
-ghost use Rattle.rn_live.specs.Marks.{Marked};
+ghost use Rattle.rn_live.specs.link.Marks.{Marked};
 
 use crate::found::Found;
 use crate::holders::visit_holder;

@@ -1,7 +1,7 @@
 //! The instances that are live by their net.
 ghost use Rattle.std.specs.Prelude.{◌≡◌, map, is_none, IfOk, OnOk};
 ghost use Rattle.std.specs.List.{list_any};
-ghost use Rattle.rn_live.specs.Marks.{Finds, is_start};
+ghost use Rattle.rn_live.specs.link.Marks.{Finds, is_start};
 
 use crate::found::Found;
 use rn_items::NoMemory;

@@ -2,7 +2,7 @@
 ghost use Rattle.std.specs.Prelude.{map, OnOk};
 ghost use Rattle.std.specs.List.{list_any};
 ghost use Rattle.rn_model.specs.Liveness.{mentions};
-ghost use Rattle.rn_live.specs.Marks.{Finds};
+ghost use Rattle.rn_live.specs.link.Marks.{Finds};
 
 use crate::found::Found;
 use rn_items::NoMemory;

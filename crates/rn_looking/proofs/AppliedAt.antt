@@ -11,7 +11,7 @@ use Rattle.rn_growing.specs.Decisions.{transition_in}
 use Rattle.rn_growing.proofs.Growth.{stands_at}
 use Rattle.rn_search.specs.Points.{holes_of}
 use Rattle.rn_binding.specs.declared.applications.Application.{Application}
-use Rattle.rn_binding.specs.Applications.{application_of}
+use Rattle.rn_binding.specs.link.Applications.{application_of}
 use Rattle.rn_looking.specs.Applying.{AreApplied, AreAppliedIn}
 use Rattle.rn_looking.proofs.ListsBeside.{zip_at, zip_lengths}
 

@@ -27,7 +27,7 @@ use Rattle.rn_model.proofs.DerivationLemmas.{vars_in-Tuple, vars_in-List, vars_i
 use Rattle.rn_model.proofs.EachElement.{each_append, each_map, each_flat_map, each_weaker}
 use Rattle.rn_model.proofs.EachElement.{each_filter, each_place}
 use Rattle.rn_model.proofs.FormsOfExpressions.{by_form}
-use Rattle.rn_binding.specs.Applications.{with_holes}
+use Rattle.rn_binding.specs.link.Applications.{with_holes}
 use Rattle.rn_binding.proofs.HoleForms.{holes-Cons, holes-Step}
 use Rattle.rn_search.proofs.Items.{in_filter}
 

@@ -7,7 +7,7 @@ use Rattle.rn_growing.specs.declared.decision.Decision.TheVariants.{Entered}
 use Rattle.rn_growing.specs.Decisions.{transition_in}
 use Rattle.rn_search.specs.Points.{holes_of}
 use Rattle.rn_binding.specs.declared.applications.Application.{Application}
-use Rattle.rn_binding.specs.Applications.{application_of}
+use Rattle.rn_binding.specs.link.Applications.{application_of}
 
 -- These are the operator applications of the node that a decision enters. Of another decision
 -- nothing is said.

@@ -3,7 +3,7 @@
 //! What is settled stays so with further decisions, so a look begins after it (`docs/SEARCH.md`,
 //! 'What it does next').
 ghost use Rattle.std.specs.Prelude.{◌≡◌, ◌<◌, IfOk, IsTrue, length, map};
-ghost use Rattle.rn_binding.specs.Applications.{application_of};
+ghost use Rattle.rn_binding.specs.link.Applications.{application_of};
 ghost use Rattle.rn_search.specs.Points.{holes_of};
 ghost use Rattle.rn_looking.specs.declared.look.Look.TheVariants as L;
 ghost use Rattle.rn_looking.specs.Applying.{AreAppliedIn};

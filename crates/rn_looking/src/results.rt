@@ -6,7 +6,7 @@ ghost use Rattle.rn_value.specs.declared.value.Value.TheVariants as V;
 ghost use Rattle.rn_model.specs.Evaluation.{worth};
 ghost use Rattle.rn_looking.specs.Knowing.{known_env};
 ghost use Rattle.rn_search.specs.Points.{holes_of};
-ghost use Rattle.rn_binding.specs.Applications.{application_of};
+ghost use Rattle.rn_binding.specs.link.Applications.{application_of};
 ghost use Rattle.rn_looking.specs.Branches.{IsLookedAt};
 ghost use Rattle.rn_looking.specs.Looks.{Looked};
 ghost use Rattle.rn_looking.specs.Things.{IsOnHole, IsOnHoles};

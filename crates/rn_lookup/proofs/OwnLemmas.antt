@@ -5,7 +5,7 @@ use Rattle.std.specs.Prelude.{unwrap_or, slice_get}
 use Rattle.rn_model.specs.declared.system.Net.{Net}
 use Rattle.rn_model.specs.Systems.{empty_net}
 use Rattle.rn_lookup.specs.declared.directory.OwnNames.{OwnNames}
-use Rattle.rn_lookup.specs.Tables.{IsOwnOf, AreOwnOf}
+use Rattle.rn_lookup.specs.link.Tables.{IsOwnOf, AreOwnOf}
 
 -- one more net
 pub one_more_net : (nets : List Net) (others : List OwnNames) (net : Net) (own : OwnNames) →

@@ -1,3 +1,3 @@
+pub mod link
 pub mod Faults
 pub mod Found
-pub mod Tables

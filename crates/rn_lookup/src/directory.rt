@@ -3,7 +3,7 @@ ghost use Rattle.std.specs.Prelude.{◌≡◌, ◌<◌, ◌^◌, All, IfOk, leng
 ghost use Rattle.rn_model.specs.declared.system.System.{System as Whole};
 ghost use Rattle.rn_model.specs.Systems.{net_at};
 ghost use Rattle.rn_lookup.specs.Found.{net_named, transition_named, place_named};
-ghost use Rattle.rn_lookup.specs.Tables.{AreFew, IsOwnOf, AreOwnOf, IsDirectoryOf};
+ghost use Rattle.rn_lookup.specs.link.Tables.{AreFew, IsOwnOf, AreOwnOf, IsDirectoryOf};
 
 use crate::tables::{NameTable, table_of};
 use rn_model::{Net, System};

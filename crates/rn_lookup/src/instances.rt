@@ -1,9 +1,9 @@
 //! Whether the instances that a line names are made, and are of the nets that it says.
 ghost use Rattle.std.specs.Prelude.{◌≡◌, map};
 ghost use Rattle.std.specs.List.{list_all};
-ghost use Rattle.rn_lines.specs.Said.{said};
-ghost use Rattle.rn_lines.specs.NodeSeen.{given, node};
-ghost use Rattle.rn_lines.specs.LinesSeen.{item};
+ghost use Rattle.rn_lines.specs.link.Said.{said};
+ghost use Rattle.rn_lines.specs.link.NodeSeen.{given, node};
+ghost use Rattle.rn_lines.specs.link.LinesSeen.{item};
 ghost use Rattle.rn_lookup.specs.Found.{is_called, are_called, node_is_called};
 ghost use Rattle.rn_lookup.specs.Found.{tokens_are_called, tokens_held};
 

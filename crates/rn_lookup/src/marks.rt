@@ -3,11 +3,11 @@ ghost use Rattle.std.specs.Prelude.{◌≡◌, ◌<◌, IfOk, length, map};
 ghost use Rattle.std.specs.List.{list_all};
 ghost use Rattle.rn_value.specs.Kinds.{value_has_kind};
 ghost use Rattle.rn_model.specs.Systems.{net_at, place_kind_in};
-ghost use Rattle.rn_lines.specs.Said.{said};
-ghost use Rattle.rn_lines.specs.LinesSeen.{item, token};
+ghost use Rattle.rn_lines.specs.link.Said.{said};
+ghost use Rattle.rn_lines.specs.link.LinesSeen.{item, token};
 ghost use Rattle.rn_lookup.specs.Found.{name_nets, net_said, place_said, tokens_held};
 ghost use Rattle.rn_lookup.specs.Faults.{Tells, token_fault, tokens_fault, mark_fault};
-ghost use Rattle.rn_lookup.specs.Tables.{IsDirectoryOf};
+ghost use Rattle.rn_lookup.specs.link.Tables.{IsDirectoryOf};
 
 use crate::directory::Directory;
 use crate::nodes::name_nets;

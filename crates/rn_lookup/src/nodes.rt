@@ -2,12 +2,12 @@
 ghost use Rattle.std.specs.Prelude.{◌≡◌, ◌<◌, IfOk, length, map};
 ghost use Rattle.std.specs.List.{list_all};
 ghost use Rattle.rn_model.specs.Systems.{net_at, transition_at};
-ghost use Rattle.rn_lines.specs.Said.{said};
-ghost use Rattle.rn_lines.specs.NodeSeen.{given, node};
+ghost use Rattle.rn_lines.specs.link.Said.{said};
+ghost use Rattle.rn_lines.specs.link.NodeSeen.{given, node};
 ghost use Rattle.rn_lookup.specs.Found.{name_nets, net_said, transition_said};
 ghost use Rattle.rn_lookup.specs.Found.{fits_var, is_var, values_fit, variables_fit};
 ghost use Rattle.rn_lookup.specs.Faults.{Tells, given_fault, node_fault};
-ghost use Rattle.rn_lookup.specs.Tables.{IsDirectoryOf};
+ghost use Rattle.rn_lookup.specs.link.Tables.{IsDirectoryOf};
 
 use crate::directory::Directory;
 use crate::refusal::Refusal;

@@ -2,7 +2,7 @@
 ghost use Rattle.std.specs.Prelude.{◌≡◌, ◌<◌, ◌^◌, ℕ, List, Option, Some, None, IfOk, OnOk};
 ghost use Rattle.std.specs.Prelude.{length, bytes_eq, if◌then◌else◌};
 ghost use Rattle.rn_lookup.specs.Found.{number_from};
-ghost use Rattle.rn_lookup.specs.Tables.{found_in};
+ghost use Rattle.rn_lookup.specs.link.Tables.{found_in};
 
 use rn_items::Items;
 use rn_model::{Net, Place, Transition};

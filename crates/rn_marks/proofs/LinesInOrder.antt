@@ -18,9 +18,9 @@ use Rattle.rn_model.proofs.EnablingLemmas.{not_in_nil}
 use Rattle.rn_model.proofs.LiveBindings.{live_is_there}
 use Rattle.rn_model.proofs.MarkingsStay.{Increases, from_strict}
 use Rattle.rn_model.proofs.LivePartIsThere.{Ascend, ascend_joined, to_adjacent, below_later}
-use Rattle.rn_live.specs.Marks.{places_of}
+use Rattle.rn_live.specs.link.Marks.{places_of}
 use Rattle.rn_live.proofs.HolderLemmas.{tokens_are}
-use Rattle.rn_marks.specs.Lines.{line_of, lines_from, lines_at}
+use Rattle.rn_marks.specs.link.Lines.{line_of, lines_from, lines_at}
 
 -- Of one instance.
 module _ (n net : ℕ) where

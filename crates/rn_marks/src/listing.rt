@@ -2,8 +2,8 @@
 ghost use Rattle.std.specs.Prelude.{◌≡◌, ◌++◌, ◌<◌, ◌^◌, ℕ, Some, flat_map, length, IfOk, OnOk};
 ghost use Rattle.rn_model.specs.Liveness.{LivePart};
 ghost use Rattle.rn_model.specs.Markings.{Instance, instance_at};
-ghost use Rattle.rn_live.specs.Marks.{places_of};
-ghost use Rattle.rn_marks.specs.Lines.{line_of, lines_from, lines_at};
+ghost use Rattle.rn_live.specs.link.Marks.{places_of};
+ghost use Rattle.rn_marks.specs.link.Lines.{line_of, lines_from, lines_at};
 
 use rn_bag::Bag;
 use rn_items::{Items, NoMemory};

@@ -4,7 +4,7 @@ ghost use Rattle.rn_model.specs.Good.{Good};
 ghost use Rattle.rn_record.specs.RecordText.{first_names, names_at_end, record_text};
 ghost use Rattle.rn_value.specs.Names.{AreNamed};
 ghost use Rattle.rn_told.specs.Runs.{TellsRecord, longest_record};
-ghost use Rattle.rn_told.specs.RunsAhead.{FaultTells};
+ghost use Rattle.rn_told.specs.link.RunsAhead.{FaultTells};
 ghost use Rattle.rn_migrate.specs.Records.{MigratesRecord};
 
 use rn_model::{Entry, System, Told};

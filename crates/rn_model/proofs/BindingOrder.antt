@@ -8,13 +8,13 @@ use Rattle.std.specs.declared.cmp.Ordering.{Ordering}
 use Rattle.std.specs.declared.cmp.Ordering.TheVariants.{Equal}
 use Rattle.std.proofs.lemmas.Map.Lookups.{exact_unsigned, exact_bytes}
 use Rattle.rn_value.specs.Order.{inst_cmp, value_cmp, IsAntisymmetric}
-use Rattle.rn_value.specs.OrderLaws.{then_equal, insts_apart, value_cmp-apart}
+use Rattle.rn_value.specs.link.OrderLaws.{then_equal, insts_apart, value_cmp-apart}
 use Rattle.rn_value.specs.declared.value.InstRef.{InstRef}
 use Rattle.rn_value.specs.declared.value.Value.{Value}
 use Rattle.rn_model.specs.declared.binding.Node.{Node}
 use Rattle.rn_model.specs.declared.binding.Binding.{Binding}
 use Rattle.rn_model.specs.Order.{node_cmp, binding_cmp}
-use Rattle.rn_model.specs.OrderLaws.{binding_cmp-total}
+use Rattle.rn_model.specs.link.OrderLaws.{binding_cmp-total}
 
 -- lists whose elements are told apart are told apart
 lists_apart : {A : Type 0} (compare : A → A → Ordering) → IsAntisymmetric compare → IsAntisymmetric (slice_cmp compare)

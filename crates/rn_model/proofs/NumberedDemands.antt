@@ -37,7 +37,7 @@ use Rattle.rn_model.specs.Enabling.{Enabled, PlaceFits}
 use Rattle.rn_model.specs.Firing.{Made, renamed_node, renamed_value, numbered_inst, named}
 use Rattle.rn_model.specs.Firing.{creations_of}
 use Rattle.rn_model.specs.FiringLaws.{NumberingKeepsDemands, FiringsMoveTokens, put_by}
-use Rattle.rn_value.specs.OrderLaws.{insts_apart}
+use Rattle.rn_value.specs.link.OrderLaws.{insts_apart}
 use Rattle.rn_model.proofs.AskedValues.{counted, is_counted, in_ordered}
 use Rattle.rn_model.proofs.CountsAfterFiring.{old_tokens_after_firing}
 use Rattle.rn_model.proofs.DeadInstances.{below_next, there_of_net}

@@ -21,7 +21,7 @@ use Rattle.rn_model.specs.Enabling.{PlaceFits, HasRoom}
 use Rattle.rn_model.specs.Laws.{LooksAtItsOwn}
 use Rattle.rn_model.proofs.EachElement.{each_weaker}
 use Rattle.rn_model.proofs.EnablingLemmas.{idle}
-use Rattle.rn_value.specs.OrderLaws.{insts_apart}
+use Rattle.rn_value.specs.link.OrderLaws.{insts_apart}
 
 module _ (inst : InstRef) where
   abbrev StandsElsewhere : Node → Type 0

@@ -24,7 +24,7 @@ use Rattle.rn_model.specs.Demands.{tests, inhibits, clears}
 use Rattle.rn_model.specs.Markings.{Marking}
 use Rattle.rn_model.specs.Enabling.{PlaceFits}
 use Rattle.rn_model.specs.FittingLaws.{PlacesFitByArcs}
-use Rattle.rn_value.specs.OrderLaws.{insts_apart}
+use Rattle.rn_value.specs.link.OrderLaws.{insts_apart}
 use Rattle.rn_model.proofs.EnablingLemmas.{idle}
 use Rattle.rn_model.proofs.LiveByRounds.{any_contained}
 use Rattle.rn_items.proofs.Bools.{both_true}

@@ -29,7 +29,7 @@ use Rattle.rn_model.specs.Bindings.{env_of}
 use Rattle.rn_model.specs.Demands.{Reading, elements, puts, asked_by_arc, asked_by_node, asked_at}
 use Rattle.rn_model.specs.Firing.{Acts, Effects, numbered_inst, creations_of, renamed_value, renamed_node, named, with_set, with_out, after_actions, acts_before, node_acts, outputs_defined, effects_with, all_effects, effects}
 use Rattle.rn_model.proofs.EnablingLemmas.{not_in_nil, the_one}
-use Rattle.rn_value.specs.OrderLaws.{insts_apart}
+use Rattle.rn_value.specs.link.OrderLaws.{insts_apart}
 use Rattle.rn_model.proofs.AskedValues.{later, map_source, flat_source}
 use Rattle.rn_model.proofs.ReplacedValues.{replaced, replaced_step, renamed_is_replaced}
 use Rattle.rn_model.proofs.PassingInstances.{only, only_step, only-Int, only-Text, only-Tuple, only-List, only-Inst, IsPassingEnv, worth_passes}

@@ -8,7 +8,7 @@ use Rattle.std.specs.List.Sorted.{IsSorted}
 use Rattle.std.specs.declared.cmp.Ordering.{Ordering}
 use Rattle.std.specs.declared.cmp.Ordering.TheVariants.{Less, Equal, Greater}
 use Rattle.rn_value.specs.Order.{value_cmp}
-use Rattle.rn_value.specs.OrderLaws.{value_cmp-total, value_cmp-apart}
+use Rattle.rn_value.specs.link.OrderLaws.{value_cmp-total, value_cmp-apart}
 use Rattle.rn_value.specs.declared.value.Value.{Value}
 use Rattle.rn_model.specs.Lists.{same_value, count_of, with_value, ordered_values, without_one}
 use Rattle.rn_model.specs.ListLaws.{OrderedValuesAscend, OrderedValuesStay, OthersAreTaken}

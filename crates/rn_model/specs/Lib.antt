@@ -1,3 +1,4 @@
+pub mod link
 pub mod Agreement
 pub mod AgreementLaws
 pub mod Bindings
@@ -20,14 +21,12 @@ pub mod Lists
 pub mod LivePartLaws
 pub mod Liveness
 pub mod LivenessLaws
-pub mod MarkingCodes
 pub mod MarkingLaws
 pub mod Markings
 pub mod Names
 pub mod NodeText
 pub mod Numbers
 pub mod Order
-pub mod OrderLaws
 pub mod Repeats
 pub mod RoomLaws
 pub mod RoundLaws

@@ -7,8 +7,8 @@ use Rattle.rn_model.specs.declared.log.Entry.{Entry}
 use Rattle.rn_model.specs.declared.log.Entry.TheVariants.{Fire, End}
 use Rattle.rn_model.specs.Firing.{creations_of}
 use Rattle.rn_moves.specs.declared.token.Moves.{Moves}
-use Rattle.rn_moves.specs.Connecting.{HasEntryNodes, WritesAll, WritesEntry}
-use Rattle.rn_moves.specs.Movable.{HaveMoves}
+use Rattle.rn_moves.specs.link.Connecting.{HasEntryNodes, WritesAll, WritesEntry}
+use Rattle.rn_moves.specs.link.Movable.{HaveMoves}
 use Rattle.rn_moves.specs.Moves.{AreFirst, AreMovesFrom}
 use Rattle.rn_moves.specs.MovesText.{MovesText, all_lines, moves_lines, names_of, nets_of}
 

@@ -21,10 +21,10 @@ use Rattle.rn_table.specs.declared.change.Row.{Row}
 use Rattle.rn_table.proofs.ChangeLemmas.{count_append, add_hit}
 use Rattle.rn_table.proofs.InstanceLemmas.{same_number, other_number}
 use Rattle.rn_moves.specs.declared.token.Token.{Token}
-use Rattle.rn_moves.specs.Connecting.{tokens_at_place, row_tokens, initial_tokens, made_tokens}
+use Rattle.rn_moves.specs.link.Connecting.{tokens_at_place, row_tokens, initial_tokens, made_tokens}
 use Rattle.rn_moves.specs.Moves.{AreTokens, brought_at, initial_at}
 use Rattle.rn_moves.specs.Order.{token_cmp, token_count}
-use Rattle.rn_moves.specs.OrderLaws.{token_cmp-total}
+use Rattle.rn_moves.specs.link.OrderLaws.{token_cmp-total}
 
 abbrev token : ℕ → ℕ → Value → Token
 token n place v = record { inst = n; place = place; value = v }

@@ -14,7 +14,7 @@ use Rattle.rn_table.specs.declared.change.Row.{Row}
 use Rattle.rn_acts.specs.Acted.{ArePut}
 use Rattle.rn_acts.proofs.NumberingLemmas.{creations_kept}
 use Rattle.rn_moves.specs.declared.token.Moves.{Moves}
-use Rattle.rn_moves.specs.Movable.{IsDefined}
+use Rattle.rn_moves.specs.link.Movable.{IsDefined}
 use Rattle.rn_moves.specs.Moves.{AreMovesOf, AreTokens, brought_at, come_at, gone_at, nets_by}
 use Rattle.rn_moves.proofs.Counted.{same_tokens}
 

@@ -4,7 +4,7 @@ use Rattle.std.specs.Ordering.{nat_cmp}
 use Rattle.std.proofs.lemmas.Map.Lookups.{exact_unsigned}
 use Rattle.std.proofs.lemmas.Option.{same_Some}
 use Rattle.rn_value.specs.Order.{IsAntisymmetric}
-use Rattle.rn_value.specs.OrderLaws.{then_equal, value_cmp-apart}
+use Rattle.rn_value.specs.link.OrderLaws.{then_equal, value_cmp-apart}
 use Rattle.rn_value.specs.declared.value.Value.{Value}
 use Rattle.rn_value.proofs.SortedLists.{by_counts}
 use Rattle.rn_model.specs.declared.system.System.{System}
@@ -17,7 +17,7 @@ use Rattle.rn_moves.specs.declared.token.Moves.{Moves}
 use Rattle.rn_moves.specs.Laws.{MovesAreOne}
 use Rattle.rn_moves.specs.Moves.{AreTokens, AreMovesOf, AreMovesFrom, come_at}
 use Rattle.rn_moves.specs.Order.{token_cmp}
-use Rattle.rn_moves.specs.OrderLaws.{token_cmp-total}
+use Rattle.rn_moves.specs.link.OrderLaws.{token_cmp-total}
 
 token_cmp-apart : IsAntisymmetric token_cmp
 token_cmp-apart t u e =

@@ -19,7 +19,7 @@ use Rattle.rn_model.specs.Markings.{Instance, Marking, IsMarking, fresh_instance
 use Rattle.rn_model.proofs.PutValues.{StaysSo, reading_stays}
 use Rattle.rn_table.specs.Changes.{new_from, with_made}
 use Rattle.rn_table.specs.declared.change.Row.{Row}
-use Rattle.rn_table.specs.Leaves.{numbered}
+use Rattle.rn_table.specs.link.Leaves.{numbered}
 use Rattle.rn_acts.specs.Acted.{IsOfArc}
 use Rattle.rn_acts.proofs.AskedFrom.{asked_from}
 use Rattle.rn_acts.proofs.PlacedNodes.{rows_placed}

@@ -30,7 +30,7 @@ use Rattle.rn_model.proofs.InstancesWithin.{is_low, within_is_only}
 use Rattle.rn_moves.specs.declared.token.Token.{Token}
 use Rattle.rn_moves.specs.declared.token.Moves.{Moves}
 use Rattle.rn_moves.specs.Laws.{LogsHaveMoves}
-use Rattle.rn_moves.specs.Movable.{AreWithin, HasMoves, HaveMoves}
+use Rattle.rn_moves.specs.link.Movable.{AreWithin, HasMoves, HaveMoves}
 use Rattle.rn_moves.specs.Moves.{AreFirst, nets_by}
 use Rattle.rn_moves.specs.MovesText.{nets_in, nets_of}
 use Rattle.rn_moves.proofs.Counted.{is_counted}

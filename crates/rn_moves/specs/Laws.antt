@@ -11,7 +11,7 @@ use Rattle.rn_model.specs.Markings.{initial_marking, tokens_at}
 use Rattle.rn_model.specs.Runs.{Firing, Log, Run, end_of, entries_of}
 use Rattle.rn_moves.specs.declared.token.Moves.{Moves}
 use Rattle.rn_moves.specs.Order.{token_count}
-use Rattle.rn_moves.specs.Movable.{HaveMoves}
+use Rattle.rn_moves.specs.link.Movable.{HaveMoves}
 use Rattle.rn_moves.specs.Moves.{AreFirst, AreMoves, AreMovesOf}
 use Rattle.rn_moves.specs.MovesText.{nets_of}
 

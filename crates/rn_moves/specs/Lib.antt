@@ -1,7 +1,5 @@
-pub mod Connecting
+pub mod link
 pub mod Laws
-pub mod Movable
 pub mod Moves
 pub mod MovesText
 pub mod Order
-pub mod OrderLaws

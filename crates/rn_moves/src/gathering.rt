@@ -2,7 +2,7 @@
 ghost use Rattle.std.specs.Prelude.{◌≡◌, ◌+◌, ◌<◌, ◌^◌, ◌++◌, length, flat_map, IfOk, OnOk};
 ghost use Rattle.rn_model.specs.Good.{Good};
 ghost use Rattle.rn_table.specs.Changes.{values_at};
-ghost use Rattle.rn_moves.specs.Connecting.{tokens_at_place, row_tokens, initial_tokens, made_tokens};
+ghost use Rattle.rn_moves.specs.link.Connecting.{tokens_at_place, row_tokens, initial_tokens, made_tokens};
 ghost use Rattle.rn_moves.specs.Moves.{AreTokens, brought_at};
 
 use crate::order::ascending;

@@ -1,6 +1,6 @@
 //! How the lines of a place begin.
 ghost use Rattle.std.specs.Prelude.{◌≡◌, ◌++◌, IfOk, IfSome, OnOk};
-ghost use Rattle.rn_moves.specs.Connecting.{IsLead};
+ghost use Rattle.rn_moves.specs.link.Connecting.{IsLead};
 ghost use Rattle.rn_moves.specs.MovesText.{place_text};
 
 use crate::naming::net_numbered;

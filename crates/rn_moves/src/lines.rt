@@ -2,7 +2,7 @@
 ghost use Rattle.std.specs.Prelude.{◌≡◌, ◌++◌, OnOk, flat_map, codes, length};
 ghost use Rattle.rn_value.specs.Names.{AreNamed};
 ghost use Rattle.rn_value.specs.Text.{value_text};
-ghost use Rattle.rn_moves.specs.Movable.{AreWithin};
+ghost use Rattle.rn_moves.specs.link.Movable.{AreWithin};
 ghost use Rattle.rn_moves.specs.MovesText.{moves_lines, token_line};
 
 use crate::lead::lead_at;

@@ -2,7 +2,7 @@
 ghost use Rattle.std.specs.Prelude.{◌≡◌, IfOk};
 ghost use Rattle.rn_model.specs.Good.{Good};
 ghost use Rattle.rn_model.specs.Systems.{main_net};
-ghost use Rattle.rn_moves.specs.Movable.{IsDefined};
+ghost use Rattle.rn_moves.specs.link.Movable.{IsDefined};
 ghost use Rattle.rn_moves.specs.Moves.{AreFirst, AreMovesOf};
 
 use crate::gathering::{add_made, tokens_of};

@@ -1,7 +1,7 @@
 //! The nets of the instances of a log, and their names.
 ghost use Rattle.std.specs.Prelude.{◌≡◌, ◌++◌, All, IfOk, OnOk};
 ghost use Rattle.rn_model.specs.Systems.{main_net};
-ghost use Rattle.rn_moves.specs.Connecting.{HasEntryNodes};
+ghost use Rattle.rn_moves.specs.link.Connecting.{HasEntryNodes};
 ghost use Rattle.rn_moves.specs.MovesText.{names_of, nets_in, nets_of, net_numbered};
 
 use rn_acts::nets_made;

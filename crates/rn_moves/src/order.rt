@@ -2,7 +2,7 @@
 ghost use Rattle.std.specs.Prelude.{IfOk};
 ghost use Rattle.std.specs.List.Sorted.{IsSorted, IsPermutation};
 ghost use Rattle.rn_moves.specs.Order.{token_cmp};
-ghost use Rattle.rn_moves.specs.OrderLaws.{token_alike, token_cmp-total, token_cmp-ties};
+ghost use Rattle.rn_moves.specs.link.OrderLaws.{token_alike, token_cmp-total, token_cmp-ties};
 
 use crate::token::{Token, Tokens};
 use rn_items::{Items, NoMemory};
@@ -17,7 +17,7 @@ impl Ord for Token {
 
     ghost matches_eq = { token_cmp-ties };
 
-    #[tactic(auto, using(crate::specs::OrderLaws::token_alike))]
+    #[tactic(auto, using(crate::specs::link::OrderLaws::token_alike))]
     fn cmp(&self, other: &Self) -> Ordering {
         match self.partial_cmp(other) {
             Some(order) => order,

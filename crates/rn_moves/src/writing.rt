@@ -1,9 +1,9 @@
 //! The text of the moves of a log.
 ghost use Rattle.std.specs.Prelude.{length, IfOk, OnOk};
 ghost use Rattle.rn_model.specs.Good.{Good};
-ghost use Rattle.rn_moves.specs.Connecting.{WritesAll, WritesEntry};
+ghost use Rattle.rn_moves.specs.link.Connecting.{WritesAll, WritesEntry};
 ghost use Rattle.rn_moves.specs.Laws.{LogsHaveMoves};
-ghost use Rattle.rn_moves.specs.Movable.{HasEntryMoves, HaveMoves};
+ghost use Rattle.rn_moves.specs.link.Movable.{HasEntryMoves, HaveMoves};
 ghost use Rattle.rn_moves.specs.MovesText.{MovesText, nets_of};
 
 use crate::lines::put_moves;

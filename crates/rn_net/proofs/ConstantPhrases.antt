@@ -5,8 +5,8 @@ use Rattle.rn_notation.specs.declared.token.Token.{Token}
 use Rattle.rn_notation.specs.declared.token.TokenKind.{TokenKind}
 use Rattle.rn_notation.specs.declared.token.TokenKind.TheVariants.{Number, Text, Sign}
 use Rattle.rn_inscript.specs.Signs.{open_brace, close_brace, open_bracket, close_bracket, comma, minus}
-use Rattle.rn_inscript.specs.Stages.{Phrases, Then, Done, BeginAlike}
-use Rattle.rn_inscript.specs.NextNames.{IsNotNextKind}
+use Rattle.rn_inscript.specs.link.Stages.{Phrases, Then, Done, BeginAlike}
+use Rattle.rn_inscript.specs.link.NextNames.{IsNotNextKind}
 use Rattle.rn_inscript.specs.declared.fault.InscriptFault.TheVariants as Fault
 use Rattle.rn_net.specs.declared.constants.PConst.{PConst}
 use Rattle.rn_net.specs.declared.constants.PConstForm.{PConstForm}
@@ -14,7 +14,7 @@ use Rattle.rn_net.specs.declared.constants.PConstForm.TheVariants as C
 use Rattle.rn_net.specs.Constants.{IsConstant, AreItems, AreConstants, AreMoreConstants, constant_at}
 use Rattle.rn_net.specs.Levels.{Region, is_too_deep, after}
 use Rattle.rn_net.specs.Levels.Region.{declaring}
-use Rattle.rn_net.specs.Progress.{Sort, Stage, Fails, done, HasNext, IsNoNumber, IsNoText, IsEnd}
+use Rattle.rn_net.specs.link.Progress.{Sort, Stage, Fails, done, HasNext, IsNoNumber, IsNoText, IsEnd}
 use Rattle.rn_net.proofs.Steps.{alike-cons, begin, stuck}
 use Rattle.rn_net.proofs.Sorts.{any, WithKind, kind_then, number_then, then, kind_read, kind_far, from_done, next_is, tell_apart}
 use Rattle.std.specs.Prelude.{neg_ℤ}

@@ -7,8 +7,8 @@ use Rattle.rn_notation.specs.declared.token.TokenKind.{TokenKind}
 use Rattle.rn_notation.specs.declared.token.TokenKind.TheVariants.{Name, Number}
 use Rattle.rn_inscript.specs.Inscriptions.{name_at}
 use Rattle.rn_inscript.specs.Signs.{open_paren, close_paren, comma, colon, equals}
-use Rattle.rn_inscript.specs.Stages.{Phrases, Then, Done, Takes, BeginAlike, IsNextKind}
-use Rattle.rn_inscript.specs.NextNames.{IsNotNextKind, IsNextName, IsNoName}
+use Rattle.rn_inscript.specs.link.Stages.{Phrases, Then, Done, Takes, BeginAlike, IsNextKind}
+use Rattle.rn_inscript.specs.link.NextNames.{IsNotNextKind, IsNextName, IsNoName}
 use Rattle.rn_inscript.specs.declared.inscriptions.PName.{PName}
 use Rattle.rn_inscript.specs.declared.fault.InscriptFault.{InscriptFault}
 use Rattle.rn_inscript.specs.declared.fault.InscriptFault.TheVariants as Fault
@@ -23,10 +23,10 @@ use Rattle.rn_net.specs.declared.part.PlaceEnd.{PlaceEnd}
 use Rattle.rn_net.specs.Words.{semicolon, channel_word, var_word, place_word, max_name}
 use Rattle.rn_net.specs.Kinds.{IsKind, AreListed, kind_at}
 use Rattle.rn_net.specs.Nets.{IsChannel, AreVars, AreMoreNames, IsKindOfPlace, IsCapacity, AreInitial, IsPlace, channel_of, var_of, max_of, place_of}
-use Rattle.rn_net.specs.Parts.{IsPName, AreNames, IsInitialUpTo, IsPlaceEnd, end_of}
+use Rattle.rn_net.specs.link.Parts.{IsPName, AreNames, IsInitialUpTo, IsPlaceEnd, end_of}
 use Rattle.rn_net.specs.Levels.{Region}
 use Rattle.rn_net.specs.Levels.Region.{between, declaring}
-use Rattle.rn_net.specs.Progress.{Sort, Stage, Fails, Reads, MovesOn, done, HasNext, IsNoNumber}
+use Rattle.rn_net.specs.link.Progress.{Sort, Stage, Fails, Reads, MovesOn, done, HasNext, IsNoNumber}
 use Rattle.rn_net.proofs.Steps.{alike-cons, begin, change}
 use Rattle.rn_net.proofs.Sorts.{any, WithKind, kind_then, name_then, number_then, then, kind_read, kind_stuck, name_read, name_fails, number_read, number_stuck, from_done, next_is, tell_apart}
 use Rattle.rn_net.proofs.Rows.{Row, row_up_to}

@@ -4,15 +4,15 @@ use Rattle.rn_notation.specs.declared.token.Spot.{Spot}
 use Rattle.rn_notation.specs.declared.token.Token.{Token}
 use Rattle.rn_notation.specs.declared.token.TokenKind.{TokenKind}
 use Rattle.rn_notation.specs.declared.token.TokenKind.TheVariants.{Number}
-use Rattle.rn_inscript.specs.Stages.{BeginAlike}
-use Rattle.rn_inscript.specs.NextNames.{IsNotNextKind}
+use Rattle.rn_inscript.specs.link.Stages.{BeginAlike}
+use Rattle.rn_inscript.specs.link.NextNames.{IsNotNextKind}
 use Rattle.rn_net.specs.declared.plain.Plain.{Plain}
-use Rattle.rn_net.specs.Answers.{Top, Halts, IsBare}
+use Rattle.rn_net.specs.link.Answers.{Top, Halts, IsBare}
 use Rattle.rn_net.specs.Levels.{IsShallow, after, is_too_deep, region_after}
 use Rattle.rn_net.specs.Levels.Region.{between}
 use Rattle.rn_net.specs.Nets.{AreItems, IsSystem, plain_of}
-use Rattle.rn_net.specs.Parts.{with_item}
-use Rattle.rn_net.specs.Progress.{HasNext}
+use Rattle.rn_net.specs.link.Parts.{with_item}
+use Rattle.rn_net.specs.link.Progress.{HasNext}
 use Rattle.rn_net.specs.Words.{notation_name, semicolon}
 use Rattle.rn_net.proofs.NetPhrases.{item_sort}
 use Rattle.rn_net.proofs.Sorts.{any}

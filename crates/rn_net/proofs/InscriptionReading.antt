@@ -6,8 +6,8 @@ use Rattle.rn_notation.specs.declared.token.Token.{Token}
 use Rattle.rn_notation.specs.declared.token.TokenKind.TheVariants.{Name, Word}
 use Rattle.rn_model.specs.declared.system.ArcKind.{ArcKind}
 use Rattle.rn_inscript.specs.Signs.{close_brace, colon, comma, arc_of}
-use Rattle.rn_inscript.specs.Stages.{Phrases, Then}
-use Rattle.rn_inscript.specs.NextNames.{IsNotNextKind}
+use Rattle.rn_inscript.specs.link.Stages.{Phrases, Then}
+use Rattle.rn_inscript.specs.link.NextNames.{IsNotNextKind}
 use Rattle.rn_inscript.specs.Levels.{Count, at_first, count_after}
 use Rattle.rn_inscript.specs.Readings.{IsWholeExpr, IsReading, IsRefusal}
 use Rattle.rn_inscript.specs.Laws.{OneExpression, OneInscription}
@@ -21,11 +21,11 @@ use Rattle.rn_inscript.specs.Expressions.{IsExpr, IsTerms, IsProduct, IsFactors,
 use Rattle.rn_inscript.specs.Inscriptions.{IsInscribed, IsInscription, name_at}
 use Rattle.rn_net.specs.Words.{semicolon}
 use Rattle.rn_net.specs.Nets.{AreInscribed, arc_with, further_arc}
-use Rattle.rn_net.specs.Lists.{AreInscribedUpTo}
-use Rattle.rn_net.specs.Parts.{IsOpen, NotOpen, EndsStatement}
+use Rattle.rn_net.specs.link.Lists.{AreInscribedUpTo}
+use Rattle.rn_net.specs.link.Parts.{IsOpen, NotOpen, EndsStatement}
 use Rattle.rn_net.specs.Levels.{Region}
 use Rattle.rn_net.specs.Levels.Region.{between, inscribing}
-use Rattle.rn_net.specs.Progress.{Sort, Stage, Fails, done, HasNext}
+use Rattle.rn_net.specs.link.Progress.{Sort, Stage, Fails, done, HasNext}
 use Rattle.rn_net.proofs.Steps.{begin, change, same_end}
 use Rattle.rn_net.proofs.Sorts.{any, kind_then, then, kind_read, kind_stuck, then_read, then_fails, tell_apart}
 use Rattle.rn_net.proofs.Rows.{Row, row_on, row_comma_from}

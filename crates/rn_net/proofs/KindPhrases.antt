@@ -5,8 +5,8 @@ use Rattle.rn_notation.specs.declared.token.Token.{Token}
 use Rattle.rn_notation.specs.declared.token.TokenKind.{TokenKind}
 use Rattle.rn_notation.specs.declared.token.TokenKind.TheVariants.{Text, Sign}
 use Rattle.rn_inscript.specs.Signs.{open_brace, close_brace, open_bracket, close_bracket, comma}
-use Rattle.rn_inscript.specs.Stages.{Phrases, Then, Done, BeginAlike, IsClose}
-use Rattle.rn_inscript.specs.NextNames.{IsNotNextKind}
+use Rattle.rn_inscript.specs.link.Stages.{Phrases, Then, Done, BeginAlike, IsClose}
+use Rattle.rn_inscript.specs.link.NextNames.{IsNotNextKind}
 use Rattle.rn_inscript.specs.declared.fault.InscriptFault.TheVariants as Fault
 use Rattle.rn_net.specs.declared.kinds.PKind.{PKind}
 use Rattle.rn_net.specs.declared.kinds.PKindForm.{PKindForm}
@@ -15,7 +15,7 @@ use Rattle.rn_net.specs.Words.{int_word, text_word, net_word}
 use Rattle.rn_net.specs.Kinds.{IsKind, AreListed, AreKinds, AreMoreKinds, kind_at}
 use Rattle.rn_net.specs.Levels.{Region}
 use Rattle.rn_net.specs.Levels.Region.{declaring}
-use Rattle.rn_net.specs.Progress.{Sort, Stage, Fails, done, HasNext}
+use Rattle.rn_net.specs.link.Progress.{Sort, Stage, Fails, done, HasNext}
 use Rattle.rn_net.proofs.Steps.{alike-cons, begin, stuck}
 use Rattle.rn_net.proofs.Sorts.{any, WithKind, kind_then, then, kind_read, kind_far, from_done, next_is, tell_apart}
 use Rattle.rn_net.proofs.Rows.{Row, row_up_to, opening_small, opening_deep, close_small, close_after}

@@ -12,8 +12,8 @@ use Rattle.rn_inscript.specs.declared.inscriptions.PInscribed.{PInscribed}
 use Rattle.rn_inscript.specs.Expressions.{IsExpr, IsProduct, IsUnary, IsPrimary}
 use Rattle.rn_inscript.specs.Inscriptions.{IsInscribed, name_at}
 use Rattle.rn_inscript.specs.Signs.{open_brace, close_brace, arc_of, target_of}
-use Rattle.rn_inscript.specs.Stages.{Phrases, Then, Done, Takes, BeginAlike, IsNextKind}
-use Rattle.rn_inscript.specs.NextNames.{IsNotNextKind, IsNextName}
+use Rattle.rn_inscript.specs.link.Stages.{Phrases, Then, Done, Takes, BeginAlike, IsNextKind}
+use Rattle.rn_inscript.specs.link.NextNames.{IsNotNextKind, IsNextName}
 use Rattle.rn_inscript.specs.declared.inscriptions.PName.{PName}
 use Rattle.rn_inscript.specs.declared.inscriptions.PInscription.{PInscription}
 use Rattle.rn_inscript.specs.declared.fault.InscriptFault.TheVariants as Fault
@@ -25,12 +25,12 @@ use Rattle.rn_net.specs.declared.plain.PTransition.{PTransition}
 use Rattle.rn_net.specs.declared.part.Part.{Part}
 use Rattle.rn_net.specs.declared.part.Item.{Item}
 use Rattle.rn_net.specs.Words.{net_word, trans_word, var_word, place_word, channel_word}
-use Rattle.rn_net.specs.Lists.{AreInscribedUpTo}
+use Rattle.rn_net.specs.link.Lists.{AreInscribedUpTo}
 use Rattle.rn_net.specs.Nets.{IsChannel, AreVars, IsPlace, IsTransition, AreInscribed, AreInscriptions, AreParts, IsNet, plain_net_of, transition_of}
-use Rattle.rn_net.specs.Parts.{IsNetPart, IsItem, with_part}
+use Rattle.rn_net.specs.link.Parts.{IsNetPart, IsItem, with_part}
 use Rattle.rn_net.specs.Levels.{Region, is_too_deep, after}
 use Rattle.rn_net.specs.Levels.Region.{between, heading}
-use Rattle.rn_net.specs.Progress.{Sort, Stage, Fails, done, HasNext}
+use Rattle.rn_net.specs.link.Progress.{Sort, Stage, Fails, done, HasNext}
 use Rattle.rn_net.proofs.Steps.{alike-cons, begin, change, stuck}
 use Rattle.rn_net.proofs.Sorts.{any, WithKind, kind_then, name_then, then, kind_read, name_read, from_done, next_is, tell_apart}
 use Rattle.rn_net.proofs.InscriptionReading.{statement_sort}

@@ -10,7 +10,7 @@ use Rattle.rn_notation.specs.declared.token.TokenKind.{TokenKind}
 use Rattle.rn_notation.specs.declared.token.TokenKind.TheVariants.{Word, Number, Text, Sign}
 use Rattle.rn_inscript.specs.Signs.{comma}
 use Rattle.rn_inscript.specs.Inscriptions.{name_at}
-use Rattle.rn_inscript.specs.Stages.{Phrases, Then, Done, Takes}
+use Rattle.rn_inscript.specs.link.Stages.{Phrases, Then, Done, Takes}
 use Rattle.rn_inscript.specs.declared.inscriptions.PName.{PName}
 use Rattle.rn_net.specs.declared.kinds.PKind.{PKind}
 use Rattle.rn_net.specs.declared.kinds.PKindForm.TheVariants as K

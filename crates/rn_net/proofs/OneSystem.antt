@@ -21,8 +21,8 @@ use Rattle.rn_net.specs.declared.plain.PMax.{PMax}
 use Rattle.rn_net.specs.Words.{semicolon, net_word, trans_word, var_word, place_word, channel_word, max_name}
 use Rattle.rn_net.specs.Kinds.{IsKind, AreListed, kind_at}
 use Rattle.rn_net.specs.Nets.{IsChannel, AreMoreNames, AreVars, AreInitial, IsPlace, AreInscriptions, AreParts, AreItems, IsSystem, max_of}
-use Rattle.rn_net.specs.Lists.{AreInscribedUpTo}
-use Rattle.rn_net.specs.Parts.{IsNetPart, IsItem, IsInitialUpTo, IsPlaceEnd, AreNames, with_part, with_item}
+use Rattle.rn_net.specs.link.Lists.{AreInscribedUpTo}
+use Rattle.rn_net.specs.link.Parts.{IsNetPart, IsItem, IsInitialUpTo, IsPlaceEnd, AreNames, with_part, with_item}
 use Rattle.rn_net.specs.Laws.{OneSystem, OneSpelled}
 use Rattle.rn_net.proofs.Sorts.{tell}
 use Rattle.rn_net.proofs.Rows.{row_up_to}

@@ -10,8 +10,8 @@ use Rattle.rn_notation.specs.declared.token.Token.{Token}
 use Rattle.rn_notation.specs.declared.token.TokenKind.{TokenKind}
 use Rattle.rn_notation.specs.declared.token.TokenKind.TheVariants.{Name, Word, Number, Text, Sign}
 use Rattle.rn_inscript.specs.Signs.{close_brace, comma}
-use Rattle.rn_inscript.specs.Stages.{Phrases, BeginAlike, CanEnd}
-use Rattle.rn_inscript.specs.NextNames.{IsNotNextKind}
+use Rattle.rn_inscript.specs.link.Stages.{Phrases, BeginAlike, CanEnd}
+use Rattle.rn_inscript.specs.link.NextNames.{IsNotNextKind}
 use Rattle.rn_inscript.specs.Levels.{Count, IsWithin, at_first, after_token, count_after, goes_too_far, opens_level, is_operator}
 use Rattle.rn_inscript.specs.Readings.{Wholes, IsPrefix, IsLongest, IsReading, IsRefusal}
 use Rattle.rn_inscript.specs.declared.fault.InscriptFault.{InscriptFault}
@@ -19,7 +19,7 @@ use Rattle.rn_inscript.specs.declared.fault.InscriptFault.TheVariants as Fault
 use Rattle.rn_net.specs.Words.{semicolon}
 use Rattle.rn_net.specs.Levels.{Region, is_too_deep, after, begun_by, inscribed_from, is_semicolon, is_comma, open_after, region_after, IsShallow}
 use Rattle.rn_net.specs.Levels.Region.{between, inscribing}
-use Rattle.rn_net.specs.Progress.{Sort, Stage, Fails}
+use Rattle.rn_net.specs.link.Progress.{Sort, Stage, Fails}
 use Rattle.rn_net.proofs.Steps.{alike-cons, take_all, stuck_all, far_all}
 use Rattle.rn_net.proofs.Fronts.{is_inside, Passes, AreInside}
 

@@ -13,7 +13,7 @@ use Rattle.rn_net.specs.declared.refusal.Refusal.{Refusal}
 use Rattle.rn_net.specs.declared.refusal.Refusal.TheVariants as R
 use Rattle.rn_net.specs.Nets.{IsSystem}
 use Rattle.rn_net.specs.Refusals.{IsBeginning, IsStopped, IsDeep, AreFine, AreTokensOf, IsRefused, Answers, refusal_of}
-use Rattle.rn_net.specs.Answers.{Reason, Settles}
+use Rattle.rn_net.specs.link.Answers.{Reason, Settles}
 use Rattle.rn_net.proofs.Openings.{append-nil, split-at}
 use Rattle.rn_net.proofs.Settling.{Ends, stopped-ends, deep-ends, not-on, ends-fine, spelled-alone, settled_read, unless_memory}
 

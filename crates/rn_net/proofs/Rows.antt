@@ -6,11 +6,11 @@ use Rattle.rn_notation.specs.declared.token.Token.{Token}
 use Rattle.rn_notation.specs.declared.token.TokenKind.{TokenKind}
 use Rattle.rn_notation.specs.declared.token.TokenKind.TheVariants.{Sign}
 use Rattle.rn_inscript.specs.Signs.{comma}
-use Rattle.rn_inscript.specs.Stages.{Phrases, Then, Done, Takes, BeginAlike, IsClose}
-use Rattle.rn_inscript.specs.NextNames.{IsNotNextKind}
+use Rattle.rn_inscript.specs.link.Stages.{Phrases, Then, Done, Takes, BeginAlike, IsClose}
+use Rattle.rn_inscript.specs.link.NextNames.{IsNotNextKind}
 use Rattle.rn_net.specs.Levels.{Region, is_too_deep, after}
 use Rattle.rn_net.specs.Levels.Region.{declaring}
-use Rattle.rn_net.specs.Progress.{Sort, Stage, done, HasNext}
+use Rattle.rn_net.specs.link.Progress.{Sort, Stage, done, HasNext}
 use Rattle.rn_net.proofs.Steps.{alike-cons, begin, change}
 use Rattle.rn_net.proofs.Sorts.{any, WithKind, kind_then, then, kind_read, next_is}
 

@@ -14,17 +14,17 @@ use Rattle.rn_notation.specs.declared.token.Token.{Token}
 use Rattle.rn_notation.specs.declared.token.TokenKind.{TokenKind}
 use Rattle.rn_notation.specs.declared.token.TokenKind.TheVariants.{Number}
 use Rattle.rn_notation.specs.declared.token.LexFault.{LexFault}
-use Rattle.rn_inscript.specs.Stages.{BeginAlike, IsNext, HasNoNext}
+use Rattle.rn_inscript.specs.link.Stages.{BeginAlike, IsNext, HasNoNext}
 use Rattle.rn_net.specs.declared.plain.Plain.{Plain}
 use Rattle.rn_net.specs.declared.refusal.Refusal.{Refusal}
 use Rattle.rn_net.specs.declared.refusal.Refusal.TheVariants as R
 use Rattle.rn_net.specs.Levels.{Region, IsShallow, region_after, is_too_deep, after}
 use Rattle.rn_net.specs.Levels.Region.{between}
 use Rattle.rn_net.specs.Nets.{IsSystem}
-use Rattle.rn_net.specs.Progress.{HaveNaturals}
+use Rattle.rn_net.specs.link.Progress.{HaveNaturals}
 use Rattle.rn_net.specs.Texts.{Spells}
 use Rattle.rn_net.specs.Refusals.{IsBeginning, IsStopped, IsDeep, AreFine, IsRefused, IsReason, Answers, refusal_of}
-use Rattle.rn_net.specs.Answers.{Top, Halts, Reason, Settles, unfinished_of}
+use Rattle.rn_net.specs.link.Answers.{Top, Halts, Reason, Settles, unfinished_of}
 use Rattle.rn_net.proofs.Openings.{append-nil}
 use Rattle.rn_net.proofs.Systems.{items-split, no-item}
 

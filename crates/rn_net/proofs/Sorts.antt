@@ -8,10 +8,10 @@ use Rattle.rn_inscript.specs.declared.fault.InscriptFault.{InscriptFault}
 use Rattle.rn_inscript.specs.declared.fault.InscriptFault.TheVariants as Fault
 use Rattle.rn_inscript.specs.declared.inscriptions.PName.{PName}
 use Rattle.rn_inscript.specs.Inscriptions.{name_at}
-use Rattle.rn_inscript.specs.Stages.{Phrases, Then, Done, BeginAlike}
-use Rattle.rn_inscript.specs.NextNames.{IsNotNextKind, IsNextName, IsNoName}
+use Rattle.rn_inscript.specs.link.Stages.{Phrases, Then, Done, BeginAlike}
+use Rattle.rn_inscript.specs.link.NextNames.{IsNotNextKind, IsNextName, IsNoName}
 use Rattle.rn_net.specs.Levels.{Region, is_too_deep, after}
-use Rattle.rn_net.specs.Progress.{Sort, Stage, Fails, done, HasNext, IsNoNumber}
+use Rattle.rn_net.specs.link.Progress.{Sort, Stage, Fails, done, HasNext, IsNoNumber}
 use Rattle.rn_net.proofs.Steps.{alike-cons, change, take, stuck, too_far, inner, inner_fails}
 
 -- a token of a kind, wherever it stands

@@ -6,10 +6,10 @@ use Rattle.std.proofs.lemmas.Result.{err_from_is_err_and}
 use Rattle.rn_notation.specs.declared.token.Token.{Token}
 use Rattle.rn_inscript.specs.declared.fault.InscriptFault.{InscriptFault}
 use Rattle.rn_inscript.specs.declared.fault.InscriptFault.TheVariants as Fault
-use Rattle.rn_inscript.specs.Stages.{Phrases, Then, BeginAlike, CanEnd, IsNext}
+use Rattle.rn_inscript.specs.link.Stages.{Phrases, Then, BeginAlike, CanEnd, IsNext}
 use Rattle.std.proofs.Math.ListN.{length-drop}
 use Rattle.rn_net.specs.Levels.{Region, IsShallow, region_after, is_too_deep, after}
-use Rattle.rn_net.specs.Progress.{Sort, Stage, IsStuck, IsTooFar, Fails, Reads, done}
+use Rattle.rn_net.specs.link.Progress.{Sort, Stage, IsStuck, IsTooFar, Fails, Reads, done}
 
 pub index-of : (at : ℕ) (tokens : List Token) → at ≤ length tokens → at + length (drop at tokens) ≡ length tokens
 index-of at tokens h = omega (arith, length-drop at tokens)

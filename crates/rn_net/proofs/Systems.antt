@@ -2,7 +2,7 @@
 use Rattle.std.proofs.Common.{◌≡◌, ℕ, ◌<◌, ◌⊎◌, inl, inr, true, List, [], ◌∷◌, ◌++◌, length, drop, refl, sym, ◌∙◌, ap, subst, append_assoc, arith}
 use Rattle.std.proofs.lemmas.List.{length-append, length-drop}
 use Rattle.rn_notation.specs.declared.token.Token.{Token}
-use Rattle.rn_inscript.specs.Stages.{BeginAlike, CanEnd}
+use Rattle.rn_inscript.specs.link.Stages.{BeginAlike, CanEnd}
 use Rattle.rn_inscript.specs.declared.fault.InscriptFault.{InscriptFault}
 use Rattle.rn_inscript.specs.declared.fault.InscriptFault.TheVariants as Fault
 use Rattle.rn_net.specs.declared.plain.Plain.{Plain}
@@ -10,10 +10,10 @@ use Rattle.rn_net.specs.declared.part.Item.{Item}
 use Rattle.rn_net.specs.Levels.{IsShallow, region_after, is_too_deep}
 use Rattle.rn_net.specs.Levels.Region.{between}
 use Rattle.rn_net.specs.Nets.{AreItems, IsSystem}
-use Rattle.rn_net.specs.Parts.{IsItem, with_item}
-use Rattle.rn_net.specs.Progress.{Stage, Fails, done}
+use Rattle.rn_net.specs.link.Parts.{IsItem, with_item}
+use Rattle.rn_net.specs.link.Progress.{Stage, Fails, done}
 use Rattle.rn_net.specs.Refusals.{IsBeginning}
-use Rattle.rn_net.specs.Answers.{Top, Ends, IsBare}
+use Rattle.rn_net.specs.link.Answers.{Top, Ends, IsBare}
 use Rattle.rn_net.specs.Words.{notation_name, channel_word, net_word}
 use Rattle.rn_net.proofs.Steps.{alike-append, region-append, shallow-append}
 use Rattle.rn_net.proofs.NetPhrases.{item-begins}

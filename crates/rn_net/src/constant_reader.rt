@@ -5,8 +5,8 @@ ghost use Rattle.rn_inscript.specs.Signs.{open_brace, open_bracket, minus};
 ghost use Rattle.rn_net.specs.Constants.{IsConstant, AreItems};
 ghost use Rattle.rn_net.specs.Levels.{Region, after};
 ghost use Rattle.rn_net.specs.Levels.Region.{declaring};
-ghost use Rattle.rn_net.specs.Lists.{AreConstantsUpTo};
-ghost use Rattle.rn_net.specs.Progress.{Reads, MovesOn, HasNext, IsEnd, HaveNaturals};
+ghost use Rattle.rn_net.specs.link.Lists.{AreConstantsUpTo};
+ghost use Rattle.rn_net.specs.link.Progress.{Reads, MovesOn, HasNext, IsEnd, HaveNaturals};
 
 use crate::constants::{PConst, PConstForm, PConsts};
 use crate::cursor::{expect_sign, open_level, past_number, past_sign, past_text};

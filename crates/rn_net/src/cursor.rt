@@ -3,9 +3,9 @@ ghost use Rattle.std.specs.Prelude.{◌≡◌, ◌+◌, ◌<◌, ◌^◌, ◌↔
 ghost use Rattle.std.specs.Prelude.{MatchOption, MatchResult, OnSome};
 ghost use Rattle.rn_notation.specs.declared.token.TokenKind.TheVariants as Kind;
 ghost use Rattle.rn_notation.specs.StoredTokens.{lent};
-ghost use Rattle.rn_inscript.specs.Stages.{IsNext, HasNoNext};
-ghost use Rattle.rn_inscript.specs.NextNames.{IsNotNextKind, IsNextName, IsNoName};
-ghost use Rattle.rn_net.specs.Progress.{HasNext, IsNoNumber, IsNoText};
+ghost use Rattle.rn_inscript.specs.link.Stages.{IsNext, HasNoNext};
+ghost use Rattle.rn_inscript.specs.link.NextNames.{IsNotNextKind, IsNextName, IsNoName};
+ghost use Rattle.rn_net.specs.link.Progress.{HasNext, IsNoNumber, IsNoText};
 
 use rn_inscript::{InscriptFault, PName};
 use rn_notation::{Spot, TokenKind, TokenRef, Tokens};

@@ -1,10 +1,10 @@
 //! Reading declarations: channels, variables and places.
 ghost use Rattle.std.specs.Prelude.{◌≡◌, ◌+◌, ◌≤◌, length, map, IfOk};
-ghost use Rattle.rn_inscript.specs.Stages.{IsNextKind};
+ghost use Rattle.rn_inscript.specs.link.Stages.{IsNextKind};
 ghost use Rattle.rn_net.specs.Levels.Region.{between, declaring};
 ghost use Rattle.rn_net.specs.Nets.{IsChannel, AreVars, IsPlace, var_of};
-ghost use Rattle.rn_net.specs.Parts.{IsPName, AreNamesUpTo, IsInitialUpTo, IsPlaceEnd};
-ghost use Rattle.rn_net.specs.Progress.{Reads, MovesOn, HaveNaturals};
+ghost use Rattle.rn_net.specs.link.Parts.{IsPName, AreNamesUpTo, IsInitialUpTo, IsPlaceEnd};
+ghost use Rattle.rn_net.specs.link.Progress.{Reads, MovesOn, HaveNaturals};
 ghost use Rattle.rn_net.specs.Words.{channel_word, var_word, place_word};
 
 use crate::constant_reader::constants_up_to;

@@ -1,13 +1,13 @@
 //! Reading the inscriptions of transitions.
 ghost use Rattle.std.specs.Prelude.{◌≡◌, ◌+◌, ◌-◌, ◌≤◌, ◌∷◌, length, map, IfOk, MatchOption};
 ghost use Rattle.rn_inscript.specs.Levels.{Count};
-ghost use Rattle.rn_inscript.specs.NextNames.{IsNotNextKind};
+ghost use Rattle.rn_inscript.specs.link.NextNames.{IsNotNextKind};
 ghost use Rattle.rn_inscript.specs.Signs.{close_brace};
 ghost use Rattle.rn_net.specs.Levels.Region.{between, inscribing};
-ghost use Rattle.rn_net.specs.Lists.{AreFurtherUpTo, AreInscribedUpTo};
+ghost use Rattle.rn_net.specs.link.Lists.{AreFurtherUpTo, AreInscribedUpTo};
 ghost use Rattle.rn_net.specs.Nets.{further_arc};
-ghost use Rattle.rn_net.specs.Parts.{AreInscriptionsUpTo, EndsStatement, IsOpen, NotOpen};
-ghost use Rattle.rn_net.specs.Progress.{MovesOn, Reads};
+ghost use Rattle.rn_net.specs.link.Parts.{AreInscriptionsUpTo, EndsStatement, IsOpen, NotOpen};
+ghost use Rattle.rn_net.specs.link.Progress.{MovesOn, Reads};
 
 use crate::cursor::{expect_sign, past_sign};
 use crate::plain::PInscriptions;

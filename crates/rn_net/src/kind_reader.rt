@@ -4,9 +4,9 @@ ghost use Rattle.rn_notation.specs.declared.token.TokenKind.TheVariants as Kind;
 ghost use Rattle.rn_inscript.specs.Signs.{open_brace, open_bracket};
 ghost use Rattle.rn_net.specs.Kinds.{IsKind, AreListed};
 ghost use Rattle.rn_net.specs.Levels.Region.{declaring};
-ghost use Rattle.rn_net.specs.Progress.{Reads, MovesOn, HasNext};
-ghost use Rattle.rn_net.specs.Lists.{AreKindsUpTo};
-ghost use Rattle.rn_inscript.specs.Stages.{IsClose};
+ghost use Rattle.rn_net.specs.link.Progress.{Reads, MovesOn, HasNext};
+ghost use Rattle.rn_net.specs.link.Lists.{AreKindsUpTo};
+ghost use Rattle.rn_inscript.specs.link.Stages.{IsClose};
 
 use crate::cursor::{expect_sign, open_level, past_sign, past_word};
 use crate::kinds::{PKind, PKindForm, PKinds};

@@ -1,10 +1,10 @@
 //! Reading transitions, nets and the items of a text.
 ghost use Rattle.std.specs.Prelude.{◌≡◌, ◌+◌, ◌≤◌, length, IfOk};
-ghost use Rattle.rn_inscript.specs.Stages.{IsNextKind};
+ghost use Rattle.rn_inscript.specs.link.Stages.{IsNextKind};
 ghost use Rattle.rn_net.specs.Levels.Region.{between};
 ghost use Rattle.rn_net.specs.Nets.{IsTransition, IsNet};
-ghost use Rattle.rn_net.specs.Parts.{IsNetPart, IsItem, with_part, ArePartsUpTo};
-ghost use Rattle.rn_net.specs.Progress.{Reads, MovesOn, HaveNaturals};
+ghost use Rattle.rn_net.specs.link.Parts.{IsNetPart, IsItem, with_part, ArePartsUpTo};
+ghost use Rattle.rn_net.specs.link.Progress.{Reads, MovesOn, HaveNaturals};
 ghost use Rattle.rn_net.specs.Words.{trans_word, net_word};
 
 use crate::cursor::{expect_name, expect_sign, past_sign, past_word};

@@ -1,6 +1,6 @@
 //! Reading a net text.
 ghost use Rattle.std.specs.Prelude.{◌≡◌, IfErr, IfOk};
-ghost use Rattle.rn_net.specs.Answers.{SystemAnswer, Settles, unfinished_of};
+ghost use Rattle.rn_net.specs.link.Answers.{SystemAnswer, Settles, unfinished_of};
 ghost use Rattle.rn_net.specs.Refusals.{Answers, IsReason, IsRefused, refusal_of};
 ghost use Rattle.rn_net.specs.declared.plain.Plain.{Plain as System};
 ghost use Rattle.rn_net.specs.declared.refusal.Refusal.{Refusal as Why};

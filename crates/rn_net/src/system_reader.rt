@@ -1,9 +1,9 @@
 //! Reading the notation and the items of a text.
 ghost use Rattle.std.specs.Prelude.{◌≡◌, ◌+◌, ◌≤◌, length, pos, IfOk, MatchResult};
-ghost use Rattle.rn_inscript.specs.NextNames.{IsNotNextKind};
-ghost use Rattle.rn_net.specs.Answers.{HeaderAnswer, SystemAnswer};
-ghost use Rattle.rn_net.specs.Parts.{with_item};
-ghost use Rattle.rn_net.specs.Progress.{HasNext, HaveNaturals};
+ghost use Rattle.rn_inscript.specs.link.NextNames.{IsNotNextKind};
+ghost use Rattle.rn_net.specs.link.Answers.{HeaderAnswer, SystemAnswer};
+ghost use Rattle.rn_net.specs.link.Parts.{with_item};
+ghost use Rattle.rn_net.specs.link.Progress.{HasNext, HaveNaturals};
 ghost use Rattle.rn_notation.specs.declared.token.TokenKind.TheVariants as Kind;
 
 use crate::cursor::{expect_sign, past_name, past_number};

@@ -6,7 +6,7 @@ use Rattle.std.specs.Str.{StartsWithNoChar}
 use Rattle.rn_notation.specs.Words.{begins_with_sign, is_blank}
 use Rattle.rn_notation.specs.Tokens.{IsGap}
 use Rattle.rn_notation.specs.Faults.{IsFault, begins_plainly, begins_something}
-use Rattle.rn_notation.specs.Scanning.{Cuts, gap, fault}
+use Rattle.rn_notation.specs.link.Scanning.{Cuts, gap, fault}
 use Rattle.rn_notation.specs.declared.token.Cause.TheVariants.{P1, P4}
 
 pub stray_stands : (text : List ℕ) (c : ℕ) (after : List ℕ) → IsScalar c → text ≡ encode_utf8 c ++ after → begins_plainly text ≡ false → begins_with_sign text ≡ false → Cuts text 0 (fault P1)

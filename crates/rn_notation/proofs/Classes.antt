@@ -13,7 +13,7 @@ use Rattle.rn_notation.specs.Words.{is_blank, are_digits, number_of, greatest_nu
 use Rattle.rn_notation.specs.Texts.{Part, AreParts, written, meant, is_closed, IsInComment, IsBroken, IsNoEscape}
 use Rattle.rn_notation.specs.Tokens.{IsGap, IsToken}
 use Rattle.rn_notation.specs.Faults.{IsFault, begins_something}
-use Rattle.rn_notation.specs.Scanning.{Found, gap, token, fault, IsSpelledBy}
+use Rattle.rn_notation.specs.link.Scanning.{Found, gap, token, fault, IsSpelledBy}
 use Rattle.rn_notation.specs.declared.token.TokenKind.TheVariants.{Name, Word, Number, Text, Sign}
 use Rattle.rn_notation.specs.declared.token.Cause.TheVariants.{P1, P3, P4, P7}
 use Rattle.rn_notation.proofs.WordLemmas.{passes, among_prefixes, prefix_of_itself}

@@ -12,7 +12,7 @@ use Rattle.rn_notation.specs.Words.{opens_comment}
 use Rattle.rn_notation.specs.Texts.{IsInComment, IsBroken, IsPart, itself}
 use Rattle.rn_notation.specs.Tokens.{IsGap}
 use Rattle.rn_notation.specs.Faults.{IsFault}
-use Rattle.rn_notation.specs.Scanning.{Cuts, gap, fault, IsRun}
+use Rattle.rn_notation.specs.link.Scanning.{Cuts, gap, fault, IsRun}
 use Rattle.rn_notation.specs.declared.token.Cause.TheVariants.{P4}
 use Rattle.rn_notation.proofs.Characters.{heads, ascii_prefix}
 use Rattle.rn_notation.proofs.Parts.{not_special}

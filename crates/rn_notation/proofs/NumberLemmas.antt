@@ -7,7 +7,7 @@ use Rattle.std.proofs.lemmas.List.Sums.{prefix_len-le-length}
 use Rattle.rn_items.proofs.Bools.{both_true}
 use Rattle.rn_notation.specs.Tokens.{IsToken}
 use Rattle.rn_notation.specs.Faults.{IsFault}
-use Rattle.rn_notation.specs.Scanning.{Cuts, token, fault}
+use Rattle.rn_notation.specs.link.Scanning.{Cuts, token, fault}
 use Rattle.rn_notation.specs.declared.token.TokenKind.TheVariants.{Number}
 use Rattle.rn_notation.specs.declared.token.Cause.TheVariants.{P3}
 use Rattle.std.proofs.Math.Dec.{T, leb→le}

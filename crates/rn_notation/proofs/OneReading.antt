@@ -8,7 +8,7 @@ use Rattle.rn_notation.specs.Faults.{IsFault}
 use Rattle.rn_notation.specs.Spots.{spot_after}
 use Rattle.rn_notation.specs.Reading.{Piece, gap, token, bytes_of, StandsBefore, ArePieces, tokens_after, BeginsWith, Tokens, FirstFault, fault_at, IsReadingOf, IsSlice, Ascend, HasFault, IsTokens}
 use Rattle.rn_notation.specs.Laws.{OneReading, OneFault, NoFaultInTokens}
-use Rattle.rn_notation.specs.Scanning as step
+use Rattle.rn_notation.specs.link.Scanning as step
 use Rattle.rn_notation.specs.declared.token.Token.{Token}
 use Rattle.rn_notation.specs.declared.token.LexFault.{LexFault}
 use Rattle.rn_notation.specs.declared.token.Cause.{Cause}

@@ -7,8 +7,8 @@ use Rattle.std.proofs.lemmas.List.Sums.{prefix_len-le-length, sum_by-append, cou
 use Rattle.rn_notation.specs.Spots.{is_line_end, spot_after}
 use Rattle.rn_notation.specs.Tokens.{IsGap, IsToken}
 use Rattle.rn_notation.specs.Reading.{Piece, gap, token, bytes_of, StandsBefore, ArePieces, tokens_after, token_after, BeginsWith, Tokens, FirstFault, fault_at}
-use Rattle.rn_notation.specs.Scanning.{Cuts, spot_on, next_spot}
-use Rattle.rn_notation.specs.Scanning as step
+use Rattle.rn_notation.specs.link.Scanning.{Cuts, spot_on, next_spot}
+use Rattle.rn_notation.specs.link.Scanning as step
 use Rattle.rn_notation.specs.declared.piece.Piece.{Piece as Read}
 use Rattle.rn_notation.specs.declared.token.Spot.{Spot}
 use Rattle.rn_notation.specs.declared.token.Token.{Token}

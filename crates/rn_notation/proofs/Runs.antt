@@ -7,7 +7,7 @@ use Rattle.std.specs.Option.{unwrap_or}
 use Rattle.memchr.specs.Find.{Nowhere, IsFirst, Passes, is_byte3}
 use Rattle.rn_items.proofs.Bools.{both_true}
 use Rattle.rn_notation.specs.Texts.{itself, IsPart, is_special}
-use Rattle.rn_notation.specs.Scanning.{IsRun}
+use Rattle.rn_notation.specs.link.Scanning.{IsRun}
 use Rattle.rn_notation.proofs.Characters.{some_bytes}
 use Rattle.rn_notation.proofs.Parts.{plain_char}
 use lib.Utf8.{scalar, scalars}

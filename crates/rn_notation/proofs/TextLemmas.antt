@@ -9,8 +9,8 @@ use Rattle.rn_value.specs.Words.{begins_with}
 use Rattle.rn_notation.specs.Texts.{Part, itself, escape, IsPart, AreParts, spelled, meaning, written, meant, is_closed, IsBroken, IsNoEscape}
 use Rattle.rn_notation.specs.Tokens.{IsToken}
 use Rattle.rn_notation.specs.Faults.{IsFault}
-use Rattle.rn_notation.specs.Scanning.{Cuts, IsFirstPiece, HasPart, token, fault, IsRun}
-use Rattle.rn_notation.specs.Inside.{fault_in_text}
+use Rattle.rn_notation.specs.link.Scanning.{Cuts, IsFirstPiece, HasPart, token, fault, IsRun}
+use Rattle.rn_notation.specs.link.Inside.{fault_in_text}
 use Rattle.rn_notation.specs.declared.token.TokenKind.TheVariants.{Text}
 use Rattle.rn_notation.specs.declared.token.Cause.{Cause}
 use Rattle.rn_notation.specs.declared.token.Cause.TheVariants.{P1, P4, P7}

@@ -15,7 +15,7 @@ use Rattle.rn_value.specs.Characters.{is_letter, is_name_byte}
 use Rattle.rn_value.specs.Words.{begins_with, is_identifier, index_of, reserved_words}
 use Rattle.rn_notation.specs.Words.{is_prefix_of, signs, begins_with_sign, opens_comment}
 use Rattle.rn_notation.specs.Tokens.{IsToken}
-use Rattle.rn_notation.specs.Scanning.{Cuts, token, long_sign}
+use Rattle.rn_notation.specs.link.Scanning.{Cuts, token, long_sign}
 use Rattle.rn_notation.specs.declared.token.TokenKind.TheVariants.{Name, Word, Sign}
 use Rattle.rn_value.proofs.WordLemmas.{name_byte-letter, identifier-utf8}
 use Rattle.rn_notation.proofs.NumberLemmas.{longest_prefix, prefix_begins}

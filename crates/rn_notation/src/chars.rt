@@ -4,7 +4,7 @@ ghost use Rattle.std.specs.Prelude.{IsUtf8};
 ghost use Rattle.std.specs.Prelude.{encode_utf8};
 ghost use Rattle.std.specs.Char.{IsScalar};
 ghost use Rattle.std.specs.Str.{StartsWithNoChar};
-ghost use Rattle.rn_notation.specs.Scanning.{IsRun};
+ghost use Rattle.rn_notation.specs.link.Scanning.{IsRun};
 
 use memchr::memchr3;
 use rn_value::{NoMemory, Str};

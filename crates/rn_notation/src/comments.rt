@@ -1,7 +1,7 @@
 //! Comments.
 ghost use Rattle.std.specs.Prelude.{◌≡◌, true};
 ghost use Rattle.rn_notation.specs.Words.{opens_comment};
-ghost use Rattle.rn_notation.specs.Scanning.{IsFirstPiece};
+ghost use Rattle.rn_notation.specs.link.Scanning.{IsFirstPiece};
 
 use crate::chars::{first_char, plain_run};
 use crate::piece::Piece;

@@ -4,7 +4,7 @@ ghost use Rattle.std.specs.List.{prefix_len, list_all};
 ghost use Rattle.rn_value.specs.Characters.{is_digit};
 ghost use Rattle.rn_value.specs.Words.{begins_with};
 ghost use Rattle.rn_notation.specs.Words.{number_of, greatest_number};
-ghost use Rattle.rn_notation.specs.Scanning.{IsFirstPiece};
+ghost use Rattle.rn_notation.specs.link.Scanning.{IsFirstPiece};
 
 use crate::piece::Piece;
 use crate::token::{Cause, TokenKind};

@@ -1,6 +1,6 @@
 //! What stands first in a text.
 ghost use Rattle.std.specs.Prelude.{◌≡◌};
-ghost use Rattle.rn_notation.specs.Scanning.{size_of};
+ghost use Rattle.rn_notation.specs.link.Scanning.{size_of};
 
 use crate::token::{Cause, TokenKind};
 

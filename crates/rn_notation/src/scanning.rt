@@ -1,7 +1,7 @@
 //! The scanner: which piece stands first in a text.
 ghost use Rattle.std.specs.Prelude.{◌≡◌, ◌<◌, IfOk, length, false};
 ghost use Rattle.rn_notation.specs.Faults.{begins_plainly};
-ghost use Rattle.rn_notation.specs.Scanning.{IsFirstPiece};
+ghost use Rattle.rn_notation.specs.link.Scanning.{IsFirstPiece};
 
 use crate::chars::first_char;
 use crate::comments::{comment_piece, opens_comment};

@@ -1,6 +1,6 @@
 //! Spots in a text.
 ghost use Rattle.std.specs.Prelude.{◌≡◌, ◌+◌, ◌<◌, ◌^◌, length};
-ghost use Rattle.rn_notation.specs.Scanning.{spot_on, next_spot};
+ghost use Rattle.rn_notation.specs.link.Scanning.{spot_on, next_spot};
 
 use crate::token::Spot;
 

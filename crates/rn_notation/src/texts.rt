@@ -4,8 +4,8 @@ ghost use Rattle.std.specs.Prelude.{length, nat_eq, ◌≤◌};
 ghost use Rattle.rn_notation.specs.Bytes.{quote, backslash};
 ghost use Rattle.rn_value.specs.Words.{begins_with};
 ghost use Rattle.rn_notation.specs.Texts.{escaped_byte, is_closed};
-ghost use Rattle.rn_notation.specs.Scanning.{IsFirstPiece};
-ghost use Rattle.rn_notation.specs.Inside.{GoesOnWith, fault_in_text};
+ghost use Rattle.rn_notation.specs.link.Scanning.{IsFirstPiece};
+ghost use Rattle.rn_notation.specs.link.Inside.{GoesOnWith, fault_in_text};
 
 use crate::chars::{first_char, plain_run};
 use crate::piece::Piece;

@@ -5,8 +5,8 @@ ghost use Rattle.std.specs.List.{prefix_len};
 ghost use Rattle.rn_value.specs.Characters.{is_letter, is_name_byte};
 ghost use Rattle.rn_value.specs.Words.{begins_with, index_of};
 ghost use Rattle.rn_notation.specs.Words.{is_blank, signs, begins_with_sign, opens_comment};
-ghost use Rattle.rn_notation.specs.Scanning.{IsFirstPiece, Cuts, long_sign};
-ghost use Rattle.rn_notation.specs.Scanning.{token as a_token};
+ghost use Rattle.rn_notation.specs.link.Scanning.{IsFirstPiece, Cuts, long_sign};
+ghost use Rattle.rn_notation.specs.link.Scanning.{token as a_token};
 ghost use Rattle.rn_notation.specs.declared.token.TokenKind.TheVariants.{Sign as SignToken};
 
 use crate::chars::ascii_text;

@@ -7,7 +7,7 @@ use Rattle.rn_inscript.specs.declared.exprs.PExpr.{PExpr}
 use Rattle.rn_inscript.specs.declared.conds.PSimple.{PSimple}
 use Rattle.rn_inscript.specs.declared.conds.PCond.{PCond, fold_out-PCond}
 use Rattle.rn_numbered.specs.Numbered.{expr_of, cond_of, simple_of_form}
-use Rattle.rn_numbered.specs.Parts.{simple_of}
+use Rattle.rn_numbered.specs.link.Parts.{simple_of}
 use Rattle.rn_items.proofs.Lists.{map_more}
 
 module _ (var : List ℕ → ℕ) where

@@ -19,9 +19,9 @@ use Rattle.rn_declared.specs.declared.fault.Rule.TheVariants as Rule
 use Rattle.rn_declared.specs.Faults.{broken_if}
 use Rattle.rn_declared.specs.Declarations.{kind_part, parts_faults}
 use Rattle.rn_declared.specs.Names.{same_name, number_from, number_among, name_faults, names_faults}
-use Rattle.rn_declared.specs.Tables.{or_number, with_name}
+use Rattle.rn_declared.specs.link.Tables.{or_number, with_name}
 use Rattle.rn_declared.specs.Channels.{channel_from, same_channel, channel_faults, channels_faults}
-use Rattle.rn_numbered.specs.NumbersFound.{key_of, is_key}
+use Rattle.rn_numbered.specs.link.NumbersFound.{key_of, is_key}
 use Rattle.rn_declared.proofs.Faultless.{both_nil, unbroken}
 use Rattle.rn_declared.proofs.DeclaredNames.{short_and_new}
 use Rattle.rn_declared.proofs.NameLemmas.{push}

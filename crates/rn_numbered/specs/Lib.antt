@@ -1,3 +1,2 @@
+pub mod link
 pub mod Numbered
-pub mod NumbersFound
-pub mod Parts

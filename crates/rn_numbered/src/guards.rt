@@ -1,8 +1,8 @@
 //! Conditions with numbers in place of names.
 ghost use Rattle.std.specs.Prelude.{◌≡◌, IfOk, map};
-ghost use Rattle.rn_numbered.specs.NumbersFound.{AreFew};
+ghost use Rattle.rn_numbered.specs.link.NumbersFound.{AreFew};
 ghost use Rattle.rn_numbered.specs.Numbered.{cond_of, number_in};
-ghost use Rattle.rn_numbered.specs.Parts.{simple_of};
+ghost use Rattle.rn_numbered.specs.link.Parts.{simple_of};
 
 use crate::numbered::expr_of;
 use crate::numbers::NameNumbers;

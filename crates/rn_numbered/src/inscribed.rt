@@ -2,7 +2,7 @@
 ghost use Rattle.std.specs.Prelude.{◌≡◌, IfOk, map, flat_map, length, slice_get};
 ghost use Rattle.rn_numbered.specs.Numbered.{expr_of, number_in, equality_of, guard_of, action_of};
 ghost use Rattle.rn_numbered.specs.Numbered.{creation_of, uplink_of, downlink_of, arc_of};
-ghost use Rattle.rn_numbered.specs.NumbersFound.{numbers_by, channel_by, expr_of_arc, AreFew, AllFew};
+ghost use Rattle.rn_numbered.specs.link.NumbersFound.{numbers_by, channel_by, expr_of_arc, AreFew, AllFew};
 
 use crate::guards::cond_of;
 use crate::numbered::{expr_of, exprs_of};

@@ -1,6 +1,6 @@
 //! Kinds, constants, capacities and expressions with numbers in place of names.
 ghost use Rattle.std.specs.Prelude.{◌≡◌, IfOk, map};
-ghost use Rattle.rn_numbered.specs.NumbersFound.{AreFew};
+ghost use Rattle.rn_numbered.specs.link.NumbersFound.{AreFew};
 ghost use Rattle.rn_numbered.specs.Numbered.{kind_of, value_of, capacity_of, expr_of, number_in};
 
 use crate::numbers::NameNumbers;

@@ -4,7 +4,7 @@ ghost use Rattle.std.specs.List.{list_any};
 ghost use Rattle.rn_declared.specs.Names.{same_name, names_faults};
 ghost use Rattle.rn_declared.specs.Channels.{channels_faults};
 ghost use Rattle.rn_numbered.specs.Numbered.{number_in};
-ghost use Rattle.rn_numbered.specs.NumbersFound.{is_key, key_of, channel_by};
+ghost use Rattle.rn_numbered.specs.link.NumbersFound.{is_key, key_of, channel_by};
 
 use indexmap::IndexSet;
 use rn_declared::{NameTable, Named};
@@ -26,7 +26,7 @@ pub struct NameNumbers {
 impl Model for NameNumbers {
     ghost use Rattle.std.specs.Prelude.{◌≡◌, List, ℕ, map, string_bytes};
     ghost use Rattle.rn_declared.specs.Names.{number_among};
-    ghost use Rattle.rn_declared.specs.Tables.{found_in};
+    ghost use Rattle.rn_declared.specs.link.Tables.{found_in};
 
     ghost Value = { List (List ℕ) };
 

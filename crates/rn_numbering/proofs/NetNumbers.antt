@@ -8,8 +8,8 @@ use Rattle.rn_net.specs.declared.plain.PNet.{PNet}
 use Rattle.rn_model.specs.declared.system.Net.{Net}
 use Rattle.rn_numbering.specs.Numbering.{numbered_net_of}
 use Rattle.rn_numbered.specs.Numbered.{number_in, kind_of}
-use Rattle.rn_numbered.specs.NumbersFound.{key_of, channel_by}
-use Rattle.rn_numbering.specs.Making.{transitions_by, bare_net, net_by}
+use Rattle.rn_numbered.specs.link.NumbersFound.{key_of, channel_by}
+use Rattle.rn_numbering.specs.link.Making.{transitions_by, bare_net, net_by}
 use Rattle.rn_numbered.proofs.NumberLemmas.{channel_is}
 
 -- the nets, where the names of channels are found

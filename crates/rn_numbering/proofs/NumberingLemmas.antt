@@ -5,7 +5,7 @@ use Rattle.std.proofs.lemmas.List.Folds.{flat_map-map}
 use Rattle.rn_model.specs.declared.system.Transition.{Transition}
 use Rattle.rn_inscript.specs.declared.inscriptions.PInscription.{PInscription}
 use Rattle.rn_numbered.specs.Numbered.{Numbers, inscribed}
-use Rattle.rn_numbering.specs.Making.{bare_transition}
+use Rattle.rn_numbering.specs.link.Making.{bare_transition}
 use Rattle.rn_numbered.specs.Numbered.{equality_of, guard_of, action_of, creation_of, uplink_of}
 use Rattle.rn_numbered.specs.Numbered.{downlink_of, arc_of}
 

@@ -1,2 +1,2 @@
+pub mod link
 pub mod Numbering
-pub mod Making

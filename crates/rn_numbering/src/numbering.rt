@@ -5,11 +5,11 @@ ghost use Rattle.rn_occurring.specs.TransitionVars.{with_vars};
 ghost use Rattle.rn_numbering.specs.Numbering.{system_of};
 ghost use Rattle.rn_numbered.specs.Numbered.{equality_of, guard_of, action_of, creation_of};
 ghost use Rattle.rn_numbered.specs.Numbered.{uplink_of, downlink_of, arc_of};
-ghost use Rattle.rn_numbered.specs.NumbersFound.{numbers_by, channel_by, key_of};
-ghost use Rattle.rn_numbering.specs.Making.{net_by};
-ghost use Rattle.rn_numbering.specs.Making.{bare_transition, transitions_by, bare_net};
-ghost use Rattle.rn_numbered.specs.NumbersFound.{AreFew, AllFew};
-ghost use Rattle.rn_numbering.specs.Making.{HasNetNumbers, HasNumbers};
+ghost use Rattle.rn_numbered.specs.link.NumbersFound.{numbers_by, channel_by, key_of};
+ghost use Rattle.rn_numbering.specs.link.Making.{net_by};
+ghost use Rattle.rn_numbering.specs.link.Making.{bare_transition, transitions_by, bare_net};
+ghost use Rattle.rn_numbered.specs.link.NumbersFound.{AreFew, AllFew};
+ghost use Rattle.rn_numbering.specs.link.Making.{HasNetNumbers, HasNumbers};
 
 use crate::declarations::{channels_of, places_of, vars_of};
 use rn_inscript::PInscription;

@@ -13,8 +13,8 @@ use Rattle.rn_model.specs.declared.system.Downlink.{Downlink}
 use Rattle.rn_model.specs.declared.system.Action.{Action}
 use Rattle.rn_model.specs.Systems.{vars_in, is_output}
 use Rattle.rn_model.specs.Good.{Comparison, comparisons_step, comparisons_in, guard_exprs, action_expr}
-use Rattle.rn_occurring.specs.OccurringParts.{comparisons_of, comparison_vars, vars_of_simple, vars_of_cond}
-use Rattle.rn_occurring.specs.OccurringParts.{is_wanted, vars_of_arc}
+use Rattle.rn_occurring.specs.link.OccurringParts.{comparisons_of, comparison_vars, vars_of_simple, vars_of_cond}
+use Rattle.rn_occurring.specs.link.OccurringParts.{is_wanted, vars_of_arc}
 use Rattle.rn_items.proofs.Lists.{flat_nested}
 
 -- the variables of a condition are those of its lists

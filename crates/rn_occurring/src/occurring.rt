@@ -4,8 +4,8 @@ ghost use Rattle.std.specs.List.{concat};
 ghost use Rattle.std.specs.Option.{option_map_or};
 ghost use Rattle.rn_model.specs.Systems.{vars_in};
 ghost use Rattle.rn_model.specs.Good.{action_expr, set_var, occurring};
-ghost use Rattle.rn_occurring.specs.OccurringParts.{vars_of_simple, vars_of_cond, is_wanted};
-ghost use Rattle.rn_occurring.specs.OccurringParts.{vars_of_arc};
+ghost use Rattle.rn_occurring.specs.link.OccurringParts.{vars_of_simple, vars_of_cond, is_wanted};
+ghost use Rattle.rn_occurring.specs.link.OccurringParts.{vars_of_arc};
 
 use rn_model::{
     Action, ArcKind, Cond, Creation, Downlink, Expr, NetArc, Simple, Transition, Uplink, put_vars,

@@ -8,7 +8,7 @@ use Rattle.rn_notation.specs.declared.token.TokenKind.{TokenKind}
 use Rattle.rn_notation.specs.declared.token.TokenKind.TheVariants.{Name, Word, Number, Text, Sign}
 use Rattle.rn_inscript.specs.Signs.{open_paren, close_paren, open_bracket, close_bracket, comma, colon}
 use Rattle.rn_inscript.specs.Levels.{Level, bracket, negative, Count, at_first, opens, closes, is_minus, is_paren, is_operator, ends_operand, without_minuses, levels_at, opens_level, after_token, goes_too_far}
-use Rattle.rn_inscript.specs.Stages.{ready, ended}
+use Rattle.rn_inscript.specs.link.Stages.{ready, ended}
 use Rattle.rn_net.specs.Words.{semicolon}
 use Rattle.rn_net.specs.Levels.{is_semicolon, is_comma, open_after, after, IsShallow}
 use Rattle.rn_net.specs.Levels.Region.{inscribing}

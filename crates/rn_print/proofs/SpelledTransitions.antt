@@ -29,7 +29,7 @@ use Rattle.rn_inscript.specs.declared.inscriptions.PInscribed.{PInscribed}
 use Rattle.rn_inscript.specs.declared.inscriptions.PInscribed.TheVariants as I
 use Rattle.rn_inscript.specs.declared.inscriptions.PInscription.{PInscription}
 use Rattle.rn_inscript.specs.Levels.{at_first, opens_level, is_operator}
-use Rattle.rn_inscript.specs.Stages.{ended}
+use Rattle.rn_inscript.specs.link.Stages.{ended}
 use Rattle.rn_inscript.specs.Signs.{comma, colon, minus, open_brace, open_bracket, close_bracket, open_paren, this_word, guard_word, action_word, arc_of, target_of}
 use Rattle.rn_inscript.specs.Expressions.{at_spot, token_at, IsExpr, IsTerms, IsProduct, IsFactors, IsUnary, IsPrimary, IsListed, IsMoreExprs}
 use Rattle.rn_inscript.specs.Inscriptions.{name_at, absent, IsInscribed}

@@ -11,7 +11,7 @@ use Rattle.rn_reading.specs.declared.named.Named.{Named}
 use Rattle.rn_pt.specs.declared.fault.Broken.{Broken}
 use Rattle.rn_pt.specs.Faults.{first_from, past_limit}
 use Rattle.rn_pt.specs.Rules.{same_name, number_from, number_among, names_broken, name_broken, declared_broken}
-use Rattle.rn_pt.specs.Tables.{or_number, with_name, name_noted}
+use Rattle.rn_pt.specs.link.Tables.{or_number, with_name, name_noted}
 use Rattle.rn_pt.proofs.NotedLemmas.{first_from-append}
 
 -- one more name

@@ -14,7 +14,7 @@ use Rattle.rn_reading.specs.declared.named.Named.{Named}
 use Rattle.rn_reading.specs.declared.named.Numeral.{Numeral}
 use Rattle.rn_reading.specs.Phrases.{Many}
 use Rattle.rn_reading.specs.Single as read
-use Rattle.rn_reading.specs.Stages.{Sort, CanEnd, done}
+use Rattle.rn_reading.specs.link.Stages.{Sort, CanEnd, done}
 use Rattle.rn_reading.proofs.Sorts.{Single, Others, any, one, and_then, maybe, many, sign_of, word_of, a_name, a_number}
 use Rattle.rn_pt.specs.declared.plain.ArcWord.{ArcWord}
 use Rattle.rn_pt.specs.declared.plain.PtArc.{PtArc}

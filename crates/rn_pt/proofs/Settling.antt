@@ -27,7 +27,7 @@ use Rattle.rn_pt.specs.Faults.{report_of, IsFirstOf, first_from}
 use Rattle.rn_pt.specs.Rules.{net_broken}
 use Rattle.rn_pt.specs.Meaning.{weighted_of}
 use Rattle.rn_pt.specs.Texts.{Says, Spells, IsRefused, IsReason, Answers, AreFine}
-use Rattle.rn_pt.specs.Answers.{Objects, Meets, Comes, report_text, first_spot}
+use Rattle.rn_pt.specs.link.Answers.{Objects, Meets, Comes, report_text, first_spot}
 use Rattle.rn_pt.proofs.FirstLemmas.{first_iff, none_iff}
 
 within-all : (ts : List Token) → IsWithin uncounted tt ts

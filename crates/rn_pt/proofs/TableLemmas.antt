@@ -5,7 +5,7 @@ use Rattle.std.specs.Prelude.{is_some}
 use Rattle.std.specs.Ordering.{nat_cmp, is_eq}
 use Rattle.std.specs.Cmp.Lexicographic.{slice_cmp, texts_ties, same_text}
 use Rattle.rn_pt.specs.Rules.{same_name}
-use Rattle.rn_pt.specs.Tables.{or_number}
+use Rattle.rn_pt.specs.link.Tables.{or_number}
 
 found_after : (old : Option ℕ) (same : Bool) (number : ℕ) → (same ≡ true → is_some old ≡ false) →
     cond same (Some number) old ≡ or_number old same number

@@ -23,7 +23,7 @@ use Rattle.rn_pt.specs.Grammar.{inhibits}
 use Rattle.rn_pt.specs.Faults.{broken_if, past_limit}
 use Rattle.rn_pt.specs.Rules.{same_name, number_among, name_broken, names_broken, place_names, net_broken, arc_broken, transition_broken, place_broken, amount_broken}
 use Rattle.rn_pt.specs.Meaning.{amount, wplace_of, warc_of, wtransition_of, weighted_of}
-use Rattle.rn_pt.specs.Answers.{Comes}
+use Rattle.rn_pt.specs.link.Answers.{Comes}
 use Rattle.rn_pt.proofs.UnbrokenLemmas.{none_before, none_after, each_unbroken, not_broken, amount_within, not_past, number_under, unbroken_parts, few_places, few_transitions, weight_within}
 use Rattle.rn_pt.proofs.Said.{each_at, Names, PlaceIs, TransitionIs, ArcIs, NetIs, net_kept}
 

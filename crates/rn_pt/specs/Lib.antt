@@ -1,8 +1,7 @@
-pub mod Words
-pub mod Grammar
+pub mod link
 pub mod Faults
-pub mod Rules
-pub mod Tables
+pub mod Grammar
 pub mod Meaning
+pub mod Rules
 pub mod Texts
-pub mod Answers
+pub mod Words

@@ -1,7 +1,7 @@
 //! Reading arcs, and numbers up to a semicolon.
 ghost use Rattle.std.specs.Prelude.{◌≡◌, ◌≢◌, ◌+◌, ◌≤◌, length};
 ghost use Rattle.rn_notation.specs.declared.sign.TheConstants as sign;
-ghost use Rattle.rn_reading.specs.Stages.{ReadsUncounted, MovesOn};
+ghost use Rattle.rn_reading.specs.link.Stages.{ReadsUncounted, MovesOn};
 ghost use Rattle.rn_pt.specs.Grammar.{NumberUpTo, WeightUpTo, IsPtArc, ArcsUpTo, inhibits};
 
 use crate::plain::{PtArc, PtArcs};

@@ -3,7 +3,7 @@ ghost use Rattle.std.specs.Prelude.{◌≡◌, ℕ, List, None, IfOk, map, flat_
 ghost use Rattle.rn_pt.specs.Faults.{first_from, past_limit};
 ghost use Rattle.rn_pt.specs.Rules.{amount_broken, place_broken, arc_broken, transition_broken};
 ghost use Rattle.rn_pt.specs.Rules.{net_broken, number_among, place_names};
-ghost use Rattle.rn_pt.specs.Tables.{found_in};
+ghost use Rattle.rn_pt.specs.link.Tables.{found_in};
 ghost use Rattle.rn_weighted.specs.Limits.{most_arcs};
 
 use crate::fault::Rule;

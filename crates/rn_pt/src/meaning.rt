@@ -3,7 +3,7 @@ ghost use Rattle.std.specs.Prelude.{◌≡◌, ◌^◌, ◌<◌, ℕ, List, [], 
 ghost use Rattle.rn_pt.specs.Meaning.{amount, number_or_first, warc_of, wplace_of};
 ghost use Rattle.rn_pt.specs.Meaning.{wtransition_of, weighted_of};
 ghost use Rattle.rn_pt.specs.Rules.{net_broken, place_broken, place_names};
-ghost use Rattle.rn_pt.specs.Tables.{found_in, FindsAmong};
+ghost use Rattle.rn_pt.specs.link.Tables.{found_in, FindsAmong};
 
 use crate::plain::{PtArc, PtNet, PtPlace, PtTransition};
 use crate::table::NameTable;

@@ -3,7 +3,7 @@
 ghost use Rattle.std.specs.Prelude.{◌≡◌, ℕ, List, OnOk, IfOk, map, is_some};
 ghost use Rattle.rn_pt.specs.Faults.{first_from, past_limit};
 ghost use Rattle.rn_pt.specs.Rules.{number_among, declared_broken};
-ghost use Rattle.rn_pt.specs.Tables.{found_in, with_name, name_noted};
+ghost use Rattle.rn_pt.specs.link.Tables.{found_in, with_name, name_noted};
 
 use crate::fault::Rule;
 use crate::first::First;

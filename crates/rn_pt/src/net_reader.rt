@@ -1,6 +1,6 @@
 //! Reading places, transitions and whole nets.
 ghost use Rattle.std.specs.Prelude.{◌+◌, ◌≤◌, length};
-ghost use Rattle.rn_reading.specs.Stages.{ReadsUncounted, MovesOn};
+ghost use Rattle.rn_reading.specs.link.Stages.{ReadsUncounted, MovesOn};
 ghost use Rattle.rn_pt.specs.Grammar.{IsPtNet, IsPtPlace, IsPtTransition};
 ghost use Rattle.rn_pt.specs.Grammar.{PartsUpTo, TransitionsUpTo};
 

@@ -7,7 +7,7 @@ ghost use Rattle.rn_reading.specs.declared.fault.TextFault.TheVariants.{TooFar a
 ghost use Rattle.rn_weighted.specs.Weighted.{IsWeighted};
 ghost use Rattle.rn_weighted.specs.declared.weighted.Weighted.{Weighted as Net};
 ghost use Rattle.rn_pt.specs.declared.fault.PtFault.{PtFault as Why};
-ghost use Rattle.rn_pt.specs.Answers.{Comes, Meets, report_text};
+ghost use Rattle.rn_pt.specs.link.Answers.{Comes, Meets, report_text};
 ghost use Rattle.rn_pt.specs.Grammar.{IsPtNet};
 ghost use Rattle.rn_pt.specs.Texts.{Answers, IsReason, IsRefused, Spells, report_lexical};
 

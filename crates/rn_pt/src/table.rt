@@ -1,6 +1,6 @@
 //! A table of names: the number of the first declaration of each.
 ghost use Rattle.std.specs.Prelude.{◌≡◌, ℕ, None, List, IfOk, OnOk, is_none};
-ghost use Rattle.rn_pt.specs.Tables.{found_in, with_name};
+ghost use Rattle.rn_pt.specs.link.Tables.{found_in, with_name};
 
 use rn_value::{NoMemory, Str, copy_text};
 use std::alloc::Global;

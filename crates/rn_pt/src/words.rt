@@ -1,6 +1,6 @@
 //! Steps past the words of weighted nets.
 ghost use Rattle.std.specs.Prelude.{◌≡◌, ◌+◌, MatchOption};
-ghost use Rattle.rn_reading.specs.Stages.{IsNextOne, IsNotNext, Steps};
+ghost use Rattle.rn_reading.specs.link.Stages.{IsNextOne, IsNotNext, Steps};
 ghost use Rattle.rn_pt.specs.Words.{arc_kind, arc_word, pt_word};
 
 use crate::plain::ArcWord;

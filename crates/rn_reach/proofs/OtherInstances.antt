@@ -12,7 +12,7 @@ use Rattle.std.proofs.lemmas.List.Elements.{All-contains}
 use Rattle.std.proofs.lemmas.List.Quantifiers.{position-Some}
 use Rattle.rn_value.proofs.SortedLists.{values_by_counts}
 use Rattle.rn_value.specs.Order.{inst_cmp, value_cmp}
-use Rattle.rn_value.specs.OrderLaws.{insts_apart}
+use Rattle.rn_value.specs.link.OrderLaws.{insts_apart}
 use Rattle.rn_value.specs.declared.value.InstRef.{InstRef}
 use Rattle.rn_value.specs.declared.value.InstRef.TheVariants.{Old, New}
 use Rattle.rn_value.specs.declared.value.Value.{Value}

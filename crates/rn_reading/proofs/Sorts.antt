@@ -13,7 +13,7 @@ use Rattle.rn_reading.specs.declared.fault.ReadFault.{ReadFault}
 use Rattle.rn_reading.specs.declared.fault.ReadFault.TheVariants as Fault
 use Rattle.rn_reading.specs.Phrases.{Phrases, Then, One, Maybe, Many}
 use Rattle.rn_reading.specs.Counting.{Counting}
-use Rattle.rn_reading.specs.Stages.{Following, Sort, Stage, Fails, Reads, done, BeginAlike, IsNextOne, IsNotNext, Steps}
+use Rattle.rn_reading.specs.link.Stages.{Following, Sort, Stage, Fails, Reads, done, BeginAlike, IsNextOne, IsNotNext, Steps}
 use Rattle.rn_reading.proofs.Steps.{append-nil, alike-cons, begin, change, take, stuck, too_far, inner, inner_fails, Follow}
 
 -- one token that is read as this

@@ -14,7 +14,7 @@ use Rattle.rn_reading.specs.declared.fault.ReadFault.{ReadFault}
 use Rattle.rn_reading.specs.declared.fault.ReadFault.TheVariants as Fault
 use Rattle.rn_reading.specs.Phrases.{Phrases, Then}
 use Rattle.rn_reading.specs.Counting.{Counting, count_after, IsWithin}
-use Rattle.rn_reading.specs.Stages.{Following, Sort, Stage, IsStuck, IsTooFar, Fails, Reads, done, BeginAlike, CanEnd, IsNext, HasNoNext}
+use Rattle.rn_reading.specs.link.Stages.{Following, Sort, Stage, IsStuck, IsTooFar, Fails, Reads, done, BeginAlike, CanEnd, IsNext, HasNoNext}
 
 -- the next token, as a list of tokens lends it
 pub next_lent : (tokens : List Token) (at : ℕ) (t : Option TokenRef) → option_map lent t ≡ slice_get tokens at →

@@ -7,7 +7,7 @@ use Rattle.rn_reading.specs.declared.fault.ReadFault.{ReadFault}
 use Rattle.rn_reading.specs.declared.fault.ReadFault.TheVariants as Fault
 use Rattle.rn_reading.specs.Phrases.{Phrases}
 use Rattle.rn_reading.specs.Counting.{uncounted}
-use Rattle.rn_reading.specs.Stages.{Anything, Sort, Stage, Fails, ReadsUncounted, done, IsNextOne, IsNotNext, Steps}
+use Rattle.rn_reading.specs.link.Stages.{Anything, Sort, Stage, Fails, ReadsUncounted, done, IsNextOne, IsNotNext, Steps}
 use Rattle.rn_reading.proofs.Steps.{begin_itself, change, failed, same_end}
 use Rattle.rn_reading.proofs.Sorts.{Single, Others, one, and_then, maybe, many, one_read, one_stuck, then_read, then_fails, maybe_some, maybe_none, many_next, many_end}
 

@@ -13,7 +13,7 @@ use Rattle.rn_reading.specs.declared.fault.TextFault.{TextFault}
 use Rattle.rn_reading.specs.declared.fault.TextFault.TheVariants as Why
 use Rattle.rn_reading.specs.Phrases.{Phrases}
 use Rattle.rn_reading.specs.Counting.{Counting, count_after, IsWithin}
-use Rattle.rn_reading.specs.Stages.{Following, Stage, IsStuck, IsTooFar, Reads, done, BeginAlike, IsNext, HasNoNext}
+use Rattle.rn_reading.specs.link.Stages.{Following, Stage, IsStuck, IsTooFar, Reads, done, BeginAlike, IsNext, HasNoNext}
 use Rattle.rn_reading.specs.Texts.{IsWhole, IsBeginning, IsStopped, IsDeep, AreFine, AreTokensOf, Explains, IsAlone, Settles, WholeOf, after_tokens}
 use Rattle.rn_reading.proofs.Steps.{append-nil}
 

@@ -1,5 +1,5 @@
+pub mod link
+pub mod Counting
 pub mod Phrases
 pub mod Single
-pub mod Counting
-pub mod Stages
 pub mod Texts

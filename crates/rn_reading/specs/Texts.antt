@@ -12,7 +12,7 @@ use Rattle.rn_reading.specs.declared.fault.TextFault.{TextFault}
 use Rattle.rn_reading.specs.declared.fault.TextFault.TheVariants as Why
 use Rattle.rn_reading.specs.Phrases.{Phrases}
 use Rattle.rn_reading.specs.Counting.{Counting, count_after, IsWithin}
-use Rattle.rn_reading.specs.Stages.{IsNext, HasNoNext}
+use Rattle.rn_reading.specs.link.Stages.{IsNext, HasNoNext}
 
 -- the tokens are such a phrase, and nothing more
 abbrev pub IsWhole : {A : Type 0} → Phrases A → List Token → A → Type 0

@@ -2,7 +2,7 @@
 ghost use Rattle.std.specs.Prelude.{◌≡◌, ◌+◌, ◌<◌, ◌^◌, MatchOption, OnSome};
 ghost use Rattle.rn_notation.specs.StoredTokens.{lent};
 ghost use Rattle.rn_reading.specs.Single.{sign, word, name, number};
-ghost use Rattle.rn_reading.specs.Stages.{IsNext, HasNoNext, IsNextOne, IsNotNext, Steps};
+ghost use Rattle.rn_reading.specs.link.Stages.{IsNext, HasNoNext, IsNextOne, IsNotNext, Steps};
 
 use crate::fault::ReadFault;
 use crate::named::{Named, Numeral};

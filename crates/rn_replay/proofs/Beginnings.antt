@@ -9,7 +9,7 @@ use Rattle.rn_model.specs.declared.system.System.{System}
 use Rattle.rn_model.specs.Runs.{entries_of}
 use Rattle.rn_fire.specs.declared.setup.Setup.{Setup}
 use Rattle.rn_fire.specs.States.{State}
-use Rattle.rn_replay.specs.Parts.{HasMarks, IsDoneWith, RedoesAll, TriesEnd}
+use Rattle.rn_replay.specs.link.Parts.{HasMarks, IsDoneWith, RedoesAll, TriesEnd}
 use Rattle.rn_replay.specs.Replays.{Begins, IsUnsearched, Refuses, Replays, firing}
 use Rattle.rn_replay.specs.declared.begun.BegunReplay.{BegunReplay}
 use Rattle.rn_replay.specs.declared.begun.BegunReplay.TheVariants as Begin

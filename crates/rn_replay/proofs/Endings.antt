@@ -21,8 +21,8 @@ use Rattle.rn_fire.specs.declared.ending.NoneCommit.TheVariants as Nothing
 use Rattle.rn_fire.specs.States.{State, IsState, end_marking, logged}
 use Rattle.rn_fire.specs.declared.setup.Setup.{Setup}
 use Rattle.rn_fire.proofs.EntryLemmas.{ended_more}
-use Rattle.rn_replay.specs.Parts.{Candidates, FiresNow, HasMarks}
-use Rattle.rn_replay.specs.Parts.{cause_of, last_of}
+use Rattle.rn_replay.specs.link.Parts.{Candidates, FiresNow, HasMarks}
+use Rattle.rn_replay.specs.link.Parts.{cause_of, last_of}
 use Rattle.rn_replay.specs.Replays.{Reaches, Refused, Replays, ending}
 use Rattle.rn_replay.specs.declared.ending.EndTried.TheVariants.{Ended}
 use Rattle.rn_replay.specs.declared.fault.ReplayFault.{ReplayFault}

@@ -7,7 +7,7 @@ use Rattle.rn_model.specs.declared.log.Entry.TheVariants.{Fire, End}
 use Rattle.rn_model.specs.declared.log.Reason.{Reason}
 use Rattle.rn_model.specs.Runs.{Firing, entries_of}
 use Rattle.rn_fire.proofs.EntryLemmas.{ended_more, fired_more}
-use Rattle.rn_replay.specs.Parts.{cause_of, fault_cause, last_of, outs_of}
+use Rattle.rn_replay.specs.link.Parts.{cause_of, fault_cause, last_of, outs_of}
 
 last_joined : (es : List Entry) (e : Entry) → last_of (es ++ e ∷ []) ≡ Some e
 last_joined es e =

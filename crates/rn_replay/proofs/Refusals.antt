@@ -13,8 +13,8 @@ use Rattle.rn_binding.specs.declared.candidate.NotSound.TheVariants as Lacks
 use Rattle.rn_fire.specs.Commits.{IsEnabledNow, WasEnabled}
 use Rattle.rn_fire.specs.States.{State, IsState, logged}
 use Rattle.rn_fire.proofs.OutcomeLemmas.{fits_decides}
-use Rattle.rn_replay.specs.Parts.{Candidates, Certified, FiresNow, Redoes}
-use Rattle.rn_replay.specs.Parts.{fault_of, last_of, outs_of, unfit_of}
+use Rattle.rn_replay.specs.link.Parts.{Candidates, Certified, FiresNow, Redoes}
+use Rattle.rn_replay.specs.link.Parts.{fault_of, last_of, outs_of, unfit_of}
 use Rattle.rn_replay.specs.Replays.{FiringRefused, FiresAsSaid}
 use Rattle.rn_replay.specs.declared.fault.ReplayFault.{ReplayFault}
 use Rattle.rn_replay.specs.declared.fault.ReplayFault.TheVariants as R

@@ -16,7 +16,7 @@ use Rattle.rn_model.specs.Liveness.{LivePart}
 use Rattle.rn_model.specs.Runs.{Firing, Fires, IsTrueEnd, Log, Run, after_firing, end_of, entries_of}
 use Rattle.rn_model.proofs.RunLemmas.{prefixes_are_runs, runs_grow}
 use Rattle.rn_binding.specs.Soundness.{IsSound}
-use Rattle.rn_fire.specs.States.{end_in, firings_in}
+use Rattle.rn_fire.specs.link.States.{end_in, firings_in}
 use Rattle.rn_fire.proofs.EntryLemmas.{end_of_entries, ended_more}
 use Rattle.rn_replay.specs.Laws.{IsTrueRecord, RefusedAreUntrue, RefusedForOneCause, ReplayedAreTrue}
 use Rattle.rn_replay.specs.Replays.{EndRefused, FiringRefused, Reaches, firing, ending}

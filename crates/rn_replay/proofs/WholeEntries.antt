@@ -7,10 +7,11 @@ use Rattle.rn_model.specs.declared.log.Entry.{Entry}
 use Rattle.rn_model.specs.declared.log.Entry.TheVariants.{Fire, End}
 use Rattle.rn_model.specs.declared.log.Reason.{Reason}
 use Rattle.rn_model.specs.Runs.{Firing, Log, entries_of}
-use Rattle.rn_fire.specs.States.{State, firings_in}
+use Rattle.rn_fire.specs.States.{State}
+use Rattle.rn_fire.specs.link.States.{firings_in}
 use Rattle.rn_fire.specs.declared.setup.Setup.{Setup}
 use Rattle.rn_fire.proofs.EntryLemmas.{firings_of}
-use Rattle.rn_replay.specs.Parts.{HasItsWorker, RedoesAll, RedoesEntry}
+use Rattle.rn_replay.specs.link.Parts.{HasItsWorker, RedoesAll, RedoesEntry}
 use Rattle.rn_replay.specs.Replays.{FiringRefused, HasWorker, IsWhole, Reaches}
 use Rattle.rn_replay.specs.declared.fault.ReplayFault.{ReplayFault}
 use Rattle.rn_replay.specs.declared.fault.ReplayFault.TheVariants as R

@@ -1,3 +1,3 @@
+pub mod link
 pub mod Laws
-pub mod Parts
 pub mod Replays

@@ -1,6 +1,6 @@
 //! A replay up to the search.
 ghost use Rattle.rn_model.specs.Good.{Good, IsInLimits};
-ghost use Rattle.rn_replay.specs.Parts.{IsDoneWith};
+ghost use Rattle.rn_replay.specs.link.Parts.{IsDoneWith};
 ghost use Rattle.rn_replay.specs.Replays.{Begins, IsWhole};
 
 use crate::begun::BegunReplay;

@@ -2,10 +2,10 @@
 ghost use Rattle.std.specs.Prelude.{◌≡◌, ◌↔◌, None, Some, Ok, IsTrue};
 ghost use Rattle.rn_model.specs.declared.log.Reason.TheVariants as End;
 ghost use Rattle.rn_model.specs.Runs.{entries_of};
-ghost use Rattle.rn_fire.specs.States.{firings_in};
+ghost use Rattle.rn_fire.specs.link.States.{firings_in};
 ghost use Rattle.rn_model.specs.declared.log.Entry.TheVariants as EntryIs;
-ghost use Rattle.rn_replay.specs.Parts.{IsEnd, IsUntrueBy, TriesEnd};
-ghost use Rattle.rn_replay.specs.Parts.{cause_of, fault_cause, last_of};
+ghost use Rattle.rn_replay.specs.link.Parts.{IsEnd, IsUntrueBy, TriesEnd};
+ghost use Rattle.rn_replay.specs.link.Parts.{cause_of, fault_cause, last_of};
 ghost use Rattle.rn_replay.specs.Replays.{IsWhole};
 
 use crate::firing::{Unfit, candidate_of, fire_now, next_number};

@@ -1,7 +1,7 @@
 //! The rest of a replay.
 ghost use Rattle.std.specs.Prelude.{◌↔◌, length, IsTrue};
 ghost use Rattle.rn_model.specs.Enabling.{DeadAt};
-ghost use Rattle.rn_replay.specs.Parts.{HasMarks};
+ghost use Rattle.rn_replay.specs.link.Parts.{HasMarks};
 ghost use Rattle.rn_replay.specs.Replays.{IsUnsearched, Replays};
 
 use crate::fault::ReplayFault;

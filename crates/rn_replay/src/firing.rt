@@ -6,8 +6,8 @@ ghost use Rattle.rn_model.specs.Good.{Good};
 ghost use Rattle.rn_model.specs.Limits.{most_workers};
 ghost use Rattle.rn_fire.specs.Commits.{IsEnabledNow};
 ghost use Rattle.rn_fire.specs.States.{IsState};
-ghost use Rattle.rn_replay.specs.Parts.{Candidates, Certified, FiresNow, Redoes};
-ghost use Rattle.rn_replay.specs.Parts.{fault_of, last_of, outs_of, unfit_of};
+ghost use Rattle.rn_replay.specs.link.Parts.{Candidates, Certified, FiresNow, Redoes};
+ghost use Rattle.rn_replay.specs.link.Parts.{fault_of, last_of, outs_of, unfit_of};
 ghost use Rattle.rn_replay.specs.declared.firing.Unfit.TheVariants.{NoMemory as Memory};
 
 use crate::fault::ReplayFault;

@@ -1,7 +1,7 @@
 //! Doing the firings that are told again.
 ghost use Rattle.std.specs.Prelude.{◌≡◌, None, Result, Ok};
 ghost use Rattle.rn_model.specs.Good.{Good, IsInLimits};
-ghost use Rattle.rn_replay.specs.Parts.{HasItsWorker, RedoesAll, RedoesEntry};
+ghost use Rattle.rn_replay.specs.link.Parts.{HasItsWorker, RedoesAll, RedoesEntry};
 ghost use Rattle.rn_replay.specs.Replays.{IsWhole};
 
 use crate::fault::ReplayFault;

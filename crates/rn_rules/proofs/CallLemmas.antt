@@ -15,7 +15,7 @@ use Rattle.rn_rules.specs.Expressions.{Where, Seen, seen_of, misfit}
 use Rattle.rn_rules.specs.Arcs.{inscribed_faults, asked_of, is_clear, is_variable}
 use Rattle.rn_rules.specs.Calls.{misfits, call_faults, target_faults, channel_call_faults}
 use Rattle.rn_rules.specs.Actions.{value_faults}
-use Rattle.rn_rules.specs.Sights.{sight_of, misfit_of, misfit_if, misfits_of, call_of}
+use Rattle.rn_rules.specs.link.Sights.{sight_of, misfit_of, misfit_if, misfits_of, call_of}
 use Rattle.rn_declared.proofs.ToldLemmas.{first_from-append, told_of_three}
 
 asked_misfit : (N : Type 0) (s : Seen) (kind : ArcKind) (place : Option Pattern) →

@@ -7,7 +7,7 @@ use Rattle.rn_declared.specs.declared.fault.Fault.{Fault}
 use Rattle.rn_declared.specs.declared.fault.Rule.TheVariants as Rule
 use Rattle.rn_declared.specs.Faults.{first_from, first_with, broken, broken_if}
 use Rattle.rn_rules.specs.Expressions.{Where, Seen, apart}
-use Rattle.rn_rules.specs.Sights.{sight_of, are_apart}
+use Rattle.rn_rules.specs.link.Sights.{sight_of, are_apart}
 use Rattle.rn_rules.specs.Conditions.{sides_faults, bare_faults, simple_faults, simple_seen, condition_faults}
 use Rattle.rn_declared.proofs.ToldLemmas.{first_from-append}
 

@@ -21,7 +21,7 @@ use Rattle.rn_declared.specs.Declarations.{kind_faults, place_faults, has_capaci
 use Rattle.rn_rules.specs.Transitions.{Scope, transition_faults}
 use Rattle.rn_declared.specs.Channels.{channel_from, channels_faults}
 use Rattle.rn_rules.specs.Systems.{net_faults, system_faults, text_start}
-use Rattle.rn_rules.specs.Scopes.{faults_in_net}
+use Rattle.rn_rules.specs.link.Scopes.{faults_in_net}
 use Rattle.rn_declared.proofs.ToldLemmas.{first_from-append}
 
 -- five parts, of which the second and third are reported at once

@@ -22,7 +22,7 @@ use Rattle.rn_declared.proofs.ToldLemmas.{first_from-append}
 use Rattle.rn_declared.specs.Patterns.{share}
 use Rattle.rn_rules.specs.Expressions.{Where, Seen, is_whole, seen_of, with_element, with_elements, apart, tuple_of}
 use Rattle.rn_rules.specs.Expressions.{listed, operand_faults, operands_faults, misfit}
-use Rattle.rn_rules.specs.Sights.{sight_of, joined, tuple_sight, are_apart, listed_sight, fits_pattern}
+use Rattle.rn_rules.specs.link.Sights.{sight_of, joined, tuple_sight, are_apart, listed_sight, fits_pattern}
 
 pub is_whole-append : (xs ys : List Fault) → is_whole (xs ++ ys) ≡ (is_whole xs && is_whole ys)
 is_whole-append [] ys = refl

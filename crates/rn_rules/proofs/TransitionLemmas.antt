@@ -13,7 +13,7 @@ use Rattle.rn_inscript.specs.declared.inscriptions.PInscription.{PInscription}
 use Rattle.rn_declared.specs.declared.fault.Fault.{Fault}
 use Rattle.rn_declared.specs.Faults.{first_from, past_limit}
 use Rattle.rn_declared.specs.Names.{number_among, same_name}
-use Rattle.rn_declared.specs.Tables.{or_number, with_name}
+use Rattle.rn_declared.specs.link.Tables.{or_number, with_name}
 use Rattle.rn_rules.specs.Actions.{set_name, set_names}
 use Rattle.rn_rules.specs.Transitions.{Scope, Progress, is_uplink, inscription_faults, inscriptions_faults}
 use Rattle.rn_declared.proofs.NameLemmas.{push}

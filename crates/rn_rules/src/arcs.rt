@@ -2,7 +2,7 @@
 ghost use Rattle.std.specs.Prelude.{◌≡◌, OnOk, IfOk, option_copied};
 ghost use Rattle.rn_declared.specs.Faults.{first_from};
 ghost use Rattle.rn_rules.specs.Arcs.{arc_faults, inscribed_faults, asked_of, is_clear, is_variable};
-ghost use Rattle.rn_rules.specs.Sights.{where_of, misfit_if};
+ghost use Rattle.rn_rules.specs.link.Sights.{where_of, misfit_if};
 ghost use Rattle.std.specs.Option.{option_map};
 
 use crate::seeing::{fits, see};

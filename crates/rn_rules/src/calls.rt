@@ -4,10 +4,10 @@ ghost use Rattle.rn_declared.specs.Faults.{first_from};
 ghost use Rattle.rn_rules.specs.Expressions.{seen_of};
 ghost use Rattle.rn_rules.specs.Calls.{call_faults, target_faults, creation_faults, is_no_net};
 ghost use Rattle.rn_rules.specs.Actions.{set_faults, value_faults};
-ghost use Rattle.rn_declared.specs.Tables.{found_in};
-ghost use Rattle.rn_rules.specs.Sights.{where_of, misfit_of, misfits_of, misfit_if, call_of};
-ghost use Rattle.rn_declared.specs.Tables.{pattern_in};
-ghost use Rattle.rn_rules.specs.Numbers.{declared_of};
+ghost use Rattle.rn_declared.specs.link.Tables.{found_in};
+ghost use Rattle.rn_rules.specs.link.Sights.{where_of, misfit_of, misfits_of, misfit_if, call_of};
+ghost use Rattle.rn_declared.specs.link.Tables.{pattern_in};
+ghost use Rattle.rn_rules.specs.link.Numbers.{declared_of};
 ghost use Rattle.rn_declared.specs.declared.pattern.Pattern.TheVariants as Form;
 
 use crate::seeing::{fits, see, see_all, see_variable};

@@ -4,7 +4,7 @@ ghost use Rattle.rn_declared.specs.Faults.{first_from, broken_if};
 ghost use Rattle.rn_declared.specs.declared.fault.Rule.TheVariants as Rules;
 ghost use Rattle.rn_rules.specs.Expressions.{seen_of, operands_faults};
 ghost use Rattle.rn_rules.specs.Conditions.{condition_faults, simple_seen, sides_faults, compared_faults, bare_faults};
-ghost use Rattle.rn_rules.specs.Sights.{where_of, are_apart};
+ghost use Rattle.rn_rules.specs.link.Sights.{where_of, are_apart};
 
 use crate::seeing::{see, see_operand};
 use crate::sight::{Here, SeenExpr};

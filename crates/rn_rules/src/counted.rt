@@ -2,7 +2,7 @@
 ghost use Rattle.std.specs.Prelude.{◌≡◌, ◌&&◌, map, is_some};
 ghost use Rattle.std.specs.List.{list_any};
 ghost use Rattle.rn_declared.specs.Faults.{first_from};
-ghost use Rattle.rn_declared.specs.Tables.{found_in};
+ghost use Rattle.rn_declared.specs.link.Tables.{found_in};
 ghost use Rattle.rn_rules.specs.Counted.{holds_name, is_flex_output, counted_faults};
 
 use rn_declared::{First, NameTable, Rule};

@@ -4,8 +4,8 @@ ghost use Rattle.rn_model.specs.Systems.{is_output};
 ghost use Rattle.rn_declared.specs.Faults.{first_from};
 ghost use Rattle.rn_rules.specs.Transitions.{inscription_faults, in_action, in_output, elsewhere};
 ghost use Rattle.rn_rules.specs.Transitions.{set_action_faults, channel_faults, uplink_faults, downlink_faults};
-ghost use Rattle.rn_rules.specs.Scopes.{scope_in, progress_of};
-ghost use Rattle.rn_rules.specs.Sights.{where_of};
+ghost use Rattle.rn_rules.specs.link.Scopes.{scope_in, progress_of};
+ghost use Rattle.rn_rules.specs.link.Sights.{where_of};
 
 use crate::arcs::see_arc;
 use crate::calls::{see_call, see_creation, see_left, see_target, see_value};

@@ -3,12 +3,12 @@ ghost use Rattle.std.specs.Prelude.{◌≡◌, OnOk, flat_map, is_some, codes};
 ghost use Rattle.std.specs.List.{list_any};
 ghost use Rattle.rn_declared.specs.Faults.{first_from};
 ghost use Rattle.rn_declared.specs.Names.{same_name};
-ghost use Rattle.rn_declared.specs.Tables.{found_in};
+ghost use Rattle.rn_declared.specs.link.Tables.{found_in};
 ghost use Rattle.rn_rules.specs.Transitions.{transition_faults};
 ghost use Rattle.rn_rules.specs.Systems.{system_faults};
-ghost use Rattle.rn_rules.specs.Scopes.{scope_in, faults_in_net};
-ghost use Rattle.rn_declared.specs.Tables.{channel_in};
-ghost use Rattle.rn_rules.specs.Numbers.{channels_of};
+ghost use Rattle.rn_rules.specs.link.Scopes.{scope_in, faults_in_net};
+ghost use Rattle.rn_declared.specs.link.Tables.{channel_in};
+ghost use Rattle.rn_rules.specs.link.Numbers.{channels_of};
 
 use crate::scope::{ChannelNames, KnownNames, channel_names_of, names_of, place_names_of};
 use crate::transitions::see_transition;

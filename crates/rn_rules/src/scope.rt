@@ -1,7 +1,7 @@
 //! What is known by name in a net, and where an inscription stands in its transition.
 ghost use Rattle.std.specs.Prelude.{◌≡◌, IfOk, option_copied};
-ghost use Rattle.rn_declared.specs.Tables.{pattern_in, capped_in, channel_in};
-ghost use Rattle.rn_rules.specs.Numbers.{declared_of, places_of, channels_of};
+ghost use Rattle.rn_declared.specs.link.Tables.{pattern_in, capped_in, channel_in};
+ghost use Rattle.rn_rules.specs.link.Numbers.{declared_of, places_of, channels_of};
 
 use rn_declared::{
     Declared, DeclaredChannels, DeclaredPlaces, KindTable, NameTable, Numbered, Numbers, Patterns,

@@ -4,7 +4,7 @@ ghost use Rattle.std.specs.List.{list_all};
 ghost use Rattle.rn_declared.specs.Faults.{first_from, broken_if, past_limit};
 ghost use Rattle.rn_declared.specs.Patterns.{share, both_of};
 ghost use Rattle.rn_rules.specs.Expressions.{seen_of, whole, is_whole, variable_faults, with_elements, operand_faults, tuple_of, with_element};
-ghost use Rattle.rn_rules.specs.Sights.{where_of, sight_of, are_apart, joined, listed_sight, tuple_sight, variable_sight, fits_pattern};
+ghost use Rattle.rn_rules.specs.link.Sights.{where_of, sight_of, are_apart, joined, listed_sight, tuple_sight, variable_sight, fits_pattern};
 ghost use Rattle.rn_declared.specs.declared.pattern.Pattern.TheVariants as Form;
 ghost use Rattle.rn_model.specs.Limits.{most_parts};
 ghost use Rattle.rn_declared.specs.declared.fault.Rule.TheVariants as Rules;

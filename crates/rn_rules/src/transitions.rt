@@ -3,8 +3,8 @@ ghost use Rattle.std.specs.Prelude.{◌≡◌, ◌<◌, ◌≤◌, ℕ, List, On
 ghost use Rattle.rn_declared.specs.Faults.{first_from};
 ghost use Rattle.rn_declared.specs.Names.{number_among};
 ghost use Rattle.rn_rules.specs.Actions.{set_name, set_names};
-ghost use Rattle.rn_declared.specs.Tables.{found_in};
-ghost use Rattle.rn_rules.specs.Scopes.{scope_in};
+ghost use Rattle.rn_declared.specs.link.Tables.{found_in};
+ghost use Rattle.rn_rules.specs.link.Scopes.{scope_in};
 ghost use Rattle.rn_rules.specs.Transitions.{is_uplink, inscriptions_faults, transition_faults};
 
 use crate::inscriptions::see_inscription;

@@ -27,7 +27,7 @@ use Rattle.rn_growing.specs.declared.decision.Decision.{Decision}
 use Rattle.rn_growing.specs.declared.decision.Decision.TheVariants.{Entered, Found, Computed}
 use Rattle.rn_growing.specs.Decisions.{site_of, transition_in}
 use Rattle.rn_growing.specs.Grown.{IsNew}
-use Rattle.rn_growing.specs.Layouts.{same_site}
+use Rattle.rn_growing.specs.link.Layouts.{same_site}
 use Rattle.rn_growing.specs.Turns.{IsEntered, IsHole, MayCome, AreInTurn, SameThing}
 use Rattle.rn_growing.proofs.Growth.{at_in, contains_last, front_at}
 use Rattle.rn_growing.proofs.SameUnknowns.{site_itself, site_is}

@@ -27,7 +27,7 @@ use Rattle.rn_growing.specs.declared.decision.Caller.{Caller}
 use Rattle.rn_growing.specs.declared.decision.Decision.{Decision}
 use Rattle.rn_growing.specs.declared.decision.Decision.TheVariants.{Entered, Found, Computed}
 use Rattle.rn_growing.specs.Decisions.{transition_in, site_of}
-use Rattle.rn_growing.specs.Layouts.{same_site}
+use Rattle.rn_growing.specs.link.Layouts.{same_site}
 use Rattle.rn_growing.specs.Turns.{IsHole, SameThing}
 use Rattle.rn_growing.proofs.SameUnknowns.{site_itself, as_site, as_site-is}
 use Rattle.rn_growing.proofs.SameUnknowns.{site_of-is}

@@ -4,14 +4,14 @@ use Rattle.std.specs.Coded.{Coded, code_by, coded×, coded_ℕ}
 use Rattle.rn_model.specs.declared.system.System.{System}
 use Rattle.rn_model.specs.contracts.system.System as system
 use Rattle.rn_model.specs.Markings.{Marking, net_of, tokens_at}
-use Rattle.rn_model.specs.MarkingCodes.{marking_code}
+use Rattle.rn_model.specs.link.MarkingCodes.{marking_code}
 use Rattle.rn_model.specs.Good.{Good}
 use Rattle.rn_model.specs.SoundTokens.{holds_new}
 use Rattle.rn_model.specs.Systems.{place_kind}
 use Rattle.rn_value.specs.declared.value.Value.{Value}
 use Rattle.rn_value.specs.Kinds.{HasKind}
 use Rattle.rn_channel.specs.declared.uplinks.Uplinks.{Uplinks}
-use Rattle.rn_channel.specs.Uplinks.{AreUplinksOf}
+use Rattle.rn_channel.specs.link.Uplinks.{AreUplinksOf}
 use Rattle.rn_growing.specs.declared.decision.Head.{Head}
 use Rattle.rn_growing.specs.contracts.decision.Head as head
 use Rattle.rn_search.specs.Missing.{MayStart}

@@ -12,7 +12,7 @@ use Rattle.rn_model.specs.declared.system.Transition.{Transition}
 use Rattle.rn_growing.specs.declared.decision.Head.{Head}
 use Rattle.rn_growing.specs.declared.decision.Decision.{Decision}
 use Rattle.rn_growing.specs.declared.decision.Decision.TheVariants.{Entered, Found, Computed}
-use Rattle.rn_growing.specs.Layouts.{same_site}
+use Rattle.rn_growing.specs.link.Layouts.{same_site}
 use Rattle.rn_growing.specs.Grown.{IsNew}
 use Rattle.rn_growing.specs.Turns.{MayCome, AreInTurn}
 use Rattle.rn_growing.proofs.SameUnknowns.{as_site}

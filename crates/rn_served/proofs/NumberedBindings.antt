@@ -14,7 +14,7 @@ use Rattle.rn_model.specs.declared.system.System.{System}
 use Rattle.rn_model.specs.Enabling.{DeadAt, Enabled}
 use Rattle.rn_model.specs.Markings.{Marking}
 use Rattle.rn_model.specs.Order.{binding_cmp}
-use Rattle.rn_model.specs.OrderLaws.{binding_cmp-total}
+use Rattle.rn_model.specs.link.OrderLaws.{binding_cmp-total}
 use Rattle.rn_served.specs.Listed.{AreEnabled, IsBelow, IsNumbered, NoneIsNumbered, NumbersAreOfList}
 
 -- in a list where each is below the next, each is below all later ones

@@ -19,7 +19,7 @@ use Rattle.rn_served.specs.declared.requests.FireAnswer.{FireAnswer}
 use Rattle.rn_served.specs.declared.requests.FireAnswer.TheVariants as Gives
 use Rattle.rn_served.specs.declared.requests.Request.TheVariants as Ask
 use Rattle.rn_served.proofs.UndoneEntries.{adds_one}
-use Rattle.rn_session.specs.Serving.{HasLast, IsAnswered, ServesAll, last_text, names_at, refusal_of}
+use Rattle.rn_session.specs.link.Serving.{HasLast, IsAnswered, ServesAll, last_text, names_at, refusal_of}
 use Rattle.rn_session.specs.Sessions.{Stays, so_far}
 use Rattle.rn_session.proofs.LastEntries.{last_got}
 use Rattle.rn_session.proofs.NamesSoFar.{has_last}

@@ -19,7 +19,7 @@ use Rattle.rn_fire.specs.States.{State, end_marking, logged}
 use Rattle.rn_fire.specs.declared.committing.Commit.{Commit}
 use Rattle.rn_fire.specs.declared.committing.Commit.TheVariants.{Fired, Conflict, Faulted, Ended, NoMemory}
 use Rattle.rn_fire.proofs.EntryLemmas.{count_ended, count_going, going_count}
-use Rattle.rn_session.specs.Keeping.{AreTablesBefore, CommitsTo, IsFirst, IsTableAfter, Tells}
+use Rattle.rn_session.specs.link.Keeping.{AreTablesBefore, CommitsTo, IsFirst, IsTableAfter, Tells}
 use Rattle.rn_session.specs.Sessions.{so_far}
 use Rattle.rn_session.proofs.KeptTables.{one_more}
 

@@ -8,7 +8,7 @@ use Rattle.rn_model.specs.Runs.{Firing, end_of}
 use Rattle.rn_table.specs.Tables.{Kept, IsTableOf}
 use Rattle.rn_fire.specs.declared.setup.Setup.{Setup}
 use Rattle.rn_fire.specs.States.{State, end_marking, logged}
-use Rattle.rn_session.specs.Keeping.{AreTablesBefore, IsTableAfter}
+use Rattle.rn_session.specs.link.Keeping.{AreTablesBefore, IsTableAfter}
 
 -- a table after firings that both states have
 still_after : (old new : State) (k : ℕ) (t : Kept) → new.setup ≡ old.setup →

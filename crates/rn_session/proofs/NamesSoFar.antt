@@ -13,7 +13,7 @@ use Rattle.rn_record.specs.Writable.{HasEntry, HaveEntries}
 use Rattle.rn_fire.specs.declared.setup.Setup.{Setup}
 use Rattle.rn_fire.specs.States.{State, IsState, end_marking, logged}
 use Rattle.rn_written.proofs.TextsOfLogs.{logs_have_entries, names_are_counted}
-use Rattle.rn_session.specs.Serving.{AreNamesBefore, HasLast, names_at}
+use Rattle.rn_session.specs.link.Serving.{AreNamesBefore, HasLast, names_at}
 use Rattle.rn_session.specs.Sessions.{IsSession}
 
 module _ (system : System) where

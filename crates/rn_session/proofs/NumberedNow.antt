@@ -16,7 +16,7 @@ use Rattle.rn_fire.specs.States.{State, IsState, end_marking}
 use Rattle.rn_served.specs.Listed.{AreEnabled, IsBelow, IsNumbered, NoneIsNumbered, numbered, numbered_text}
 use Rattle.rn_served.proofs.NumberedBindings.{least_is_first, none_is_first}
 use Rattle.rn_written.proofs.TextsOfLogs.{enabled_have_lines}
-use Rattle.rn_session.specs.Serving.{names_at}
+use Rattle.rn_session.specs.link.Serving.{names_at}
 
 -- what is said of a table is said of the end of the log
 pub at_end : (P : System → Marking → ℕ → Type 0) (s : State) (system : System) (t : Kept) (depth : ℕ) →

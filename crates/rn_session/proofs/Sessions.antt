@@ -11,7 +11,7 @@ use Rattle.rn_model.proofs.MarkingsOfRuns.{runs_end_in_markings}
 use Rattle.rn_model.proofs.RunLemmas.{prefixes_are_runs}
 use Rattle.rn_model.proofs.StandingTables.{markings_stand_for_themselves}
 use Rattle.rn_channel.specs.declared.uplinks.Uplinks.{Uplinks}
-use Rattle.rn_channel.specs.Uplinks.{AreUplinksOf}
+use Rattle.rn_channel.specs.link.Uplinks.{AreUplinksOf}
 use Rattle.rn_table.specs.Tables.{Kept, IsTableOf}
 use Rattle.rn_served.specs.declared.requests.FireAnswer.{FireAnswer}
 use Rattle.rn_fire.specs.declared.committing.Commit.{Commit}
@@ -20,7 +20,7 @@ use Rattle.rn_fire.specs.Commits.{Commits}
 use Rattle.rn_fire.specs.States.{State, IsState, logged}
 use Rattle.rn_fire.proofs.EntryLemmas.{count_going}
 use Rattle.rn_fire.proofs.RewindingLemmas.{first_are}
-use Rattle.rn_session.specs.Keeping.{AreTablesBefore, IsTableAfter, KeepsSession, Tells}
+use Rattle.rn_session.specs.link.Keeping.{AreTablesBefore, IsTableAfter, KeepsSession, Tells}
 use Rattle.rn_session.specs.Sessions.{UndoesBy}
 use Rattle.rn_session.proofs.Committed.{grows, kept_more}
 use Rattle.rn_session.proofs.KeptTables.{fewer, table_now, the_table}

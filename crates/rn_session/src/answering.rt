@@ -2,7 +2,7 @@
 ghost use Rattle.std.specs.Prelude.{◌≡◌, ◌++◌, OnOk};
 ghost use Rattle.rn_served.specs.Served.{no_text, ok_text};
 ghost use Rattle.rn_served.specs.declared.requests.Request.TheVariants as Ask;
-ghost use Rattle.rn_session.specs.Serving.{HasLast, IsAnswered, last_text, names_at, refusal_of};
+ghost use Rattle.rn_session.specs.link.Serving.{HasLast, IsAnswered, last_text, names_at, refusal_of};
 
 use crate::listing::put_list;
 use crate::naming::cut_names;

@@ -3,7 +3,7 @@ ghost use Rattle.std.specs.Prelude.{◌≡◌, ◌<◌, IfOk, IfSome, IfNone, No
 ghost use Rattle.rn_served.specs.Listed.{IsNumbered, NoneIsNumbered};
 ghost use Rattle.rn_fire.specs.States.{end_marking};
 ghost use Rattle.rn_fire.specs.Commits.{IsEnabledNow};
-ghost use Rattle.rn_session.specs.Keeping.{CommitsTo, HasRefusal, IsFirst, Tells};
+ghost use Rattle.rn_session.specs.link.Keeping.{CommitsTo, HasRefusal, IsFirst, Tells};
 ghost use Rattle.rn_session.specs.Sessions.{FiresBy};
 
 use crate::session::Session;

@@ -5,7 +5,7 @@ ghost use Rattle.rn_record.specs.RecordText.{binding_text};
 ghost use Rattle.rn_record.specs.Writable.{HasLines};
 ghost use Rattle.rn_served.specs.Listed.{numbered, numbered_text};
 ghost use Rattle.rn_served.specs.declared.requests.Request.TheVariants as Ask;
-ghost use Rattle.rn_session.specs.Serving.{IsAnswered, names_at};
+ghost use Rattle.rn_session.specs.link.Serving.{IsAnswered, names_at};
 
 use crate::naming::first_of;
 use crate::session::Session;

@@ -1,6 +1,6 @@
 //! The names of the nets of the instances that were made so far.
 ghost use Rattle.std.specs.Prelude.{◌≡◌, ◌≤◌, IfOk, OnOk, length, take};
-ghost use Rattle.rn_session.specs.Serving.{AreNamesBefore, names_at};
+ghost use Rattle.rn_session.specs.link.Serving.{AreNamesBefore, names_at};
 
 use crate::session::Session;
 use rn_items::NoMemory;

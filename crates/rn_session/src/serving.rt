@@ -4,7 +4,7 @@ ghost use Rattle.rn_model.specs.Good.{Good, IsInLimits};
 ghost use Rattle.rn_served.specs.Entries.{nothing};
 ghost use Rattle.rn_served.specs.Lines.{lines_of};
 ghost use Rattle.rn_served.specs.Served.{Served};
-ghost use Rattle.rn_session.specs.Serving.{ServesAll, names_at};
+ghost use Rattle.rn_session.specs.link.Serving.{ServesAll, names_at};
 
 use crate::answering::answer;
 use crate::session::{Session, open_session};

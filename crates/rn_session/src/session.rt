@@ -34,7 +34,7 @@ impl Model for Session {
     ghost use Rattle.rn_model.specs.contracts.expr.Cond as cond;
     ghost use Rattle.rn_table.specs.Tables.{kept_code};
     ghost use Rattle.rn_fire.specs.States.{State};
-    ghost use Rattle.rn_session.specs.Keeping.{KeepsSession};
+    ghost use Rattle.rn_session.specs.link.Keeping.{KeepsSession};
 
     ghost Value = { State };
 

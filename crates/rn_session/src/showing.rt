@@ -1,7 +1,7 @@
 //! What `show` writes.
 ghost use Rattle.std.specs.Prelude.{◌≡◌, OnOk};
 ghost use Rattle.rn_served.specs.declared.requests.Request.TheVariants as Ask;
-ghost use Rattle.rn_session.specs.Serving.{IsAnswered, names_at};
+ghost use Rattle.rn_session.specs.link.Serving.{IsAnswered, names_at};
 
 use crate::session::Session;
 use rn_items::NoMemory;

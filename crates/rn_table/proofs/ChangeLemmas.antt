@@ -18,8 +18,8 @@ use Rattle.rn_model.proofs.ValueLists.{ordered_values_ascend, ordered_values_sta
 use Rattle.rn_table.specs.declared.change.Row.{Row}
 use Rattle.rn_table.specs.declared.change.Change.{Change}
 use Rattle.rn_table.specs.Changes.{changed, changed_tokens, new_from, values_at}
-use Rattle.rn_table.specs.Leaves.{Ascending, HasSortedPlaces}
-use Rattle.rn_table.specs.Steps.{Step, AreNet, step_at, after_step, steps_at, after_steps, steps_of, steps_in, all_steps, is_at, step_count}
+use Rattle.rn_table.specs.link.Leaves.{Ascending, HasSortedPlaces}
+use Rattle.rn_table.specs.link.Steps.{Step, AreNet, step_at, after_step, steps_at, after_steps, steps_of, steps_in, all_steps, is_at, step_count}
 use Rattle.rn_table.specs.Tables.{started, starting_in}
 use Rattle.rn_model.specs.Systems.{may_start}
 use Rattle.rn_table.proofs.InstanceLemmas.{numbered_at, all_get}

@@ -8,8 +8,8 @@ use Rattle.std.proofs.lemmas.List.Concat.{flat_map-append}
 use Rattle.std.proofs.lemmas.Option.{slice_get_past, unwrap_or-slice_get}
 use Rattle.rn_value.specs.declared.value.Value.{Value}
 use Rattle.rn_bag.proofs.CountLemmas.{get_prefix, get_suffix}
-use Rattle.rn_table.specs.Chunks.{AreChunks, joined}
-use Rattle.rn_table.specs.Steps.{Step, stepped, with_step}
+use Rattle.rn_table.specs.link.Chunks.{AreChunks, joined}
+use Rattle.rn_table.specs.link.Steps.{Step, stepped, with_step}
 use Rattle.rn_model.proofs.EachElement.{each_append}
 
 module _ {A : Type 0} where

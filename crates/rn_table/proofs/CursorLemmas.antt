@@ -5,7 +5,7 @@ use Rattle.std.proofs.lemmas.Bool.{true≢false, false≢true, cases_lt, le-leb,
 use Rattle.rn_model.specs.Markings.{Instance}
 use Rattle.rn_bag.specs.Words.{has_bit}
 use Rattle.rn_bag.specs.Slots.{there_from}
-use Rattle.rn_table.specs.Leaves.{Leaf, IsLeaf, bit_of, page_of, kept_in, numbered, starting_of, starting_from, upward}
+use Rattle.rn_table.specs.link.Leaves.{Leaf, IsLeaf, bit_of, page_of, kept_in, numbered, starting_of, starting_from, upward}
 use Rattle.rn_table.proofs.InstanceLemmas.{numbered_passed, numbered_out}
 use Rattle.rn_table.proofs.LeafLemmas.{bit_back}
 

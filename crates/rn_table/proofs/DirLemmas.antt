@@ -3,7 +3,7 @@ use Rattle.std.proofs.Common.{◌≡◌, ◌≢◌, ℕ, zero, suc, ◌+◌, ◌
 use Rattle.std.proofs.lemmas.Bool.{true≢false, eqb-true, cases_lt}
 use Rattle.std.proofs.lemmas.List.{get_or-set_same, get_or-set_other, get_or-drop, get_or_append_left, get_or-append_right, get_or_default, get_or-map, length-map, map-set, map-append, set-get_or}
 use Rattle.rn_model.specs.Markings.{Instance}
-use Rattle.rn_table.specs.Leaves.{Leaf, held_at, held_if, leaf_with, leaves_by}
+use Rattle.rn_table.specs.link.Leaves.{Leaf, held_at, held_if, leaf_with, leaves_by}
 use Rattle.rn_table.specs.declared.leaf.Words.{Words}
 use Rattle.rn_table.proofs.InstanceLemmas.{same_number}
 

@@ -5,8 +5,8 @@ use Rattle.std.specs.List.{AllByRecursion}
 use Rattle.std.proofs.lemmas.List.{map-append}
 use Rattle.rn_model.specs.Markings.{Instance}
 use Rattle.rn_bag.specs.Words.{has_bit}
-use Rattle.rn_table.specs.Leaves.{Leaf, HasSortedPlaces, IsTable, IsLeaf, AreLeaves, page_of, bit_of, has_number, kept_in, instances_in, starting_of, starting_from}
-use Rattle.rn_table.specs.Steps.{Step, after_step}
+use Rattle.rn_table.specs.link.Leaves.{Leaf, HasSortedPlaces, IsTable, IsLeaf, AreLeaves, page_of, bit_of, has_number, kept_in, instances_in, starting_of, starting_from}
+use Rattle.rn_table.specs.link.Steps.{Step, after_step}
 use Rattle.rn_table.proofs.InstanceLemmas.{NoneHas, all_get, all_filtered, ascending_filtered, filter_again, numbered_passed}
 use Rattle.rn_table.proofs.LeafLemmas.{bit_back}
 use Rattle.rn_table.proofs.StepLemmas.{none_stay, ascending_after, all_numbers, sorted_after, numbered_after, filter_after}

@@ -5,7 +5,7 @@ use Rattle.std.proofs.lemmas.Bool.{false≢true, true≢false, eqb-true, eqb-fal
 use Rattle.std.specs.List.{AllByRecursion}
 use Rattle.rn_model.specs.Markings.{Instance}
 use Rattle.rn_model.proofs.EachElement.{each_append}
-use Rattle.rn_table.specs.Leaves.{Ascending, numbered}
+use Rattle.rn_table.specs.link.Leaves.{Ascending, numbered}
 
 -- a number is equal to itself
 pub same_number : (n : ℕ) → nat_eq n n ≡ true

@@ -11,7 +11,8 @@ use Rattle.rn_model.proofs.ValueLists.{ordered_values_ascend, ordered_values_sta
 use Rattle.rn_model.proofs.AfterFiring.{found_before, found_number, changed_place}
 use Rattle.rn_table.specs.Changes.{changed, changed_tokens, values_at, with_made}
 use Rattle.rn_table.specs.Laws.{TokensAfterChange, SameIsLeft, KeptAfterRemoval}
-use Rattle.rn_table.specs.Leaves.{stays, numbered}
+use Rattle.rn_table.specs.Staying.{stays}
+use Rattle.rn_table.specs.link.Leaves.{numbered}
 use Rattle.rn_table.proofs.ChangeLemmas.{count_append}
 use Rattle.rn_table.proofs.InstanceLemmas.{numbered_passed, numbered_out}
 

@@ -10,7 +10,7 @@ use Rattle.rn_model.proofs.EachElement.{each_append}
 use Rattle.rn_bag.specs.Words.{has_bit}
 use Rattle.rn_bag.specs.Slots.{there_from}
 use Rattle.rn_table.proofs.StartingLemmas.{bit_added, bit_dropped}
-use Rattle.rn_table.specs.Leaves.{Leaf, starting_of, upward, Ascending, HasSortedPlaces, IsLeaf, bit_of, page_of, has_number, kept_in, numbered}
+use Rattle.rn_table.specs.link.Leaves.{Leaf, starting_of, upward, Ascending, HasSortedPlaces, IsLeaf, bit_of, page_of, has_number, kept_in, numbered}
 use Rattle.rn_table.proofs.InstanceLemmas.{same_number, all_map, all_lower, all_filtered, ascending_filtered, ascending_more, numbered_later, numbered_kept, numbered_passed, numbered_is, filter_same, filter_both, filter_again, filter_none}
 
 -- numbers of one page

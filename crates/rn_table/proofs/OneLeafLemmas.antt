@@ -5,9 +5,9 @@ use Rattle.std.proofs.lemmas.Bool.{true≢false}
 use Rattle.std.specs.List.{AllByRecursion}
 use Rattle.rn_model.specs.Markings.{Instance}
 use Rattle.rn_bag.specs.Words.{has_bit}
-use Rattle.rn_table.specs.Leaves.{Leaf, HasSortedPlaces, IsLeaf, bit_of, has_number, held_if, kept_in, leaf_with, page_of, starting_of}
-use Rattle.rn_table.specs.LeafSteps.{Grows, IsDropped, IsEdited, IsGrown, HoldsAfterStep}
-use Rattle.rn_table.specs.Steps.{Step}
+use Rattle.rn_table.specs.link.Leaves.{Leaf, HasSortedPlaces, IsLeaf, bit_of, has_number, held_if, kept_in, leaf_with, page_of, starting_of}
+use Rattle.rn_table.specs.link.LeafSteps.{Grows, IsDropped, IsEdited, IsGrown, HoldsAfterStep}
+use Rattle.rn_table.specs.link.Steps.{Step}
 use Rattle.rn_table.proofs.DirLemmas.{held_some}
 use Rattle.rn_table.proofs.EditedLemmas.{edited_kept, edited_leaf, edited_below}
 use Rattle.rn_table.proofs.LeafLemmas.{grown, starts_more, more_starting, shrunk, starts_less, less_starting, none_kept, empty_leaf, no_bit}

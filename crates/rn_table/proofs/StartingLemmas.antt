@@ -5,7 +5,7 @@ use Rattle.std.proofs.lemmas.Bool.{true≢false, eqb-true, cases_lt}
 use Rattle.std.specs.List.{AllByRecursion}
 use Rattle.rn_bag.specs.Words.{has_bit}
 use Rattle.rn_bag.specs.Slots.{there_from}
-use Rattle.rn_table.specs.Leaves.{upward}
+use Rattle.rn_table.specs.link.Leaves.{upward}
 use Rattle.rn_table.proofs.InstanceLemmas.{same_number}
 
 drop_case : (t u e : Bool) (x n : ℕ) (r s : List ℕ) → nat_eq x n ≡ e → (e ≡ true → u ≡ false) → (e ≡ false → u ≡ t) → r ≡ filter (λ y. not (nat_eq y n)) s → cond u (x ∷ r) r ≡ filter (λ y. not (nat_eq y n)) (cond t (x ∷ s) s)

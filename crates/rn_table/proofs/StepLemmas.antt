@@ -16,8 +16,8 @@ use Rattle.rn_model.proofs.ValueLists.{ordered_values_ascend, ordered_values_sta
 use Rattle.rn_bag.specs.Cuts.{Ascends}
 use Rattle.rn_bag.proofs.AscendingLemmas.{sorted_of}
 use Rattle.rn_bag.proofs.CursorLemmas.{ascends_of}
-use Rattle.rn_table.specs.Leaves.{Ascending, HasSortedPlaces, numbered}
-use Rattle.rn_table.specs.Steps.{Step, stepped, step_at, after_step, with_step}
+use Rattle.rn_table.specs.link.Leaves.{Ascending, HasSortedPlaces, numbered}
+use Rattle.rn_table.specs.link.Steps.{Step, stepped, step_at, after_step, with_step}
 use Rattle.rn_table.proofs.InstanceLemmas.{NoneHas, same_number, other_number, all_get}
 
 -- an element that is read through a list of pointers

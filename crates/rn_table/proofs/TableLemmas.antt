@@ -18,7 +18,8 @@ use Rattle.rn_model.proofs.EachElement.{each_append}
 use Rattle.rn_table.specs.Tables.{started}
 use Rattle.rn_model.specs.Markings.{Instance}
 use Rattle.rn_bag.specs.Words.{has_bit}
-use Rattle.rn_table.specs.Leaves.{Leaf, Ascending, HasSortedPlaces, IsTable, IsLeaf, AreLeaves, page_of, has_number, kept_in, instances_in, numbered, starting_of, starting_from, stays, upward}
+use Rattle.rn_table.specs.Staying.{stays}
+use Rattle.rn_table.specs.link.Leaves.{Leaf, Ascending, HasSortedPlaces, IsTable, IsLeaf, AreLeaves, page_of, has_number, kept_in, instances_in, numbered, starting_of, starting_from, upward}
 use Rattle.rn_table.proofs.InstanceLemmas.{filter_both, filter_all, all_true, NoneHas, other_number, all_map, all_filtered, ascending_filtered, numbered_none, numbered_later, numbered_earlier}
 use Rattle.rn_bag.proofs.SlotLemmas.{there_all}
 use Rattle.rn_table.proofs.LeafLemmas.{page_is, no_bit, all_two}

@@ -13,7 +13,7 @@ use Rattle.rn_model.specs.Good.{Good}
 use Rattle.rn_model.specs.Lists.{IsWithin, count_of}
 use Rattle.rn_model.specs.Markings.{Instance, Marking, instance_at, tokens_at}
 use Rattle.rn_table.specs.Changes.{changed, changed_tokens, values_at, with_made}
-use Rattle.rn_table.specs.Leaves.{stays}
+use Rattle.rn_table.specs.Staying.{stays}
 use Rattle.rn_table.specs.declared.change.Change.{Change}
 
 -- a good system has fewer than 2^32 nets

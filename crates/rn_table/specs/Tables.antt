@@ -4,7 +4,7 @@ use Rattle.std.specs.Coded.{Coded, code_by, coded×, coded_ℕ, coded_list}
 use Rattle.std.specs.List.{enumerate_from}
 use Rattle.rn_model.specs.declared.system.System.{System}
 use Rattle.rn_model.specs.Markings.{Marking}
-use Rattle.rn_model.specs.MarkingCodes.{marking_code}
+use Rattle.rn_model.specs.link.MarkingCodes.{marking_code}
 use Rattle.rn_model.specs.Systems.{may_start}
 
 -- A table: the marking of its kept instances, and the numbers of those that may start a firing by

@@ -1,7 +1,7 @@
 //! The bag of a place.
 ghost use Rattle.std.specs.Prelude.{◌≡◌, IfOk, OnOk};
 ghost use Rattle.rn_model.specs.Lists.{ordered_values};
-ghost use Rattle.rn_table.specs.Steps.{stepped};
+ghost use Rattle.rn_table.specs.link.Steps.{stepped};
 
 use crate::edits::Edit;
 use rn_bag::Bag;

@@ -2,7 +2,7 @@
 ghost use Rattle.std.specs.Prelude.{◌≡◌, length, map, slice_get, IfOk, OnOk};
 ghost use Rattle.std.specs.Option.{option_copied};
 ghost use Rattle.rn_model.specs.Lists.{ordered_values};
-ghost use Rattle.rn_table.specs.Steps.{with_step};
+ghost use Rattle.rn_table.specs.link.Steps.{with_step};
 
 use crate::bags::{bag_of, edit_shared};
 use crate::edits::Edit;

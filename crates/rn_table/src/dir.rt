@@ -1,8 +1,8 @@
 //! Directories: 32 pages each, behind a pointer that copies of a table share.
 ghost use Rattle.std.specs.Prelude.{◌≡◌, ◌<◌, ◌≢◌, ◌%◌, ◌/◌, ℕ, [], length, map, slice_index_or, IfOk, OnOk};
 ghost use Rattle.std.specs.Option.{option_map_or};
-ghost use Rattle.rn_table.specs.Leaves.{Ascending, held_at, held_if};
-ghost use Rattle.rn_table.specs.LeafSteps.{Grows, HoldsAfterStep};
+ghost use Rattle.rn_table.specs.link.Leaves.{Ascending, held_at, held_if};
+ghost use Rattle.rn_table.specs.link.LeafSteps.{Grows, HoldsAfterStep};
 ghost use Rattle.rn_table.specs.declared.leaf.Words.{Words as PageWords};
 
 use crate::edits::Edit;
@@ -28,7 +28,7 @@ impl Model for Dir {
     ghost use Rattle.std.specs.Coded.{coded_list};
     ghost use Rattle.std.specs.Option.{option_map_or};
     ghost use Rattle.rn_model.specs.Markings.{Instance};
-    ghost use Rattle.rn_model.specs.MarkingCodes.{instance_code};
+    ghost use Rattle.rn_model.specs.link.MarkingCodes.{instance_code};
     ghost use Rattle.rn_table.specs.declared.dir.TheConstants.{PAGES};
 
     ghost Value = { List (List Instance) };

@@ -2,7 +2,7 @@
 ghost use Rattle.std.specs.Prelude.{◌≡◌, ◌++◌, IfOk, OnOk};
 ghost use Rattle.std.specs.Bool.{OnTrue};
 ghost use Rattle.std.specs.List.Sorted.{IsPermutation};
-ghost use Rattle.rn_table.specs.Steps.{AreNet, Cancels, all_steps, steps_in, steps_of};
+ghost use Rattle.rn_table.specs.link.Steps.{AreNet, Cancels, all_steps, steps_in, steps_of};
 
 use crate::change::{Change, Row};
 use rn_items::NoMemory;
@@ -20,7 +20,7 @@ pub(crate) struct Edit<'a> {
 }
 
 impl<'a> Model for Edit<'a> {
-    ghost use Rattle.rn_table.specs.Steps.{Step, step_code};
+    ghost use Rattle.rn_table.specs.link.Steps.{Step, step_code};
 
     ghost Value = { Step };
 

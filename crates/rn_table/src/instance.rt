@@ -2,7 +2,7 @@
 ghost use Rattle.std.specs.Prelude.{◌≡◌, [], length, map, unwrap_or, IfOk, OnOk, slice_get};
 ghost use Rattle.std.specs.Option.{option_copied};
 ghost use Rattle.rn_model.specs.Lists.{ordered_values};
-ghost use Rattle.rn_table.specs.Steps.{after_step};
+ghost use Rattle.rn_table.specs.link.Steps.{after_step};
 
 use crate::edits::Edit;
 use crate::places::InstancePlaces;
@@ -23,7 +23,7 @@ pub struct Inst {
 
 impl Model for Inst {
     ghost use Rattle.rn_model.specs.Markings.{Instance};
-    ghost use Rattle.rn_model.specs.MarkingCodes.{instance_code};
+    ghost use Rattle.rn_model.specs.link.MarkingCodes.{instance_code};
 
     ghost Value = { Instance };
 

@@ -1,7 +1,7 @@
 //! A page of the table with the words beside it.
 ghost use Rattle.std.specs.Prelude.{◌≡◌, ◌<◌, ◌++◌, ℕ, map, true, false, IfOk, IfSome, IfNone};
 ghost use Rattle.std.specs.Option.{option_copied};
-ghost use Rattle.rn_table.specs.Leaves.{Ascending, IsLeaf, bit_of, kept_in, numbered};
+ghost use Rattle.rn_table.specs.link.Leaves.{Ascending, IsLeaf, bit_of, kept_in, numbered};
 ghost use Rattle.rn_bag.specs.Words.{has_bit};
 
 use crate::instance::Inst;
@@ -30,7 +30,7 @@ pub(crate) struct Leaf<'a> {
 impl<'a> Model for Leaf<'a> {
     ghost use Rattle.std.specs.Prelude.{[]};
     ghost use Rattle.std.specs.Option.{option_map_or};
-    ghost use Rattle.rn_table.specs.Leaves.{Leaf as Seen, leaf_code};
+    ghost use Rattle.rn_table.specs.link.Leaves.{Leaf as Seen, leaf_code};
 
     ghost Value = { Seen };
 

@@ -3,8 +3,8 @@ ghost use Rattle.std.specs.Prelude.{◌≡◌, ◌<◌, ◌++◌, ◌≢◌, ◌
 ghost use Rattle.std.specs.List.{AllByRecursion};
 ghost use Rattle.std.specs.Option.{option_map_or};
 ghost use Rattle.rn_bag.specs.Words.{has_bit};
-ghost use Rattle.rn_table.specs.Leaves.{HasSortedPlaces, IsLeaf, Leaf as Seen, held_at, leaf_with, leaves_by, page_of};
-ghost use Rattle.rn_table.specs.LeafSteps.{IsDropped, IsEdited, IsGrown, OneChanges};
+ghost use Rattle.rn_table.specs.link.Leaves.{HasSortedPlaces, IsLeaf, Leaf as Seen, held_at, leaf_with, leaves_by, page_of};
+ghost use Rattle.rn_table.specs.link.LeafSteps.{IsDropped, IsEdited, IsGrown, OneChanges};
 ghost use Rattle.rn_table.specs.declared.leaf.Words.{Words as PageWords};
 
 use crate::dir::{Dir, PAGES, add_to, copy_dir, edit_in, give_up_page, page_in};
@@ -31,7 +31,7 @@ impl Model for Leaves {
     ghost use Rattle.std.specs.Prelude.{◌≤◌, ◌*◌, List, [], length, map};
     ghost use Rattle.std.specs.Coded.{coded_list};
     ghost use Rattle.std.specs.Option.{option_map_or};
-    ghost use Rattle.rn_table.specs.Leaves.{Leaf as Seen, held_at, leaf_code, leaves_by};
+    ghost use Rattle.rn_table.specs.link.Leaves.{Leaf as Seen, held_at, leaf_code, leaves_by};
     ghost use Rattle.rn_table.specs.declared.dir.TheConstants.{PAGES};
 
     ghost Value = { List Seen };

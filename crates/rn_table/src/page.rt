@@ -4,9 +4,9 @@ ghost use Rattle.std.specs.List.{AllByRecursion};
 ghost use Rattle.std.specs.Option.{option_copied, option_map_or};
 ghost use Rattle.rn_model.specs.Markings.{Instance};
 ghost use Rattle.rn_bag.specs.Words.{has_bit};
-ghost use Rattle.rn_table.specs.Leaves.{Ascending, bit_of, has_number, held_if, numbered};
-ghost use Rattle.rn_table.specs.LeafSteps.{Grows, HoldsAfterStep};
-ghost use Rattle.rn_table.specs.Steps.{after_step};
+ghost use Rattle.rn_table.specs.link.Leaves.{Ascending, bit_of, has_number, held_if, numbered};
+ghost use Rattle.rn_table.specs.link.LeafSteps.{Grows, HoldsAfterStep};
+ghost use Rattle.rn_table.specs.link.Steps.{after_step};
 
 use crate::edits::Edit;
 use crate::instance::Inst;
@@ -26,7 +26,7 @@ impl Model for Page {
     ghost use Rattle.std.specs.Prelude.{List, map};
     ghost use Rattle.std.specs.Coded.{coded_list};
     ghost use Rattle.rn_model.specs.Markings.{Instance};
-    ghost use Rattle.rn_model.specs.MarkingCodes.{instance_code};
+    ghost use Rattle.rn_model.specs.link.MarkingCodes.{instance_code};
 
     ghost Value = { List Instance };
 

@@ -3,8 +3,8 @@ ghost use Rattle.std.specs.Prelude.{◌≡◌, ◌<◌, ◌≤◌, ◌+◌, ◌*
 ghost use Rattle.std.specs.List.{AllByRecursion};
 ghost use Rattle.rn_model.specs.Markings.{fresh_instance};
 ghost use Rattle.rn_table.specs.Changes.{new_from};
-ghost use Rattle.rn_table.specs.Leaves.{Ascending, HasSortedPlaces, IsTable, instances_in, page_of, starting_from};
-ghost use Rattle.rn_table.specs.Steps.{after_step, after_steps};
+ghost use Rattle.rn_table.specs.link.Leaves.{Ascending, HasSortedPlaces, IsTable, instances_in, page_of, starting_from};
+ghost use Rattle.rn_table.specs.link.Steps.{after_step, after_steps};
 ghost use Rattle.rn_table.specs.Tables.{started};
 ghost use Rattle.rn_model.specs.Limits.{greatest_instance};
 

@@ -2,8 +2,8 @@
 ghost use Rattle.std.specs.Prelude.{◌≡◌, map, slice_get, IfOk, OnOk};
 ghost use Rattle.std.specs.Option.{option_copied};
 ghost use Rattle.rn_model.specs.Lists.{ordered_values};
-ghost use Rattle.rn_table.specs.Chunks.{AreChunks, joined};
-ghost use Rattle.rn_table.specs.Steps.{with_step};
+ghost use Rattle.rn_table.specs.link.Chunks.{AreChunks, joined};
+ghost use Rattle.rn_table.specs.link.Steps.{with_step};
 
 use crate::chunk::{PlaceChunk, copy_all, edit_chunk};
 use crate::edits::Edit;
@@ -36,7 +36,7 @@ impl Model for InstancePlaces {
     ghost use Rattle.std.specs.Coded.{coded_list};
     ghost use Rattle.rn_value.specs.declared.value.Value.{Value as Token};
     ghost use Rattle.rn_value.specs.contracts.value.Value as token;
-    ghost use Rattle.rn_table.specs.Forms.{IsChunked, places_in};
+    ghost use Rattle.rn_table.specs.link.Forms.{IsChunked, places_in};
 
     ghost Value = { List (List Token) };
 

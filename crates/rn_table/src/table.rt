@@ -7,7 +7,7 @@ ghost use Rattle.rn_model.specs.declared.system.System.{System};
 ghost use Rattle.rn_model.specs.Markings.{Instance, IsThere, initial_marking, instance_at, net_of, tokens_at};
 ghost use Rattle.rn_model.specs.Limits.{greatest_instance};
 ghost use Rattle.rn_table.specs.Changes.{MayCome, changed};
-ghost use Rattle.rn_table.specs.Leaves.{stays};
+ghost use Rattle.rn_table.specs.Staying.{stays};
 ghost use Rattle.rn_table.specs.Tables.{IsTableOf, started};
 
 use crate::change::Change;
@@ -37,7 +37,7 @@ pub struct Table {
 }
 
 impl Model for Table {
-    ghost use Rattle.rn_table.specs.Leaves.{IsTable, instances_in, starting_from};
+    ghost use Rattle.rn_table.specs.link.Leaves.{IsTable, instances_in, starting_from};
     ghost use Rattle.rn_table.specs.Tables.{Kept, kept_code};
 
     ghost Value = { Kept };

@@ -11,7 +11,7 @@ use Rattle.rn_term.specs.declared.term.Term.TheVariants as T
 use Rattle.rn_term.specs.Stores.{State, term_at, IsBuiltBelow}
 use Rattle.rn_term.specs.Assignments.{Keeps}
 use Rattle.rn_term.specs.Occurring.{Occurs, parts_of}
-use Rattle.rn_term.specs.Kept.{AreFlags, IsBuiltOfFlagged, IsClosed, IsFlagged}
+use Rattle.rn_term.specs.link.Kept.{AreFlags, IsBuiltOfFlagged, IsClosed, IsFlagged}
 use Rattle.rn_term.proofs.AssignmentLemmas.{link_within}
 use Rattle.rn_term.proofs.Parts.{parts_below}
 

@@ -12,7 +12,7 @@ use Rattle.rn_term.specs.declared.term.Term.{Term}
 use Rattle.rn_term.specs.declared.term.Term.TheVariants as T
 use Rattle.rn_term.specs.Stores.{State, term_at, link_of, Leads, IsBuiltBelow, with_term, with_note}
 use Rattle.rn_term.specs.Assignments.{Keeps}
-use Rattle.rn_term.specs.Kept.{AreFloors, AreLowered, IsLowAlong, floor_of}
+use Rattle.rn_term.specs.link.Kept.{AreFloors, AreLowered, IsLowAlong, floor_of}
 use Rattle.rn_term.proofs.Following.{leads_within}
 use Rattle.rn_term.proofs.LinkLemmas.{link-here, link-other}
 use Rattle.rn_term.proofs.LinkRanks.{leads-more}

@@ -5,7 +5,7 @@ use Rattle.std.proofs.lemmas.List.{get_or_read}
 use Rattle.rn_term.specs.declared.term.Term.{Term}
 use Rattle.rn_term.specs.Stores.{State, link_of, Leads}
 use Rattle.rn_term.specs.Assignments.{Keeps}
-use Rattle.rn_term.specs.Kept.{KeepsAll}
+use Rattle.rn_term.specs.link.Kept.{KeepsAll}
 use Rattle.rn_term.proofs.AssignmentLemmas.{link_within}
 use Rattle.rn_term.proofs.Extents.{extent, extent-bound}
 

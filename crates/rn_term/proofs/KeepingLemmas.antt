@@ -12,9 +12,9 @@ use Rattle.rn_term.specs.declared.term.Term.{Term}
 use Rattle.rn_term.specs.declared.term.Term.TheVariants as T
 use Rattle.rn_term.specs.Stores.{State, link_of, IsBuiltBelow, with_term, with_note}
 use Rattle.rn_term.specs.Assignments.{HasListTail, MayBeOne, IsNote, Keeps}
-use Rattle.rn_term.specs.Kept.{KeepsAll, AreLastLists, last_cons, or_cons}
-use Rattle.rn_term.specs.Kept.{AreFlags, AreLevels, IsBuiltOfFlagged, IsFlagged, level_of}
-use Rattle.rn_term.specs.Kept.{AreFloors, AreLowered, IsLowAlong, floor_of}
+use Rattle.rn_term.specs.link.Kept.{KeepsAll, AreLastLists, last_cons, or_cons}
+use Rattle.rn_term.specs.link.Kept.{AreFlags, AreLevels, IsBuiltOfFlagged, IsFlagged, level_of}
+use Rattle.rn_term.specs.link.Kept.{AreFloors, AreLowered, IsLowAlong, floor_of}
 use Rattle.rn_term.proofs.Closed.{flags_with_term, flags_of_fewer_terms}
 use Rattle.rn_term.proofs.Floors.{floors_with_term, floors_with_note, floors_of_fewer_terms}
 use Rattle.rn_term.proofs.LevelLemmas.{levels_with_term, levels_with_note, levels_of_fewer_terms}

@@ -7,7 +7,7 @@ use Rattle.std.proofs.lemmas.List.{get_or_read}
 use Rattle.rn_term.specs.declared.term.Term.{Term}
 use Rattle.rn_term.specs.declared.term.Term.TheVariants as T
 use Rattle.rn_term.specs.Stores.{State, term_at}
-use Rattle.rn_term.specs.Kept.{HasNoListBelow, KeepsAll, last_cons, or_cons}
+use Rattle.rn_term.specs.link.Kept.{HasNoListBelow, KeepsAll, last_cons, or_cons}
 use Rattle.rn_term.proofs.ReadingLemmas.{EndsElsewhere}
 use Rattle.rn_term.proofs.FreeVariables.{cons_within}
 

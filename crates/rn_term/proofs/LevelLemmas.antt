@@ -18,7 +18,7 @@ use Rattle.rn_term.specs.declared.term.Term.TheVariants as T
 use Rattle.rn_term.specs.Stores.{State, term_at, link_of, with_term, with_note}
 use Rattle.rn_term.specs.Assignments.{Keeps}
 use Rattle.rn_term.specs.Occurring.{Occurs, parts_of}
-use Rattle.rn_term.specs.Kept.{AreFlags, AreLevels, IsFlagged, IsUnder, level_of}
+use Rattle.rn_term.specs.link.Kept.{AreFlags, AreLevels, IsFlagged, IsUnder, level_of}
 use Rattle.rn_term.proofs.AssignmentLemmas.{link_within}
 use Rattle.rn_term.proofs.Bulks.{bulk, bulk-is, total_of, total_of-append}
 use Rattle.rn_term.proofs.Closed.{flagged_is_closed}

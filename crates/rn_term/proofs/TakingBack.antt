@@ -6,7 +6,7 @@ use Rattle.std.specs.Prelude.{Option, None}
 use Rattle.std.proofs.lemmas.List.{get_or-take, length-set, take-take}
 use Rattle.std.proofs.Math.Seq.{take-append_seam, get_or-append_seam}
 use Rattle.rn_term.specs.Stores.{link_of}
-use Rattle.rn_term.specs.Kept.{IsFresh}
+use Rattle.rn_term.specs.link.Kept.{IsFresh}
 use Rattle.rn_term.proofs.LinkLemmas.{unset_link}
 
 -- how far the notes were taken back, and the links of those that are left

@@ -10,7 +10,7 @@ use Rattle.rn_term.specs.declared.seen.Seen.{Seen}
 use Rattle.rn_term.specs.Stores.{State, term_at, link_of, Leads}
 use Rattle.rn_term.specs.Assignments.{Keeps}
 use Rattle.rn_term.specs.Occurring.{parts_of, Occurs, IsFree, IsSoughtHere, HasSought}
-use Rattle.rn_term.specs.Seen.{IsSeen}
+use Rattle.rn_term.specs.link.Seen.{IsSeen}
 use Rattle.rn_term.proofs.AssignmentLemmas.{link_within}
 use Rattle.rn_term.proofs.Bulks.{bulk, bulk-parts, bulk-leads, total_of, total_of-append}
 use Rattle.rn_term.proofs.Occurrences.{by_parts, leads_occurs, leads_past, occurs-through}

@@ -1,9 +1,8 @@
+pub mod link
 pub mod Assignments
 pub mod Forcing
 pub mod GroundTerms
-pub mod Kept
 pub mod Laws
 pub mod Occurring
-pub mod Seen
 pub mod Stores
 pub mod Undoing

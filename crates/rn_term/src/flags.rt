@@ -1,6 +1,6 @@
 //! Flags of terms in which no variable stands, so that none is looked for there.
 ghost use Rattle.std.specs.Prelude.{◌↔◌, All, IsTrue};
-ghost use Rattle.rn_term.specs.Kept.{IsBuiltOfFlagged, IsFlagged};
+ghost use Rattle.rn_term.specs.link.Kept.{IsBuiltOfFlagged, IsFlagged};
 
 use crate::term::{Ids, Term};
 

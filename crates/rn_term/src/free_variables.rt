@@ -1,7 +1,7 @@
 //! Looking for free variables in a term: each shared term is gone through once.
 ghost use Rattle.std.specs.Prelude.{◌≡◌, ◌↔◌, ◌⊎◌, ◌<◌, ◌++◌, length, IsTrue, IfOk};
 ghost use Rattle.rn_term.specs.Assignments.{Keeps};
-ghost use Rattle.rn_term.specs.Seen.{IsSeen};
+ghost use Rattle.rn_term.specs.link.Seen.{IsSeen};
 ghost use Rattle.rn_term.specs.Occurring.{HasSought, IsFree, IsSoughtHere, Occurs, parts_of};
 
 use crate::seen::Seen;

@@ -5,7 +5,7 @@
 ghost use Rattle.std.specs.Prelude.{◌≡◌, ◌<◌, ◌≤◌, ◌⊎◌, ◌++◌, ℕ, length, IfOk, IsTrue};
 ghost use Rattle.std.specs.Prelude.{false, option_to_list};
 ghost use Rattle.rn_term.specs.Assignments.{Keeps};
-ghost use Rattle.rn_term.specs.Kept.{AreLevels, AreLinks, IsFlagged, level_of};
+ghost use Rattle.rn_term.specs.link.Kept.{AreLevels, AreLinks, IsFlagged, level_of};
 
 use crate::flags::is_flagged;
 use crate::free_variables::push_parts;

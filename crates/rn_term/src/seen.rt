@@ -1,6 +1,6 @@
 //! Ids that a walk through terms has seen, so that it goes through each shared term once.
 ghost use Rattle.std.specs.Prelude.{◌≡◌, ◌↔◌, ◌⊎◌, ℕ, IsTrue};
-ghost use Rattle.rn_term.specs.Seen.{IsSeen};
+ghost use Rattle.rn_term.specs.link.Seen.{IsSeen};
 
 use rn_value::NoMemory;
 use std::alloc::Global;

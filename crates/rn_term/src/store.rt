@@ -8,8 +8,8 @@ ghost use Rattle.rn_value.specs.declared.value.Value.{Value};
 ghost use Rattle.rn_term.specs.Stores.{link_of, term_at, Leads, IsBuiltBelow, with_term, with_note};
 ghost use Rattle.rn_term.specs.Assignments.{Satisfies, value_at, HasListTail, MayBeOne, Keeps};
 ghost use Rattle.rn_term.specs.Occurring.{IsFree, Occurs};
-ghost use Rattle.rn_term.specs.Kept.{AreFresh, AreLinks, floor_of, last_cons, or_cons};
-ghost use Rattle.rn_term.specs.Kept.{AreLowered, HasNoListBelow, IsClosed, IsLowAlong};
+ghost use Rattle.rn_term.specs.link.Kept.{AreFresh, AreLinks, floor_of, last_cons, or_cons};
+ghost use Rattle.rn_term.specs.link.Kept.{AreLowered, HasNoListBelow, IsClosed, IsLowAlong};
 ghost use Rattle.rn_term.specs.Undoing.{Rolled, mark_of, IsNotLater, LeavesEarlier};
 
 use crate::flags::{is_built_of_flagged, is_flagged};
@@ -47,7 +47,7 @@ impl Model for Store {
 
     ghost view = { λ s. record { terms = s.terms.items; notes = s.notes.items } };
 
-    ghost use Rattle.rn_term.specs.Kept.{KeepsAll};
+    ghost use Rattle.rn_term.specs.link.Kept.{KeepsAll};
 
     ghost invariant = { λ s. KeepsAll s.terms.items s.links.items s.lists.items s.floors.items
         s.flags.items s.levels.items s.notes.items };

@@ -2,7 +2,7 @@
 use Rattle.std.proofs.Common.{◌≡◌, ℕ, zero, suc, ◌+◌, ◌-◌, ◌<◌, ◌≤◌, Bool, false, cond, List, [], ◌∷◌, ◌++◌, drop, sym, ap, ◌∙◌, append_assoc, arith}
 use Rattle.std.proofs.lemmas.List.{append-nil, map-append}
 use Rattle.rn_told.specs.Paths.{children_from}
-use Rattle.rn_told.specs.DueAhead.{numbers, later}
+use Rattle.rn_told.specs.link.DueAhead.{numbers, later}
 use Rattle.rn_told.specs.declared.level.Level.{Level}
 
 -- with one more step

@@ -12,7 +12,7 @@ use Rattle.rn_lines.specs.LineText.{LineSaid}
 use Rattle.rn_lines.specs.NodeText.{NodeSaid}
 use Rattle.rn_told.specs.Paths.{children}
 use Rattle.rn_told.specs.Nodes.{is_step, Placed, Stop, nodes_from, with_node, placed_at, count_called}
-use Rattle.rn_told.specs.NodesAhead.{with_nodes}
+use Rattle.rn_told.specs.link.NodesAhead.{with_nodes}
 use Rattle.rn_told.specs.declared.role.Role.{Role}
 
 -- a test of a step's digits

@@ -8,10 +8,10 @@ use Rattle.rn_model.specs.declared.log.Entry.{Entry}
 use Rattle.rn_model.specs.declared.log.MarkLine.{MarkLine}
 use Rattle.rn_model.specs.Good.{Good, IsGoodNet}
 use Rattle.rn_lines.specs.LineText.{LineSaid}
-use Rattle.rn_lookup.specs.Tables.{AreFew}
+use Rattle.rn_lookup.specs.link.Tables.{AreFew}
 use Rattle.rn_lookup.specs.declared.refusal.Refusal.{Refusal}
 use Rattle.rn_told.specs.Runs.{Verdict, with_entry, Tells, bytes_after, first_made}
-use Rattle.rn_told.specs.RunsAhead.{with_entries, FaultTells}
+use Rattle.rn_told.specs.link.RunsAhead.{with_entries, FaultTells}
 use Rattle.rn_told.specs.declared.fault.RecordFault.{RecordFault}
 
 -- the parts of the nets of a good system can be counted

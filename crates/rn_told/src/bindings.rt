@@ -2,9 +2,9 @@
 ghost use Rattle.std.specs.Prelude.{◌≡◌, IfOk, map};
 ghost use Rattle.rn_model.specs.Good.{Good};
 ghost use Rattle.rn_model.specs.Firing.{renamed_value};
-ghost use Rattle.rn_lines.specs.NodeSeen.{given};
+ghost use Rattle.rn_lines.specs.link.NodeSeen.{given};
 ghost use Rattle.rn_told.specs.Bindings.{unnumbered, told_node, told_binding};
-ghost use Rattle.rn_told.specs.NodesAhead.{placed};
+ghost use Rattle.rn_told.specs.link.NodesAhead.{placed};
 
 use crate::maker::Maker;
 use crate::makers::{makers_of, reference};

@@ -2,11 +2,11 @@
 ghost use Rattle.std.specs.Prelude.{◌≡◌, ◌++◌, OnOk, option_map, map};
 ghost use Rattle.rn_model.specs.Systems.{transition_at};
 ghost use Rattle.rn_lookup.specs.Found.{node_is_called};
-ghost use Rattle.rn_lines.specs.NodeSeen.{node};
+ghost use Rattle.rn_lines.specs.link.NodeSeen.{node};
 ghost use Rattle.rn_told.specs.Called.{nets_by, nets_made, count_of_called, late_refusal};
 ghost use Rattle.rn_told.specs.Called.{nodes_fault};
-ghost use Rattle.rn_told.specs.CalledAhead.{bad_at};
-ghost use Rattle.rn_told.specs.NodesAhead.{placed, stop};
+ghost use Rattle.rn_told.specs.link.CalledAhead.{bad_at};
+ghost use Rattle.rn_told.specs.link.NodesAhead.{placed, stop};
 
 use crate::nodes::{NodesEnd, NodesRead, PlacedNode};
 use rn_lines::ReadNode;

@@ -1,7 +1,7 @@
 //! Which nodes of a binding are due, by the downlinks of those before.
 ghost use Rattle.std.specs.Prelude.{◌≡◌, ◌++◌, [], ◌∷◌, false, IfOk, OnOk, drop};
 ghost use Rattle.rn_told.specs.Paths.{children, is_root};
-ghost use Rattle.rn_told.specs.DueAhead.{due_paths, path_due};
+ghost use Rattle.rn_told.specs.link.DueAhead.{due_paths, path_due};
 
 use crate::level::Level;
 use rn_items::Items;

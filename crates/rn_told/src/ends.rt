@@ -1,13 +1,13 @@
 //! The end of a record, and its marks.
 ghost use Rattle.std.specs.Prelude.{◌≡◌, ◌<◌, ◌+◌, ◌^◌, IfOk, length, map};
 ghost use Rattle.rn_model.specs.Good.{Good};
-ghost use Rattle.rn_lookup.specs.Tables.{IsDirectoryOf};
+ghost use Rattle.rn_lookup.specs.link.Tables.{IsDirectoryOf};
 ghost use Rattle.rn_told.specs.Lines.{lines_in};
 ghost use Rattle.rn_told.specs.Marks.{marks_from};
 ghost use Rattle.rn_told.specs.Nodes.{Stop};
-ghost use Rattle.rn_told.specs.NodesAhead.{placed};
+ghost use Rattle.rn_told.specs.link.NodesAhead.{placed};
 ghost use Rattle.rn_told.specs.Runs.{Verdict, with_marks, after_fault, fault_read, end_read};
-ghost use Rattle.rn_told.specs.RunsAhead.{end_verdict};
+ghost use Rattle.rn_told.specs.link.RunsAhead.{end_verdict};
 
 use crate::bindings::told_binding;
 use crate::called::{BadLine, nodes_fault, push_made};

@@ -1,9 +1,9 @@
 //! The entries of a record, one after the other.
 ghost use Rattle.std.specs.Prelude.{◌<◌, ◌+◌, ◌^◌, IfOk, length};
 ghost use Rattle.rn_model.specs.Good.{Good};
-ghost use Rattle.rn_lookup.specs.Tables.{IsDirectoryOf};
+ghost use Rattle.rn_lookup.specs.link.Tables.{IsDirectoryOf};
 ghost use Rattle.rn_told.specs.Lines.{lines_in};
-ghost use Rattle.rn_told.specs.RunsAhead.{EntryTells};
+ghost use Rattle.rn_told.specs.link.RunsAhead.{EntryTells};
 
 use crate::ends::{EndRead, bad_line, read_end};
 use crate::firings::{FiringRead, read_firing};

@@ -1,12 +1,12 @@
 //! The firings of a record.
 ghost use Rattle.std.specs.Prelude.{◌≡◌, ◌<◌, ◌+◌, ◌^◌, ℕ, List, IfOk, length, map};
 ghost use Rattle.rn_model.specs.Good.{Good};
-ghost use Rattle.rn_lookup.specs.Tables.{IsDirectoryOf};
+ghost use Rattle.rn_lookup.specs.link.Tables.{IsDirectoryOf};
 ghost use Rattle.rn_told.specs.Lines.{lines_in};
 ghost use Rattle.rn_told.specs.Prints.{prints_from};
 ghost use Rattle.rn_told.specs.Firings.{with_prints, firing_read};
-ghost use Rattle.rn_told.specs.FiringsAhead.{ReadsFiring};
-ghost use Rattle.rn_told.specs.NodesAhead.{placed};
+ghost use Rattle.rn_told.specs.link.FiringsAhead.{ReadsFiring};
+ghost use Rattle.rn_told.specs.link.NodesAhead.{placed};
 
 use crate::bindings::told_binding;
 use crate::called::{BadLine, nodes_fault, push_made};

@@ -1,6 +1,6 @@
 //! The values of a mark, by the format of the record.
 ghost use Rattle.std.specs.Prelude.{◌≡◌, ◌≤◌, ◌<◌, ◌^◌, IfOk, map, nat_le, if◌then◌else◌, Some, None};
-ghost use Rattle.rn_lines.specs.LinesSeen.{item};
+ghost use Rattle.rn_lines.specs.link.LinesSeen.{item};
 ghost use Rattle.rn_told.specs.Marks.{are_single, parted_from, are_parted, fits_format};
 ghost use Rattle.rn_told.specs.Marks.{counted_after, most_told_values, size_of, values_told};
 

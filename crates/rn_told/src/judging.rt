@@ -1,13 +1,13 @@
 //! Single lines where a node is due.
 ghost use Rattle.std.specs.Prelude.{◌≡◌, ◌<◌, IfOk, option_map};
 ghost use Rattle.std.specs.Prelude.{ℕ, List};
-ghost use Rattle.rn_lines.specs.LinesSeen.{lead, line};
-ghost use Rattle.rn_lines.specs.NodeSeen.{node};
-ghost use Rattle.rn_lookup.specs.Tables.{IsDirectoryOf};
+ghost use Rattle.rn_lines.specs.link.LinesSeen.{lead, line};
+ghost use Rattle.rn_lines.specs.link.NodeSeen.{node};
+ghost use Rattle.rn_lookup.specs.link.Tables.{IsDirectoryOf};
 ghost use Rattle.rn_told.specs.Lines.{lines_in};
 ghost use Rattle.rn_told.specs.Nodes.{is_step, own_node, node_due, judged_node};
 ghost use Rattle.rn_told.specs.Paths.{is_root};
-ghost use Rattle.rn_told.specs.NodesAhead.{Judges, ReadsNode, LeavesLess};
+ghost use Rattle.rn_told.specs.link.NodesAhead.{Judges, ReadsNode, LeavesLess};
 
 use crate::lines::{Next, next_line};
 use crate::role::Role;

@@ -1,7 +1,7 @@
 //! The lines of a record, one after the other.
 ghost use Rattle.std.specs.Prelude.{◌<◌, IfOk};
 ghost use Rattle.rn_told.specs.Lines.{lines_in};
-ghost use Rattle.rn_told.specs.LinesAhead.{ComesFirst, IsShorter};
+ghost use Rattle.rn_told.specs.link.LinesAhead.{ComesFirst, IsShorter};
 
 use rn_lines::{Line, Unread, first_line, read_line};
 use rn_value::NoMemory;

@@ -3,7 +3,7 @@ ghost use Rattle.std.specs.Prelude.{◌≡◌, ◌≤◌, ◌++◌, OnOk, IfOk, 
 ghost use Rattle.std.specs.List.{enumerate_from};
 ghost use Rattle.rn_model.specs.Good.{Good};
 ghost use Rattle.rn_told.specs.Bindings.{makers_by, makers_of, reference};
-ghost use Rattle.rn_told.specs.NodesAhead.{placed};
+ghost use Rattle.rn_told.specs.link.NodesAhead.{placed};
 
 use crate::maker::Maker;
 use crate::nodes::PlacedNode;

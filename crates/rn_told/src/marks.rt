@@ -1,9 +1,9 @@
 //! The marks at the end of a record, line by line.
 ghost use Rattle.std.specs.Prelude.{◌≡◌, ◌≤◌, IfOk};
-ghost use Rattle.rn_lookup.specs.Tables.{IsDirectoryOf};
+ghost use Rattle.rn_lookup.specs.link.Tables.{IsDirectoryOf};
 ghost use Rattle.rn_told.specs.Lines.{lines_in};
 ghost use Rattle.rn_told.specs.Marks.{most_told_values, marks_from};
-ghost use Rattle.rn_told.specs.MarksAhead.{mark, MarkJudged, MarkSteps, LeavesLess};
+ghost use Rattle.rn_told.specs.link.MarksAhead.{mark, MarkJudged, MarkSteps, LeavesLess};
 
 use crate::items::{counted_after, fits_format, values_of};
 use crate::lines::{Next, next_line};

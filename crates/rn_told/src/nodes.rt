@@ -2,10 +2,10 @@
 ghost use Rattle.std.specs.Prelude.{◌≡◌, IfOk, length, map};
 ghost use Rattle.rn_model.specs.Good.{Good};
 ghost use Rattle.rn_model.specs.Systems.{transition_at};
-ghost use Rattle.rn_lookup.specs.Tables.{IsDirectoryOf};
+ghost use Rattle.rn_lookup.specs.link.Tables.{IsDirectoryOf};
 ghost use Rattle.rn_told.specs.Lines.{lines_in};
 ghost use Rattle.rn_told.specs.Nodes.{binding_lines};
-ghost use Rattle.rn_told.specs.NodesAhead.{placed, stop};
+ghost use Rattle.rn_told.specs.link.NodesAhead.{placed, stop};
 
 use crate::due::Due;
 use crate::judging::{NodeLine, judge_next};

@@ -1,7 +1,7 @@
 //! What begins at a line between entries.
 ghost use Rattle.std.specs.Prelude.{IfOk};
 ghost use Rattle.rn_told.specs.Lines.{lines_in};
-ghost use Rattle.rn_told.specs.RunsAhead.{OpensWith};
+ghost use Rattle.rn_told.specs.link.RunsAhead.{OpensWith};
 
 use crate::lines::{Next, next_line};
 use rn_lines::{Ending, Line};

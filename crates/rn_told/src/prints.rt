@@ -1,10 +1,10 @@
 //! The printed values of a firing, line by line.
 ghost use Rattle.std.specs.Prelude.{◌≡◌, IfOk, Some};
-ghost use Rattle.rn_lines.specs.LinesSeen.{lead, token};
-ghost use Rattle.rn_lookup.specs.Tables.{IsDirectoryOf};
+ghost use Rattle.rn_lines.specs.link.LinesSeen.{lead, token};
+ghost use Rattle.rn_lookup.specs.link.Tables.{IsDirectoryOf};
 ghost use Rattle.rn_told.specs.Lines.{lines_in};
 ghost use Rattle.rn_told.specs.Prints.{judged_print, prints_from};
-ghost use Rattle.rn_told.specs.PrintsAhead.{print, prints_end, PrintSteps, LeavesLess};
+ghost use Rattle.rn_told.specs.link.PrintsAhead.{print, prints_end, PrintSteps, LeavesLess};
 
 use crate::judging::is_step;
 use crate::lines::{Next, next_line};

@@ -6,7 +6,7 @@ ghost use Rattle.rn_record.specs.RecordText.{IsFormat, header_text};
 ghost use Rattle.rn_told.specs.Lines.{lines_in};
 ghost use Rattle.rn_told.specs.Runs.{Tells, TellsRecord, Verdict, longest_record};
 ghost use Rattle.rn_told.specs.Runs.{bytes_after, first_made};
-ghost use Rattle.rn_told.specs.RunsAhead.{FaultTells, RecordTells, end_verdict, with_entries};
+ghost use Rattle.rn_told.specs.link.RunsAhead.{FaultTells, RecordTells, end_verdict, with_entries};
 
 use crate::ends::EndRead;
 use crate::entries::{EntryRead, next_entry};

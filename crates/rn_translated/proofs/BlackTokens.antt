@@ -3,7 +3,7 @@ use Rattle.std.proofs.Common.{◌≡◌, ℕ, zero, suc, ◌-◌, ◌<◌, ◌�
 use Rattle.std.specs.Prelude.{Contains, slice_get, slice_index, unwrap_or}
 use Rattle.std.specs.Ordering.{is_lt}
 use Rattle.rn_value.specs.Order.{value_cmp}
-use Rattle.rn_value.specs.OrderLaws.{value_cmp-out}
+use Rattle.rn_value.specs.link.OrderLaws.{value_cmp-out}
 use Rattle.rn_value.specs.declared.value.Value.TheVariants as Value
 use Rattle.rn_model.specs.Lists.{same_value, count_of, with_value, ordered_values, without_one, without_each, IsWithin}
 use Rattle.rn_model.proofs.ValueLists.{one_if, count_of-cons}

@@ -15,9 +15,9 @@ use Rattle.rn_unify.specs.declared.equation.Equation.{Equation}
 use Rattle.rn_unify.specs.declared.equation.Other.{Other}
 use Rattle.rn_unify.specs.declared.equation.Other.TheVariants as O
 use Rattle.rn_unify.specs.declared.rests.Rest.{Rest}
-use Rattle.rn_unify.specs.Equations.{HasBefore, CanStand, GivesOther, IsFound}
-use Rattle.rn_unify.specs.Adding.{HasTail, IsPlaced}
-use Rattle.rn_unify.specs.Rests.{rest_value}
+use Rattle.rn_unify.specs.link.Equations.{HasBefore, CanStand, GivesOther, IsFound}
+use Rattle.rn_unify.specs.link.Adding.{HasTail, IsPlaced}
+use Rattle.rn_unify.specs.link.Rests.{rest_value}
 use Rattle.rn_unify.proofs.EarlierMarks.{IsGrown, term_stays}
 use Rattle.rn_unify.proofs.Becoming.{Stays}
 

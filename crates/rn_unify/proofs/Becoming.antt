@@ -10,7 +10,7 @@ use Rattle.rn_term.specs.Stores.{State, Leads, link_of, with_note}
 use Rattle.rn_term.specs.Assignments.{Satisfies}
 use Rattle.rn_term.proofs.AssignmentLemmas.{satisfies_note, satisfied_before}
 use Rattle.rn_term.proofs.Agreement.{leads-same}
-use Rattle.rn_unify.specs.Binding.{Becomes, prefix_of}
+use Rattle.rn_unify.specs.link.Binding.{Becomes, prefix_of}
 use Rattle.rn_unify.specs.Unifying.{AreOne}
 
 -- the prefix of an assignment of the store itself

@@ -11,11 +11,11 @@ use Rattle.rn_term.specs.Assignments.{Satisfies, MayBeOne, Keeps}
 use Rattle.rn_term.proofs.Occurrences.{end_is_here}
 use Rattle.rn_unify.specs.declared.equation.Equation.{Equation}
 use Rattle.rn_unify.specs.declared.equation.Other.TheVariants as O
-use Rattle.rn_unify.specs.Equations.{Solves, GivesOther, AreEachOne, AreWithin, IsFound, CanStand}
-use Rattle.rn_unify.specs.Equations.{IsOther}
-use Rattle.rn_unify.specs.Adding.{IsKnown, IsPlaced, Turns}
+use Rattle.rn_unify.specs.link.Equations.{Solves, GivesOther, AreEachOne, AreWithin, IsFound, CanStand}
+use Rattle.rn_unify.specs.link.Equations.{IsOther}
+use Rattle.rn_unify.specs.link.Adding.{IsKnown, IsPlaced, Turns}
 use Rattle.rn_unify.specs.declared.rests.Rest.{Rest}
-use Rattle.rn_unify.specs.Binding.{Becomes, IsSolved, free_number}
+use Rattle.rn_unify.specs.link.Binding.{Becomes, IsSolved, free_number}
 use Rattle.rn_unify.specs.Unifying.{AreOne}
 use Rattle.rn_unify.proofs.EarlierMarks.{IsGrown, grown, grown_not, grown_through}
 use Rattle.rn_unify.proofs.EarlierMarks.{term_stays}

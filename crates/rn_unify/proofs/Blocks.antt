@@ -19,8 +19,8 @@ use Rattle.rn_term.specs.Forcing.{IsList, items_of}
 use Rattle.rn_term.proofs.AssignmentLemmas.{parts_stay}
 use Rattle.rn_term.proofs.FillingSteps.{items_of-list}
 use Rattle.rn_unify.specs.declared.equation.Other.TheVariants as O
-use Rattle.rn_unify.specs.Equations.{IsOther}
-use Rattle.rn_unify.specs.Adding.{IsOf, MayStand, Turns, list_of}
+use Rattle.rn_unify.specs.link.Equations.{IsOther}
+use Rattle.rn_unify.specs.link.Adding.{IsOf, MayStand, Turns, list_of}
 use Rattle.rn_unify.proofs.Turning.{Wish, turns_same, turns_through, turns_with, split_last}
 use Rattle.rn_unify.proofs.AddedTerms.{list_tail}
 

@@ -16,8 +16,8 @@ use Rattle.rn_unify.specs.declared.equation.Equation.{Equation}
 use Rattle.rn_unify.specs.declared.equation.Other.{Other}
 use Rattle.rn_unify.specs.declared.equation.Other.TheVariants as O
 use Rattle.rn_unify.specs.declared.classes.Classes.{Classes}
-use Rattle.rn_unify.specs.Classes.{Fits}
-use Rattle.rn_unify.specs.Equations.{Finds, IsFound, CanStand, GivesOther, Solves, Adds, AreMade}
+use Rattle.rn_unify.specs.link.Classes.{Fits}
+use Rattle.rn_unify.specs.link.Equations.{Finds, IsFound, CanStand, GivesOther, Solves, Adds, AreMade}
 use Rattle.rn_unify.specs.Unifying.{AreOne}
 
 -- what is found of a wish is found of each other that is true exactly where it is

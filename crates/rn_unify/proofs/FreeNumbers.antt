@@ -10,7 +10,7 @@ use Rattle.rn_term.specs.declared.term.Term.TheVariants as T
 use Rattle.rn_term.specs.Stores.{State, term_at, link_of, with_term, with_note}
 use Rattle.rn_term.specs.Occurring.{IsFree}
 use Rattle.rn_term.proofs.LinkLemmas.{link-here, link-other}
-use Rattle.rn_unify.specs.Binding.{free_here, free_below, free_number}
+use Rattle.rn_unify.specs.link.Binding.{free_here, free_below, free_number}
 
 abbrev free_at : State → ℕ → ℕ
 free_at s id = free_here (term_at s id) (link_of s.notes id)

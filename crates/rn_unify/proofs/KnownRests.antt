@@ -12,10 +12,10 @@ use Rattle.rn_term.specs.Assignments.{value_at, Satisfies, Keeps}
 use Rattle.rn_term.specs.Forcing.{items_of}
 use Rattle.rn_unify.specs.declared.equation.Other.TheVariants as O
 use Rattle.rn_unify.specs.declared.rests.Rest.{Rest}
-use Rattle.rn_unify.specs.Equations.{IsOther}
-use Rattle.rn_unify.specs.Adding.{IsKnown, Turns}
-use Rattle.rn_unify.specs.Binding.{prefix_of}
-use Rattle.rn_unify.specs.Rests.{rest_value}
+use Rattle.rn_unify.specs.link.Equations.{IsOther}
+use Rattle.rn_unify.specs.link.Adding.{IsKnown, Turns}
+use Rattle.rn_unify.specs.link.Binding.{prefix_of}
+use Rattle.rn_unify.specs.link.Rests.{rest_value}
 use Rattle.rn_unify.proofs.EarlierMarks.{IsGrown, grown, term_stays}
 use Rattle.rn_unify.proofs.Turning.{Wish, turns_same}
 

@@ -16,7 +16,7 @@ use Rattle.rn_term.proofs.FillingSteps.{items_of-list}
 use Rattle.rn_term.proofs.OneValue.{said}
 use Rattle.rn_unify.specs.declared.rests.Rest.{Rest}
 use Rattle.rn_term.specs.Forcing.{items_of}
-use Rattle.rn_unify.specs.Rests.{IsRest, elements_of, rest_value}
+use Rattle.rn_unify.specs.link.Rests.{IsRest, elements_of, rest_value}
 
 -- a list is that of its elements
 pub list_of_items : (v : Value) → IsList v → v ≡ Value.List (items_of v)

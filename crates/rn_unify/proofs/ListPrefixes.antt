@@ -11,7 +11,7 @@ use Rattle.rn_term.specs.declared.term.Term.TheVariants as T
 use Rattle.rn_term.specs.Stores.{State, term_at}
 use Rattle.rn_term.specs.Assignments.{value_at, Satisfies, Keeps}
 use Rattle.rn_unify.specs.declared.rests.Rest.{Rest}
-use Rattle.rn_unify.specs.Rests.{IsRest, elements_of, rest_value}
+use Rattle.rn_unify.specs.link.Rests.{IsRest, elements_of, rest_value}
 use Rattle.rn_unify.proofs.ListPositions.{built_at, rest-prefix}
 
 -- the elements of a slice from one on

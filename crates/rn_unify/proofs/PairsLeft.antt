@@ -2,7 +2,7 @@
 use Rattle.std.proofs.Common.{◌≤◌, ℕ, List, [], ◌∷◌, arith, length, sym, ◌∙◌}
 use Rattle.rn_term.specs.Stores.{State}
 use Rattle.rn_term.proofs.AssignmentLemmas.{value_stays}
-use Rattle.rn_unify.specs.Equations.{AreEachOne, AreWithin}
+use Rattle.rn_unify.specs.link.Equations.{AreEachOne, AreWithin}
 use Rattle.rn_unify.proofs.Becoming.{Stays}
 
 -- pairs of a store are pairs of a greater one

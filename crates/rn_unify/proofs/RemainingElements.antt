@@ -13,7 +13,7 @@ use Rattle.rn_term.specs.Assignments.{value_at, HasValue, Satisfies, Keeps}
 use Rattle.rn_term.specs.Forcing.{IsAlwaysList}
 use Rattle.rn_unify.specs.declared.rests.Rest.{Rest}
 use Rattle.rn_term.specs.Forcing.{items_of}
-use Rattle.rn_unify.specs.Rests.{IsRest, IsSpelled, elements_of, rest_value}
+use Rattle.rn_unify.specs.link.Rests.{IsRest, IsSpelled, elements_of, rest_value}
 use Rattle.rn_term.proofs.OneValue.{said}
 use Rattle.rn_unify.proofs.ListPositions.{rest-List, rest-Cons}
 

@@ -10,7 +10,7 @@ use Rattle.rn_term.specs.Occurring.{parts_of}
 use Rattle.rn_term.proofs.Extents.{extent, extent-parts, extent-tail, greatest, greatest-append}
 use Rattle.rn_term.proofs.Following.{extent-leads}
 use Rattle.rn_unify.specs.declared.rests.Rest.{Rest}
-use Rattle.rn_unify.specs.Rests.{IsRest, IsFurther, elements_of}
+use Rattle.rn_unify.specs.link.Rests.{IsRest, IsFurther, elements_of}
 use Rattle.rn_unify.proofs.ListPositions.{built_at}
 use Rattle.rn_unify.proofs.RemainingElements.{AreLeft}
 

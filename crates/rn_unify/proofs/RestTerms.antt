@@ -19,9 +19,9 @@ use Rattle.rn_term.proofs.OneValue.{said}
 use Rattle.rn_unify.specs.declared.equation.Equation.{Equation}
 use Rattle.rn_unify.specs.declared.equation.Other.TheVariants as O
 use Rattle.rn_unify.specs.declared.rests.Rest.{Rest}
-use Rattle.rn_unify.specs.Equations.{CanStand, Finds, HasBefore, IsOther, IsSource, left_other}
-use Rattle.rn_unify.specs.Adding.{IsOf, Turns, list_of}
-use Rattle.rn_unify.specs.Rests.{IsRest, elements_of, rest_value}
+use Rattle.rn_unify.specs.link.Equations.{CanStand, Finds, HasBefore, IsOther, IsSource, left_other}
+use Rattle.rn_unify.specs.link.Adding.{IsOf, Turns, list_of}
+use Rattle.rn_unify.specs.link.Rests.{IsRest, elements_of, rest_value}
 use Rattle.rn_unify.proofs.Findings.{finds_noted}
 use Rattle.rn_unify.proofs.ListPositions.{list_of_items, rest-List, rest-Cons, tail_is_list}
 use Rattle.rn_unify.proofs.TermEquations.{IsNoted}

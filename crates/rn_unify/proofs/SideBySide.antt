@@ -16,8 +16,8 @@ use Rattle.rn_term.proofs.Extents.{extent}
 use Rattle.rn_unify.specs.declared.equation.Equation.{Equation}
 use Rattle.rn_unify.specs.declared.rests.Rest.{Rest}
 use Rattle.rn_unify.specs.declared.classes.Classes.{Classes}
-use Rattle.rn_unify.specs.Equations.{Finds, Adds, AreMade, IsFound, Solves}
-use Rattle.rn_unify.specs.Rests.{IsRest, IsFurther, IsSpelled, rest_value}
+use Rattle.rn_unify.specs.link.Equations.{Finds, Adds, AreMade, IsFound, Solves}
+use Rattle.rn_unify.specs.link.Rests.{IsRest, IsFurther, IsSpelled, rest_value}
 use Rattle.rn_unify.specs.Unifying.{AreOne}
 use Rattle.rn_unify.proofs.Findings.{adds_same, adds_then, adds_found, adds_never, finds_answer}
 use Rattle.rn_unify.proofs.ListPrefixes.{joined}

@@ -8,8 +8,8 @@ use Rattle.rn_term.specs.Stores.{State, Leads, term_at, with_note}
 use Rattle.rn_term.specs.Assignments.{Satisfies, value_at}
 use Rattle.rn_term.specs.Occurring.{IsFree}
 use Rattle.rn_term.proofs.Agreement.{leads-same}
-use Rattle.rn_unify.specs.Equations.{AreEachOne, AreWithin}
-use Rattle.rn_unify.specs.Binding.{Becomes, IsLinked, IsSolved, free_number}
+use Rattle.rn_unify.specs.link.Equations.{AreEachOne, AreWithin}
+use Rattle.rn_unify.specs.link.Binding.{Becomes, IsLinked, IsSolved, free_number}
 use Rattle.rn_unify.specs.Unifying.{AreOne}
 use Rattle.rn_unify.proofs.EarlierMarks.{IsGrown, grown_not, grown_by_note}
 use Rattle.rn_unify.proofs.Becoming.{becomes_same, becomes_through, becomes_note}

@@ -18,8 +18,8 @@ use Rattle.rn_term.proofs.OneValue.{said}
 use Rattle.rn_unify.specs.declared.equation.Equation.{Equation}
 use Rattle.rn_unify.specs.declared.equation.Other.TheVariants as O
 use Rattle.rn_unify.specs.declared.classes.Classes.{Classes}
-use Rattle.rn_unify.specs.Equations.{Finds, Adds}
-use Rattle.rn_unify.specs.Rests.{IsComposed}
+use Rattle.rn_unify.specs.link.Equations.{Finds, Adds}
+use Rattle.rn_unify.specs.link.Rests.{IsComposed}
 use Rattle.rn_unify.specs.Unifying.{AreOne}
 use Rattle.rn_unify.proofs.ListPositions.{built_at}
 use Rattle.rn_unify.proofs.Findings.{finds_same_result, finds_here, adds_same, adds_then}

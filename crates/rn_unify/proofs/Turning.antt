@@ -13,8 +13,8 @@ use Rattle.rn_term.specs.Assignments.{value_at, HasValue, HasListTail, Satisfies
 use Rattle.rn_term.proofs.AssignmentLemmas.{value_stays, satisfies_term}
 use Rattle.rn_term.proofs.GrowingStores.{terms_extend}
 use Rattle.rn_term.proofs.KeepingLemmas.{keeps_term}
-use Rattle.rn_unify.specs.Binding.{Becomes, prefix_of}
-use Rattle.rn_unify.specs.Adding.{Turns}
+use Rattle.rn_unify.specs.link.Binding.{Becomes, prefix_of}
+use Rattle.rn_unify.specs.link.Adding.{Turns}
 use Rattle.rn_unify.proofs.EarlierMarks.{grown, grown_not, grown_through, grown_by_term}
 use Rattle.rn_unify.proofs.Becoming.{becomes_same, becomes_through}
 use Rattle.rn_unify.proofs.FreeNumbers.{free_number-term}

@@ -8,8 +8,8 @@ use Rattle.rn_term.specs.Stores.{State}
 use Rattle.rn_term.specs.Assignments.{Satisfies, MayBeOne, Keeps}
 use Rattle.rn_term.specs.Undoing.{LeavesEarlier}
 use Rattle.rn_unify.specs.declared.equation.Equation.{Equation}
-use Rattle.rn_unify.specs.Equations.{Solves, AreEachOne, AreWithin, Finds, IsFound}
-use Rattle.rn_unify.specs.Binding.{Becomes, IsBound, IsSolved, prefix_of}
+use Rattle.rn_unify.specs.link.Equations.{Solves, AreEachOne, AreWithin, Finds, IsFound}
+use Rattle.rn_unify.specs.link.Binding.{Becomes, IsBound, IsSolved, prefix_of}
 use Rattle.rn_unify.specs.Unifying.{AreOne, SaysBoth}
 use Rattle.rn_unify.proofs.SolvedPairs.{solved}
 use Rattle.rn_unify.proofs.EarlierMarks.{IsGrown, grown, grown_through}

@@ -1,7 +1,3 @@
-pub mod Adding
-pub mod Binding
-pub mod Classes
-pub mod Equations
+pub mod link
 pub mod Laws
-pub mod Rests
 pub mod Unifying

@@ -8,8 +8,8 @@ ghost use Rattle.rn_term.specs.Stores.{term_at};
 ghost use Rattle.rn_term.specs.Assignments.{Keeps};
 ghost use Rattle.rn_term.specs.Undoing.{LeavesEarlier};
 ghost use Rattle.rn_unify.specs.declared.equation.Other.TheVariants as O;
-ghost use Rattle.rn_unify.specs.Adding.{IsKnown, IsOf, IsPlaced, MayStand, Turns, list_of};
-ghost use Rattle.rn_unify.specs.Equations.{CanStand, IsOther};
+ghost use Rattle.rn_unify.specs.link.Adding.{IsKnown, IsOf, IsPlaced, MayStand, Turns, list_of};
+ghost use Rattle.rn_unify.specs.link.Equations.{CanStand, IsOther};
 
 use crate::equation::Other;
 use crate::rests::{Rest, items};

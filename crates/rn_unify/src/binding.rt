@@ -6,7 +6,7 @@ ghost use Rattle.rn_term.specs.Stores.{link_of, term_at, with_note};
 ghost use Rattle.rn_term.specs.Assignments.{Keeps, MayBeOne};
 ghost use Rattle.rn_term.specs.Occurring.{IsFree};
 ghost use Rattle.rn_term.specs.Forcing.{MayBeList};
-ghost use Rattle.rn_unify.specs.Binding.{AreEnds, IsLeft, IsLinked, IsSolved};
+ghost use Rattle.rn_unify.specs.link.Binding.{AreEnds, IsLeft, IsLinked, IsSolved};
 
 use crate::comparing::is_variable;
 use rn_term::{Store, Term};

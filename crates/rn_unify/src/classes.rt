@@ -1,7 +1,7 @@
 //! Classes of ids that were made one, so that no two of them are compared again.
 ghost use Rattle.std.specs.Prelude.{◌≡◌, ◌<◌, ℕ, IsTrue};
 ghost use Rattle.rn_value.specs.declared.value.Value.{Value};
-ghost use Rattle.rn_unify.specs.Classes.{Fits};
+ghost use Rattle.rn_unify.specs.link.Classes.{Fits};
 
 use rn_value::NoMemory;
 use std::alloc::Global;

@@ -3,8 +3,8 @@ ghost use Rattle.std.specs.Prelude.{◌≡◌, ◌↔◌, ◌<◌, ◌++◌, ◌
 ghost use Rattle.rn_term.specs.declared.term.Term.TheVariants as T;
 ghost use Rattle.rn_term.specs.Stores.{link_of, term_at};
 ghost use Rattle.rn_term.specs.Assignments.{Keeps, value_at};
-ghost use Rattle.rn_unify.specs.Equations.{Adds, AreMade};
-ghost use Rattle.rn_unify.specs.Rests.{IsComposed, IsSpelled};
+ghost use Rattle.rn_unify.specs.link.Equations.{Adds, AreMade};
+ghost use Rattle.rn_unify.specs.link.Rests.{IsComposed, IsSpelled};
 ghost use Rattle.rn_unify.specs.Unifying.{AreOne};
 
 use crate::classes::Classes;

@@ -4,8 +4,8 @@ ghost use Rattle.rn_term.specs.Stores.{link_of, term_at};
 ghost use Rattle.rn_term.specs.Assignments.{Keeps, value_at};
 ghost use Rattle.rn_term.specs.Occurring.{IsFree};
 ghost use Rattle.rn_term.specs.Forcing.{IsAlwaysList, items_of};
-ghost use Rattle.rn_unify.specs.Equations.{Adds, AreMade, Finds};
-ghost use Rattle.rn_unify.specs.Rests.{IsRest, IsSpelled, elements_of, rest_value};
+ghost use Rattle.rn_unify.specs.link.Equations.{Adds, AreMade, Finds};
+ghost use Rattle.rn_unify.specs.link.Rests.{IsRest, IsSpelled, elements_of, rest_value};
 ghost use Rattle.rn_unify.specs.Unifying.{AreOne};
 
 use crate::classes::Classes;

@@ -2,8 +2,8 @@
 ghost use Rattle.std.specs.Prelude.{◌≡◌, ◌<◌, map, length, IfOk, All};
 ghost use Rattle.rn_value.specs.declared.value.Value.TheVariants as Worth;
 ghost use Rattle.rn_term.specs.Assignments.{Keeps, value_at};
-ghost use Rattle.rn_unify.specs.Equations.{Finds, IsSource, left_other};
-ghost use Rattle.rn_unify.specs.Rests.{IsRest, rest_value};
+ghost use Rattle.rn_unify.specs.link.Equations.{Finds, IsSource, left_other};
+ghost use Rattle.rn_unify.specs.link.Rests.{IsRest, rest_value};
 
 use crate::comparing::note;
 use crate::equation::{Equation, Other};

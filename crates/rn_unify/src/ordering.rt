@@ -6,7 +6,7 @@
 ghost use Rattle.std.specs.Prelude.{◌≡◌, ◌↔◌, List, length};
 ghost use Rattle.std.specs.List.{AllByRecursion};
 ghost use Rattle.rn_value.specs.declared.value.Value.{Value};
-ghost use Rattle.rn_unify.specs.Equations.{IsFound, Solves};
+ghost use Rattle.rn_unify.specs.link.Equations.{IsFound, Solves};
 
 use crate::equation::{Equation, Other};
 use crate::rests::Rest;

@@ -4,8 +4,8 @@ ghost use Rattle.rn_value.specs.declared.value.Value.{Value};
 ghost use Rattle.rn_value.specs.declared.value.Value.TheVariants as Worth;
 ghost use Rattle.rn_term.specs.Stores.{term_at};
 ghost use Rattle.rn_term.specs.Assignments.{Keeps, Satisfies};
-ghost use Rattle.rn_unify.specs.Rests.{IsFurther, IsRest, IsSpelled, elements_of, spelled};
-ghost use Rattle.rn_unify.specs.Rests.{rest_value};
+ghost use Rattle.rn_unify.specs.link.Rests.{IsFurther, IsRest, IsSpelled, elements_of, spelled};
+ghost use Rattle.rn_unify.specs.link.Rests.{rest_value};
 
 use rn_term::{Store, Term};
 use rn_value::Value;

@@ -5,8 +5,8 @@ ghost use Rattle.std.specs.List.{AllByRecursion};
 ghost use Rattle.rn_value.specs.declared.value.Value.{Value};
 ghost use Rattle.rn_term.specs.Assignments.{Keeps, MayBeOne, Satisfies};
 ghost use Rattle.rn_term.specs.Undoing.{LeavesEarlier};
-ghost use Rattle.rn_unify.specs.Binding.{IsBound};
-ghost use Rattle.rn_unify.specs.Equations.{AreEachOne, AreWithin, Finds, IsFound, Solves};
+ghost use Rattle.rn_unify.specs.link.Binding.{IsBound};
+ghost use Rattle.rn_unify.specs.link.Equations.{AreEachOne, AreWithin, Finds, IsFound, Solves};
 ghost use Rattle.rn_unify.specs.Unifying.{SaysBoth};
 
 use crate::adding::add_other;

@@ -11,7 +11,7 @@ use Rattle.std.specs.Ordering.{is_lt, is_eq, ordering_reverse}
 use Rattle.std.specs.declared.cmp.Ordering.{Ordering}
 use Rattle.std.specs.declared.cmp.Ordering.TheVariants.{Less, Equal, Greater}
 use Rattle.rn_value.specs.Order.{IsAntisymmetric, value_cmp}
-use Rattle.rn_value.specs.OrderLaws.{value_cmp-total, value_cmp-apart}
+use Rattle.rn_value.specs.link.OrderLaws.{value_cmp-total, value_cmp-apart}
 use Rattle.rn_value.specs.Sorting.{count_of, SortsOneWay, SortsByCounts}
 
 -- 1 for a test that passes

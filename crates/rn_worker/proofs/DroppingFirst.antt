@@ -11,8 +11,8 @@ use Rattle.rn_fire.specs.States.{State}
 use Rattle.rn_worker.specs.declared.considering.Plan.{Plan}
 use Rattle.rn_worker.specs.declared.pacing.Pace.{Pace}
 use Rattle.rn_worker.specs.Pacing.{IsDue}
-use Rattle.rn_worker.specs.Plans.{AddsOwn, FitsIn, HasNoneLive, WasFound}
-use Rattle.rn_worker.specs.Seen.{KeepsLog}
+use Rattle.rn_worker.specs.link.Plans.{AddsOwn, FitsIn, HasNoneLive, WasFound}
+use Rattle.rn_worker.specs.link.Seen.{KeepsLog}
 
 -- where it is due, the test says so
 pub due_holds : (every next number : ℕ) (pace : Pace) (due : Bool) → number ≡ next →

@@ -14,15 +14,16 @@ use Rattle.rn_model.proofs.StandingTables.{as_in_table, same_live, tables_have_t
 use Rattle.rn_desk.specs.Entries.{StartsWith}
 use Rattle.rn_reach.specs.Reach.{DifferAtMostIn}
 use Rattle.rn_fire.specs.declared.setup.Setup.{Setup}
-use Rattle.rn_fire.specs.States.{State, end_marking, firings_in, logged}
+use Rattle.rn_fire.specs.States.{State, end_marking, logged}
+use Rattle.rn_fire.specs.link.States.{firings_in}
 use Rattle.rn_fire.proofs.EntryLemmas.{firings_of}
-use Rattle.rn_worker.specs.Plans.{AddsOwn}
-use Rattle.rn_worker.specs.Seen.{IsUnended, IsSightOf, Shows, marking_after}
+use Rattle.rn_worker.specs.link.Plans.{AddsOwn}
+use Rattle.rn_worker.specs.link.Seen.{IsUnended, IsSightOf, Shows, marking_after}
 use Rattle.rn_worker.proofs.SeenEntries.{fired_then, had_seen, taken}
 use Rattle.rn_worker.proofs.SeenStates.{kept_setup, shows}
 use Rattle.rn_firsts.specs.Known.{ComesAfter}
 use Rattle.rn_worker.specs.declared.looking.View.{View}
-use Rattle.rn_worker.specs.Views.{ChangedBetween, ChangedSince, FollowsOne, ShowsView, next_after}
+use Rattle.rn_worker.specs.link.Views.{ChangedBetween, ChangedSince, FollowsOne, ShowsView, next_after}
 
 -- Two markings, and tables that stand for them.
 module _ (system : System) (old new was is : Marking) (changed : List ℕ)

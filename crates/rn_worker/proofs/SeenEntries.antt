@@ -8,9 +8,10 @@ use Rattle.rn_model.specs.declared.log.Entry.TheVariants.{Fire, End}
 use Rattle.rn_model.specs.declared.log.Reason.{Reason}
 use Rattle.rn_model.specs.Runs.{Firing}
 use Rattle.rn_desk.specs.Entries.{StartsWith}
-use Rattle.rn_fire.specs.States.{State, end_in, firings_in, logged}
+use Rattle.rn_fire.specs.States.{State, logged}
+use Rattle.rn_fire.specs.link.States.{end_in, firings_in}
 use Rattle.rn_fire.proofs.EntryLemmas.{count_going, end_of_entries, firings_of}
-use Rattle.rn_worker.specs.Seen.{IsUnended, HasEnded}
+use Rattle.rn_worker.specs.link.Seen.{IsUnended, HasEnded}
 
 firings_joined : (xs ys : List Entry) → firings_in (xs ++ ys) ≡ firings_in xs ++ firings_in ys
 firings_joined [] ys = refl

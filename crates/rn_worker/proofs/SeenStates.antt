@@ -16,18 +16,19 @@ use Rattle.rn_model.specs.Runs.{Log, Run, end_of, entries_of}
 use Rattle.rn_model.proofs.SoundRuns.{dead_stay_dead_in_runs, runs_end_sound}
 use Rattle.rn_model.proofs.StandingTables.{as_in_table, tables_enable_the_same, tables_have_the_same_live}
 use Rattle.rn_channel.specs.declared.uplinks.Uplinks.{Uplinks}
-use Rattle.rn_channel.specs.Uplinks.{AreUplinksOf}
+use Rattle.rn_channel.specs.link.Uplinks.{AreUplinksOf}
 use Rattle.rn_desk.specs.Entries.{StartsWith}
 use Rattle.rn_table.specs.Tables.{IsTableOf}
 use Rattle.rn_found.proofs.FitTokens.{standing_tokens_fit}
 use Rattle.rn_live.proofs.GoodPlaces.{good_places}
 use Rattle.rn_fire.specs.declared.setup.Setup.{Setup}
-use Rattle.rn_fire.specs.States.{State, IsState, firings_in, logged}
+use Rattle.rn_fire.specs.States.{State, IsState, logged}
+use Rattle.rn_fire.specs.link.States.{firings_in}
 use Rattle.rn_fire.proofs.EntryLemmas.{firings_of}
 use Rattle.rn_worker.specs.declared.considering.Plan.{Plan}
 use Rattle.rn_worker.specs.declared.looking.Sight.{Sight}
-use Rattle.rn_worker.specs.Seen.{IsUnended, IsSightOf, Shows, marking_after}
-use Rattle.rn_worker.specs.Plans.{AddsOwn, AreDeadAt, FitsIn, GrowsBy, HasNoneLive, IsFoundAt, IsPlanAt, IsToSearch, Knows, WasFound}
+use Rattle.rn_worker.specs.link.Seen.{IsUnended, IsSightOf, Shows, marking_after}
+use Rattle.rn_worker.specs.link.Plans.{AddsOwn, AreDeadAt, FitsIn, GrowsBy, HasNoneLive, IsFoundAt, IsPlanAt, IsToSearch, Knows, WasFound}
 use Rattle.rn_worker.proofs.SeenEntries.{fired_then, going_count, had_seen, taken}
 
 -- what is seen of a state whose log goes on

@@ -1,6 +1,3 @@
-pub mod Pacing
+pub mod link
 pub mod Ends
-pub mod Plans
-pub mod Posts
-pub mod Seen
-pub mod Views
+pub mod Pacing

@@ -5,11 +5,11 @@ ghost use Rattle.rn_desk.specs.Entries.{StartsWith};
 ghost use Rattle.rn_desk.specs.Passes.{fixed_of, number, seen, mine, IsOf, HasNoTurn};
 ghost use Rattle.rn_fire.specs.Ends.{MayGoOn};
 ghost use Rattle.rn_fire.specs.States.{logged};
-ghost use Rattle.rn_worker.specs.Seen.{KeepsLog, IsUnended, marking_after};
-ghost use Rattle.rn_worker.specs.Views.{ChangedBetween, ShowsView};
+ghost use Rattle.rn_worker.specs.link.Seen.{KeepsLog, IsUnended, marking_after};
+ghost use Rattle.rn_worker.specs.link.Views.{ChangedBetween, ShowsView};
 ghost use Rattle.rn_worker.specs.Pacing.{DoesFiring, DropsListed, DropsThenFires, IsSwept};
 ghost use Rattle.rn_worker.specs.Pacing.{dropped_by, kept_among};
-ghost use Rattle.rn_worker.specs.Plans.{AddsOwn, DropsNone, FitsIn, GrowsBy, HasNoneLive, Knows, WasFound, WasStopped};
+ghost use Rattle.rn_worker.specs.link.Plans.{AddsOwn, DropsNone, FitsIn, GrowsBy, HasNoneLive, Knows, WasFound, WasStopped};
 
 use crate::considering::Plan;
 use crate::looking::{View, view_below};

@@ -5,8 +5,8 @@ ghost use Rattle.rn_model.specs.Enabling.{DeadAt, Enabled};
 ghost use Rattle.rn_model.specs.Markings.{Instance, instance_at};
 ghost use Rattle.rn_worker.specs.Pacing.{AreAllDead, IsDue, last_count, met_by, paced};
 ghost use Rattle.rn_firsts.specs.Resting.{KnowsIdle};
-ghost use Rattle.rn_worker.specs.Plans.{AreDeadAt, DropsNone, IsPlanAt, IsToSearch, WasStopped};
-ghost use Rattle.rn_worker.specs.Views.{FollowsIn};
+ghost use Rattle.rn_worker.specs.link.Plans.{AreDeadAt, DropsNone, IsPlanAt, IsToSearch, WasStopped};
+ghost use Rattle.rn_worker.specs.link.Views.{FollowsIn};
 
 use crate::looking::View;
 use crate::pacing::Pace;

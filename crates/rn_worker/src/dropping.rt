@@ -1,7 +1,7 @@
 //! Dropping what isn't live at the end.
 ghost use Rattle.std.specs.Prelude.{OnOk};
 ghost use Rattle.rn_worker.specs.Ends.{KeepsJustLive};
-ghost use Rattle.rn_worker.specs.Seen.{KeepsLog};
+ghost use Rattle.rn_worker.specs.link.Seen.{KeepsLog};
 
 use rn_fire::SimState;
 use rn_items::NoMemory;

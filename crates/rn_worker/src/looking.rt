@@ -3,8 +3,8 @@ ghost use Rattle.std.specs.Prelude.{◌≡◌, ◌≢◌, ◌<◌, ◌≤◌, No
 ghost use Rattle.rn_desk.specs.Entries.{StartsWith};
 ghost use Rattle.rn_desk.specs.Passes.{fixed_of, number, seen, mine, IsOf, HasNoTurn};
 ghost use Rattle.rn_firsts.specs.Resting.{Resting};
-ghost use Rattle.rn_worker.specs.Seen.{HasEnded, IsSightOf, StaysOrEnds};
-ghost use Rattle.rn_worker.specs.Views.{ChangedSince, FollowsIdle, ShowsView, next_after};
+ghost use Rattle.rn_worker.specs.link.Seen.{HasEnded, IsSightOf, StaysOrEnds};
+ghost use Rattle.rn_worker.specs.link.Views.{ChangedSince, FollowsIdle, ShowsView, next_after};
 
 use crate::standby::{Standby, WorkerRole};
 use rn_desk::{Desk, Kept, Pass};

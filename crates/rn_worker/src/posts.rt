@@ -2,7 +2,7 @@
 ghost use Rattle.std.specs.Prelude.{◌≡◌, ◌^◌, ◌<◌, IfOk, map, vec_len};
 ghost use Rattle.rn_desk.specs.Numbered.{EachAt};
 ghost use Rattle.rn_desk.specs.Passes.{IsFresh};
-ghost use Rattle.rn_worker.specs.Posts.{IsAtWork};
+ghost use Rattle.rn_worker.specs.link.Posts.{IsAtWork};
 
 use crate::tally::Tally;
 use rn_desk::{Desk, Kept, Pass};

@@ -1,9 +1,9 @@
 //! One worker.
 ghost use Rattle.std.specs.Prelude.{◌≡◌, ◌≤◌, [], length};
 ghost use Rattle.rn_model.specs.Limits.{most_workers};
-ghost use Rattle.rn_channel.specs.Uplinks.{AreUplinksOf};
+ghost use Rattle.rn_channel.specs.link.Uplinks.{AreUplinksOf};
 ghost use Rattle.rn_desk.specs.Passes.{fixed_of, number, seen, mine, IsOf, HasNoTurn};
-ghost use Rattle.rn_worker.specs.Seen.{HasEnded};
+ghost use Rattle.rn_worker.specs.link.Seen.{HasEnded};
 
 use crate::acting::{TurnOutcome, act};
 use crate::considering::{

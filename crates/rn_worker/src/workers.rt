@@ -2,10 +2,10 @@
 ghost use Rattle.std.specs.Prelude.{◌≡◌, ◌≢◌, ◌<◌, ◌≤◌, ◌+◌, None, IfOk, length};
 ghost use Rattle.rn_model.specs.Good.{Good, IsInLimits};
 ghost use Rattle.rn_model.specs.Limits.{most_workers};
-ghost use Rattle.rn_channel.specs.Uplinks.{AreUplinksOf};
+ghost use Rattle.rn_channel.specs.link.Uplinks.{AreUplinksOf};
 ghost use Rattle.rn_desk.specs.Numbered.{EachAt};
 ghost use Rattle.rn_worker.specs.Ends.{AreOfWorkers, IsTallyOf, KeepsJustLive};
-ghost use Rattle.rn_worker.specs.Posts.{IsAtWork, IsDone, IsOfSetup};
+ghost use Rattle.rn_worker.specs.link.Posts.{IsAtWork, IsDone, IsOfSetup};
 
 use crate::considering::Seed;
 use crate::dropping::drop_dead;

@@ -1,7 +1,7 @@
 //! Taking a turn, and giving it back.
 ghost use Rattle.std.specs.Prelude.{◌≡◌};
 ghost use Rattle.rn_desk.specs.Entries.{StartsWith, AddsAtMostOne, GrowsOwn};
-ghost use Rattle.rn_desk.specs.Taken.{state_of};
+ghost use Rattle.rn_desk.specs.link.Taken.{state_of};
 ghost use Rattle.rn_desk.specs.Passes.{fixed_of, number, seen, mine, IsOf, HasNoTurn, HasTurn};
 
 use super::{Desk, Pass, Turn};

@@ -6,7 +6,7 @@ use Rattle.rn_term.specs.Stores.{term_at, Leads}
 use Rattle.rn_term.specs.Assignments.{value_at}
 use Rattle.rn_term.proofs.Extents.{extent, greatest-part}
 use Rattle.rn_term.proofs.Following.{extent-leads}
-use Rattle.rn_unify.specs.Rests.{IsComposed}
+use Rattle.rn_unify.specs.link.Rests.{IsComposed}
 use Rattle.rn_unify.specs.Unifying.{AreOne}
 use Rattle.rn_unify.proofs.Findings.{adds_nothing, adds_never, adds_joined, adds_found_result}
 use Rattle.rn_unify.proofs.Findings.{adds_then}

@@ -1,6 +1,6 @@
 use Rattle.std.proofs.Common.{◌+◌, ◌-◌, ◌*◌, true}
 use Rattle.rn_term.proofs.Extents.{extent, greatest}
-use Rattle.rn_unify.specs.Equations.{Adds}
+use Rattle.rn_unify.specs.link.Equations.{Adds}
 use Rattle.rn_unify.proofs.SideBySide.{AreAt}
 use Rattle.rn_unify.proofs.TermEquations.{AreFirst}
 use Rattle.rn_unify.proofs.+comparing.Given as goal

@@ -3,7 +3,7 @@ use Rattle.std.proofs.Common.{◌∙◌, ap}
 use Rattle.std.specs.Prelude.{option_map}
 use Rattle.std.proofs.lemmas.Result.{IfOk-weaker}
 use Rattle.rn_model.specs.Firing.{all_effects}
-use Rattle.rn_acts.specs.Acted.{nothing, with_effects}
+use Rattle.rn_acts.specs.link.Acted.{nothing, with_effects}
 use Rattle.rn_acts.proofs.ActLemmas.{rows_put}
 use Rattle.rn_acts.proofs.RowsOfArcs.{put_of_arcs}
 use Rattle.rn_acts.proofs.acts.act.Goals as goal

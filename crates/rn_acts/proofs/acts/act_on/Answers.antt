@@ -3,8 +3,8 @@ use Rattle.std.proofs.Common.{◌≡◌, ◌∷◌, ◌+◌, ◌∙◌, ap, sym,
 use Rattle.std.specs.Prelude.{Some, option_and_then, option_map}
 use Rattle.std.proofs.lemmas.List.{drop_more}
 use Rattle.rn_model.specs.Firing.{all_effects}
-use Rattle.rn_acts.specs.Acted.{with_effects, with_node}
-use Rattle.rn_acts.specs.Acting.{if_done}
+use Rattle.rn_acts.specs.link.Acted.{with_effects, with_node}
+use Rattle.rn_acts.specs.link.Acting.{if_done}
 use Rattle.rn_acts.proofs.ActLemmas.{one_node}
 use Rattle.rn_acts.proofs.acts.act_on.Goals as goal
 

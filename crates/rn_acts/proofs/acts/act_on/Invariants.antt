@@ -1,7 +1,7 @@
 use Rattle.std.proofs.Common.{◌≡◌, drop}
 use Rattle.std.specs.Prelude.{option_map}
 use Rattle.rn_model.specs.Firing.{all_effects}
-use Rattle.rn_acts.specs.Acted.{nothing, with_effects}
+use Rattle.rn_acts.specs.link.Acted.{nothing, with_effects}
 use Rattle.rn_acts.proofs.acts.act_on.Given as goal
 
 abbrev pub invariant-loop-node : goal.invariant-loop-node

@@ -1,8 +1,8 @@
 use Rattle.std.proofs.Common.{◌≡◌, ◌++◌, drop, take}
 use Rattle.std.specs.List.{flat_map, list_all}
 use Rattle.rn_model.specs.Firing.{output_defined}
-use Rattle.rn_acts.specs.Acted.{arc_rows}
-use Rattle.rn_acts.specs.Acting.{env_acting}
+use Rattle.rn_acts.specs.link.Acted.{arc_rows}
+use Rattle.rn_acts.specs.link.Acting.{env_acting}
 use Rattle.rn_acts.proofs.outputs.put_outputs.Given as goal
 
 abbrev pub invariant-loop-arc : goal.invariant-loop-arc

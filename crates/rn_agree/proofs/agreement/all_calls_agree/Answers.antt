@@ -1,6 +1,6 @@
 -- Node by node.
 use Rattle.std.proofs.Common.{◌∙◌, sym}
-use Rattle.rn_agree.specs.Agreeing.{CallsAgree}
+use Rattle.rn_agree.specs.link.Agreeing.{CallsAgree}
 use Rattle.rn_agree.proofs.EachLemmas.{each_more, each_at, each_all}
 use Rattle.rn_agree.proofs.agreement.all_calls_agree.Goals as goal
 

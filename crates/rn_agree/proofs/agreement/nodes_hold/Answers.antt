@@ -1,5 +1,5 @@
 -- Node by node.
-use Rattle.rn_agree.specs.Agreeing.{NodeHolds}
+use Rattle.rn_agree.specs.link.Agreeing.{NodeHolds}
 use Rattle.rn_agree.proofs.EachLemmas.{each_more}
 use Rattle.rn_agree.proofs.agreement.nodes_hold.Goals as goal
 

@@ -4,7 +4,7 @@ use Rattle.std.specs.List.{AllZip}
 use Rattle.rn_model.specs.declared.expr.Expr.{Expr}
 use Rattle.rn_model.specs.Lists.{HaveOneValue}
 use Rattle.rn_model.specs.Evaluation.{worth}
-use Rattle.rn_calc.specs.NodeValues.{lent_env}
+use Rattle.rn_calc.specs.link.NodeValues.{lent_env}
 use Rattle.rn_agree.proofs.calls.args_agree.Given as goal
 
 abbrev pub invariant-loop-k : goal.invariant-loop-k

@@ -2,7 +2,7 @@
 use Rattle.std.proofs.Common.{◌∙◌, ap}
 use Rattle.std.proofs.lemmas.Result.{IfOk-weaker}
 use Rattle.rn_model.specs.Systems.{uplink_args}
-use Rattle.rn_calc.specs.NodeValues.{lent_env}
+use Rattle.rn_calc.specs.link.NodeValues.{lent_env}
 use Rattle.rn_agree.proofs.AgreeLemmas.{call_by_args}
 use Rattle.rn_agree.proofs.calls.call_agrees.Goals as goal
 

@@ -1,7 +1,7 @@
 -- Downlink by downlink.
 use Rattle.std.proofs.Common.{◌∙◌, ap, sym, subst}
 use Rattle.rn_model.specs.Systems.{transition_of}
-use Rattle.rn_agree.specs.Agreeing.{CallAgreesAt}
+use Rattle.rn_agree.specs.link.Agreeing.{CallAgreesAt}
 use Rattle.rn_agree.proofs.EachLemmas.{indexed_more, indexed_at, indexed_all}
 use Rattle.rn_agree.proofs.calls.calls_agree.Goals as goal
 

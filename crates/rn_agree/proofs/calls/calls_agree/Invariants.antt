@@ -2,7 +2,7 @@ use Rattle.std.proofs.Common.{ℕ, ◌≡◌, ◌<◌}
 use Rattle.std.specs.Prelude.{Some, slice_get}
 use Rattle.rn_model.specs.declared.system.Downlink.{Downlink}
 use Rattle.rn_model.specs.Systems.{transition_of}
-use Rattle.rn_agree.specs.Agreeing.{CallAgreesAt}
+use Rattle.rn_agree.specs.link.Agreeing.{CallAgreesAt}
 use Rattle.rn_agree.proofs.calls.calls_agree.Given as goal
 
 abbrev pub invariant-loop-i : goal.invariant-loop-i

@@ -1,7 +1,7 @@
 use Rattle.std.proofs.Common.{ℕ, ◌<◌, get_or}
 use Rattle.rn_model.specs.declared.system.NetArc.{NetArc}
-use Rattle.rn_agree.specs.Agreeing.{ArcHasValue}
-use Rattle.rn_calc.specs.NodeValues.{lent_env}
+use Rattle.rn_agree.specs.link.Agreeing.{ArcHasValue}
+use Rattle.rn_calc.specs.link.NodeValues.{lent_env}
 use Rattle.rn_agree.proofs.inscriptions.arcs_have_values.Given as goal
 
 abbrev pub invariant-loop-arc : goal.invariant-loop-arc

@@ -5,7 +5,7 @@ use Rattle.rn_value.specs.declared.value.InstRef.TheVariants.{New}
 use Rattle.rn_value.specs.declared.value.Value.TheVariants as Value
 use Rattle.rn_model.specs.declared.system.Creation.{Creation}
 use Rattle.rn_model.specs.Lists.{value_beside}
-use Rattle.rn_calc.specs.NodeValues.{lent_env}
+use Rattle.rn_calc.specs.link.NodeValues.{lent_env}
 use Rattle.rn_agree.proofs.EachLemmas.{indexed_more}
 use Rattle.rn_agree.proofs.inscriptions.are_created.Goals as goal
 

@@ -1,7 +1,7 @@
 -- Equality by equality.
 use Rattle.std.proofs.Common.{◌∙◌, refl, sym}
-use Rattle.rn_agree.specs.Agreeing.{IsEqual}
-use Rattle.rn_calc.specs.NodeValues.{lent_env}
+use Rattle.rn_agree.specs.link.Agreeing.{IsEqual}
+use Rattle.rn_calc.specs.link.NodeValues.{lent_env}
 use Rattle.rn_agree.proofs.EachLemmas.{each_more, each_at}
 use Rattle.rn_agree.proofs.inscriptions.equalities_hold.Goals as goal
 

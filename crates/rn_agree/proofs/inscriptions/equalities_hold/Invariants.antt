@@ -1,7 +1,7 @@
 use Rattle.std.proofs.Common.{ℕ, ◌<◌, get_or}
 use Rattle.rn_model.specs.declared.expr.Expr.{Expr}
-use Rattle.rn_agree.specs.Agreeing.{IsEqual}
-use Rattle.rn_calc.specs.NodeValues.{lent_env}
+use Rattle.rn_agree.specs.link.Agreeing.{IsEqual}
+use Rattle.rn_calc.specs.link.NodeValues.{lent_env}
 use Rattle.rn_agree.proofs.inscriptions.equalities_hold.Given as goal
 
 abbrev pub invariant-loop-sides : goal.invariant-loop-sides

@@ -1,7 +1,7 @@
 use Rattle.std.proofs.Common.{ℕ, ◌<◌, get_or}
 use Rattle.rn_model.specs.declared.expr.Cond.{Cond}
 use Rattle.rn_model.specs.Evaluation.{IsTrueUnder}
-use Rattle.rn_calc.specs.NodeValues.{lent_env}
+use Rattle.rn_calc.specs.link.NodeValues.{lent_env}
 use Rattle.rn_agree.proofs.inscriptions.guards_hold.Given as goal
 
 abbrev pub invariant-loop-guard : goal.invariant-loop-guard

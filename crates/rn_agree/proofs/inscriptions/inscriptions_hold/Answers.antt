@@ -3,8 +3,8 @@ use Rattle.std.proofs.Common.{◌∙◌, sym, subst}
 use Rattle.std.specs.Prelude.{All}
 use Rattle.std.proofs.lemmas.Result.{IfOk-weaker}
 use Rattle.rn_model.specs.Evaluation.{IsTrueUnder}
-use Rattle.rn_agree.specs.Agreeing.{AreCreated, IsEqual}
-use Rattle.rn_calc.specs.NodeValues.{lent_env}
+use Rattle.rn_agree.specs.link.Agreeing.{AreCreated, IsEqual}
+use Rattle.rn_calc.specs.link.NodeValues.{lent_env}
 use Rattle.rn_agree.proofs.AgreeLemmas.{hold_by_arcs}
 use Rattle.rn_agree.proofs.inscriptions.inscriptions_hold.Goals as goal
 

@@ -1,5 +1,5 @@
 -- Node by node.
-use Rattle.rn_agree.specs.Parts.{IsLinked}
+use Rattle.rn_agree.specs.link.Parts.{IsLinked}
 use Rattle.rn_agree.proofs.EachLemmas.{each_more}
 use Rattle.rn_agree.proofs.shape.are_linked.Goals as goal
 

@@ -1,6 +1,6 @@
 use Rattle.std.proofs.Common.{ℕ, ◌<◌, get_or}
 use Rattle.rn_model.specs.declared.binding.Node.{Node}
-use Rattle.rn_agree.specs.Parts.{IsLinked}
+use Rattle.rn_agree.specs.link.Parts.{IsLinked}
 use Rattle.rn_agree.proofs.shape.are_linked.Given as goal
 
 abbrev pub invariant-loop-node : goal.invariant-loop-node

@@ -2,7 +2,7 @@
 use Rattle.std.proofs.Common.{◌≤◌, length, subst}
 use Rattle.std.specs.Prelude.{All}
 use Rattle.rn_agree.specs.Paths.{AscendByPath}
-use Rattle.rn_agree.specs.Parts.{IsInRange}
+use Rattle.rn_agree.specs.link.Parts.{IsInRange}
 use Rattle.rn_agree.proofs.LinkLemmas.{IsInOrder, shaped, links_of_shape}
 use Rattle.rn_agree.proofs.shape.has_shape.Goals as goal
 

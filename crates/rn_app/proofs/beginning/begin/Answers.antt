@@ -4,7 +4,8 @@ use Rattle.std.specs.Prelude.{⊤}
 use Rattle.rn_answer.specs.declared.status.TheConstants.{DONE, NET_REFUSED, NO_MEMORY, READ_FAULT, RECORD_REFUSED, WRITE_FAULT}
 use Rattle.rn_outside.proofs.ByteLemmas.{IsCalledSeldom-never}
 use Rattle.rn_app.specs.declared.beginning.Begun.TheVariants.{Done}
-use Rattle.rn_app.specs.Begun.{IfAnswered, IsDue}
+use Rattle.rn_app.specs.Begun.{IsDue}
+use Rattle.rn_app.specs.link.Begun.{IfAnswered}
 use Rattle.rn_app.specs.TopCall.{IsNoInput, IsNoRecord, IsUnread}
 use Rattle.rn_app.proofs.Causes.{Laws}
 use Rattle.rn_app.proofs.Written.{Call, IsWritten, err_faults_clause, few_faults_clause, line_faults, memory_clause, never_read, only_clause, quiet_clause, write_fault_clause, writes_clause}

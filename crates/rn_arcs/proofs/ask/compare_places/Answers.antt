@@ -1,7 +1,7 @@
 use Rattle.std.proofs.Common.{◌≡◌, ◌∙◌}
 use Rattle.std.specs.Prelude.{Some}
 use Rattle.rn_value.specs.Order.{inst_cmp}
-use Rattle.rn_value.specs.OrderLaws.{inst_alike}
+use Rattle.rn_value.specs.link.OrderLaws.{inst_alike}
 use Rattle.rn_arcs.proofs.ask.compare_places.Goals as goal
 
 pub unreachable-requires : goal.unreachable-requires

@@ -4,7 +4,7 @@ use Rattle.std.specs.Ordering.{is_lt}
 use Rattle.std.proofs.lemmas.List.Sorted.{ranks_by, answers_always}
 use Rattle.rn_value.specs.declared.value.Value.TheVariants as Value
 use Rattle.rn_model.specs.declared.system.ArcKind.TheVariants.{Input}
-use Rattle.rn_arcs.specs.Asks.{place_asked}
+use Rattle.rn_arcs.specs.link.Asks.{place_asked}
 use Rattle.rn_arcs.specs.Places.{InstPlace, place_cmp}
 use Rattle.rn_arcs.specs.declared.ask.Ask.{Ask}
 use Rattle.rn_arcs.proofs.PlaceOrder.{place_total, ties_are_one}

@@ -1,6 +1,6 @@
 use Rattle.std.proofs.Common.{◌≡◌, take}
 use Rattle.std.specs.List.{flat_map}
-use Rattle.rn_arcs.specs.Asks.{node_asks}
+use Rattle.rn_arcs.specs.link.Asks.{node_asks}
 use Rattle.rn_arcs.proofs.collecting.asks_of.Given as goal
 
 abbrev pub invariant-loop-node : goal.invariant-loop-node

@@ -1,7 +1,7 @@
 use Rattle.std.proofs.Common.{◌≡◌, ◌++◌, take}
 use Rattle.std.specs.List.{flat_map}
 use Rattle.rn_model.specs.Bindings.{env_of}
-use Rattle.rn_arcs.specs.Fillings.{arc_pours}
+use Rattle.rn_arcs.specs.link.Fillings.{arc_pours}
 use Rattle.rn_arcs.proofs.filling.add_node.Given as goal
 
 abbrev pub invariant-loop-arc : goal.invariant-loop-arc

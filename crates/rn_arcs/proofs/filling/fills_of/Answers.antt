@@ -3,8 +3,8 @@ use Rattle.std.specs.Prelude.{filter}
 use Rattle.std.specs.List.Sorted.{IsPermutation}
 use Rattle.rn_model.specs.Demands.{filled_at}
 use Rattle.rn_arcs.specs.Demanded.{HasFills, fill_place}
-use Rattle.rn_arcs.specs.Fillings.{pour_place, fills_of}
-use Rattle.rn_arcs.specs.Joining.{Rising}
+use Rattle.rn_arcs.specs.link.Fillings.{pour_place, fills_of}
+use Rattle.rn_arcs.specs.link.Joining.{Rising}
 use Rattle.rn_arcs.specs.Places.{is_at}
 use Rattle.rn_arcs.proofs.FillLemmas.{fills_are, fills_rise}
 use Rattle.rn_arcs.proofs.filling.fills_of.Goals as goal

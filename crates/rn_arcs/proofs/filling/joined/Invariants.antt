@@ -1,6 +1,6 @@
 use Rattle.std.proofs.Common.{◌≡◌, ◌≤◌, ◌*◌, take}
 use Rattle.std.specs.List.{sum_by}
-use Rattle.rn_arcs.specs.Fillings.{fills_of}
+use Rattle.rn_arcs.specs.link.Fillings.{fills_of}
 use Rattle.rn_arcs.proofs.filling.joined.Given as goal
 
 abbrev pub invariant-loop-pour : goal.invariant-loop-pour

@@ -1,6 +1,6 @@
 use Rattle.std.proofs.Common.{◌≡◌, take}
 use Rattle.std.specs.List.{flat_map}
-use Rattle.rn_arcs.specs.Fillings.{node_pours}
+use Rattle.rn_arcs.specs.link.Fillings.{node_pours}
 use Rattle.rn_arcs.proofs.filling.pours_of.Given as goal
 
 abbrev pub invariant-loop-node : goal.invariant-loop-node

@@ -1,7 +1,7 @@
 use Rattle.std.proofs.Common.{◌≡◌, ◌-◌, ◌+◌, ◌∷◌, [], ◌++◌, ◌∙◌, arith, length}
 use Rattle.std.proofs.Common.{true, false, rules}
 use Rattle.rn_arcs.specs.Demanded.{fill_place}
-use Rattle.rn_arcs.specs.Fillings.{pour_place, fill_of, joined_pour, with_pour}
+use Rattle.rn_arcs.specs.link.Fillings.{pour_place, fill_of, joined_pour, with_pour}
 use Rattle.rn_arcs.specs.Places.{is_at}
 use Rattle.rn_arcs.proofs.JoiningItems.{joins, comes_after, comes_first}
 use Rattle.rn_arcs.proofs.filling.put_pour.Goals as goal

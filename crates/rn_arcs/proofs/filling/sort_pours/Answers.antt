@@ -2,7 +2,7 @@ use Rattle.std.proofs.Common.{◌∙◌, sym, rules}
 use Rattle.std.specs.Prelude.{filter}
 use Rattle.std.specs.Ordering.{is_lt}
 use Rattle.std.proofs.lemmas.List.Sorted.{ranks_by, answers_always}
-use Rattle.rn_arcs.specs.Fillings.{pour_place}
+use Rattle.rn_arcs.specs.link.Fillings.{pour_place}
 use Rattle.rn_arcs.specs.Places.{InstPlace, place_cmp}
 use Rattle.rn_arcs.specs.declared.filling.Pour.{Pour}
 use Rattle.rn_arcs.proofs.PlaceOrder.{place_total, ties_are_one}

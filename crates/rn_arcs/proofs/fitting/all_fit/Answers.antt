@@ -1,5 +1,5 @@
 use Rattle.rn_model.specs.Markings.{tokens}
-use Rattle.rn_arcs.specs.Meeting.{Meets}
+use Rattle.rn_arcs.specs.link.Meeting.{Meets}
 use Rattle.rn_arcs.proofs.TokenLemmas.{holds_more}
 use Rattle.rn_arcs.proofs.fitting.all_fit.Goals as goal
 

@@ -1,6 +1,6 @@
 use Rattle.std.proofs.Common.{ℕ, ◌<◌, get_or}
 use Rattle.rn_model.specs.Markings.{tokens}
-use Rattle.rn_arcs.specs.Meeting.{Meets}
+use Rattle.rn_arcs.specs.link.Meeting.{Meets}
 use Rattle.rn_arcs.specs.declared.asked.Asked.{Asked}
 use Rattle.rn_arcs.proofs.fitting.all_fit.Given as goal
 

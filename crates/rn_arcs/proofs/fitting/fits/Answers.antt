@@ -3,7 +3,7 @@ use Rattle.std.specs.Prelude.{All, Some}
 use Rattle.std.proofs.lemmas.Result.{IfOk-weaker}
 use Rattle.rn_value.specs.declared.value.InstRef.TheVariants.{Old}
 use Rattle.rn_model.specs.Markings.{net_of}
-use Rattle.rn_arcs.specs.Groups.{AreAsked}
+use Rattle.rn_arcs.specs.link.Groups.{AreAsked}
 use Rattle.rn_arcs.proofs.FittingLemmas.{fits_exactly, fits_fails}
 use Rattle.rn_arcs.proofs.fitting.fits.Goals as goal
 

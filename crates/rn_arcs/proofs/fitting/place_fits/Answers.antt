@@ -3,7 +3,7 @@ use Rattle.std.specs.Prelude.{unwrap_or}
 use Rattle.std.specs.Option.{option_copied}
 use Rattle.rn_model.specs.Lists.{IsWithin}
 use Rattle.rn_model.specs.Markings.{tokens}
-use Rattle.rn_arcs.specs.Meeting.{Meets, AreAbsent}
+use Rattle.rn_arcs.specs.link.Meeting.{Meets, AreAbsent}
 use Rattle.rn_arcs.proofs.MeetingLemmas.{meets_exactly}
 use Rattle.rn_arcs.proofs.TokenLemmas.{part_fails}
 use Rattle.rn_arcs.proofs.fitting.place_fits.Goals as goal

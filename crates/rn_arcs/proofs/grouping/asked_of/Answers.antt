@@ -3,8 +3,8 @@ use Rattle.std.specs.Prelude.{filter, All}
 use Rattle.std.specs.List.Sorted.{IsSorted}
 use Rattle.rn_value.specs.Order.{value_cmp}
 use Rattle.std.proofs.lemmas.Result.{IfOk-weaker}
-use Rattle.rn_arcs.specs.Asks.{place_asked}
-use Rattle.rn_arcs.specs.Groups.{AreAsked, in_order}
+use Rattle.rn_arcs.specs.link.Asks.{place_asked}
+use Rattle.rn_arcs.specs.link.Groups.{AreAsked, in_order}
 use Rattle.rn_arcs.specs.Places.{is_at}
 use Rattle.rn_arcs.proofs.PlacesInOrder.{are_asked, taken_sorted}
 use Rattle.rn_arcs.proofs.grouping.asked_of.Goals as goal

@@ -1,7 +1,7 @@
 use Rattle.std.proofs.Common.{◌≡◌, ◌-◌, ◌+◌, ◌∷◌, [], ◌++◌, ◌∙◌, ap, arith, length}
 use Rattle.std.proofs.Common.{true, false, rules}
-use Rattle.rn_arcs.specs.Asks.{place_asked}
-use Rattle.rn_arcs.specs.Groups.{place_of, first_of, joined_ask, with_arc, with_ask}
+use Rattle.rn_arcs.specs.link.Asks.{place_asked}
+use Rattle.rn_arcs.specs.link.Groups.{place_of, first_of, joined_ask, with_arc, with_ask}
 use Rattle.rn_arcs.specs.Places.{is_at}
 use Rattle.rn_arcs.proofs.JoiningItems.{joins, comes_after, comes_first}
 use Rattle.rn_arcs.proofs.grouping.put_ask.Goals as goal

@@ -1,5 +1,5 @@
 use Rattle.std.proofs.Common.{◌≡◌, map}
-use Rattle.rn_arcs.specs.Groups.{in_order}
+use Rattle.rn_arcs.specs.link.Groups.{in_order}
 use Rattle.rn_arcs.proofs.grouping.sorted_each.Given as goal
 
 abbrev pub invariant-loop-place : goal.invariant-loop-place

@@ -1,6 +1,6 @@
 use Rattle.std.proofs.Common.{◌≡◌, drop}
 use Rattle.std.specs.List.{list_any}
-use Rattle.rn_arcs.specs.Room.{node_is_limited}
+use Rattle.rn_arcs.specs.link.Room.{node_is_limited}
 use Rattle.rn_arcs.proofs.room.are_limited.Given as goal
 
 abbrev pub invariant-loop-node : goal.invariant-loop-node

@@ -3,8 +3,8 @@ use Rattle.std.specs.Prelude.{◌↔◌, All, IsTrue}
 use Rattle.std.specs.List.{list_any}
 use Rattle.rn_model.specs.Demands.{filled_at}
 use Rattle.rn_arcs.specs.Demanded.{HasFills, fill_place}
-use Rattle.rn_arcs.specs.Joining.{Rising}
-use Rattle.rn_arcs.specs.Room.{node_is_limited, NodeHasRoom}
+use Rattle.rn_arcs.specs.link.Joining.{Rising}
+use Rattle.rn_arcs.specs.link.Room.{node_is_limited, NodeHasRoom}
 use Rattle.rn_arcs.specs.declared.room.Firing.{Firing}
 use Rattle.rn_arcs.proofs.RoomLemmas.{room_exactly, free_have_room}
 use Rattle.rn_arcs.proofs.room.has_room.Goals as goal

@@ -1,6 +1,6 @@
 use Rattle.std.proofs.Common.{◌≡◌, drop}
 use Rattle.std.specs.List.{list_any}
-use Rattle.rn_arcs.specs.Room.{net_is_limited}
+use Rattle.rn_arcs.specs.link.Room.{net_is_limited}
 use Rattle.rn_arcs.proofs.room.node_is_limited.Given as goal
 
 abbrev pub invariant-loop-creation : goal.invariant-loop-creation

@@ -1,5 +1,5 @@
 use Rattle.std.proofs.Common.{◌≡◌, ◌++◌}
-use Rattle.rn_arcs.specs.Rows.{rows_of}
+use Rattle.rn_arcs.specs.link.Rows.{rows_of}
 use Rattle.rn_arcs.proofs.rows.add_rows.Given as goal
 
 abbrev pub invariant-loop-values : goal.invariant-loop-values

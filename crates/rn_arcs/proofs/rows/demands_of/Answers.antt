@@ -4,8 +4,8 @@ use Rattle.std.specs.List.{flat_map}
 use Rattle.rn_model.specs.declared.system.System.{System}
 use Rattle.rn_model.specs.declared.binding.Binding.{Binding}
 use Rattle.rn_arcs.specs.Demanded.{AreDemandsOf, HasFills}
-use Rattle.rn_arcs.specs.Groups.{AreAsked}
-use Rattle.rn_arcs.specs.Rows.{taken_rows, tested_rows, inhibited_rows, cleared_rows, put_rows}
+use Rattle.rn_arcs.specs.link.Groups.{AreAsked}
+use Rattle.rn_arcs.specs.link.Rows.{taken_rows, tested_rows, inhibited_rows, cleared_rows, put_rows}
 use Rattle.rn_arcs.specs.declared.asked.Asked.{Asked}
 use Rattle.rn_model.specs.Demands.{filled_at}
 use Rattle.rn_arcs.specs.declared.demands.Demands.{Demands}

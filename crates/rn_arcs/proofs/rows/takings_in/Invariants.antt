@@ -1,6 +1,6 @@
 use Rattle.std.proofs.Common.{◌≡◌}
 use Rattle.std.specs.List.{flat_map}
-use Rattle.rn_arcs.specs.Rows.{taken_rows, cleared_rows}
+use Rattle.rn_arcs.specs.link.Rows.{taken_rows, cleared_rows}
 use Rattle.rn_arcs.proofs.rows.takings_in.Given as goal
 
 abbrev pub invariant-loop-asked : goal.invariant-loop-asked

@@ -4,8 +4,8 @@ use Rattle.std.specs.List.{flat_map}
 use Rattle.rn_model.specs.declared.system.System.{System}
 use Rattle.rn_model.specs.declared.binding.Binding.{Binding}
 use Rattle.rn_arcs.specs.Demanded.{AreTakingsOf}
-use Rattle.rn_arcs.specs.Groups.{AreAsked}
-use Rattle.rn_arcs.specs.Rows.{taken_rows, cleared_rows}
+use Rattle.rn_arcs.specs.link.Groups.{AreAsked}
+use Rattle.rn_arcs.specs.link.Rows.{taken_rows, cleared_rows}
 use Rattle.rn_arcs.specs.declared.asked.Asked.{Asked}
 use Rattle.rn_arcs.specs.declared.demands.Takings.{Takings}
 use Rattle.rn_arcs.proofs.RowLemmas.{takings_are}

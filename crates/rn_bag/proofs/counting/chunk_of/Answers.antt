@@ -1,6 +1,6 @@
 use Rattle.std.proofs.Common.{◌≡◌, ◌<◌, ◌+◌, ◌-◌, ◌/◌, length, take, subst, arith}
 use Rattle.rn_bag.proofs.CountLemmas.{counted_at}
-use Rattle.rn_bag.specs.Chunks.{tokens_in}
+use Rattle.rn_bag.specs.link.Chunks.{tokens_in}
 use Rattle.rn_bag.proofs.EditLemmas.{read_at}
 use Rattle.rn_bag.proofs.counting.chunk_of.Goals as goal
 

@@ -1,5 +1,5 @@
 use Rattle.std.proofs.Common.{◌≤◌, ◌<◌, ◌-◌, length, take}
-use Rattle.rn_bag.specs.Chunks.{tokens_in}
+use Rattle.rn_bag.specs.link.Chunks.{tokens_in}
 use Rattle.rn_bag.proofs.counting.chunk_of.Given as goal
 
 abbrev pub invariant-loop-high : goal.invariant-loop-high

@@ -1,5 +1,5 @@
 use Rattle.std.proofs.Common.{◌≡◌, ◌≤◌, ◌*◌, ◌+◌, ◌-◌, length, take, sym, subst, arith}
-use Rattle.rn_bag.specs.Chunks.{AreCounted, tokens_in, tokens_in_chunk}
+use Rattle.rn_bag.specs.link.Chunks.{AreCounted, tokens_in, tokens_in_chunk}
 use Rattle.rn_bag.proofs.CountLemmas.{count_of_prefix}
 use Rattle.rn_bag.proofs.EditLemmas.{read_at}
 use Rattle.rn_bag.proofs.counting.count_before.Goals as goal

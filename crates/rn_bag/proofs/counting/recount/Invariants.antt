@@ -1,5 +1,5 @@
 use Rattle.std.proofs.Common.{◌≡◌, ◌≤◌, ◌*◌, length, take}
-use Rattle.rn_bag.specs.Chunks.{AreCounted, tokens_in, values_in}
+use Rattle.rn_bag.specs.link.Chunks.{AreCounted, tokens_in, values_in}
 use Rattle.rn_bag.proofs.counting.recount.Given as goal
 
 abbrev pub invariant-loop-i : goal.invariant-loop-i

@@ -1,7 +1,7 @@
 use Rattle.std.proofs.Common.{take, sym, ap, refl, ◌∙◌, subst, arith}
 use Rattle.std.proofs.lemmas.List.{take-set}
 use Rattle.rn_bag.specs.Cuts.{Ascends}
-use Rattle.rn_bag.specs.Chunks.{Slots, tokens_in, tokens_in_chunk, values_in}
+use Rattle.rn_bag.specs.link.Chunks.{Slots, tokens_in, tokens_in_chunk, values_in}
 use Rattle.rn_bag.proofs.EditLemmas.{cleared, same_values, dropped, dropped_ascends, nothing}
 use Rattle.rn_bag.proofs.edits.clear_slot.Goals as goal
 

@@ -1,6 +1,6 @@
 use Rattle.std.proofs.Common.{◌≡◌, ap, sym, ◌∙◌, subst, length}
 use Rattle.std.proofs.lemmas.List.{get_or_read}
-use Rattle.rn_bag.specs.Chunks.{Slots, HasRoom, Replaces, tokens_in_chunk}
+use Rattle.rn_bag.specs.link.Chunks.{Slots, HasRoom, Replaces, tokens_in_chunk}
 use Rattle.rn_bag.proofs.EditLemmas.{on_ok_then, full_grown}
 use Rattle.rn_bag.proofs.edits.grow.Goals as goal
 

@@ -1,5 +1,5 @@
 use Rattle.std.proofs.Common.{◌≡◌, ◌++◌, ◌∷◌, [], sym, ap, ◌∙◌, subst}
-use Rattle.rn_bag.specs.Chunks.{Replaces}
+use Rattle.rn_bag.specs.link.Chunks.{Replaces}
 use Rattle.rn_bag.proofs.EditLemmas.{on_ok_then, comes_after}
 use Rattle.rn_bag.proofs.edits.put_after.Goals as goal
 

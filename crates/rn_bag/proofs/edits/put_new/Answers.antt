@@ -2,7 +2,7 @@ use Rattle.std.proofs.Common.{◌++◌, ◌∷◌, take, drop, refl, sym, ◌∙
 use Rattle.rn_bag.specs.Cuts.{Ascends}
 use Rattle.rn_bag.specs.Slots.{there_from}
 use Rattle.rn_bag.specs.Words.{has_bit}
-use Rattle.rn_bag.specs.Chunks.{AreCounted}
+use Rattle.rn_bag.specs.link.Chunks.{AreCounted}
 use Rattle.rn_bag.proofs.CountLemmas.{counted_prefix}
 use Rattle.rn_bag.proofs.EditLemmas.{read_at, prefix_long, replaced_gives, replaced_sound}
 use Rattle.rn_bag.proofs.edits.put_new.Goals as goal

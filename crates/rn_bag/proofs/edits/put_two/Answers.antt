@@ -1,6 +1,6 @@
 use Rattle.std.proofs.Common.{◌++◌, ◌≡◌, take, sym, ap, ◌∙◌, subst}
 use Rattle.std.proofs.lemmas.List.{take-append-drop}
-use Rattle.rn_bag.specs.Chunks.{Replaces}
+use Rattle.rn_bag.specs.link.Chunks.{Replaces}
 use Rattle.rn_bag.proofs.EditLemmas.{on_ok_then, replaces_two}
 use Rattle.rn_bag.proofs.edits.put_two.Goals as goal
 

@@ -1,6 +1,6 @@
 use Rattle.std.proofs.Common.{◌≡◌, Some, slice_get, take, sym, ap, refl, ◌∙◌, subst}
 use Rattle.std.proofs.lemmas.List.{take-set}
-use Rattle.rn_bag.specs.Chunks.{Slots, tokens_in, values_in}
+use Rattle.rn_bag.specs.link.Chunks.{Slots, tokens_in, values_in}
 use Rattle.rn_bag.proofs.EditLemmas.{set_again, same_values}
 use Rattle.rn_bag.proofs.edits.set_slot.Goals as goal
 

@@ -1,5 +1,5 @@
 use Rattle.std.proofs.Common.{sym, subst}
-use Rattle.rn_bag.specs.Chunks.{AreCounted}
+use Rattle.rn_bag.specs.link.Chunks.{AreCounted}
 use Rattle.rn_bag.proofs.CountLemmas.{counted_prefix}
 use Rattle.rn_bag.proofs.edits.take_out.Goals as goal
 

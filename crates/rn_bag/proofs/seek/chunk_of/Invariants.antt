@@ -1,6 +1,6 @@
 use Rattle.std.proofs.Common.{◌≤◌, ◌<◌, ◌-◌, length, take, get_or}
 use Rattle.rn_bag.specs.Cuts.{AllBefore}
-use Rattle.rn_bag.specs.Chunks.{Slots, values_in}
+use Rattle.rn_bag.specs.link.Chunks.{Slots, values_in}
 use Rattle.rn_bag.proofs.seek.chunk_of.Given as goal
 
 abbrev pub invariant-loop-low : goal.invariant-loop-low

@@ -1,5 +1,5 @@
 use Rattle.std.proofs.Common.{◌≡◌}
-use Rattle.rn_bag.specs.SlotIndices.{tokens_before, tokens_after}
+use Rattle.rn_bag.specs.link.SlotIndices.{tokens_before, tokens_after}
 use Rattle.rn_bag.proofs.seek.first_token.Given as goal
 
 abbrev pub invariant-loop-chunk : goal.invariant-loop-chunk

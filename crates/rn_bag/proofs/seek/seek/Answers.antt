@@ -1,6 +1,6 @@
 use Rattle.std.proofs.Common.{◌+◌, ◌-◌, sym, subst, length, take, drop, ap, ◌≡◌, arith}
 use Rattle.rn_bag.specs.Cuts.{AllBefore, NoneBefore, Ascends}
-use Rattle.rn_bag.specs.Chunks.{Slots, values_in}
+use Rattle.rn_bag.specs.link.Chunks.{Slots, values_in}
 use Rattle.rn_bag.proofs.SlotIndexLemmas.{chunk_ascends, seek_before, seek_rest, end_before, end_rest}
 use Rattle.rn_bag.proofs.seek.seek.Goals as goal
 

@@ -3,7 +3,7 @@ use Rattle.std.proofs.Common.{rules, ◌≡◌, ◌++◌, ◌∷◌, [], ◌<◌
 use Rattle.std.proofs.Common.{arith, length-append}
 use Rattle.rn_growing.proofs.BuildingSteps.{popped_front}
 use Rattle.rn_growing.specs.Decisions.{site_of}
-use Rattle.rn_binding.specs.Applications.{application_of, with_holes, hole_within}
+use Rattle.rn_binding.specs.link.Applications.{application_of, with_holes, hole_within}
 use Rattle.rn_model.specs.Derivation.{holes_in, holes_of_parts}
 use Rattle.rn_model.proofs.DerivationLemmas.{holes_in-Int, holes_in-Text, holes_in-Var, holes_in-This}
 use Rattle.rn_binding.proofs.HoleForms.{cons_put, part_put, none_put, holes-Step}

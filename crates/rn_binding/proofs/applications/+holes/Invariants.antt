@@ -2,7 +2,7 @@
 use Rattle.std.proofs.Common.{◌≡◌, ◌++◌, map, drop}
 use Rattle.rn_model.specs.Derivation.{holes_of_parts}
 use Rattle.rn_growing.specs.Decisions.{site_of}
-use Rattle.rn_binding.specs.Applications.{application_of, with_holes, hole_within}
+use Rattle.rn_binding.specs.link.Applications.{application_of, with_holes, hole_within}
 use Rattle.rn_binding.proofs.applications.+holes.Given as goal
 
 abbrev pub invariant-put_holes_of-loop-i : goal.invariant-put_holes_of-loop-i

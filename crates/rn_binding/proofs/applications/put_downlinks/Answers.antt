@@ -3,7 +3,7 @@ use Rattle.std.proofs.Common.{◌++◌, map, ap, sym, ◌∙◌}
 use Rattle.std.specs.Prelude.{flat_map}
 use Rattle.std.specs.List.{enumerate_from}
 use Rattle.rn_model.specs.Derivation.{args_of}
-use Rattle.rn_binding.specs.Applications.{application_of, holes_at}
+use Rattle.rn_binding.specs.link.Applications.{application_of, holes_at}
 use Rattle.rn_binding.proofs.PuttingParts.{downlink_put}
 use Rattle.rn_binding.proofs.applications.put_downlinks.Goals as goal
 

@@ -2,8 +2,8 @@
 use Rattle.std.proofs.Common.{◌≡◌, ◌++◌, map, drop}
 use Rattle.std.specs.Prelude.{flat_map}
 use Rattle.std.specs.List.{enumerate_from}
-use Rattle.rn_binding.specs.Applications.{application_of, holes_at}
-use Rattle.rn_binding.specs.Applications.{arc_site}
+use Rattle.rn_binding.specs.link.Applications.{application_of, holes_at}
+use Rattle.rn_binding.specs.link.Applications.{arc_site}
 use Rattle.rn_binding.proofs.applications.put_inscriptions.Given as goal
 
 abbrev pub invariant-loop-k : goal.invariant-loop-k

@@ -1,7 +1,7 @@
 -- Site by site, in the order in which the items are listed.
 use Rattle.std.proofs.Common.{◌≡◌, map, subst}
 use Rattle.std.specs.Prelude.{OnOk}
-use Rattle.rn_binding.specs.Applications.{application_of}
+use Rattle.rn_binding.specs.link.Applications.{application_of}
 use Rattle.rn_binding.proofs.PuttingParts.{sites_put}
 use Rattle.rn_binding.proofs.applications.put_sites.Goals as goal
 

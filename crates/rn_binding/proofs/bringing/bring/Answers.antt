@@ -5,8 +5,8 @@ use Rattle.std.proofs.lemmas.Result.{IfOk-weaker}
 use Rattle.rn_model.specs.Derivation.{entry, computed, items_of}
 use Rattle.rn_growing.specs.Decisions.{site_of}
 use Rattle.rn_growing.proofs.SoundItems.{items_sound}
-use Rattle.rn_binding.specs.Parts.{item_of}
-use Rattle.rn_binding.specs.Passing.{BringsItem}
+use Rattle.rn_binding.specs.link.Parts.{item_of}
+use Rattle.rn_binding.specs.link.Passing.{BringsItem}
 use Rattle.rn_binding.proofs.bringing.bring.Goals as goal
 
 pub bring_entry-requires-clause-item : goal.bring_entry-requires-clause-item

@@ -5,7 +5,7 @@ use Rattle.rn_model.specs.Evaluation.{worth}
 use Rattle.std.specs.Prelude.{All}
 use Rattle.rn_model.specs.Systems.{vars_in}
 use Rattle.rn_growing.specs.Decided.{enters, computes}
-use Rattle.rn_binding.specs.Passing.{IsVarForcedOn}
+use Rattle.rn_binding.specs.link.Passing.{IsVarForcedOn}
 use Rattle.rn_binding.proofs.ComingValues.{tested, computed_already, computed_early}
 use Rattle.rn_binding.proofs.ComingValues.{computed_unforced}
 use Rattle.rn_binding.proofs.ComingValues.{computed_has_value, computed_comes}

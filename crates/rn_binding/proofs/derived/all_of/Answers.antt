@@ -1,6 +1,6 @@
 -- Index by index, the last first.
 use Rattle.std.proofs.Common.{◌≡◌, ◌<◌, ◌+◌, ◌-◌, subst, sym, map, drop, length, arith, rules, []}
-use Rattle.rn_binding.specs.Parts.{item_of, picked, AllWithin, HaveTheSame}
+use Rattle.rn_binding.specs.link.Parts.{item_of, picked, AllWithin, HaveTheSame}
 use Rattle.rn_binding.proofs.PickedParts.{none_picked, none_within, all_before, more_within}
 use Rattle.rn_binding.proofs.derived.all_of.Goals as goal
 

@@ -1,6 +1,6 @@
 -- The indices so far, the last ones.
 use Rattle.std.proofs.Common.{◌≤◌, drop, length, map}
-use Rattle.rn_binding.specs.Parts.{item_of, picked, AllWithin, HaveTheSame}
+use Rattle.rn_binding.specs.link.Parts.{item_of, picked, AllWithin, HaveTheSame}
 use Rattle.rn_binding.proofs.derived.all_of.Given as goal
 
 abbrev pub invariant-loop-i : goal.invariant-loop-i

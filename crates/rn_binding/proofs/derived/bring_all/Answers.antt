@@ -1,8 +1,8 @@
 -- By the last pass, which left as many items as it tried.
 use Rattle.std.proofs.Common.{◌≡◌, length, subst, rules}
 use Rattle.std.specs.Prelude.{◌↔◌, IsTrue}
-use Rattle.rn_binding.specs.Parts.{picked}
-use Rattle.rn_binding.specs.Passing.{IsPassed}
+use Rattle.rn_binding.specs.link.Parts.{picked}
+use Rattle.rn_binding.specs.link.Passing.{IsPassed}
 use Rattle.rn_binding.proofs.Ending.{ends, fewer, goes_on}
 use Rattle.rn_binding.proofs.Later.{left_later}
 use Rattle.rn_binding.proofs.derived.bring_all.Goals as goal

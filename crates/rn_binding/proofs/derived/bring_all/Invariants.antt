@@ -1,7 +1,7 @@
 -- What is left after the passes so far.
 use Rattle.std.proofs.Common.{length}
-use Rattle.rn_binding.specs.Parts.{picked, AllWithin}
-use Rattle.rn_binding.specs.Passing.{AreLeft}
+use Rattle.rn_binding.specs.link.Parts.{picked, AllWithin}
+use Rattle.rn_binding.specs.link.Passing.{AreLeft}
 use Rattle.rn_binding.proofs.derived.bring_all.Given as goal
 
 abbrev pub invariant-loop-pending : goal.invariant-loop-pending

@@ -3,7 +3,7 @@ use Rattle.std.proofs.Common.{Bool, subst}
 use Rattle.std.specs.Prelude.{◌↔◌, All, IfOk, IsTrue}
 use Rattle.std.proofs.lemmas.Result.{IfOk-weaker}
 use Rattle.rn_model.specs.Derivation.{Derived}
-use Rattle.rn_binding.specs.Passing.{AreVarsForced}
+use Rattle.rn_binding.specs.link.Passing.{AreVarsForced}
 use Rattle.rn_binding.proofs.Passes.{underived, by_variables}
 use Rattle.rn_binding.proofs.derived.is_derived.Goals as goal
 

@@ -1,8 +1,8 @@
 -- Item by item, the last first: what is brought in, or left.
 use Rattle.std.proofs.Common.{◌≡◌, ◌<◌, ◌≤◌, ◌+◌, ◌-◌, refl, subst, get_or, drop}
 use Rattle.std.proofs.Common.{length, arith}
-use Rattle.rn_binding.specs.Parts.{item_of, picked}
-use Rattle.rn_binding.specs.Passing.{IsPassed}
+use Rattle.rn_binding.specs.link.Parts.{item_of, picked}
+use Rattle.rn_binding.specs.link.Passing.{IsPassed}
 use Rattle.rn_binding.proofs.PassSteps.{is_in, is_left}
 use Rattle.rn_binding.proofs.PickedParts.{picked_there}
 use Rattle.rn_binding.proofs.derived.pass.Goals as goal

@@ -1,7 +1,7 @@
 -- The items that were tried so far, the last ones, and those of them that are left.
 use Rattle.std.proofs.Common.{◌≤◌, drop, length}
-use Rattle.rn_binding.specs.Parts.{picked, AllWithin}
-use Rattle.rn_binding.specs.Passing.{IsPassed}
+use Rattle.rn_binding.specs.link.Parts.{picked, AllWithin}
+use Rattle.rn_binding.specs.link.Passing.{IsPassed}
 use Rattle.rn_binding.proofs.derived.pass.Given as goal
 
 abbrev pub invariant-loop-k : goal.invariant-loop-k

@@ -3,8 +3,8 @@ use Rattle.std.proofs.Common.{subst}
 use Rattle.std.specs.Prelude.{Contains}
 use Rattle.std.proofs.lemmas.Result.{IfOk-weaker}
 use Rattle.rn_model.specs.Derivation.{items_of}
-use Rattle.rn_binding.specs.Parts.{picked, HaveTheSame}
-use Rattle.rn_binding.specs.Passing.{IsPassed, AreLeft}
+use Rattle.rn_binding.specs.link.Parts.{picked, HaveTheSame}
+use Rattle.rn_binding.specs.link.Passing.{IsPassed, AreLeft}
 use Rattle.rn_binding.proofs.Passes.{all_left, left_then}
 use Rattle.rn_binding.proofs.derived.sweep.Goals as goal
 

@@ -1,6 +1,6 @@
 -- Node by node.
 use Rattle.std.proofs.Common.{◌∙◌, sym, subst}
-use Rattle.rn_binding.specs.Passing.{AreVarsForced}
+use Rattle.rn_binding.specs.link.Passing.{AreVarsForced}
 use Rattle.rn_binding.proofs.ForcedVariables.{of_node, each_more}
 use Rattle.rn_binding.proofs.forcing.are_all_forced.Goals as goal
 

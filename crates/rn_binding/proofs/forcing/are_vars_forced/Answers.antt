@@ -2,7 +2,7 @@
 use Rattle.std.proofs.Common.{◌∙◌, sym, get_or}
 use Rattle.std.proofs.lemmas.List.{get_or_default}
 use Rattle.rn_binding.proofs.ForcedVariables.{each_more}
-use Rattle.rn_binding.specs.Passing.{IsVarForcedOn}
+use Rattle.rn_binding.specs.link.Passing.{IsVarForcedOn}
 use Rattle.rn_binding.proofs.forcing.are_vars_forced.Goals as goal
 
 pub returns-then-not-branch : goal.returns-then-not-branch

@@ -1,6 +1,6 @@
 -- The variables so far.
 use Rattle.std.proofs.Common.{ℕ, ◌<◌, get_or}
-use Rattle.rn_binding.specs.Passing.{IsVarForcedOn}
+use Rattle.rn_binding.specs.link.Passing.{IsVarForcedOn}
 use Rattle.rn_binding.proofs.forcing.are_vars_forced.Given as goal
 
 abbrev pub invariant-loop-x : goal.invariant-loop-x

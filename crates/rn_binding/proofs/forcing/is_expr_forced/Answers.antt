@@ -2,7 +2,7 @@
 use Rattle.std.proofs.Common.{◌≡◌, rules, subst}
 use Rattle.std.specs.Prelude.{IfOk, IsTrue, ◌↔◌, All}
 use Rattle.rn_model.specs.Systems.{vars_in}
-use Rattle.rn_binding.specs.Passing.{IsVarForcedOn}
+use Rattle.rn_binding.specs.link.Passing.{IsVarForcedOn}
 use Rattle.rn_binding.proofs.forcing.is_expr_forced.Goals as goal
 
 pub returns : goal.returns

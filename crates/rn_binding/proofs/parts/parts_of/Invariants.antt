@@ -2,7 +2,7 @@
 use Rattle.std.proofs.Common.{◌≡◌, ◌++◌, map, drop}
 use Rattle.std.specs.Prelude.{flat_map}
 use Rattle.rn_model.specs.Derivation.{node_items}
-use Rattle.rn_binding.specs.Parts.{item_of}
+use Rattle.rn_binding.specs.link.Parts.{item_of}
 use Rattle.rn_binding.proofs.parts.parts_of.Given as goal
 
 abbrev pub invariant-loop-i : goal.invariant-loop-i

@@ -4,8 +4,8 @@ use Rattle.std.specs.Vec.Iter.{into_iter_items, into_iter_len}
 use Rattle.std.proofs.lemmas.List.{map-id}
 use Rattle.std.proofs.lemmas.Iterator.Adapters.{YieldsList-from_vec}
 use Rattle.std.proofs.lemmas.Iterator.Consumers.{YieldsList-end}
-use Rattle.rn_binding.specs.Applications.{application_of}
-use Rattle.rn_binding.specs.Parts.{item_of}
+use Rattle.rn_binding.specs.link.Applications.{application_of}
+use Rattle.rn_binding.specs.link.Parts.{item_of}
 use Rattle.rn_binding.proofs.PuttingParts.{as_item, computed_put}
 use Rattle.rn_binding.proofs.parts.put_computed.Goals as goal
 

@@ -1,7 +1,7 @@
 -- The operator applications so far.
 use Rattle.std.proofs.Common.{◌≡◌, ◌++◌, map}
-use Rattle.rn_binding.specs.Applications.{application_of}
-use Rattle.rn_binding.specs.Parts.{item_of}
+use Rattle.rn_binding.specs.link.Applications.{application_of}
+use Rattle.rn_binding.specs.link.Parts.{item_of}
 use Rattle.rn_binding.proofs.PuttingParts.{as_item}
 use Rattle.rn_binding.proofs.parts.put_computed.Given as goal
 

@@ -2,8 +2,8 @@
 use Rattle.std.proofs.Common.{◌≡◌, ◌++◌, map, drop}
 use Rattle.std.specs.Prelude.{flat_map}
 use Rattle.std.specs.List.{enumerate_from}
-use Rattle.rn_binding.specs.Parts.{item_of}
-use Rattle.rn_binding.specs.Parts.{found_at}
+use Rattle.rn_binding.specs.link.Parts.{item_of}
+use Rattle.rn_binding.specs.link.Parts.{found_at}
 use Rattle.rn_binding.proofs.parts.put_found.Given as goal
 
 abbrev pub invariant-loop-k : goal.invariant-loop-k

@@ -4,7 +4,7 @@ use Rattle.std.proofs.lemmas.List.{map-append}
 use Rattle.std.specs.Prelude.{OnOk}
 use Rattle.rn_model.specs.Derivation.{entry}
 use Rattle.rn_model.specs.Systems.{transition_of}
-use Rattle.rn_binding.specs.Parts.{item_of}
+use Rattle.rn_binding.specs.link.Parts.{item_of}
 use Rattle.rn_binding.proofs.PuttingParts.{node_put}
 use Rattle.rn_binding.proofs.parts.put_node.Goals as goal
 

@@ -1,6 +1,6 @@
 -- By the item that was tried.
 use Rattle.rn_model.specs.Derivation.{items_of}
-use Rattle.rn_binding.specs.Parts.{item_of}
+use Rattle.rn_binding.specs.link.Parts.{item_of}
 use Rattle.rn_binding.proofs.Later.{not_yet, part_there, tried_is_later}
 use Rattle.rn_binding.proofs.propagating.comes_in.Goals as goal
 

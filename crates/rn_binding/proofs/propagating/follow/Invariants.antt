@@ -1,5 +1,5 @@
 -- The binding so far.
-use Rattle.rn_binding.specs.Passing.{IsLater}
+use Rattle.rn_binding.specs.link.Passing.{IsLater}
 use Rattle.rn_binding.proofs.propagating.follow.Given as goal
 
 abbrev pub invariant-loop-k : goal.invariant-loop-k

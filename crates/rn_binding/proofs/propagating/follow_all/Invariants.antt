@@ -1,5 +1,5 @@
 -- The binding so far.
-use Rattle.rn_binding.specs.Passing.{IsLater}
+use Rattle.rn_binding.specs.link.Passing.{IsLater}
 use Rattle.rn_binding.proofs.propagating.follow_all.Given as goal
 
 abbrev pub invariant-loop-event : goal.invariant-loop-event

@@ -3,7 +3,7 @@ use Rattle.std.proofs.Common.{◌≡◌, ◌∙◌, ap, sym, subst}
 use Rattle.std.specs.Prelude.{map}
 use Rattle.rn_growing.specs.Decisions.{transition_in}
 use Rattle.rn_search.specs.Points.{holes_of, node_of}
-use Rattle.rn_binding.specs.Applications.{application_of}
+use Rattle.rn_binding.specs.link.Applications.{application_of}
 use Rattle.rn_branch.proofs.Applied.{applied_on}
 use Rattle.rn_looking.proofs.AppliedAt.{applied_within}
 use Rattle.rn_branch.proofs.NodesThere.{net_is_there, transition_is_there}

@@ -1,6 +1,6 @@
 -- By the keys of the bucket that were passed.
 use Rattle.std.proofs.Common.{◌≡◌, ◌+◌, ◌-◌, arith, subst}
-use Rattle.rn_chains.specs.Chains.{IsBackTo}
+use Rattle.rn_chains.specs.link.Chains.{IsBackTo}
 use Rattle.rn_chains.proofs.ChainSteps.{back_first, back_on, back_here, back_none}
 use Rattle.rn_chains.proofs.chains.down.Goals as goal
 

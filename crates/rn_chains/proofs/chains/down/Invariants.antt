@@ -1,6 +1,6 @@
 -- None of the keys that were passed is the one sought.
 use Rattle.std.proofs.Common.{ℕ, ◌≤◌, length}
-use Rattle.rn_chains.specs.Chains.{AreLinked, InBucket, IsUpToLast, IsBackTo}
+use Rattle.rn_chains.specs.link.Chains.{AreLinked, InBucket, IsUpToLast, IsBackTo}
 use Rattle.rn_chains.proofs.chains.down.Given as goal
 
 abbrev pub invariant-loop-at : goal.invariant-loop-at

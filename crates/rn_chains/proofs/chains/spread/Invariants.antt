@@ -1,6 +1,6 @@
 -- The keys so far are chained.
 use Rattle.std.proofs.Common.{◌≡◌, length, take}
-use Rattle.rn_chains.specs.Chains.{AreChained}
+use Rattle.rn_chains.specs.link.Chains.{AreChained}
 use Rattle.rn_chains.proofs.chains.spread.Given as goal
 
 abbrev pub invariant-loop-i : goal.invariant-loop-i

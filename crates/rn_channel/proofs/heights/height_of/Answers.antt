@@ -2,7 +2,7 @@ use Rattle.std.proofs.Common.{◌≡◌, ◌∙◌, ◌+◌, ◌∷◌, drop, sy
 use Rattle.std.specs.Prelude.{slice_index_or}
 use Rattle.std.proofs.lemmas.List.{drop_more}
 use Rattle.rn_channel.specs.Heights.{calls_answered}
-use Rattle.rn_channel.specs.Kept.{AreLevelsFrom, least_height}
+use Rattle.rn_channel.specs.link.Kept.{AreLevelsFrom, least_height}
 use Rattle.rn_channel.proofs.LevelLemmas.{height_here, height_later}
 use Rattle.rn_channel.proofs.heights.height_of.Goals as goal
 

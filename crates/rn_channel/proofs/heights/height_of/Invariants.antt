@@ -1,6 +1,6 @@
 use Rattle.std.proofs.Common.{◌≡◌, drop, length}
 use Rattle.rn_model.specs.declared.system.System.{System}
-use Rattle.rn_channel.specs.Kept.{AreLevelsFrom, least_height}
+use Rattle.rn_channel.specs.link.Kept.{AreLevelsFrom, least_height}
 use Rattle.rn_channel.proofs.heights.height_of.Given as goal
 
 abbrev pub invariant-loop-k : goal.invariant-loop-k

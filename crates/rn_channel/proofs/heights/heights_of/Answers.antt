@@ -1,7 +1,7 @@
 use Rattle.std.proofs.Common.{◌≡◌, ◌∙◌, ◌<◌, ◌≤◌, ap, length, map, subst, get_or}
 use Rattle.std.proofs.lemmas.List.{take_all}
 use Rattle.rn_model.specs.declared.system.Transition.{Transition}
-use Rattle.rn_channel.specs.Kept.{least_height}
+use Rattle.rn_channel.specs.link.Kept.{least_height}
 use Rattle.rn_channel.proofs.ListLemmas.{map_more}
 use Rattle.rn_channel.proofs.heights.heights_of.Goals as goal
 

@@ -1,6 +1,6 @@
 use Rattle.std.proofs.Common.{◌≡◌, take, map, length}
 use Rattle.rn_model.specs.declared.system.System.{System}
-use Rattle.rn_channel.specs.Kept.{AreLevelsFrom, least_height}
+use Rattle.rn_channel.specs.link.Kept.{AreLevelsFrom, least_height}
 use Rattle.rn_channel.proofs.heights.heights_of.Given as goal
 
 abbrev pub invariant-loop-transition : goal.invariant-loop-transition

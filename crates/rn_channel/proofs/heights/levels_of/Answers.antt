@@ -1,6 +1,6 @@
 use Rattle.std.proofs.Common.{◌≡◌, ◌∙◌, ◌+◌, suc, sym, ap, subst, arith, length, ◌∷◌, []}
 use Rattle.std.proofs.lemmas.List.{length-append}
-use Rattle.rn_channel.specs.Kept.{IsLevel, AreLevelsFrom}
+use Rattle.rn_channel.specs.link.Kept.{IsLevel, AreLevelsFrom}
 use Rattle.rn_channel.proofs.LevelLemmas.{one_more_level}
 use Rattle.rn_channel.proofs.heights.levels_of.Goals as goal
 

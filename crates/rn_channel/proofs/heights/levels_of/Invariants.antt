@@ -1,5 +1,5 @@
 use Rattle.std.proofs.Common.{◌≡◌, length}
-use Rattle.rn_channel.specs.Kept.{IsLevel, AreLevelsFrom}
+use Rattle.rn_channel.specs.link.Kept.{IsLevel, AreLevelsFrom}
 use Rattle.rn_channel.proofs.heights.levels_of.Given as goal
 
 abbrev pub invariant-loop-k : goal.invariant-loop-k

@@ -1,6 +1,6 @@
 use Rattle.std.proofs.Common.{◌≡◌, ◌++◌, ℕ, drop}
 use Rattle.rn_channel.specs.Answering.{answering_from}
-use Rattle.rn_channel.specs.Kept.{looked_up}
+use Rattle.rn_channel.specs.link.Kept.{looked_up}
 use Rattle.rn_channel.proofs.rows.rows_of.Given as goal
 
 -- the row so far and what the transitions left add to it are the whole row

@@ -1,7 +1,7 @@
 -- What is enabled at the start can be written there.
 use Rattle.std.proofs.Common.{sym, subst}
 use Rattle.std.specs.Prelude.{All}
-use Rattle.rn_commands.specs.Bindings.{HasFirstLines}
+use Rattle.rn_commands.specs.link.Bindings.{HasFirstLines}
 use Rattle.rn_commands.proofs.FirstBindings.{first_lines}
 use Rattle.rn_commands.proofs.bindings.enabled.Goals as goal
 

@@ -3,7 +3,7 @@ use Rattle.std.proofs.Common.{◌≡◌, sym, ap, ◌∙◌, subst}
 use Rattle.std.specs.Prelude.{Some}
 use Rattle.std.specs.Option.{option_copied}
 use Rattle.rn_model.specs.declared.log.Entry.TheVariants.{End}
-use Rattle.rn_replay.specs.Parts.{IsEnd}
+use Rattle.rn_replay.specs.link.Parts.{IsEnd}
 use Rattle.rn_commands.proofs.LastReasons.{last_ends}
 use Rattle.rn_commands.proofs.ends.end_reason.Goals as goal
 

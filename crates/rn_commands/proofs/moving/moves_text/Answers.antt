@@ -2,7 +2,7 @@
 use Rattle.std.proofs.Common.{length, sym, subst}
 use Rattle.std.specs.Prelude.{IfOk}
 use Rattle.rn_fire.specs.States.{logged}
-use Rattle.rn_moves.specs.Movable.{HaveMoves}
+use Rattle.rn_moves.specs.link.Movable.{HaveMoves}
 use Rattle.rn_moves.specs.MovesText.{MovesText, nets_of}
 use Rattle.rn_commands.proofs.moving.moves_text.Goals as goal
 

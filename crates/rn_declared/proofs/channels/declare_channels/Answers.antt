@@ -3,7 +3,7 @@ use Rattle.std.proofs.Common.{◌∙◌, ap, sym, map, take, drop, ◌+◌, ◌�
 use Rattle.rn_declared.specs.Faults.{first_from}
 use Rattle.rn_declared.specs.Patterns.{pattern_of}
 use Rattle.rn_declared.specs.Channels.{channels_faults}
-use Rattle.rn_declared.specs.Tables.{number_in_tables}
+use Rattle.rn_declared.specs.link.Tables.{number_in_tables}
 use Rattle.rn_declared.proofs.ChannelLemmas.{channel_more, channels_told_more, channels_told_all}
 use Rattle.rn_declared.proofs.channels.declare_channels.Goals as goal
 use Rattle.rn_items.proofs.Lists.{map_more}

@@ -4,7 +4,7 @@ use Rattle.std.proofs.Common.{◌≡◌, List, ℕ, [], map, take, drop}
 use Rattle.rn_declared.specs.Faults.{first_from}
 use Rattle.rn_declared.specs.Patterns.{pattern_of}
 use Rattle.rn_declared.specs.Channels.{channel_from, channels_faults}
-use Rattle.rn_declared.specs.Tables.{number_in_tables}
+use Rattle.rn_declared.specs.link.Tables.{number_in_tables}
 use Rattle.rn_declared.proofs.channels.declare_channels.Given as goal
 
 abbrev pub invariant-loop-i : goal.invariant-loop-i

@@ -3,7 +3,7 @@ use Rattle.std.proofs.Common.{◌≡◌, ◌∙◌, ap, sym, map, arith, take, d
 use Rattle.std.proofs.lemmas.List.{length-map}
 use Rattle.rn_declared.specs.Faults.{first_from}
 use Rattle.rn_declared.specs.Names.{names_faults}
-use Rattle.rn_declared.specs.Tables.{found_in}
+use Rattle.rn_declared.specs.link.Tables.{found_in}
 use Rattle.rn_declared.proofs.NameLemmas.{found_more, names_told_more, names_told_all, length_names, texts}
 use Rattle.rn_declared.proofs.names.declare_all.Goals as goal
 use Rattle.rn_items.proofs.Lists.{map_item}

@@ -3,7 +3,7 @@
 use Rattle.std.proofs.Common.{◌≡◌, List, ℕ, [], map, take, drop}
 use Rattle.rn_declared.specs.Faults.{first_from}
 use Rattle.rn_declared.specs.Names.{number_among, names_faults}
-use Rattle.rn_declared.specs.Tables.{found_in}
+use Rattle.rn_declared.specs.link.Tables.{found_in}
 use Rattle.rn_declared.proofs.names.declare_all.Given as goal
 
 abbrev pub invariant-loop-i : goal.invariant-loop-i

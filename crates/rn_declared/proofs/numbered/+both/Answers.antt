@@ -5,8 +5,8 @@ use Rattle.rn_declared.proofs.PatternLemmas.{all_both_more, all_both_past}
 use Rattle.std.proofs.Common.{◌≡◌, rules, ap, ◌∙◌, sym}
 use Rattle.rn_declared.specs.Patterns.{both_of}
 use Rattle.rn_declared.proofs.CommonPatterns.{any_both, tuple_kept}
-use Rattle.rn_declared.specs.Sizes.{parts_below}
-use Rattle.rn_declared.specs.Forms.{pattern_of_form}
+use Rattle.rn_declared.specs.link.Sizes.{parts_below}
+use Rattle.rn_declared.specs.link.Forms.{pattern_of_form}
 use Rattle.rn_declared.specs.declared.numbered.Form.TheVariants as F
 use Rattle.rn_declared.specs.declared.pattern.Pattern.TheVariants as Pattern
 use Rattle.rn_declared.proofs.numbered.+both.Goals as goal

@@ -1,7 +1,7 @@
 -- The parts of a tuple are smaller.
 use Rattle.std.proofs.Common.{◌≡◌, rules, ap, ◌∙◌, sym}
-use Rattle.rn_declared.specs.Sizes.{parts_below}
-use Rattle.rn_declared.specs.Forms.{pattern_of_form}
+use Rattle.rn_declared.specs.link.Sizes.{parts_below}
+use Rattle.rn_declared.specs.link.Forms.{pattern_of_form}
 use Rattle.rn_declared.specs.declared.numbered.Form.TheVariants as F
 use Rattle.rn_declared.specs.declared.pattern.Pattern.TheVariants as Pattern
 use Rattle.rn_declared.proofs.numbered.+is.Goals as goal

@@ -7,7 +7,7 @@ use Rattle.rn_net.specs.declared.plain.PPlace.{PPlace}
 use Rattle.rn_declared.specs.Faults.{first_from}
 use Rattle.rn_declared.specs.Patterns.{pattern_of}
 use Rattle.rn_declared.specs.Names.{declared_faults}
-use Rattle.rn_declared.specs.Tables.{found_in}
+use Rattle.rn_declared.specs.link.Tables.{found_in}
 use Rattle.rn_declared.specs.Declarations.{place_faults}
 use Rattle.rn_declared.proofs.ToldLemmas.{first_from-append}
 use Rattle.rn_declared.proofs.ToldLemmas.{told_more}

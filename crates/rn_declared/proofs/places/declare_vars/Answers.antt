@@ -7,7 +7,7 @@ use Rattle.rn_net.specs.declared.plain.PVar.{PVar}
 use Rattle.rn_declared.specs.Faults.{first_from}
 use Rattle.rn_declared.specs.Patterns.{pattern_of}
 use Rattle.rn_declared.specs.Names.{declared_faults}
-use Rattle.rn_declared.specs.Tables.{found_in}
+use Rattle.rn_declared.specs.link.Tables.{found_in}
 use Rattle.rn_declared.specs.Declarations.{kind_faults}
 use Rattle.rn_declared.proofs.FirstLemmas.{told_again}
 use Rattle.rn_declared.proofs.ToldLemmas.{first_from-append}

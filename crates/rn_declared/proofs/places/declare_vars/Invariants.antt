@@ -4,7 +4,7 @@ use Rattle.std.specs.Prelude.{flat_map, IfSome, option_copied}
 use Rattle.rn_declared.specs.Faults.{first_from}
 use Rattle.rn_declared.specs.Patterns.{pattern_of}
 use Rattle.rn_declared.specs.Declarations.{kind_faults}
-use Rattle.rn_declared.specs.SeenBefore.{WasSeen}
+use Rattle.rn_declared.specs.link.SeenBefore.{WasSeen}
 use Rattle.rn_declared.proofs.places.declare_vars.Given as goal
 
 abbrev pub invariant-loop-var : goal.invariant-loop-var

@@ -1,7 +1,7 @@
 use Rattle.std.proofs.Common.{rules, arith, ◌≡◌, ℕ, ◌+◌, ◌∷◌, ◌++◌, sym, ap, ◌∙◌, subst, length, map}
 use Rattle.rn_desk.specs.declared.desk.Pass.{Pass}
 use Rattle.rn_desk.specs.declared.view.Part.{Part}
-use Rattle.rn_desk.specs.Seats.{IsBack, IsIn}
+use Rattle.rn_desk.specs.link.Seats.{IsBack, IsIn}
 use Rattle.rn_desk.specs.declared.view.SeatRole.TheVariants.{Idle}
 use Rattle.rn_desk.specs.Turns.{parts_of, parts_count, Every, PartFits}
 use Rattle.rn_desk.proofs.Numbering.{AllFrom, each_of, all_of, first_removed, first_joined, next_joined, all_joined, length-parts, all_in}

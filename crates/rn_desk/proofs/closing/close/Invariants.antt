@@ -1,6 +1,6 @@
 use Rattle.std.proofs.Common.{◌≡◌, ℕ, ◌++◌, ◌∷◌, map, length}
 use Rattle.rn_desk.specs.declared.view.SeatRole.TheVariants.{Idle}
-use Rattle.rn_desk.specs.Seats.{IsBack}
+use Rattle.rn_desk.specs.link.Seats.{IsBack}
 use Rattle.rn_desk.proofs.Numbering.{AllFrom}
 use Rattle.rn_desk.proofs.closing.close.Given as goal
 

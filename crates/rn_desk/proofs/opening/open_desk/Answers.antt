@@ -1,7 +1,7 @@
 use Rattle.std.proofs.Common.{rules, arith, ◌≡◌, ℕ, ◌+◌, [], sym, ap, ◌∙◌, subst, length}
 use Rattle.rn_desk.specs.declared.desk.Pass.{Pass}
 use Rattle.rn_desk.specs.Steps.{maker_after, made_seat}
-use Rattle.rn_desk.specs.Seats.{IsFresh}
+use Rattle.rn_desk.specs.link.Seats.{IsFresh}
 use Rattle.rn_desk.specs.Numbered.{EachAt}
 use Rattle.rn_desk.proofs.Numbering.{AllFrom, AllFrom_push, each_of}
 use Rattle.rn_desk.proofs.opening.open_desk.Goals as goal

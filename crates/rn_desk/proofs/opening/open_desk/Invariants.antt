@@ -1,7 +1,7 @@
 use Rattle.std.proofs.Common.{◌≡◌, ◌≤◌, [], length}
 use Rattle.std.specs.Prelude.{vec_capacity}
 use Rattle.rn_desk.specs.Steps.{maker}
-use Rattle.rn_desk.specs.Seats.{IsFresh}
+use Rattle.rn_desk.specs.link.Seats.{IsFresh}
 use Rattle.rn_desk.proofs.Numbering.{AllFrom}
 use Rattle.rn_desk.proofs.opening.open_desk.Given as goal
 

@@ -1,7 +1,7 @@
 use Rattle.std.proofs.Common.{◌≡◌, ◌∙◌, subst, arith}
 use Rattle.std.proofs.lemmas.List.{take_all}
 use Rattle.rn_value.specs.declared.value.InstRef.TheVariants.{Old}
-use Rattle.rn_fire.specs.Changed.{Gets, OneHas}
+use Rattle.rn_fire.specs.link.Changed.{Gets, OneHas}
 use Rattle.rn_fire.proofs.ChangedLemmas.{none_yet, one_more}
 use Rattle.rn_fire.proofs.changed.put_binding.Goals as goal
 

@@ -1,6 +1,6 @@
 use Rattle.std.proofs.Common.{subst, arith}
 use Rattle.std.proofs.lemmas.List.{take_all}
-use Rattle.rn_fire.specs.Changed.{EntryHasNodeOn, Gets, OneHas}
+use Rattle.rn_fire.specs.link.Changed.{EntryHasNodeOn, Gets, OneHas}
 use Rattle.rn_fire.proofs.ChangedLemmas.{none_yet, one_more}
 use Rattle.rn_fire.proofs.changed.put_entries.Goals as goal
 

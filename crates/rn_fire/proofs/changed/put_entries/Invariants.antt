@@ -1,5 +1,5 @@
 use Rattle.std.proofs.Common.{take}
-use Rattle.rn_fire.specs.Changed.{EntryHasNodeOn, Gets, OneHas}
+use Rattle.rn_fire.specs.link.Changed.{EntryHasNodeOn, Gets, OneHas}
 use Rattle.rn_fire.proofs.changed.put_entries.Given as goal
 
 abbrev pub invariant-loop-entry : goal.invariant-loop-entry

@@ -1,6 +1,6 @@
 use Rattle.std.proofs.Common.{sym, subst}
 use Rattle.std.specs.Prelude.{OnOk}
-use Rattle.rn_fire.specs.Changed.{EntryHasNodeOn, Gets}
+use Rattle.rn_fire.specs.link.Changed.{EntryHasNodeOn, Gets}
 use Rattle.rn_fire.proofs.changed.put_entry.Goals as goal
 
 pub returns-in-Fire : goal.returns-in-Fire

@@ -1,5 +1,5 @@
 use Rattle.std.proofs.Common.{◌+◌, sym, subst}
-use Rattle.rn_fire.specs.Changed.{Gets}
+use Rattle.rn_fire.specs.link.Changed.{Gets}
 use Rattle.rn_fire.proofs.ChangedLemmas.{Between, all_between, next_between, none_between}
 use Rattle.rn_fire.proofs.changed.put_numbers.Goals as goal
 

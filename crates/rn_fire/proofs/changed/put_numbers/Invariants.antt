@@ -1,4 +1,4 @@
-use Rattle.rn_fire.specs.Changed.{Gets}
+use Rattle.rn_fire.specs.link.Changed.{Gets}
 use Rattle.rn_fire.proofs.ChangedLemmas.{Between}
 use Rattle.rn_fire.proofs.changed.put_numbers.Given as goal
 

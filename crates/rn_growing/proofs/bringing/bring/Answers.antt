@@ -1,7 +1,7 @@
 use Rattle.std.proofs.Common.{sym, subst}
 use Rattle.std.specs.Prelude.{IfOk}
 use Rattle.rn_growing.specs.Equations.{Brings}
-use Rattle.rn_growing.specs.Grown.{BringsIn}
+use Rattle.rn_growing.specs.link.Grown.{BringsIn}
 use Rattle.rn_growing.proofs.bringing.bring.Goals as goal
 
 pub returns-in-Entered-clause-brings : goal.returns-in-Entered-clause-brings

@@ -2,10 +2,10 @@ use Rattle.std.proofs.Common.{◌≡◌}
 use Rattle.std.specs.Prelude.{true, false, Some, slice_get}
 use Rattle.rn_model.specs.Derivation.{downlink_arg, uplink_arg}
 use Rattle.rn_model.specs.Lists.{HaveOneValue}
-use Rattle.rn_growing.specs.Entering.{ArgHolds}
+use Rattle.rn_growing.specs.link.Entering.{ArgHolds}
 use Rattle.rn_growing.specs.Equations.{read_at}
-use Rattle.rn_growing.specs.Grown.{BringsIn}
-use Rattle.rn_growing.specs.Laid.{Grows}
+use Rattle.rn_growing.specs.link.Grown.{BringsIn}
+use Rattle.rn_growing.specs.link.Laid.{Grows}
 use Rattle.rn_growing.proofs.BringingSteps.{brings_more, brings_never, brings_all, arg_is}
 use Rattle.rn_growing.proofs.BringingSteps.{args_past, others_past}
 use Rattle.rn_growing.proofs.Growth.{stands_at}

@@ -1,5 +1,5 @@
-use Rattle.rn_growing.specs.Entering.{AllBelow, ArgHolds}
-use Rattle.rn_growing.specs.Laid.{Adds, Grows}
+use Rattle.rn_growing.specs.link.Entering.{AllBelow, ArgHolds}
+use Rattle.rn_growing.specs.link.Laid.{Adds, Grows}
 use Rattle.rn_growing.proofs.bringing.bring_args.Given as goal
 
 abbrev pub invariant-loop-k : goal.invariant-loop-k

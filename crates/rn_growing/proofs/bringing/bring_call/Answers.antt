@@ -2,8 +2,8 @@ use Rattle.std.proofs.Common.{◌≡◌, sym, ap, ◌∙◌, subst}
 use Rattle.std.specs.Prelude.{Some, IfOk, slice_get}
 use Rattle.rn_model.specs.Systems.{uplink_args}
 use Rattle.rn_growing.specs.Decisions.{transition_in}
-use Rattle.rn_growing.specs.Entering.{AllHold, ArgHolds, ArgsHold}
-use Rattle.rn_growing.specs.Grown.{BringsIn}
+use Rattle.rn_growing.specs.link.Entering.{AllHold, ArgHolds, ArgsHold}
+use Rattle.rn_growing.specs.link.Grown.{BringsIn}
 use Rattle.rn_growing.proofs.BringingSteps.{alike_answer, call_is}
 use Rattle.rn_growing.proofs.bringing.bring_call.Goals as goal
 

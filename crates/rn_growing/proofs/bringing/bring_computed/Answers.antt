@@ -3,7 +3,7 @@ use Rattle.std.specs.Prelude.{Some, ◌↔◌}
 use Rattle.std.proofs.lemmas.Option.{same_Some}
 use Rattle.rn_model.specs.Derivation.{Assignment}
 use Rattle.rn_growing.specs.Decisions.{site_of}
-use Rattle.rn_growing.specs.Laid.{Builds}
+use Rattle.rn_growing.specs.link.Laid.{Builds}
 use Rattle.rn_growing.proofs.BringingSteps.{then_gets_answer}
 use Rattle.rn_growing.proofs.bringing.bring_computed.Goals as goal
 

@@ -3,10 +3,10 @@ use Rattle.std.specs.Prelude.{true, false, Some, slice_get}
 use Rattle.std.proofs.lemmas.Option.{slice_get-get_or}
 use Rattle.rn_value.specs.declared.value.InstRef.TheVariants.{New}
 use Rattle.rn_value.specs.declared.value.Value.TheVariants as Value
-use Rattle.rn_growing.specs.Building.{GetsValue}
-use Rattle.rn_growing.specs.Entering.{CreationHolds}
-use Rattle.rn_growing.specs.Grown.{BringsIn}
-use Rattle.rn_growing.specs.Laid.{Builds, Grows}
+use Rattle.rn_growing.specs.link.Building.{GetsValue}
+use Rattle.rn_growing.specs.link.Entering.{CreationHolds}
+use Rattle.rn_growing.specs.link.Grown.{BringsIn}
+use Rattle.rn_growing.specs.link.Laid.{Builds, Grows}
 use Rattle.rn_growing.proofs.BringingSteps.{brings_more, brings_never, brings_all, creation_is}
 use Rattle.rn_growing.proofs.BringingSteps.{creations_past, then_gets}
 use Rattle.rn_growing.proofs.LaidSteps.{brings_alike, grows_through}

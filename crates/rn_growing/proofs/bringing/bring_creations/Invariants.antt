@@ -1,5 +1,5 @@
-use Rattle.rn_growing.specs.Entering.{AllBelow, CreationHolds}
-use Rattle.rn_growing.specs.Laid.{Adds, Grows}
+use Rattle.rn_growing.specs.link.Entering.{AllBelow, CreationHolds}
+use Rattle.rn_growing.specs.link.Laid.{Adds, Grows}
 use Rattle.rn_growing.proofs.bringing.bring_creations.Given as goal
 
 abbrev pub invariant-loop-j : goal.invariant-loop-j

@@ -1,10 +1,10 @@
 use Rattle.std.proofs.Common.{◌≡◌, ◌≤◌, length, ap, sym, ◌∙◌, subst}
 use Rattle.std.specs.Prelude.{true, false}
 use Rattle.rn_growing.specs.Decisions.{transition_in}
-use Rattle.rn_growing.specs.Entering.{AllHold, ArgsHold, CreationHolds, EqualityHolds}
+use Rattle.rn_growing.specs.link.Entering.{AllHold, ArgsHold, CreationHolds, EqualityHolds}
 use Rattle.rn_growing.specs.Equations.{EntryBrings}
-use Rattle.rn_growing.specs.Grown.{BringsIn}
-use Rattle.rn_growing.specs.Laid.{Adds}
+use Rattle.rn_growing.specs.link.Grown.{BringsIn}
+use Rattle.rn_growing.specs.link.Laid.{Adds}
 use Rattle.rn_growing.proofs.BringingSteps.{entry_is, never_part, then_brings, then_brings_answer}
 use Rattle.rn_growing.proofs.GoodSystems.{few_in_node}
 use Rattle.rn_growing.proofs.LaidSteps.{grows_through}

@@ -2,10 +2,10 @@ use Rattle.std.proofs.Common.{◌≡◌}
 use Rattle.std.specs.Prelude.{true, false, Some, slice_get}
 use Rattle.rn_model.specs.Derivation.{left, right}
 use Rattle.rn_model.specs.Lists.{HaveOneValue}
-use Rattle.rn_growing.specs.Entering.{EqualityHolds}
+use Rattle.rn_growing.specs.link.Entering.{EqualityHolds}
 use Rattle.rn_growing.specs.Equations.{read_at}
-use Rattle.rn_growing.specs.Grown.{BringsIn}
-use Rattle.rn_growing.specs.Laid.{Grows}
+use Rattle.rn_growing.specs.link.Grown.{BringsIn}
+use Rattle.rn_growing.specs.link.Laid.{Grows}
 use Rattle.rn_growing.proofs.BringingSteps.{brings_more, brings_never, brings_all, equality_is}
 use Rattle.rn_growing.proofs.BringingSteps.{equalities_past}
 use Rattle.rn_growing.proofs.Growth.{stands_at}

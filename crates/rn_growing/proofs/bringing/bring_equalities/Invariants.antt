@@ -1,5 +1,5 @@
-use Rattle.rn_growing.specs.Entering.{AllBelow, EqualityHolds}
-use Rattle.rn_growing.specs.Laid.{Adds, Grows}
+use Rattle.rn_growing.specs.link.Entering.{AllBelow, EqualityHolds}
+use Rattle.rn_growing.specs.link.Laid.{Adds, Grows}
 use Rattle.rn_growing.proofs.bringing.bring_equalities.Given as goal
 
 abbrev pub invariant-loop-i : goal.invariant-loop-i

@@ -2,11 +2,11 @@ use Rattle.std.proofs.Common.{◌≡◌, [], sym, ap, ◌∙◌, subst}
 use Rattle.std.specs.Prelude.{Some, IfOk, slice_get}
 use Rattle.rn_model.specs.Derivation.{arc}
 use Rattle.rn_growing.specs.declared.decision.Decision.TheVariants as D
-use Rattle.rn_growing.specs.Building.{part_at}
+use Rattle.rn_growing.specs.link.Building.{part_at}
 use Rattle.rn_growing.specs.Decisions.{transition_in}
 use Rattle.rn_growing.specs.Equations.{Brings}
-use Rattle.rn_growing.specs.Grown.{BringsIn}
-use Rattle.rn_growing.specs.Laid.{Builds}
+use Rattle.rn_growing.specs.link.Grown.{BringsIn}
+use Rattle.rn_growing.specs.link.Laid.{Builds}
 use Rattle.rn_growing.proofs.BringingSteps.{found_is, then_gets_answer}
 use Rattle.rn_growing.proofs.bringing.bring_found.Goals as goal
 

@@ -1,9 +1,9 @@
 use Rattle.std.proofs.Common.{◌≤◌, [], length, arith, subst}
 use Rattle.rn_unify.proofs.EarlierMarks.{grown}
-use Rattle.rn_growing.specs.Building.{part_at}
+use Rattle.rn_growing.specs.link.Building.{part_at}
 use Rattle.rn_growing.specs.Decisions.{site_of}
 use Rattle.rn_growing.specs.Equations.{read_at}
-use Rattle.rn_growing.specs.Laid.{Builds, NeverHas}
+use Rattle.rn_growing.specs.link.Laid.{Builds, NeverHas}
 use Rattle.rn_growing.proofs.BringingSteps.{no_second, two_terms_answer}
 use Rattle.rn_growing.proofs.bringing.equate.Goals as goal
 

@@ -5,9 +5,9 @@ use Rattle.std.specs.Prelude.{Some, option_map}
 use Rattle.rn_value.specs.declared.value.Value.TheVariants as Value
 use Rattle.rn_model.specs.declared.expr.Expr.TheVariants as E
 use Rattle.rn_unify.proofs.EarlierMarks.{grown}
-use Rattle.rn_growing.specs.Building.{part_at, parts_at, BuildsAll}
+use Rattle.rn_growing.specs.link.Building.{part_at, parts_at, BuildsAll}
 use Rattle.rn_growing.specs.Decisions.{site_of}
-use Rattle.rn_growing.specs.Laid.{Builds, NeverHas}
+use Rattle.rn_growing.specs.link.Laid.{Builds, NeverHas}
 use Rattle.rn_growing.proofs.BuildingSteps.{builds_as, int_is, text_is, var_is, this_is, neg_is}
 use Rattle.rn_growing.proofs.BuildingSteps.{op_is, tuple_is, list_is, cons_is, made_of, none_built}
 use Rattle.rn_growing.proofs.BuildingSteps.{all_built, popped_front}

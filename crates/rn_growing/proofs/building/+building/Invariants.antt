@@ -1,7 +1,7 @@
 use Rattle.std.proofs.Common.{◌≡◌, take}
-use Rattle.rn_growing.specs.Building.{parts_at, BuildsAll}
+use Rattle.rn_growing.specs.link.Building.{parts_at, BuildsAll}
 use Rattle.rn_growing.specs.Decisions.{site_of}
-use Rattle.rn_growing.specs.Laid.{Grows}
+use Rattle.rn_growing.specs.link.Laid.{Grows}
 use Rattle.rn_growing.proofs.building.+building.Given as goal
 
 abbrev pub invariant-build_parts-loop-i : goal.invariant-build_parts-loop-i

@@ -1,7 +1,7 @@
 use Rattle.std.proofs.Common.{◌≡◌, subst, rules}
 use Rattle.std.specs.Prelude.{Some, IfOk}
 use Rattle.rn_growing.specs.Decisions.{site_of}
-use Rattle.rn_growing.specs.Laid.{Builds}
+use Rattle.rn_growing.specs.link.Laid.{Builds}
 use Rattle.rn_growing.proofs.building.build_hole.Goals as goal
 
 pub returns-clause-built : goal.returns-clause-built

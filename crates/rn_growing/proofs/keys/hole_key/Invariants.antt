@@ -1,6 +1,6 @@
 -- What is left of the way goes into the key.
 use Rattle.std.proofs.Common.{◌≡◌, drop}
-use Rattle.rn_growing.specs.Keys.{all_stirred, hole_key}
+use Rattle.rn_growing.specs.link.Keys.{all_stirred, hole_key}
 use Rattle.rn_growing.proofs.keys.hole_key.Given as goal
 
 abbrev pub invariant-loop-n : goal.invariant-loop-n

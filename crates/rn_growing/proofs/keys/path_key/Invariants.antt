@@ -1,6 +1,6 @@
 -- What is left of the path goes into the key.
 use Rattle.std.proofs.Common.{◌≡◌, drop}
-use Rattle.rn_growing.specs.Keys.{all_stirred, path_key}
+use Rattle.rn_growing.specs.link.Keys.{all_stirred, path_key}
 use Rattle.rn_growing.proofs.keys.path_key.Given as goal
 
 abbrev pub invariant-loop-n : goal.invariant-loop-n

@@ -1,9 +1,10 @@
 -- By the decisions that have the thing's key.
 use Rattle.std.proofs.Common.{◌≡◌, ◌-◌, arith, subst, sym, ◌∙◌, length}
 use Rattle.std.specs.Prelude.{Some, slice_get}
-use Rattle.rn_chains.specs.Chains.{IsUpToLast}
-use Rattle.rn_growing.specs.Indexed.{IsSought}
-use Rattle.rn_growing.specs.Decided.{decision_key, thing_key, is_on}
+use Rattle.rn_chains.specs.link.Chains.{IsUpToLast}
+use Rattle.rn_growing.specs.link.Indexed.{IsSought}
+use Rattle.rn_growing.specs.Decided.{is_on}
+use Rattle.rn_growing.specs.link.DecisionKeys.{decision_key, thing_key}
 use Rattle.rn_growing.proofs.Growth.{stands_at}
 use Rattle.rn_growing.proofs.KeySteps.{sought_first, sought_next, none_any, some_any}
 use Rattle.rn_growing.proofs.ThingKeys.{thing_alike}

@@ -1,6 +1,7 @@
 -- None from here on is on the thing.
-use Rattle.rn_growing.specs.Indexed.{IsSought}
-use Rattle.rn_growing.specs.Decided.{is_on, thing_key}
+use Rattle.rn_growing.specs.link.Indexed.{IsSought}
+use Rattle.rn_growing.specs.Decided.{is_on}
+use Rattle.rn_growing.specs.link.DecisionKeys.{thing_key}
 use Rattle.rn_growing.proofs.thing.is_decided.Given as goal
 
 abbrev pub invariant-loop-left : goal.invariant-loop-left

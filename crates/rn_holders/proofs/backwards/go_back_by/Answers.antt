@@ -1,6 +1,6 @@
 use Rattle.std.proofs.Common.{◌≡◌, ◌<◌, length, subst, arith, rules}
 use Rattle.std.specs.Prelude.{Some, None, slice_get, Contains}
-use Rattle.rn_holders.specs.Puts.{Joins}
+use Rattle.rn_holders.specs.link.Puts.{Joins}
 use Rattle.rn_holders.proofs.BackLemmas.{gone_by_none, gone_by_one, gone_by_all}
 use Rattle.rn_holders.proofs.backwards.go_back_by.Goals as goal
 use Rattle.rn_items.proofs.Lists.{is_past}

@@ -1,5 +1,5 @@
 use Rattle.std.proofs.Common.{◌≡◌, ℕ, sym, subst}
-use Rattle.rn_holders.specs.Puts.{Joins}
+use Rattle.rn_holders.specs.link.Puts.{Joins}
 use Rattle.rn_holders.proofs.ReachingLemmas.{join_one}
 use Rattle.rn_holders.proofs.backwards.join.Goals as goal
 

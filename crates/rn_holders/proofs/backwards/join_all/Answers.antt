@@ -2,7 +2,7 @@ use Rattle.std.proofs.Common.{take, subst, arith}
 use Rattle.std.specs.Prelude.{Contains}
 use Rattle.std.proofs.lemmas.List.{take_all}
 use Rattle.rn_model.proofs.EnablingLemmas.{not_in_nil}
-use Rattle.rn_holders.specs.Puts.{Joins}
+use Rattle.rn_holders.specs.link.Puts.{Joins}
 use Rattle.rn_holders.proofs.ReachingLemmas.{joins_nothing, all_taken}
 use Rattle.rn_holders.proofs.backwards.join_all.Goals as goal
 

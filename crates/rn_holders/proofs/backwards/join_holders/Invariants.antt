@@ -1,7 +1,7 @@
 use Rattle.std.proofs.Common.{take}
 use Rattle.std.specs.Prelude.{Contains}
 use Rattle.rn_reach.specs.Reach.{RefersTo}
-use Rattle.rn_holders.specs.Puts.{Joins}
+use Rattle.rn_holders.specs.link.Puts.{Joins}
 use Rattle.rn_holders.proofs.backwards.join_holders.Given as goal
 
 abbrev pub invariant-loop-holder : goal.invariant-loop-holder

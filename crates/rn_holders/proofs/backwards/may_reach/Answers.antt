@@ -1,6 +1,6 @@
 use Rattle.std.proofs.Common.{subst}
 use Rattle.std.specs.Prelude.{Contains}
-use Rattle.rn_holders.specs.Puts.{Joins}
+use Rattle.rn_holders.specs.link.Puts.{Joins}
 use Rattle.rn_holders.proofs.BackLemmas.{back_from}
 use Rattle.rn_holders.proofs.backwards.may_reach.Goals as goal
 

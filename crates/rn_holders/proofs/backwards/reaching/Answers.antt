@@ -1,6 +1,6 @@
 use Rattle.std.proofs.Common.{subst}
 use Rattle.std.specs.Prelude.{Contains}
-use Rattle.rn_holders.specs.Puts.{Joins}
+use Rattle.rn_holders.specs.link.Puts.{Joins}
 use Rattle.rn_holders.proofs.ReachingLemmas.{just_reaching}
 use Rattle.rn_holders.proofs.backwards.reaching.Goals as goal
 

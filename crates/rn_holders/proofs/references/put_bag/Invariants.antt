@@ -1,7 +1,7 @@
 use Rattle.std.proofs.Common.{◌≤◌, ◌-◌, take, length}
 use Rattle.std.specs.List.{list_any}
 use Rattle.rn_model.specs.Liveness.{mentions}
-use Rattle.rn_holders.specs.Puts.{Puts}
+use Rattle.rn_holders.specs.link.Puts.{Puts}
 use Rattle.rn_holders.proofs.references.put_bag.Given as goal
 
 abbrev pub invariant-loop-token : goal.invariant-loop-token

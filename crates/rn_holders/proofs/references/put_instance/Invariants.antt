@@ -1,8 +1,8 @@
 use Rattle.std.proofs.Common.{take}
 use Rattle.std.specs.List.{list_any}
 use Rattle.rn_model.specs.Liveness.{mentions}
-use Rattle.rn_live.specs.Marks.{places_of}
-use Rattle.rn_holders.specs.Puts.{Puts}
+use Rattle.rn_live.specs.link.Marks.{places_of}
+use Rattle.rn_holders.specs.link.Puts.{Puts}
 use Rattle.rn_holders.proofs.references.put_instance.Given as goal
 
 abbrev pub invariant-loop-place : goal.invariant-loop-place

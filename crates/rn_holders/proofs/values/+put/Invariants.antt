@@ -1,7 +1,7 @@
 use Rattle.std.proofs.Common.{take, map}
 use Rattle.std.specs.List.{list_any}
 use Rattle.rn_model.specs.Liveness.{mentions}
-use Rattle.rn_holders.specs.Puts.{Puts}
+use Rattle.rn_holders.specs.link.Puts.{Puts}
 use Rattle.rn_holders.proofs.values.+put.Given as goal
 
 abbrev pub invariant-put_values-loop-value : goal.invariant-put_values-loop-value

@@ -1,6 +1,6 @@
 use Rattle.std.proofs.Common.{sym, subst}
 use Rattle.std.specs.Prelude.{nat_eq}
-use Rattle.rn_holders.specs.Puts.{Puts}
+use Rattle.rn_holders.specs.link.Puts.{Puts}
 use Rattle.rn_holders.proofs.PutLemmas.{one}
 use Rattle.rn_holders.proofs.values.put_number.Goals as goal
 

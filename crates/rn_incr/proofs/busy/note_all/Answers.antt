@@ -1,6 +1,6 @@
 use Rattle.std.proofs.Common.{◌+◌, ap, sym, subst, take, arith}
 use Rattle.std.proofs.lemmas.List.{take_all}
-use Rattle.rn_incr.specs.Kept.{some_in, AreNoted, GrowsBy, numbers_of}
+use Rattle.rn_incr.specs.link.Kept.{some_in, AreNoted, GrowsBy, numbers_of}
 use Rattle.rn_incr.proofs.PutLemmas.{noted_one, passed_one}
 use Rattle.rn_incr.proofs.busy.note_all.Goals as goal
 use Rattle.rn_incr.proofs.busy.note_all.Goals.{then-not-is_empty+in_ok-insert, else-not-is_empty}

@@ -1,5 +1,5 @@
 use Rattle.std.proofs.Common.{take}
-use Rattle.rn_incr.specs.Kept.{AreNoted, GrowsBy, numbers_of}
+use Rattle.rn_incr.specs.link.Kept.{AreNoted, GrowsBy, numbers_of}
 use Rattle.rn_incr.proofs.busy.note_all.Given as goal
 
 abbrev pub invariant-loop-one : goal.invariant-loop-one

@@ -1,5 +1,5 @@
 use Rattle.std.proofs.Common.{drop}
-use Rattle.rn_incr.specs.Kept.{AreNear}
+use Rattle.rn_incr.specs.link.Kept.{AreNear}
 use Rattle.rn_incr.proofs.busy.settle.Given as goal
 
 abbrev pub invariant-loop-number : goal.invariant-loop-number

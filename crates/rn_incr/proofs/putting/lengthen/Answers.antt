@@ -1,5 +1,5 @@
 use Rattle.std.proofs.Common.{◌∷◌, [], ◌++◌, get_or, sym, ap, subst, ◌∙◌, arith}
-use Rattle.rn_incr.specs.Kept.{IsSum}
+use Rattle.rn_incr.specs.link.Kept.{IsSum}
 use Rattle.rn_incr.proofs.PutLemmas.{same_longer}
 use Rattle.rn_incr.proofs.SumLemmas.{sum_longer}
 use Rattle.rn_incr.proofs.putting.lengthen.Goals as goal

@@ -1,6 +1,6 @@
 use Rattle.std.proofs.Common.{◌≡◌, ◌≤◌, ◌-◌, ℕ, [], length, get_or}
 use Rattle.std.specs.Prelude.{vec_capacity}
-use Rattle.rn_incr.specs.Kept.{IsSum}
+use Rattle.rn_incr.specs.link.Kept.{IsSum}
 use Rattle.rn_incr.proofs.putting.lengthen.Given as goal
 
 abbrev pub invariant-loop-alloc : goal.invariant-loop-alloc

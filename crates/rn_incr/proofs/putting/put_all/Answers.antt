@@ -1,5 +1,5 @@
 use Rattle.std.proofs.Common.{◌≡◌, ◌∙◌, ◌++◌, ◌∷◌, [], ap, sym, rules}
-use Rattle.rn_incr.specs.Kept.{put_in}
+use Rattle.rn_incr.specs.link.Kept.{put_in}
 use Rattle.rn_incr.proofs.PutLemmas.{put_last}
 use Rattle.rn_incr.proofs.putting.put_all.Goals as goal
 

@@ -1,5 +1,5 @@
 use Rattle.std.proofs.Common.{◌≡◌, length}
-use Rattle.rn_incr.specs.Kept.{IsSum, put_in}
+use Rattle.rn_incr.specs.link.Kept.{IsSum, put_in}
 use Rattle.rn_incr.proofs.putting.put_all.Given as goal
 
 abbrev pub invariant-loop-one : goal.invariant-loop-one

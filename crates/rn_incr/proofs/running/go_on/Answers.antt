@@ -1,11 +1,11 @@
 -- Each turn adds a firing and its count, or ends the log.
 use Rattle.std.proofs.Common.{length, refl, sym, ap, ◌∙◌, subst, arith}
-use Rattle.rn_channel.specs.Uplinks.{AreUplinksOf}
+use Rattle.rn_channel.specs.link.Uplinks.{AreUplinksOf}
 use Rattle.rn_model.specs.declared.log.Reason.TheVariants.{Memory}
 use Rattle.rn_fire.specs.declared.setup.Setup.{Setup}
 use Rattle.rn_fire.specs.States.{State}
 use Rattle.rn_incr.specs.Counts.{AreCounts}
-use Rattle.rn_incr.specs.Following.{AdvancesListed}
+use Rattle.rn_incr.specs.link.Following.{AdvancesListed}
 use Rattle.rn_incr.proofs.RunningLemmas.{count_fired, counts_ended, counts_fired, no_reason, same_reason, same_setup, still_going}
 use Rattle.rn_incr.proofs.running.go_on.Goals as goal
 

@@ -1,7 +1,7 @@
 use Rattle.std.proofs.Common.{◌≡◌, length}
 use Rattle.std.specs.Prelude.{None}
 use Rattle.rn_incr.specs.Counts.{AreCounts}
-use Rattle.rn_incr.specs.Following.{IsFollowed}
+use Rattle.rn_incr.specs.link.Following.{IsFollowed}
 use Rattle.rn_incr.proofs.running.go_on.Given as goal
 
 abbrev pub invariant-loop : goal.invariant-loop

@@ -1,6 +1,6 @@
 -- The run from its start to its end.
 use Rattle.std.proofs.Common.{◌++◌, ◌∷◌, [], sym, ap, ◌∙◌, subst}
-use Rattle.rn_channel.specs.Uplinks.{AreUplinksOf}
+use Rattle.rn_channel.specs.link.Uplinks.{AreUplinksOf}
 use Rattle.rn_model.specs.declared.system.System.{System}
 use Rattle.rn_search.specs.Problems.{HasFitTokens}
 use Rattle.rn_table.specs.Tables.{Kept, IsTableOf}

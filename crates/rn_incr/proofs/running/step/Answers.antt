@@ -1,11 +1,11 @@
 -- After a firing the lists are those of the firings before it.
 use Rattle.std.proofs.Common.{sym, ap, ◌∙◌, subst, length}
-use Rattle.rn_channel.specs.Uplinks.{AreUplinksOf}
+use Rattle.rn_channel.specs.link.Uplinks.{AreUplinksOf}
 use Rattle.rn_model.specs.Markings.{Marking}
 use Rattle.rn_table.specs.Tables.{Kept}
 use Rattle.rn_fire.specs.declared.setup.Setup.{Setup}
 use Rattle.rn_fire.specs.States.{State, logged}
-use Rattle.rn_incr.specs.Following.{Advances}
+use Rattle.rn_incr.specs.link.Following.{Advances}
 use Rattle.rn_incr.specs.Lists.{AreListsOf}
 use Rattle.rn_incr.proofs.RunningLemmas.{all_seen, end_before, same_setup, still_whole, within_it}
 use Rattle.rn_incr.proofs.running.step.Goals as goal

@@ -1,6 +1,6 @@
 -- What may have changed is what the state lists.
 use Rattle.std.proofs.Common.{sym, ap, ◌∙◌, subst, take}
-use Rattle.rn_channel.specs.Uplinks.{AreUplinksOf}
+use Rattle.rn_channel.specs.link.Uplinks.{AreUplinksOf}
 use Rattle.rn_model.specs.declared.system.System.{System}
 use Rattle.rn_model.specs.Markings.{Marking}
 use Rattle.rn_model.specs.Runs.{end_of}

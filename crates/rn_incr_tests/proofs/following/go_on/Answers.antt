@@ -1,6 +1,6 @@
 -- Each turn adds a firing.
 use Rattle.std.proofs.Common.{length, refl, sym, ap, ◌∙◌, subst, arith}
-use Rattle.rn_channel.specs.Uplinks.{AreUplinksOf}
+use Rattle.rn_channel.specs.link.Uplinks.{AreUplinksOf}
 use Rattle.rn_fire.specs.declared.setup.Setup.{Setup}
 use Rattle.rn_incr.proofs.RunningLemmas.{count_fired, same_setup, still_going}
 use Rattle.rn_incr_tests.proofs.following.go_on.Goals as goal

@@ -1,6 +1,6 @@
 use Rattle.std.proofs.Common.{◌≡◌, length}
 use Rattle.std.specs.Prelude.{None}
-use Rattle.rn_incr.specs.Following.{IsFollowed}
+use Rattle.rn_incr.specs.link.Following.{IsFollowed}
 use Rattle.rn_incr_tests.proofs.following.go_on.Given as goal
 
 abbrev pub invariant-loop-k : goal.invariant-loop-k

@@ -1,6 +1,6 @@
 -- After a firing the lists are those of the firings before it.
 use Rattle.std.proofs.Common.{sym, ap, ◌∙◌, subst, length}
-use Rattle.rn_channel.specs.Uplinks.{AreUplinksOf}
+use Rattle.rn_channel.specs.link.Uplinks.{AreUplinksOf}
 use Rattle.rn_model.specs.Markings.{Marking}
 use Rattle.rn_table.specs.Tables.{Kept}
 use Rattle.rn_fire.specs.declared.setup.Setup.{Setup}

@@ -2,7 +2,7 @@
 use Rattle.std.proofs.Common.{◌∙◌, refl, sym, ap, subst}
 use Rattle.rn_model.specs.declared.system.System.{System}
 use Rattle.rn_search.specs.Problems.{HasFitTokens}
-use Rattle.rn_channel.specs.Uplinks.{AreUplinksOf}
+use Rattle.rn_channel.specs.link.Uplinks.{AreUplinksOf}
 use Rattle.rn_reach.specs.Reach.{DifferAtMostIn}
 use Rattle.rn_table.specs.Tables.{Kept, IsTableOf}
 use Rattle.rn_incr.specs.Lists.{AreListsOf}

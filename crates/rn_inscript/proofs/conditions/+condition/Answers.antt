@@ -2,7 +2,7 @@ use Rattle.std.proofs.Common.{◌≡◌, ◌+◌, length, [], ◌∷◌, drop, r
 use Rattle.rn_inscript.specs.declared.fault.InscriptFault.TheVariants as Fault
 use Rattle.rn_inscript.specs.Conditions.{IsCond, IsAlternatives, IsMoreAlternatives, IsBoth, IsMoreBoth, IsSimple}
 use Rattle.rn_inscript.specs.Levels.{bracket}
-use Rattle.rn_inscript.specs.Stages.{IsSoFar, ready}
+use Rattle.rn_inscript.specs.link.Stages.{IsSoFar, ready}
 use Rattle.rn_inscript.proofs.Chains.{first_fails, first_read, sign_taken, sign_far, item_fails, item_read, all_read, operator_separates}
 use Rattle.rn_inscript.proofs.OneSign.{next-of, none-of}
 use Rattle.rn_inscript.proofs.ConditionPhrases.{conjunctions, disjunctions, sign-binary, cond_fails, cond_read}

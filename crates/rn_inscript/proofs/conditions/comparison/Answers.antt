@@ -1,6 +1,6 @@
 use Rattle.rn_inscript.specs.declared.fault.InscriptFault.TheVariants as Fault
 use Rattle.rn_inscript.specs.Conditions.{IsSimple}
-use Rattle.rn_inscript.specs.Stages.{ready}
+use Rattle.rn_inscript.specs.link.Stages.{ready}
 use Rattle.rn_inscript.proofs.ConditionPhrases.{left_fails, left_read, bare_read, compare_far, right_fails, right_read}
 use Rattle.rn_inscript.proofs.ReaderExits.{failed, failed_as}
 use Rattle.rn_inscript.proofs.conditions.comparison.Goals as goal

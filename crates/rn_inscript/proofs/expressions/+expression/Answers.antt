@@ -4,7 +4,7 @@ use Rattle.rn_inscript.specs.declared.exprs.PForm.TheVariants as F
 use Rattle.rn_inscript.specs.Signs.{close_bracket}
 use Rattle.rn_inscript.specs.Expressions.{IsExpr, IsTerms, IsProduct, IsFactors, IsUnary, IsPrimary, IsListed, IsExprs, IsMoreExprs, at_spot}
 use Rattle.rn_inscript.specs.Levels.{bracket, negative}
-use Rattle.rn_inscript.specs.Stages.{Done, Reads, ReadsFrom, IsSoFar, IsNextSign, IsNotNextSign, past, ready}
+use Rattle.rn_inscript.specs.link.Stages.{Done, Reads, ReadsFrom, IsSoFar, IsNextSign, IsNotNextSign, past, ready}
 use Rattle.rn_inscript.proofs.CountSteps.{times-binary, plus-binary}
 use Rattle.rn_inscript.proofs.Chains.{first_fails, first_read, sign_taken, sign_far, item_fails, item_read, all_read, operator_separates}
 use Rattle.rn_inscript.proofs.OneSign.{next-of, none-of, comma_separates}

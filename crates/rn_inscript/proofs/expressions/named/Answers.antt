@@ -3,7 +3,7 @@ use Rattle.std.specs.Prelude.{codes}
 use Rattle.rn_inscript.specs.declared.exprs.PForm.TheVariants as F
 use Rattle.rn_inscript.specs.declared.fault.InscriptFault.TheVariants as Fault
 use Rattle.rn_inscript.specs.Expressions.{IsPrimary, at_spot}
-use Rattle.rn_inscript.specs.Stages.{IsNextSign, IsNotNextSign, past, ready}
+use Rattle.rn_inscript.specs.link.Stages.{IsNextSign, IsNotNextSign, past, ready}
 use Rattle.rn_inscript.proofs.ListReading.{name_read, step_far, step_stuck, step_read}
 use Rattle.rn_inscript.proofs.ReaderExits.{failed_as, ended_at}
 use Rattle.rn_inscript.proofs.expressions.named.Goals as goal

@@ -3,8 +3,8 @@ use Rattle.std.specs.Prelude.{Some}
 use Rattle.rn_inscript.specs.declared.fault.InscriptFault.TheVariants as Fault
 use Rattle.rn_inscript.specs.Signs.{print_word}
 use Rattle.rn_inscript.specs.Inscriptions.{IsInscribed}
-use Rattle.rn_inscript.specs.Stages.{IsNextKind, past, ready}
-use Rattle.rn_inscript.specs.NextNames.{IsNotNextKind, IsNextName, IsNoName}
+use Rattle.rn_inscript.specs.link.Stages.{IsNextKind, past, ready}
+use Rattle.rn_inscript.specs.link.NextNames.{IsNotNextKind, IsNextName, IsNoName}
 use Rattle.rn_inscript.proofs.FormReading.{print_fails, print_read, set_var_fails, set_var, set_stuck, set_fails, set_read}
 use Rattle.rn_inscript.proofs.ReaderExits.{failed, failed_as}
 use Rattle.rn_inscript.proofs.forms.action.Goals as goal

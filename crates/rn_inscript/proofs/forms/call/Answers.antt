@@ -1,7 +1,7 @@
 use Rattle.std.proofs.Common.{[], refl, ap, arith}
 use Rattle.rn_inscript.specs.declared.fault.InscriptFault.TheVariants as Fault
 use Rattle.rn_inscript.specs.Inscriptions.{IsCall}
-use Rattle.rn_inscript.specs.Stages.{ready}
+use Rattle.rn_inscript.specs.link.Stages.{ready}
 use Rattle.rn_inscript.proofs.LinkReading.{channel_fails, channel_read, call_stuck, args_fail, args_read}
 use Rattle.rn_inscript.proofs.ReaderExits.{failed, failed_as}
 use Rattle.rn_inscript.proofs.forms.call.Goals as goal

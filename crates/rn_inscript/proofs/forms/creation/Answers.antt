@@ -1,8 +1,8 @@
 use Rattle.std.proofs.Common.{[], ◌∙◌, ap, subst}
 use Rattle.rn_inscript.specs.declared.inscriptions.PInscribed.TheVariants as I
 use Rattle.rn_inscript.specs.Inscriptions.{IsInscribed, name_at}
-use Rattle.rn_inscript.specs.Stages.{past, ready}
-use Rattle.rn_inscript.specs.NextNames.{IsNextName, IsNoName}
+use Rattle.rn_inscript.specs.link.Stages.{past, ready}
+use Rattle.rn_inscript.specs.link.NextNames.{IsNextName, IsNoName}
 use Rattle.rn_inscript.proofs.LinkReading.{new_fails, new_read}
 use Rattle.rn_inscript.proofs.ReaderExits.{failed, ended_at}
 use Rattle.rn_inscript.proofs.forms.creation.Goals as goal

@@ -1,7 +1,7 @@
 use Rattle.std.proofs.Common.{[], refl}
 use Rattle.rn_inscript.specs.declared.fault.InscriptFault.TheVariants as Fault
-use Rattle.rn_inscript.specs.Stages.{ready}
-use Rattle.rn_inscript.specs.NextNames.{IsEquality}
+use Rattle.rn_inscript.specs.link.Stages.{ready}
+use Rattle.rn_inscript.specs.link.NextNames.{IsEquality}
 use Rattle.rn_inscript.proofs.LinkReading.{left_side_fails, left_side, equals_stuck, right_side_fails, right_side_read}
 use Rattle.rn_inscript.proofs.ReaderExits.{failed, failed_as}
 use Rattle.rn_inscript.proofs.forms.equality.Goals as goal

@@ -5,8 +5,8 @@ use Rattle.rn_desk.specs.Entries.{StartsWith}
 use Rattle.rn_desk.specs.Passes.{fixed_of, seen}
 use Rattle.rn_fire.specs.declared.setup.Setup.{Setup}
 use Rattle.rn_fire.specs.States.{State, IsState, logged}
-use Rattle.rn_worker.specs.Seen.{IsSightOf}
-use Rattle.rn_worker.specs.Views.{ChangedSince, next_after}
+use Rattle.rn_worker.specs.link.Seen.{IsSightOf}
+use Rattle.rn_worker.specs.link.Views.{ChangedSince, next_after}
 use Rattle.rn_worker.proofs.SeenStates.{kept_setup}
 use Rattle.rn_worker.proofs.LaterViews.{changed_between, few_after, next_is, show_views}
 use Rattle.rn_least_workers.proofs.LeastSeen.{fits}

@@ -6,7 +6,7 @@ use Rattle.rn_desk.specs.Numbered.{EachAt}
 use Rattle.rn_desk.specs.Passes.{IsFresh}
 use Rattle.rn_fire.specs.declared.setup.Setup.{Setup}
 use Rattle.rn_fire.specs.States.{State}
-use Rattle.rn_least_workers.specs.LeastPosts.{IsAtWork}
+use Rattle.rn_least_workers.specs.link.LeastPosts.{IsAtWork}
 use Rattle.rn_least_workers.proofs.posts.posts_of.Given as goal
 
 abbrev pub invariant-loop-rest : goal.invariant-loop-rest

@@ -2,13 +2,13 @@
 use Rattle.std.proofs.Common.{ℕ, ◌≡◌, ◌+◌, ◌<◌, ◌≤◌, ◌∙◌, List, length, ap, subst, sym, arith, rules}
 use Rattle.std.specs.Prelude.{Bool, true, false, IfSome, MatchBool}
 use Rattle.rn_model.specs.declared.log.Entry.{Entry}
-use Rattle.rn_worker.specs.Plans.{GrowsBy}
+use Rattle.rn_worker.specs.link.Plans.{GrowsBy}
 use Rattle.rn_desk.specs.Passes.{fixed_of, mine, seen}
 use Rattle.rn_fire.specs.declared.setup.Setup.{Setup}
-use Rattle.rn_worker.specs.Seen.{Shows}
+use Rattle.rn_worker.specs.link.Seen.{Shows}
 use Rattle.rn_worker.proofs.SeenStates.{few_by, never_fewer, never_many, searched_by}
-use Rattle.rn_worker.specs.Views.{ShowsView}
-use Rattle.rn_least_workers.specs.Following.{FollowsKnown, FollowsIn}
+use Rattle.rn_worker.specs.link.Views.{ShowsView}
+use Rattle.rn_least_workers.specs.link.Following.{FollowsKnown, FollowsIn}
 use Rattle.rn_firsts.specs.Known.{IsKnown}
 use Rattle.rn_worker.proofs.LaterViews.{follow_then}
 use Rattle.rn_least_workers.proofs.LeastSeen.{known_by, rounds_end}

@@ -2,9 +2,9 @@
 use Rattle.std.proofs.Common.{◌≡◌, ◌+◌, ◌-◌, ◌≤◌, length}
 use Rattle.std.specs.Prelude.{IfNone, IfSome}
 use Rattle.rn_desk.specs.Passes.{HasNoTurn, IsOf, fixed_of, mine, number, seen}
-use Rattle.rn_worker.specs.Seen.{HasEnded}
-use Rattle.rn_worker.specs.Views.{ShowsView}
-use Rattle.rn_least_workers.specs.Following.{FollowsKnown}
+use Rattle.rn_worker.specs.link.Seen.{HasEnded}
+use Rattle.rn_worker.specs.link.Views.{ShowsView}
+use Rattle.rn_least_workers.specs.link.Following.{FollowsKnown}
 use Rattle.rn_least_workers.proofs.worker.work_least.Given as goal
 
 abbrev pub invariant-loop-view : goal.invariant-loop-view

@@ -9,7 +9,7 @@ use Rattle.rn_least_state.specs.LeastStates.{HasLeastLog}
 use Rattle.rn_least_workers.specs.declared.posts.LeastPost.{LeastPost}
 use Rattle.rn_worker.specs.Ends.{AreOfWorkers, IsTallyOf, fired_by}
 use Rattle.rn_worker.proofs.Elements.{EachAt-map, get_or-map_at, length-of_map, one_of, written_back}
-use Rattle.rn_worker.specs.Seen.{KeepsLog}
+use Rattle.rn_worker.specs.link.Seen.{KeepsLog}
 use Rattle.rn_worker.proofs.SeenEntries.{then_ended}
 use Rattle.rn_worker.proofs.Tallying.{few_workers, own_count}
 use Rattle.rn_least_workers.proofs.LeastSeen.{kept_least}

@@ -1,6 +1,6 @@
 use Rattle.std.proofs.Common.{◌≡◌, ◌-◌, map}
 use Rattle.rn_lines.specs.LineReading.{items_at}
-use Rattle.rn_lines.specs.LinesSeen.{item}
+use Rattle.rn_lines.specs.link.LinesSeen.{item}
 use Rattle.rn_lines.proofs.ItemReadings.{with_items}
 use Rattle.rn_lines.proofs.items.items_at.Given as goal
 

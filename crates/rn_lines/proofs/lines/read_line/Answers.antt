@@ -1,5 +1,5 @@
 use Rattle.rn_lines.specs.LineReading.{line_at}
-use Rattle.rn_lines.specs.LinesSeen.{line}
+use Rattle.rn_lines.specs.link.LinesSeen.{line}
 use Rattle.rn_lines.specs.LineText.{IsLine}
 use Rattle.rn_lines.proofs.Beginnings.{what_is_found, what_is_there}
 use Rattle.rn_lines.proofs.LineForms.{line_reads, line_read}

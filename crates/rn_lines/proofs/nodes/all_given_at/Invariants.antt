@@ -1,6 +1,6 @@
 use Rattle.std.proofs.Common.{◌≡◌, ◌-◌, map}
 use Rattle.rn_lines.specs.NodeReading.{all_given_at}
-use Rattle.rn_lines.specs.NodeSeen.{given}
+use Rattle.rn_lines.specs.link.NodeSeen.{given}
 use Rattle.rn_lines.proofs.NodeReadings.{with_given}
 use Rattle.rn_lines.proofs.nodes.all_given_at.Given as goal
 

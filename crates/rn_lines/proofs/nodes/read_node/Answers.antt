@@ -1,5 +1,5 @@
 use Rattle.rn_lines.specs.NodeReading.{node_at}
-use Rattle.rn_lines.specs.NodeSeen.{node}
+use Rattle.rn_lines.specs.link.NodeSeen.{node}
 use Rattle.rn_lines.specs.NodeText.{IsNode}
 use Rattle.rn_lines.proofs.Beginnings.{what_is_found, what_is_there}
 use Rattle.rn_lines.proofs.NodeReadings.{node_reads, node_read}

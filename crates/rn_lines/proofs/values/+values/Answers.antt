@@ -1,7 +1,7 @@
 use Rattle.std.proofs.Common.{◌-◌, ◌++◌, [], ◌∷◌, map, length, sym, ap, ◌∙◌, subst, rules, arith}
 use Rattle.std.specs.Prelude.{Some}
 use Rattle.std.proofs.lemmas.Result.{err_from_is_err_and}
-use Rattle.rn_lines.specs.Said.{said}
+use Rattle.rn_lines.specs.link.Said.{said}
 use Rattle.rn_lines.specs.Reading.{Misses, with_front, tail_at, value_at}
 use Rattle.rn_lines.proofs.Rows.{comma_on, comma_ends, closes, stops, no_brackets, row_is_empty, row_begins, row_fails}
 use Rattle.rn_lines.proofs.values.+values.Goals as goal

@@ -1,6 +1,6 @@
 use Rattle.std.proofs.Common.{◌≡◌, ◌+◌, ◌*◌, ◌-◌, map}
 use Rattle.rn_lines.specs.Reading.{with_front, tail_at, value_at}
-use Rattle.rn_lines.specs.Said.{said}
+use Rattle.rn_lines.specs.link.Said.{said}
 use Rattle.rn_lines.proofs.values.+values.Given as goal
 
 abbrev pub decreases-value_at : goal.decreases-value_at

@@ -1,7 +1,7 @@
 -- What is read first is what the grammar has there.
 use Rattle.std.proofs.Common.{map, ap}
 use Rattle.std.proofs.lemmas.Result.{err_from_is_err_and}
-use Rattle.rn_lines.specs.Said.{said}
+use Rattle.rn_lines.specs.link.Said.{said}
 use Rattle.rn_lines.proofs.Beginnings.{front_missed, front_found}
 use Rattle.rn_lines.proofs.values.front_at.Goals as goal
 

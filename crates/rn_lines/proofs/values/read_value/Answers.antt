@@ -1,5 +1,5 @@
 use Rattle.rn_lines.specs.Reading.{seen_at}
-use Rattle.rn_lines.specs.Said.{seen}
+use Rattle.rn_lines.specs.link.Said.{seen}
 use Rattle.rn_lines.specs.ValueText.{Begins, most_brackets}
 use Rattle.rn_lines.proofs.Beginnings.{seen_reads, seen_read, what_is_found, what_is_there}
 use Rattle.rn_lines.proofs.values.read_value.Goals as goal

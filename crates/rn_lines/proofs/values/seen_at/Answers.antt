@@ -1,7 +1,7 @@
 -- What is read first is what the grammar has there.
 use Rattle.std.proofs.Common.{map, ap, sym}
 use Rattle.std.proofs.lemmas.Result.{err_from_is_err_and}
-use Rattle.rn_lines.specs.Said.{said}
+use Rattle.rn_lines.specs.link.Said.{said}
 use Rattle.rn_lines.proofs.Beginnings.{value_missed, value_ended, value_runs_on}
 use Rattle.rn_lines.proofs.values.seen_at.Goals as goal
 

@@ -1,7 +1,7 @@
 use Rattle.std.proofs.Common.{◌≤◌, ◌-◌, take, length}
 use Rattle.std.specs.List.{list_any}
 use Rattle.rn_model.specs.Liveness.{mentions}
-use Rattle.rn_live.specs.Marks.{Finds}
+use Rattle.rn_live.specs.link.Marks.{Finds}
 use Rattle.rn_live.proofs.holders.visit_bag.Given as goal
 
 abbrev pub invariant-loop-token : goal.invariant-loop-token

@@ -3,7 +3,7 @@ use Rattle.std.specs.Prelude.{Some, slice_get, option_and_then}
 use Rattle.std.specs.List.{list_any}
 use Rattle.rn_value.specs.declared.value.Value.{Value}
 use Rattle.rn_model.specs.Markings.{instance_at}
-use Rattle.rn_live.specs.Marks.{places_of}
+use Rattle.rn_live.specs.link.Marks.{places_of}
 use Rattle.rn_live.proofs.FindLemmas.{then, through}
 use Rattle.rn_live.proofs.HolderLemmas.{any_mentions, place_at}
 use Rattle.rn_live.proofs.TokenLemmas.{one_got}

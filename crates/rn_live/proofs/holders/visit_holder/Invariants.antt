@@ -1,7 +1,7 @@
 use Rattle.std.proofs.Common.{take}
 use Rattle.std.specs.List.{list_any}
 use Rattle.rn_model.specs.Liveness.{mentions}
-use Rattle.rn_live.specs.Marks.{Finds, places_of}
+use Rattle.rn_live.specs.link.Marks.{Finds, places_of}
 use Rattle.rn_live.proofs.holders.visit_holder.Given as goal
 
 abbrev pub invariant-loop-place : goal.invariant-loop-place

@@ -4,7 +4,7 @@ use Rattle.std.specs.List.Sorted.{IsStrictlyIncreasing}
 use Rattle.std.proofs.lemmas.List.Kept.{IsStrictlyIncreasing-filter}
 use Rattle.rn_model.specs.Liveness.{IsLive}
 use Rattle.rn_model.specs.Markings.{IsThere}
-use Rattle.rn_live.specs.Marks.{Marked, is_unmarked}
+use Rattle.rn_live.specs.link.Marks.{Marked, is_unmarked}
 use Rattle.rn_live.proofs.ListingLemmas.{if_ok, dead_listed}
 use Rattle.rn_live.proofs.listing.garbage.Goals as goal
 

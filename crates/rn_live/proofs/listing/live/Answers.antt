@@ -3,7 +3,7 @@ use Rattle.std.specs.Prelude.{◌↔◌, Contains}
 use Rattle.std.specs.List.Sorted.{IsStrictlyIncreasing}
 use Rattle.std.proofs.lemmas.List.Kept.{IsStrictlyIncreasing-filter}
 use Rattle.rn_model.specs.Liveness.{IsLive}
-use Rattle.rn_live.specs.Marks.{Marked, is_marked}
+use Rattle.rn_live.specs.link.Marks.{Marked, is_marked}
 use Rattle.rn_live.proofs.ListingLemmas.{if_ok, live_listed}
 use Rattle.rn_live.proofs.listing.live.Goals as goal
 

@@ -1,5 +1,5 @@
 use Rattle.std.proofs.Common.{◌≡◌, take, filter}
-use Rattle.rn_live.specs.Marks.{is_marked}
+use Rattle.rn_live.specs.link.Marks.{is_marked}
 use Rattle.rn_live.proofs.listing.those_marked.Given as goal
 
 abbrev pub invariant-loop-number : goal.invariant-loop-number

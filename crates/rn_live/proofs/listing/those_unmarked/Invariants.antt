@@ -1,5 +1,5 @@
 use Rattle.std.proofs.Common.{◌≡◌, take, filter}
-use Rattle.rn_live.specs.Marks.{is_unmarked}
+use Rattle.rn_live.specs.link.Marks.{is_unmarked}
 use Rattle.rn_live.proofs.listing.those_unmarked.Given as goal
 
 abbrev pub invariant-loop-number : goal.invariant-loop-number

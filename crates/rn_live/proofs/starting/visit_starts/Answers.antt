@@ -1,7 +1,7 @@
 use Rattle.std.proofs.Common.{ℕ, List, take, ◌+◌, get_or, arith}
 use Rattle.std.proofs.lemmas.List.Folds.{list_any_more}
 use Rattle.std.specs.List.{list_any}
-use Rattle.rn_live.specs.Marks.{is_start}
+use Rattle.rn_live.specs.link.Marks.{is_start}
 use Rattle.rn_live.proofs.FindLemmas.{then, through}
 use Rattle.rn_live.proofs.starting.visit_starts.Goals as goal
 

@@ -1,6 +1,6 @@
 use Rattle.std.proofs.Common.{take}
 use Rattle.std.specs.List.{list_any}
-use Rattle.rn_live.specs.Marks.{Finds, is_start}
+use Rattle.rn_live.specs.link.Marks.{Finds, is_start}
 use Rattle.rn_live.proofs.starting.visit_starts.Given as goal
 
 abbrev pub invariant-loop-number : goal.invariant-loop-number

@@ -1,7 +1,7 @@
 use Rattle.std.proofs.Common.{take, map}
 use Rattle.std.specs.List.{list_any}
 use Rattle.rn_model.specs.Liveness.{mentions}
-use Rattle.rn_live.specs.Marks.{Finds}
+use Rattle.rn_live.specs.link.Marks.{Finds}
 use Rattle.rn_live.proofs.visiting.+visit.Given as goal
 
 abbrev pub invariant-visit_all-loop-value : goal.invariant-visit_all-loop-value

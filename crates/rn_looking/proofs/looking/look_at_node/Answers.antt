@@ -8,7 +8,7 @@ use Rattle.rn_growing.specs.Decisions.{transition_in}
 use Rattle.rn_growing.proofs.Growth.{at_in}
 use Rattle.rn_search.specs.Points.{holes_of}
 use Rattle.rn_search.specs.Standing.{IsHead}
-use Rattle.rn_binding.specs.Applications.{application_of}
+use Rattle.rn_binding.specs.link.Applications.{application_of}
 use Rattle.rn_looking.specs.Things.{IsOfEntry, IsOfNode}
 use Rattle.rn_looking.proofs.AppliedAt.{applied_at, applied_within}
 use Rattle.rn_looking.proofs.LookSteps.{looked_part}

@@ -1,7 +1,7 @@
 -- One more net.
 use Rattle.std.proofs.Common.{◌≡◌, ◌∙◌, ◌+◌, ◌++◌, ◌∷◌, [], ap, sym, subst, take}
 use Rattle.std.proofs.lemmas.List.{take_more}
-use Rattle.rn_lookup.specs.Tables.{AreOwnOf}
+use Rattle.rn_lookup.specs.link.Tables.{AreOwnOf}
 use Rattle.rn_lookup.proofs.OwnLemmas.{one_more_net}
 use Rattle.rn_lookup.proofs.directory.all_own_names.Goals as goal
 

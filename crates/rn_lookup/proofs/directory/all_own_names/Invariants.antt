@@ -1,5 +1,5 @@
 use Rattle.std.proofs.Common.{take}
-use Rattle.rn_lookup.specs.Tables.{AreOwnOf}
+use Rattle.rn_lookup.specs.link.Tables.{AreOwnOf}
 use Rattle.rn_lookup.proofs.directory.all_own_names.Given as goal
 
 abbrev pub invariant-loop-net : goal.invariant-loop-net

@@ -1,6 +1,6 @@
 use Rattle.std.proofs.Common.{◌≡◌, map, drop}
 use Rattle.std.specs.List.{list_all}
-use Rattle.rn_lines.specs.NodeSeen.{given}
+use Rattle.rn_lines.specs.link.NodeSeen.{given}
 use Rattle.rn_lookup.specs.Found.{are_called}
 use Rattle.rn_lookup.proofs.instances.all_given_called.Given as goal
 

@@ -1,5 +1,5 @@
 use Rattle.std.proofs.Common.{◌≡◌, map, drop}
-use Rattle.rn_lines.specs.Said.{said}
+use Rattle.rn_lines.specs.link.Said.{said}
 use Rattle.rn_lookup.specs.Found.{are_called}
 use Rattle.rn_lookup.proofs.instances.are_called.Given as goal
 

@@ -1,5 +1,5 @@
 use Rattle.std.proofs.Common.{◌≡◌, map, drop}
-use Rattle.rn_lines.specs.LinesSeen.{item}
+use Rattle.rn_lines.specs.link.LinesSeen.{item}
 use Rattle.rn_lookup.specs.Found.{tokens_are_called, tokens_held}
 use Rattle.rn_lookup.proofs.instances.tokens_are_called.Given as goal
 

@@ -1,6 +1,6 @@
 use Rattle.std.proofs.Common.{◌≡◌, map, drop}
 use Rattle.std.specs.List.{list_all}
-use Rattle.rn_lines.specs.LinesSeen.{item}
+use Rattle.rn_lines.specs.link.LinesSeen.{item}
 use Rattle.rn_lookup.specs.Found.{name_nets, tokens_held}
 use Rattle.rn_lookup.proofs.marks.all_items_name_nets.Given as goal
 

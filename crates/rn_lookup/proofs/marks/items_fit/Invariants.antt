@@ -1,7 +1,7 @@
 use Rattle.std.proofs.Common.{◌≡◌, map, drop}
 use Rattle.std.specs.List.{list_all}
 use Rattle.rn_value.specs.Kinds.{value_has_kind}
-use Rattle.rn_lines.specs.LinesSeen.{item}
+use Rattle.rn_lines.specs.link.LinesSeen.{item}
 use Rattle.rn_lookup.specs.Found.{tokens_held}
 use Rattle.rn_lookup.proofs.marks.items_fit.Given as goal
 

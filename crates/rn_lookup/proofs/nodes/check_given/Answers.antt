@@ -1,7 +1,7 @@
 -- Values that fit are as many as the variables.
 use Rattle.std.proofs.Common.{◌≡◌, ◌∙◌, map, sym, true, rules}
 use Rattle.std.proofs.lemmas.List.{length-map}
-use Rattle.rn_lines.specs.NodeSeen.{given}
+use Rattle.rn_lines.specs.link.NodeSeen.{given}
 use Rattle.rn_lookup.specs.Found.{values_fit}
 use Rattle.rn_lookup.proofs.GivenLemmas.{as_many}
 use Rattle.rn_lookup.proofs.nodes.check_given.Goals as goal

@@ -1,7 +1,7 @@
 -- Another number of values.
 use Rattle.std.proofs.Common.{◌∙◌, map, sym}
 use Rattle.std.proofs.lemmas.List.{length-map}
-use Rattle.rn_lines.specs.NodeSeen.{given}
+use Rattle.rn_lines.specs.link.NodeSeen.{given}
 use Rattle.rn_lookup.proofs.GivenLemmas.{other_number}
 use Rattle.rn_lookup.proofs.nodes.values_fit.Goals as goal
 

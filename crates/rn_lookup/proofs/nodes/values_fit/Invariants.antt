@@ -1,5 +1,5 @@
 use Rattle.std.proofs.Common.{◌≡◌, map, drop}
-use Rattle.rn_lines.specs.NodeSeen.{given}
+use Rattle.rn_lines.specs.link.NodeSeen.{given}
 use Rattle.rn_lookup.specs.Found.{values_fit}
 use Rattle.rn_lookup.proofs.nodes.values_fit.Given as goal
 

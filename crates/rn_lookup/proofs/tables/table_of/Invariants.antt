@@ -1,7 +1,7 @@
 -- The table has the names from here on.
 use Rattle.std.proofs.Common.{◌≡◌, ℕ, ◌-◌, List, drop}
 use Rattle.rn_lookup.specs.Found.{number_from}
-use Rattle.rn_lookup.specs.Tables.{found_in}
+use Rattle.rn_lookup.specs.link.Tables.{found_in}
 use Rattle.rn_lookup.proofs.tables.table_of.Given as goal
 
 abbrev pub invariant-loop-k : goal.invariant-loop-k

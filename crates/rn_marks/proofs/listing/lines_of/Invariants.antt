@@ -1,6 +1,6 @@
 use Rattle.std.proofs.Common.{◌≡◌, take}
 use Rattle.std.specs.Prelude.{flat_map}
-use Rattle.rn_marks.specs.Lines.{lines_at}
+use Rattle.rn_marks.specs.link.Lines.{lines_at}
 use Rattle.rn_marks.proofs.listing.lines_of.Given as goal
 
 abbrev pub invariant-loop-number : goal.invariant-loop-number

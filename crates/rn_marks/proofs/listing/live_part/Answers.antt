@@ -2,7 +2,7 @@
 use Rattle.std.proofs.Common.{ap, sym, subst, ◌∙◌}
 use Rattle.std.specs.Prelude.{flat_map}
 use Rattle.rn_model.specs.Liveness.{LivePart}
-use Rattle.rn_marks.specs.Lines.{lines_at}
+use Rattle.rn_marks.specs.link.Lines.{lines_at}
 use Rattle.rn_marks.proofs.LinesInOrder.{few_places, lines_of_live}
 use Rattle.rn_marks.proofs.listing.live_part.Goals as goal
 

@@ -3,9 +3,9 @@ use Rattle.std.proofs.Common.{◌≡◌, ◌∙◌, ap, sym, ◌++◌, arith, ru
 use Rattle.std.specs.Prelude.{Some, slice_get, option_and_then, take}
 use Rattle.std.proofs.lemmas.List.{append_assoc}
 use Rattle.rn_model.specs.Markings.{instance_at}
-use Rattle.rn_live.specs.Marks.{places_of}
+use Rattle.rn_live.specs.link.Marks.{places_of}
 use Rattle.rn_live.proofs.HolderLemmas.{place_at}
-use Rattle.rn_marks.specs.Lines.{line_of, lines_from}
+use Rattle.rn_marks.specs.link.Lines.{line_of, lines_from}
 use Rattle.rn_marks.proofs.LinesInOrder.{one_more}
 use Rattle.rn_marks.proofs.listing.put_places.Goals as goal
 

@@ -1,6 +1,6 @@
 use Rattle.std.proofs.Common.{◌≡◌, ◌++◌, take}
-use Rattle.rn_live.specs.Marks.{places_of}
-use Rattle.rn_marks.specs.Lines.{lines_from}
+use Rattle.rn_live.specs.link.Marks.{places_of}
+use Rattle.rn_marks.specs.link.Lines.{lines_from}
 use Rattle.rn_marks.proofs.listing.put_places.Given as goal
 
 abbrev pub invariant-loop-place : goal.invariant-loop-place

@@ -1,5 +1,5 @@
 use Rattle.std.proofs.Common.{◌≡◌, ◌++◌, drop}
-use Rattle.rn_moves.specs.Connecting.{initial_tokens}
+use Rattle.rn_moves.specs.link.Connecting.{initial_tokens}
 use Rattle.rn_moves.proofs.gathering.add_initial.Given as goal
 
 -- the tokens so far and those of the places that are left are all

@@ -1,5 +1,5 @@
 use Rattle.std.proofs.Common.{◌≡◌, ◌+◌, ◌++◌, drop}
-use Rattle.rn_moves.specs.Connecting.{made_tokens}
+use Rattle.rn_moves.specs.link.Connecting.{made_tokens}
 use Rattle.rn_moves.proofs.gathering.add_made.Given as goal
 
 -- the tokens so far and those of the instances that are left are all

@@ -1,5 +1,5 @@
 use Rattle.std.proofs.Common.{◌≡◌, ◌++◌}
-use Rattle.rn_moves.specs.Connecting.{tokens_at_place}
+use Rattle.rn_moves.specs.link.Connecting.{tokens_at_place}
 use Rattle.rn_moves.proofs.gathering.add_row.Given as goal
 
 abbrev pub invariant-loop-value : goal.invariant-loop-value

@@ -1,7 +1,7 @@
 -- By the tokens that were added, one list after the other.
 use Rattle.std.proofs.Common.{◌++◌, ap, ◌∙◌}
 use Rattle.std.specs.Prelude.{flat_map}
-use Rattle.rn_moves.specs.Connecting.{made_tokens, row_tokens}
+use Rattle.rn_moves.specs.link.Connecting.{made_tokens, row_tokens}
 use Rattle.rn_moves.proofs.Counted.{come_tokens, gone_tokens}
 use Rattle.rn_moves.proofs.gathering.tokens_of.Goals as goal
 

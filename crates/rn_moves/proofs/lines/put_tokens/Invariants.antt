@@ -1,6 +1,6 @@
 use Rattle.std.proofs.Common.{◌≡◌, ◌++◌, take}
 use Rattle.std.specs.Prelude.{IfSome, flat_map}
-use Rattle.rn_moves.specs.Connecting.{IsLead}
+use Rattle.rn_moves.specs.link.Connecting.{IsLead}
 use Rattle.rn_moves.specs.MovesText.{token_line}
 use Rattle.rn_moves.proofs.lines.put_tokens.Given as goal
 

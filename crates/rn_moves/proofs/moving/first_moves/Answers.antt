@@ -1,7 +1,7 @@
 -- By the initial tokens of the first instance.
 use Rattle.std.proofs.Common.{◌≡◌, [], ◌∷◌, ◌++◌, ap, ◌∙◌}
 use Rattle.rn_model.specs.Systems.{main_net}
-use Rattle.rn_moves.specs.Connecting.{made_tokens}
+use Rattle.rn_moves.specs.link.Connecting.{made_tokens}
 use Rattle.rn_moves.specs.Moves.{brought_at}
 use Rattle.rn_moves.specs.Order.{token_count}
 use Rattle.rn_moves.proofs.Counted.{gathered, made_times}

@@ -1,5 +1,5 @@
 use Rattle.std.proofs.Common.{drop, length}
-use Rattle.rn_moves.specs.Movable.{HaveMoves}
+use Rattle.rn_moves.specs.link.Movable.{HaveMoves}
 use Rattle.rn_moves.proofs.Continuing.{Continues}
 use Rattle.rn_moves.proofs.writing.put_entries.Given as goal
 

@@ -3,7 +3,7 @@ use Rattle.std.proofs.Common.{◌≡◌, ◌≤◌, ◌++◌, length, sym, ap, �
 use Rattle.std.proofs.lemmas.List.{length-map}
 use Rattle.std.proofs.lemmas.List.Elements.{All-from_recursion}
 use Rattle.rn_model.specs.Systems.{net_at}
-use Rattle.rn_moves.specs.Connecting.{HasEntryNodes}
+use Rattle.rn_moves.specs.link.Connecting.{HasEntryNodes}
 use Rattle.rn_moves.specs.MovesText.{moves_lines, names_of, nets_of}
 use Rattle.rn_moves.proofs.Continuing.{all_told, nodes_told}
 use Rattle.rn_moves.proofs.Told.{first_within}

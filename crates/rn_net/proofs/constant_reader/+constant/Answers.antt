@@ -5,8 +5,8 @@ use Rattle.rn_inscript.specs.Signs.{close_bracket, close_brace}
 use Rattle.rn_net.specs.declared.constants.PConstForm.TheVariants as C
 use Rattle.rn_net.specs.Constants.{IsConstant, constant_at}
 use Rattle.rn_net.specs.Levels.Region.{declaring}
-use Rattle.rn_net.specs.Progress.{Stage, done}
-use Rattle.rn_net.specs.Lists.{AreConstantsUpTo}
+use Rattle.rn_net.specs.link.Progress.{Stage, done}
+use Rattle.rn_net.specs.link.Lists.{AreConstantsUpTo}
 use Rattle.rn_net.proofs.Steps.{failed, failed_as, same_end, whole_reads}
 use Rattle.rn_net.proofs.Sorts.{kind_read, kind_stuck, then_read, then_fails}
 use Rattle.rn_net.proofs.Rows.{row_on, row_up_to, row_first, row_comma, row_close, one-less}

@@ -4,7 +4,7 @@ use Rattle.std.specs.Prelude.{◌≤ℤ◌, neg_ℤ}
 use Rattle.rn_net.specs.declared.constants.PConstForm.TheVariants as C
 use Rattle.rn_net.specs.Constants.{constant_at}
 use Rattle.rn_net.specs.Levels.Region.{declaring}
-use Rattle.rn_net.specs.Progress.{done}
+use Rattle.rn_net.specs.link.Progress.{done}
 use Rattle.rn_net.proofs.Steps.{same_end}
 use Rattle.rn_net.proofs.Sorts.{number_read, number_stuck}
 use Rattle.rn_net.proofs.ConstantPhrases.{negative_open}

@@ -2,7 +2,7 @@ use Rattle.std.proofs.Common.{length, refl, arith}
 use Rattle.rn_inscript.specs.declared.fault.InscriptFault.TheVariants as Fault
 use Rattle.rn_inscript.specs.Signs.{close_paren}
 use Rattle.rn_net.specs.Levels.Region.{between}
-use Rattle.rn_net.specs.Progress.{done}
+use Rattle.rn_net.specs.link.Progress.{done}
 use Rattle.rn_net.proofs.Steps.{failed, failed_as}
 use Rattle.rn_net.proofs.Sorts.{kind_read, kind_stuck, name_fails, then_read, then_fails}
 use Rattle.rn_net.proofs.KindPhrases as KP

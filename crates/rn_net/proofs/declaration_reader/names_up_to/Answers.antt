@@ -2,10 +2,10 @@ use Rattle.std.proofs.Common.{rules, ◌≡◌, ◌+◌, length, drop, [], ◌�
 use Rattle.rn_inscript.specs.declared.fault.InscriptFault.TheVariants as Fault
 use Rattle.rn_inscript.specs.Signs.{comma, colon}
 use Rattle.rn_net.specs.Levels.Region.{declaring}
-use Rattle.rn_net.specs.Progress.{Stage, done}
+use Rattle.rn_net.specs.link.Progress.{Stage, done}
 use Rattle.rn_net.proofs.Steps.{failed, failed_as, same_end}
 use Rattle.rn_net.proofs.Sorts.{kind_read, kind_stuck, then_read, then_fails}
-use Rattle.rn_net.specs.Parts.{AreNamesUpTo}
+use Rattle.rn_net.specs.link.Parts.{AreNamesUpTo}
 use Rattle.rn_net.proofs.Sorts.{tell_apart}
 use Rattle.rn_net.proofs.Rows.{row_on, row_first, row_comma, row_close}
 use Rattle.rn_net.proofs.DeclarationPhrases.{names, name_row}

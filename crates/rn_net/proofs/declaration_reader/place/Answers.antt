@@ -1,6 +1,6 @@
 use Rattle.std.proofs.Common.{rules, length, [], refl, arith}
 use Rattle.rn_net.specs.Levels.Region.{between}
-use Rattle.rn_net.specs.Progress.{done}
+use Rattle.rn_net.specs.link.Progress.{done}
 use Rattle.rn_net.proofs.Steps.{failed, same_end}
 use Rattle.rn_net.proofs.Sorts.{name_fails, then_read, then_fails}
 use Rattle.rn_net.proofs.KindPhrases as KP

@@ -2,8 +2,8 @@ use Rattle.std.proofs.Common.{rules, length, Some, None}
 use Rattle.rn_inscript.specs.declared.fault.InscriptFault.TheVariants as Fault
 use Rattle.rn_net.specs.Levels.Region.{between, declaring}
 use Rattle.rn_net.specs.Nets.{max_of}
-use Rattle.rn_net.specs.Parts.{IsPlaceEnd, end_of}
-use Rattle.rn_net.specs.Progress.{done}
+use Rattle.rn_net.specs.link.Parts.{IsPlaceEnd, end_of}
+use Rattle.rn_net.specs.link.Progress.{done}
 use Rattle.rn_net.proofs.Steps.{failed, failed_as, same_end}
 use Rattle.rn_net.proofs.Sorts.{then_read, then_fails}
 use Rattle.rn_net.proofs.DeclarationPhrases.{initials, max_given, max_stuck, max_none}

@@ -2,8 +2,8 @@ use Rattle.std.proofs.Common.{rules, ◌≡◌, [], ◌∷◌, ◌++◌, arith, 
 use Rattle.rn_inscript.specs.Levels.{at_first, count_after}
 use Rattle.rn_inscript.specs.declared.fault.InscriptFault.TheVariants as Fault
 use Rattle.rn_net.specs.Levels.Region.{between, inscribing}
-use Rattle.rn_net.specs.Lists.{AreFurtherUpTo}
-use Rattle.rn_net.specs.Progress.{Stage, done}
+use Rattle.rn_net.specs.link.Lists.{AreFurtherUpTo}
+use Rattle.rn_net.specs.link.Progress.{Stage, done}
 use Rattle.rn_net.specs.Words.{semicolon}
 use Rattle.rn_net.proofs.InscriptionReading.{expr_row, further_on, further_read, further_fails, further_comma}
 use Rattle.rn_net.proofs.Openings.{moved}

@@ -2,8 +2,8 @@ use Rattle.std.proofs.Common.{◌≡◌, ℕ, ◌+◌, ◌-◌, ◌<◌, List, [
 use Rattle.std.specs.Prelude.{Ok, Err}
 use Rattle.rn_notation.specs.declared.token.Token.{Token}
 use Rattle.rn_net.specs.Levels.Region.{between}
-use Rattle.rn_net.specs.Lists.{AreInscribedUpTo}
-use Rattle.rn_net.specs.Parts.{EndsStatement}
+use Rattle.rn_net.specs.link.Lists.{AreInscribedUpTo}
+use Rattle.rn_net.specs.link.Parts.{EndsStatement}
 use Rattle.rn_net.proofs.InscriptionReading.{ends_fail, ends_read, form-some, statement_read, statement_fails}
 use Rattle.rn_net.proofs.Openings.{moved}
 use Rattle.rn_net.proofs.Steps.{failed, same_end}

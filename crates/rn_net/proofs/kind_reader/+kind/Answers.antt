@@ -5,8 +5,8 @@ use Rattle.rn_inscript.specs.Signs.{close_bracket}
 use Rattle.rn_net.specs.declared.kinds.PKindForm.TheVariants as K
 use Rattle.rn_net.specs.Kinds.{IsKind, kind_at}
 use Rattle.rn_net.specs.Levels.Region.{declaring}
-use Rattle.rn_net.specs.Progress.{Stage, done}
-use Rattle.rn_net.specs.Lists.{AreKindsUpTo}
+use Rattle.rn_net.specs.link.Progress.{Stage, done}
+use Rattle.rn_net.specs.link.Lists.{AreKindsUpTo}
 use Rattle.rn_net.proofs.Steps.{failed, failed_as, same_end, whole_reads}
 use Rattle.rn_net.proofs.Sorts.{kind_read, kind_stuck, then_read, then_fails}
 use Rattle.rn_net.proofs.Rows.{row_on, row_first, row_comma, row_close, close_small, close_after, close-comma, one-less, row_up_to}

@@ -1,10 +1,10 @@
 use Rattle.std.proofs.Common.{length}
 use Rattle.rn_net.specs.Levels.Region.{between}
-use Rattle.rn_net.specs.Progress.{done}
+use Rattle.rn_net.specs.link.Progress.{done}
 use Rattle.rn_net.proofs.Steps.{failed}
 use Rattle.rn_net.proofs.Sorts.{then_read, then_fails}
 use Rattle.rn_net.specs.declared.part.Item.{Item}
-use Rattle.rn_net.specs.Parts.{IsItem}
+use Rattle.rn_net.specs.link.Parts.{IsItem}
 use Rattle.rn_net.proofs.NetPhrases.{one_channel, one_net, item_channel, item_net, item_none}
 use Rattle.rn_net.proofs.net_reader.item.Goals as goal
 

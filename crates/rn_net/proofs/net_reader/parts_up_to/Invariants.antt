@@ -1,7 +1,7 @@
 use Rattle.std.proofs.Common.{◌≤◌, ◌-◌, length, drop}
 use Rattle.rn_net.specs.Levels.Region.{between}
-use Rattle.rn_net.specs.Progress.{Stage}
-use Rattle.rn_net.specs.Parts.{ArePartsUpTo}
+use Rattle.rn_net.specs.link.Progress.{Stage}
+use Rattle.rn_net.specs.link.Parts.{ArePartsUpTo}
 use Rattle.rn_net.proofs.NetPhrases.{parts, many_on}
 use Rattle.rn_net.proofs.net_reader.parts_up_to.Given as goal
 

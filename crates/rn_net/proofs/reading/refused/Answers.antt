@@ -1,6 +1,6 @@
 use Rattle.std.proofs.Common.{refl, subst, inl}
 use Rattle.std.specs.Prelude.{Err}
-use Rattle.rn_net.specs.Answers.{SystemAnswer}
+use Rattle.rn_net.specs.link.Answers.{SystemAnswer}
 use Rattle.rn_net.proofs.Settling.{settles_unfinished, halts_at, halts_end}
 use Rattle.rn_notation.specs.StoredTokens.{lent}
 use Rattle.rn_net.proofs.reading.refused.Goals as goal

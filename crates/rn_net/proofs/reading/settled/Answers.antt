@@ -1,6 +1,6 @@
 use Rattle.std.proofs.Common.{sym, subst}
 use Rattle.std.specs.Prelude.{Err}
-use Rattle.rn_net.specs.Answers.{SystemAnswer, Settles}
+use Rattle.rn_net.specs.link.Answers.{SystemAnswer, Settles}
 use Rattle.rn_net.proofs.Settling.{settles_fault, settles_whole, fine}
 use Rattle.rn_net.proofs.reading.settled.Goals as goal
 

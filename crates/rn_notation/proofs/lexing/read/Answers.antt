@@ -1,6 +1,6 @@
 use Rattle.std.proofs.Common.{◌≡◌, ◌-◌, ◌+◌, [], ◌∷◌, ◌++◌, length, sym, ap, ◌∙◌, subst, arith, refl, rules}
 use Rattle.std.proofs.lemmas.List.{nil_from_length}
-use Rattle.rn_notation.specs.Scanning.{size_of}
+use Rattle.rn_notation.specs.link.Scanning.{size_of}
 use Rattle.rn_notation.specs.Reading.{FirstFault}
 use Rattle.rn_notation.proofs.ReadingLemmas.{SoFar, room, one_fits, room_after, end_after, blank_read, gap_read, token_read, fault_read, whole_read, starts, gap_shortens, token_shortens, as_gap, as_token, as_fault, as_any}
 use Rattle.rn_notation.proofs.lexing.read.Goals as goal

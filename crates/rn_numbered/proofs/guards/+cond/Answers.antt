@@ -2,7 +2,7 @@
 use Rattle.std.proofs.Common.{◌∙◌, ap, map}
 use Rattle.std.proofs.lemmas.List.{take_all}
 use Rattle.rn_numbered.specs.Numbered.{number_in}
-use Rattle.rn_numbered.specs.Parts.{simple_of}
+use Rattle.rn_numbered.specs.link.Parts.{simple_of}
 use Rattle.rn_numbered.proofs.GuardLemmas.{numbered_more, numbered_cond}
 use Rattle.rn_numbered.proofs.guards.+cond.Goals as goal
 

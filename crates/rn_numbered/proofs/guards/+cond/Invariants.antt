@@ -1,6 +1,6 @@
 -- What is made is that of the comparisons, and of the lists, so far.
 use Rattle.std.proofs.Common.{◌≡◌, map, take}
-use Rattle.rn_numbered.specs.Parts.{simple_of}
+use Rattle.rn_numbered.specs.link.Parts.{simple_of}
 use Rattle.rn_numbered.specs.Numbered.{number_in}
 use Rattle.rn_numbered.proofs.guards.+cond.Given as goal
 

@@ -2,7 +2,7 @@
 use Rattle.std.proofs.Common.{◌≡◌, ◌++◌, drop}
 use Rattle.std.specs.Prelude.{flat_map}
 use Rattle.rn_numbered.specs.Numbered.{arc_of}
-use Rattle.rn_numbered.specs.NumbersFound.{numbers_by}
+use Rattle.rn_numbered.specs.link.NumbersFound.{numbers_by}
 use Rattle.rn_numbered.proofs.inscribed.arcs_of.Given as goal
 
 abbrev pub invariant-loop-inscription : goal.invariant-loop-inscription

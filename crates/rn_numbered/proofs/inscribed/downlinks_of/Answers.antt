@@ -4,7 +4,7 @@ use Rattle.std.specs.Prelude.{flat_map}
 use Rattle.rn_model.specs.declared.system.Downlink.{Downlink}
 use Rattle.rn_inscript.specs.declared.inscriptions.PInscription.{PInscription}
 use Rattle.rn_numbered.specs.Numbered.{downlink_of}
-use Rattle.rn_numbered.specs.NumbersFound.{numbers_by}
+use Rattle.rn_numbered.specs.link.NumbersFound.{numbers_by}
 use Rattle.rn_numbered.proofs.DownlinkLemmas.{given_more, no_downlink}
 use Rattle.rn_numbered.proofs.inscribed.downlinks_of.Goals as goal
 use Rattle.rn_numbered.proofs.inscribed.downlinks_of.Goals.{in-Downlink+in_ok-downlink+in_ok-push, in_default}

@@ -1,8 +1,8 @@
 -- The net is made of what was begun and of its transitions.
 use Rattle.std.proofs.Common.{◌∙◌, ap, length}
 use Rattle.rn_numbered.specs.Numbered.{number_in}
-use Rattle.rn_numbered.specs.NumbersFound.{channel_by}
-use Rattle.rn_numbering.specs.Making.{transitions_by}
+use Rattle.rn_numbered.specs.link.NumbersFound.{channel_by}
+use Rattle.rn_numbering.specs.link.Making.{transitions_by}
 use Rattle.rn_numbering.proofs.NetNumbers.{net_made}
 use Rattle.rn_numbering.proofs.numbering.net_of.Goals as goal
 

@@ -1,8 +1,8 @@
 -- Each net has its numbers, and all are made, one after another.
 use Rattle.std.proofs.Common.{◌≡◌, ◌∙◌, rules, ap, map, length}
 use Rattle.std.specs.Vec.Iter.{into_iter_items, into_iter_len}
-use Rattle.rn_numbering.specs.Making.{HasNetNumbers, net_by}
-use Rattle.rn_numbered.specs.NumbersFound.{channel_by}
+use Rattle.rn_numbering.specs.link.Making.{HasNetNumbers, net_by}
+use Rattle.rn_numbered.specs.link.NumbersFound.{channel_by}
 use Rattle.rn_numbering.proofs.GivenLemmas.{all_given, each_given}
 use Rattle.rn_numbering.proofs.numbering.nets_of.Goals as goal
 

@@ -1,7 +1,7 @@
 -- The transition is that of the inscriptions, with its variables.
 use Rattle.std.proofs.Common.{◌∙◌, ap}
 use Rattle.rn_occurring.specs.TransitionVars.{with_vars}
-use Rattle.rn_numbered.specs.NumbersFound.{numbers_by}
+use Rattle.rn_numbered.specs.link.NumbersFound.{numbers_by}
 use Rattle.rn_numbering.proofs.NumberingLemmas.{made_of}
 use Rattle.rn_numbering.proofs.numbering.put_all.Goals as goal
 

@@ -4,8 +4,8 @@ use Rattle.rn_model.specs.declared.system.System.{System}
 use Rattle.rn_model.specs.declared.system.Net.{Net}
 use Rattle.rn_model.specs.declared.system.Channel.{Channel}
 use Rattle.rn_numbering.specs.Numbering.{numbered_net_of}
-use Rattle.rn_numbered.specs.NumbersFound.{channel_by}
-use Rattle.rn_numbering.specs.Making.{net_by}
+use Rattle.rn_numbered.specs.link.NumbersFound.{channel_by}
+use Rattle.rn_numbering.specs.link.Making.{net_by}
 use Rattle.rn_numbering.proofs.NetNumbers.{nets_are}
 use Rattle.rn_numbering.proofs.numbering.system_of.Goals as goal
 

@@ -2,7 +2,7 @@
 use Rattle.std.proofs.Common.{◌∙◌, ap, map}
 use Rattle.rn_numbered.specs.Numbered.{inscribed}
 use Rattle.rn_occurring.specs.TransitionVars.{with_vars}
-use Rattle.rn_numbered.specs.NumbersFound.{numbers_by}
+use Rattle.rn_numbered.specs.link.NumbersFound.{numbers_by}
 use Rattle.rn_numbering.proofs.numbering.transition_of.Goals as goal
 
 pub returns : goal.returns

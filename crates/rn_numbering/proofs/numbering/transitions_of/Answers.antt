@@ -1,8 +1,8 @@
 -- All transitions, one after another.
 use Rattle.std.proofs.Common.{◌≡◌, ◌∙◌, rules, ap, length}
 use Rattle.std.specs.Vec.Iter.{into_iter_items, into_iter_len}
-use Rattle.rn_numbered.specs.NumbersFound.{numbers_by}
-use Rattle.rn_numbering.specs.Making.{transitions_by}
+use Rattle.rn_numbered.specs.link.NumbersFound.{numbers_by}
+use Rattle.rn_numbering.specs.link.Making.{transitions_by}
 use Rattle.rn_numbering.proofs.GivenLemmas.{all_given}
 use Rattle.rn_numbering.proofs.numbering.transitions_of.Goals as goal
 

@@ -2,7 +2,7 @@
 use Rattle.std.proofs.Common.{◌∙◌, ◌++◌, ap, sym}
 use Rattle.std.specs.Prelude.{flat_map}
 use Rattle.std.proofs.lemmas.List.{append-nil, drop_all}
-use Rattle.rn_occurring.specs.OccurringParts.{vars_of_simple}
+use Rattle.rn_occurring.specs.link.OccurringParts.{vars_of_simple}
 use Rattle.rn_occurring.proofs.OccurringLemmas.{cond_vars}
 use Rattle.rn_occurring.proofs.occurring.+guard.Goals as goal
 

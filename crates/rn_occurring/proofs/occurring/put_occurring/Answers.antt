@@ -5,7 +5,7 @@ use Rattle.std.specs.List.{concat}
 use Rattle.rn_model.specs.declared.expr.Expr.{Expr}
 use Rattle.rn_model.specs.Systems.{vars_in, is_output, uplink_args}
 use Rattle.rn_model.specs.Good.{action_expr, set_var, guard_exprs, all_exprs, searched_exprs, output_exprs}
-use Rattle.rn_occurring.specs.OccurringParts.{vars_of_cond, vars_of_arc}
+use Rattle.rn_occurring.specs.link.OccurringParts.{vars_of_cond, vars_of_arc}
 use Rattle.rn_occurring.proofs.OccurringLemmas.{pairs_vars, guards_vars, args_vars, downlinks_vars}
 use Rattle.rn_occurring.proofs.OccurringLemmas.{others_vars, outputs_vars, actions_vars, put_more, put_rest}
 use Rattle.rn_occurring.proofs.occurring.put_occurring.Goals as goal

@@ -1,9 +1,9 @@
 use Rattle.std.proofs.Common.{subst, arith}
-use Rattle.rn_reading.specs.Stages.{done}
+use Rattle.rn_reading.specs.link.Stages.{done}
 use Rattle.rn_reading.proofs.Sorts.{a_name}
 use Rattle.rn_reading.proofs.Uncounted.{started, goes, stops, reads, fails, so_fails}
 use Rattle.std.specs.Prelude.{Ok, Err}
-use Rattle.rn_reading.specs.Stages.{ReadsUncounted}
+use Rattle.rn_reading.specs.link.Stages.{ReadsUncounted}
 use Rattle.rn_pt.specs.Grammar.{IsPtArc, arc_of, inhibits, WeightUpTo}
 use Rattle.rn_pt.proofs.Phrases.{an_arc_word, arc, arc_place, arc_end, weight_up_to}
 use Rattle.rn_pt.proofs.arc_reader.arc.Goals as goal

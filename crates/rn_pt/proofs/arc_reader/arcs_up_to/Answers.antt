@@ -1,5 +1,5 @@
 use Rattle.std.proofs.Common.{rules, ◌≡◌, drop, [], ◌∷◌, ◌++◌, sym, subst, arith}
-use Rattle.rn_reading.specs.Stages.{done}
+use Rattle.rn_reading.specs.link.Stages.{done}
 use Rattle.rn_reading.proofs.Sorts.{and_then, many}
 use Rattle.rn_reading.proofs.Uncounted.{At, started, goes, stops, reads, fails, another, no_more, so_fails, so_reads}
 use Rattle.rn_pt.specs.Grammar.{ArcsUpTo}

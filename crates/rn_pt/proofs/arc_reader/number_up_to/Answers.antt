@@ -1,5 +1,5 @@
 use Rattle.std.proofs.Common.{arith, Some, None}
-use Rattle.rn_reading.specs.Stages.{done}
+use Rattle.rn_reading.specs.link.Stages.{done}
 use Rattle.rn_reading.proofs.Sorts.{one, and_then, sign_of, a_number}
 use Rattle.rn_reading.proofs.Uncounted.{started, goes, stops, opens, skips, so_fails}
 use Rattle.rn_pt.specs.Grammar.{NumberUpTo}

@@ -1,6 +1,6 @@
 use Rattle.std.proofs.Common.{sym, subst, None, true}
 use Rattle.std.specs.Prelude.{Ok}
-use Rattle.rn_reading.specs.Stages.{ReadsUncounted, done}
+use Rattle.rn_reading.specs.link.Stages.{ReadsUncounted, done}
 use Rattle.rn_reading.proofs.Uncounted.{started, goes, stops, so_fails}
 use Rattle.rn_pt.specs.Grammar.{WeightUpTo}
 use Rattle.rn_pt.proofs.Phrases.{semicolon, number_end}

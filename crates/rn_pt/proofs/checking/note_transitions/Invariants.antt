@@ -2,7 +2,7 @@ use Rattle.std.proofs.Common.{◌≡◌, take, List, ℕ}
 use Rattle.std.specs.Prelude.{flat_map}
 use Rattle.rn_pt.specs.Faults.{first_from}
 use Rattle.rn_pt.specs.Rules.{transition_broken, number_among}
-use Rattle.rn_pt.specs.Tables.{found_in}
+use Rattle.rn_pt.specs.link.Tables.{found_in}
 use Rattle.rn_pt.proofs.checking.note_transitions.Given as goal
 
 abbrev pub invariant-loop-transition : goal.invariant-loop-transition

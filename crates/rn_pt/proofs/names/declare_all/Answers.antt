@@ -3,7 +3,7 @@ use Rattle.std.proofs.Common.{◌≡◌, ◌∙◌, ap, sym, map, arith, take, d
 use Rattle.std.proofs.lemmas.List.{length-map}
 use Rattle.rn_pt.specs.Faults.{first_from}
 use Rattle.rn_pt.specs.Rules.{names_broken}
-use Rattle.rn_pt.specs.Tables.{found_in}
+use Rattle.rn_pt.specs.link.Tables.{found_in}
 use Rattle.rn_pt.proofs.NameLemmas.{found_more, names_noted_more, names_noted_all, length_names, texts}
 use Rattle.rn_pt.proofs.names.declare_all.Goals as goal
 use Rattle.rn_items.proofs.Lists.{map_item}

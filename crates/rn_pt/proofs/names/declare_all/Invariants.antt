@@ -2,7 +2,7 @@
 use Rattle.std.proofs.Common.{◌≡◌, List, ℕ, [], map, take, drop}
 use Rattle.rn_pt.specs.Faults.{first_from}
 use Rattle.rn_pt.specs.Rules.{number_among, names_broken}
-use Rattle.rn_pt.specs.Tables.{found_in}
+use Rattle.rn_pt.specs.link.Tables.{found_in}
 use Rattle.rn_pt.proofs.names.declare_all.Given as goal
 
 abbrev pub invariant-loop-i : goal.invariant-loop-i

@@ -1,6 +1,6 @@
 use Rattle.std.proofs.Common.{rules, ◌≡◌, drop, [], ◌∷◌, ◌++◌, sym, ap, subst, arith}
 use Rattle.rn_notation.specs.declared.word.TheConstants as word
-use Rattle.rn_reading.specs.Stages.{done}
+use Rattle.rn_reading.specs.link.Stages.{done}
 use Rattle.rn_reading.specs.Single as read
 use Rattle.rn_reading.proofs.Sorts.{and_then, many}
 use Rattle.rn_reading.proofs.Uncounted.{At, started, reads, fails, another, no_more, so_fails, so_reads}

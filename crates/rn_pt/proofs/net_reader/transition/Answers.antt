@@ -1,6 +1,6 @@
 use Rattle.std.proofs.Common.{arith}
 use Rattle.rn_notation.specs.declared.word.TheConstants as word
-use Rattle.rn_reading.specs.Stages.{done}
+use Rattle.rn_reading.specs.link.Stages.{done}
 use Rattle.rn_reading.proofs.Sorts.{word_of, a_name}
 use Rattle.rn_reading.proofs.Uncounted.{started, goes, stops, reads, fails, so_fails}
 use Rattle.rn_pt.specs.Grammar.{IsPtTransition, transition_of}

@@ -1,5 +1,5 @@
 use Rattle.rn_reading.specs.Counting.{uncounted}
-use Rattle.rn_reading.specs.Stages.{Anything}
+use Rattle.rn_reading.specs.link.Stages.{Anything}
 use Rattle.rn_reading.proofs.Wholes.{whole_settles}
 use Rattle.rn_pt.specs.Grammar.{IsPtNet}
 use Rattle.rn_pt.proofs.reading.read_plain.Goals as goal

@@ -4,7 +4,7 @@ use Rattle.std.specs.Prelude.{Some, Ok, Err}
 use Rattle.std.proofs.lemmas.Result.{err_from_is_err_and}
 use Rattle.rn_model.specs.Runs.{entries_of}
 use Rattle.rn_fire.specs.declared.setup.Setup.{Setup}
-use Rattle.rn_replay.specs.Parts.{RedoesAll, TriesEnd}
+use Rattle.rn_replay.specs.link.Parts.{RedoesAll, TriesEnd}
 use Rattle.rn_replay.specs.Replays.{Begins}
 use Rattle.rn_replay.proofs.Beginnings.{begins_done, begins_refused, unsearched}
 use Rattle.rn_replay.proofs.Endings.{marked_end, refused_end}

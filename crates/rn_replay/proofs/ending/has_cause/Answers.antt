@@ -2,7 +2,7 @@
 use Rattle.std.proofs.Common.{◌≡◌, sym, ap, ◌∙◌, subst, false}
 use Rattle.std.specs.Prelude.{◌↔◌, Some, IsTrue}
 use Rattle.std.specs.Option.{option_copied}
-use Rattle.rn_replay.specs.Parts.{cause_of}
+use Rattle.rn_replay.specs.link.Parts.{cause_of}
 use Rattle.rn_replay.proofs.ending.has_cause.Goals as goal
 
 pub returns-in-Some : goal.returns-in-Some

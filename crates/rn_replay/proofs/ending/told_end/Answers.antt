@@ -3,8 +3,8 @@ use Rattle.std.proofs.Common.{◌≡◌, sym, ap, ◌∙◌}
 use Rattle.std.specs.Prelude.{Some}
 use Rattle.std.specs.Option.{option_copied}
 use Rattle.rn_model.specs.Runs.{entries_of}
-use Rattle.rn_fire.specs.States.{firings_in}
-use Rattle.rn_replay.specs.Parts.{last_of}
+use Rattle.rn_fire.specs.link.States.{firings_in}
+use Rattle.rn_replay.specs.link.Parts.{last_of}
 use Rattle.rn_replay.proofs.LastEntries.{last_end}
 use Rattle.rn_replay.proofs.WholeEntries.{end_told}
 use Rattle.rn_replay.proofs.ending.told_end.Goals as goal

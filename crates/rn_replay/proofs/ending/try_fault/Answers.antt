@@ -1,7 +1,7 @@
 -- What comes of the binding's firing.
 use Rattle.std.proofs.Common.{◌<◌, length, sym, ap, ◌∙◌, subst, arith}
 use Rattle.std.specs.Prelude.{Ok}
-use Rattle.rn_replay.specs.Parts.{FiresNow, cause_of, last_of}
+use Rattle.rn_replay.specs.link.Parts.{FiresNow, cause_of, last_of}
 use Rattle.rn_replay.proofs.Endings.{tries_fault, tries_firing, tries_other}
 use Rattle.rn_replay.proofs.ending.try_fault.Goals as goal
 

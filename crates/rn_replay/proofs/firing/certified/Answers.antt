@@ -1,7 +1,7 @@
 -- What isn't certified isn't sound.
 use Rattle.std.proofs.Common.{sym, subst}
 use Rattle.std.specs.Prelude.{Err}
-use Rattle.rn_replay.specs.Parts.{Certified}
+use Rattle.rn_replay.specs.link.Parts.{Certified}
 use Rattle.rn_replay.proofs.Refusals.{not_certified}
 use Rattle.rn_replay.proofs.firing.certified.Goals as goal
 

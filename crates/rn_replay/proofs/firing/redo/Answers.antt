@@ -2,7 +2,7 @@
 use Rattle.std.proofs.Common.{◌≤◌, sym, ap, ◌∙◌, subst, arith}
 use Rattle.std.specs.Prelude.{Ok}
 use Rattle.rn_model.specs.Runs.{Firing}
-use Rattle.rn_replay.specs.Parts.{FiresNow, last_of, outs_of}
+use Rattle.rn_replay.specs.link.Parts.{FiresNow, last_of, outs_of}
 use Rattle.rn_replay.proofs.Refusals.{redone, refused_prints}
 use Rattle.rn_replay.proofs.firing.redo.Goals as goal
 

@@ -4,8 +4,8 @@ use Rattle.std.specs.Prelude.{Err}
 use Rattle.std.proofs.lemmas.List.{take_all}
 use Rattle.std.proofs.lemmas.Result.{err_from_is_err_and}
 use Rattle.rn_fire.specs.declared.setup.Setup.{Setup}
-use Rattle.rn_fire.specs.States.{firings_in}
-use Rattle.rn_replay.specs.Parts.{RedoesAll}
+use Rattle.rn_fire.specs.link.States.{firings_in}
+use Rattle.rn_replay.specs.link.Parts.{RedoesAll}
 use Rattle.rn_replay.proofs.WholeEntries.{few_firings, goes_on, has_worker, refuses}
 use Rattle.rn_replay.proofs.redoing.redo_all.Goals as goal
 

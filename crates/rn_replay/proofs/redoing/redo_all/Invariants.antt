@@ -1,6 +1,6 @@
 use Rattle.std.proofs.Common.{◌≡◌, take}
 use Rattle.std.specs.Prelude.{None}
-use Rattle.rn_fire.specs.States.{firings_in}
+use Rattle.rn_fire.specs.link.States.{firings_in}
 use Rattle.rn_replay.proofs.redoing.redo_all.Given as goal
 
 abbrev pub invariant-loop-entry : goal.invariant-loop-entry

@@ -6,7 +6,7 @@ use Rattle.rn_declared.specs.declared.fault.Rule.TheVariants as Rule
 use Rattle.rn_declared.specs.Faults.{first_from, broken_if}
 use Rattle.rn_rules.specs.Arcs.{asked_of, is_clear}
 use Rattle.rn_rules.specs.Expressions.{Seen, seen_of}
-use Rattle.rn_rules.specs.Sights.{where_of, sight_of, misfit_if}
+use Rattle.rn_rules.specs.link.Sights.{where_of, sight_of, misfit_if}
 use Rattle.rn_rules.proofs.CallLemmas.{inscribed_told}
 use Rattle.rn_rules.proofs.arcs.see_inscribed.Goals as goal
 

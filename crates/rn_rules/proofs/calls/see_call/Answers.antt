@@ -3,7 +3,7 @@ use Rattle.std.proofs.Common.{◌∙◌, ap, map, List}
 use Rattle.std.specs.Prelude.{option_copied, flat_map}
 use Rattle.rn_declared.specs.Faults.{first_from}
 use Rattle.rn_rules.specs.Expressions.{Seen, seen_of}
-use Rattle.rn_rules.specs.Sights.{where_of, call_of}
+use Rattle.rn_rules.specs.link.Sights.{where_of, call_of}
 use Rattle.rn_rules.proofs.CallLemmas.{call_told}
 use Rattle.rn_rules.proofs.calls.see_call.Goals as goal
 

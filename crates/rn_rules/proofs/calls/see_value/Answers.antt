@@ -3,7 +3,7 @@ use Rattle.std.proofs.Common.{◌∙◌, ap}
 use Rattle.std.specs.Prelude.{option_copied}
 use Rattle.rn_declared.specs.Faults.{first_from}
 use Rattle.rn_rules.specs.Expressions.{Seen, seen_of}
-use Rattle.rn_rules.specs.Sights.{where_of, misfit_if}
+use Rattle.rn_rules.specs.link.Sights.{where_of, misfit_if}
 use Rattle.rn_rules.proofs.CallLemmas.{value_told}
 use Rattle.rn_rules.proofs.calls.see_value.Goals as goal
 

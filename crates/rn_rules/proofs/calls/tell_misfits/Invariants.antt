@@ -1,7 +1,7 @@
 -- What was reported, and what is to be reported of those that are left, are all.
 use Rattle.std.proofs.Common.{◌≡◌, drop}
 use Rattle.rn_declared.specs.Faults.{first_from}
-use Rattle.rn_rules.specs.Sights.{misfits_of}
+use Rattle.rn_rules.specs.link.Sights.{misfits_of}
 use Rattle.rn_rules.proofs.calls.tell_misfits.Given as goal
 
 abbrev pub invariant-loop-i : goal.invariant-loop-i

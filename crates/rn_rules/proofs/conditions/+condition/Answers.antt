@@ -4,7 +4,7 @@ use Rattle.std.proofs.lemmas.List.{take_all}
 use Rattle.std.specs.Prelude.{flat_map}
 use Rattle.rn_declared.specs.Faults.{first_from}
 use Rattle.rn_rules.specs.Conditions.{simple_seen}
-use Rattle.rn_rules.specs.Sights.{where_of}
+use Rattle.rn_rules.specs.link.Sights.{where_of}
 use Rattle.rn_declared.proofs.ToldLemmas.{told_more}
 use Rattle.rn_rules.proofs.ConditionLemmas.{condition_seen}
 use Rattle.rn_rules.proofs.conditions.+condition.Goals as goal

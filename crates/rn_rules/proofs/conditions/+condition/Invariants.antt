@@ -3,7 +3,7 @@ use Rattle.std.proofs.Common.{◌≡◌, take}
 use Rattle.std.specs.Prelude.{flat_map}
 use Rattle.rn_declared.specs.Faults.{first_from}
 use Rattle.rn_rules.specs.Conditions.{simple_seen}
-use Rattle.rn_rules.specs.Sights.{where_of}
+use Rattle.rn_rules.specs.link.Sights.{where_of}
 use Rattle.rn_rules.proofs.conditions.+condition.Given as goal
 
 abbrev pub invariant-see_condition-loop-simples : goal.invariant-see_condition-loop-simples

@@ -2,7 +2,7 @@
 use Rattle.std.proofs.Common.{◌∙◌, ap}
 use Rattle.rn_declared.specs.Faults.{first_from}
 use Rattle.rn_rules.specs.Expressions.{Seen, seen_of, operand_faults}
-use Rattle.rn_rules.specs.Sights.{where_of}
+use Rattle.rn_rules.specs.link.Sights.{where_of}
 use Rattle.rn_rules.proofs.SightLemmas.{operands_told}
 use Rattle.rn_rules.proofs.conditions.see_operands.Goals as goal
 

@@ -3,7 +3,7 @@ use Rattle.std.proofs.Common.{◌∙◌, ap}
 use Rattle.rn_declared.specs.declared.fault.Rule.TheVariants as Rule
 use Rattle.rn_declared.specs.Faults.{first_from, broken_if}
 use Rattle.rn_rules.specs.Expressions.{Seen, seen_of}
-use Rattle.rn_rules.specs.Sights.{where_of, sight_of, are_apart}
+use Rattle.rn_rules.specs.link.Sights.{where_of, sight_of, are_apart}
 use Rattle.rn_rules.proofs.ConditionLemmas.{sides_told}
 use Rattle.rn_rules.proofs.conditions.see_sides.Goals as goal
 

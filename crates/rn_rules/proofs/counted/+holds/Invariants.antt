@@ -2,7 +2,7 @@
 use Rattle.std.proofs.Common.{◌≡◌, drop, map}
 use Rattle.std.specs.Prelude.{is_some}
 use Rattle.std.specs.List.{list_any}
-use Rattle.rn_declared.specs.Tables.{found_in}
+use Rattle.rn_declared.specs.link.Tables.{found_in}
 use Rattle.rn_rules.specs.Counted.{holds_name}
 use Rattle.rn_rules.proofs.counted.+holds.Given as goal
 

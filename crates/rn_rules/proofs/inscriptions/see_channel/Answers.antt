@@ -5,10 +5,10 @@ use Rattle.rn_rules.specs.Expressions.{seen_of}
 use Rattle.rn_rules.specs.Calls.{call_faults}
 use Rattle.rn_rules.specs.Transitions.{elsewhere}
 use Rattle.rn_rules.specs.Transitions.{channel_faults}
-use Rattle.rn_declared.specs.Tables.{channel_in}
-use Rattle.rn_rules.specs.Numbers.{channels_of}
-use Rattle.rn_rules.specs.Scopes.{scope_in, progress_of}
-use Rattle.rn_rules.specs.Sights.{where_of}
+use Rattle.rn_declared.specs.link.Tables.{channel_in}
+use Rattle.rn_rules.specs.link.Numbers.{channels_of}
+use Rattle.rn_rules.specs.link.Scopes.{scope_in, progress_of}
+use Rattle.rn_rules.specs.link.Sights.{where_of}
 use Rattle.rn_rules.proofs.inscriptions.see_channel.Goals as goal
 
 pub returns : goal.returns

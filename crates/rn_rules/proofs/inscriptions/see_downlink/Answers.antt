@@ -6,7 +6,7 @@ use Rattle.rn_rules.specs.Expressions.{seen_of}
 use Rattle.rn_rules.specs.Calls.{target_faults}
 use Rattle.rn_rules.specs.Transitions.{elsewhere}
 use Rattle.rn_rules.specs.Transitions.{channel_faults, downlink_faults}
-use Rattle.rn_rules.specs.Scopes.{scope_in, progress_of}
+use Rattle.rn_rules.specs.link.Scopes.{scope_in, progress_of}
 use Rattle.rn_declared.proofs.ToldLemmas.{first_from-append}
 use Rattle.rn_rules.proofs.inscriptions.see_downlink.Goals as goal
 

@@ -3,15 +3,15 @@ use Rattle.std.proofs.Common.{◌∙◌, ap, sym, Bool, List}
 use Rattle.std.specs.Prelude.{is_some, if◌then◌else◌}
 use Rattle.rn_declared.specs.declared.fault.Fault.{Fault}
 use Rattle.rn_declared.specs.Faults.{first_from}
-use Rattle.rn_declared.specs.Tables.{found_in}
+use Rattle.rn_declared.specs.link.Tables.{found_in}
 use Rattle.rn_declared.proofs.ToldLemmas.{first_from-append}
 use Rattle.rn_rules.specs.Arcs.{arc_faults}
 use Rattle.rn_rules.specs.Counted.{counted_faults}
 use Rattle.rn_rules.specs.Calls.{creation_faults}
 use Rattle.rn_model.specs.Systems.{is_output}
 use Rattle.rn_rules.specs.Transitions.{in_output, elsewhere, inscription_faults}
-use Rattle.rn_rules.specs.Scopes.{scope_in, progress_of}
-use Rattle.rn_rules.specs.Sights.{where_of}
+use Rattle.rn_rules.specs.link.Scopes.{scope_in, progress_of}
+use Rattle.rn_rules.specs.link.Sights.{where_of}
 use Rattle.rn_rules.proofs.inscriptions.see_inscription.Goals as goal
 
 pub returns-in_ok-see_arc-in-Arc : goal.returns-in_ok-see_arc-in-Arc

@@ -6,7 +6,7 @@ use Rattle.rn_declared.specs.Faults.{first_from}
 use Rattle.rn_rules.specs.Expressions.{Seen, seen_of}
 use Rattle.rn_rules.specs.Actions.{set_faults, value_faults}
 use Rattle.rn_rules.specs.Transitions.{in_action, set_action_faults}
-use Rattle.rn_rules.specs.Scopes.{scope_in, progress_of}
+use Rattle.rn_rules.specs.link.Scopes.{scope_in, progress_of}
 use Rattle.rn_declared.proofs.ToldLemmas.{first_from-append}
 use Rattle.rn_rules.proofs.inscriptions.see_set.Goals as goal
 

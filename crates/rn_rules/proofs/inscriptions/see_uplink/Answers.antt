@@ -4,7 +4,7 @@ use Rattle.rn_declared.specs.declared.fault.Rule.TheVariants as Rule
 use Rattle.rn_declared.specs.declared.fault.Fault.{Fault}
 use Rattle.rn_declared.specs.Faults.{first_from, broken_if}
 use Rattle.rn_rules.specs.Transitions.{channel_faults, uplink_faults}
-use Rattle.rn_rules.specs.Scopes.{scope_in, progress_of}
+use Rattle.rn_rules.specs.link.Scopes.{scope_in, progress_of}
 use Rattle.rn_declared.proofs.ToldLemmas.{first_from-append}
 use Rattle.rn_rules.proofs.inscriptions.see_uplink.Goals as goal
 

@@ -1,10 +1,10 @@
 -- The variables, the places and the transitions.
 use Rattle.std.proofs.Common.{ap, ◌∙◌}
 use Rattle.std.specs.Prelude.{is_some}
-use Rattle.rn_declared.specs.Tables.{found_in}
-use Rattle.rn_declared.specs.Tables.{pattern_in, capped_in}
-use Rattle.rn_declared.specs.Tables.{channel_in}
-use Rattle.rn_rules.specs.Numbers.{declared_of, places_of, channels_of}
+use Rattle.rn_declared.specs.link.Tables.{found_in}
+use Rattle.rn_declared.specs.link.Tables.{pattern_in, capped_in}
+use Rattle.rn_declared.specs.link.Tables.{channel_in}
+use Rattle.rn_rules.specs.link.Numbers.{declared_of, places_of, channels_of}
 use Rattle.rn_rules.proofs.NetLemmas.{net_told}
 use Rattle.rn_rules.proofs.nets.see_net.Goals as goal
 

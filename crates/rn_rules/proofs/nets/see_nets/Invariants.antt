@@ -2,10 +2,10 @@
 use Rattle.std.proofs.Common.{◌≡◌, take}
 use Rattle.std.specs.Prelude.{flat_map, is_some}
 use Rattle.rn_declared.specs.Faults.{first_from}
-use Rattle.rn_declared.specs.Tables.{found_in}
-use Rattle.rn_declared.specs.Tables.{channel_in}
-use Rattle.rn_rules.specs.Numbers.{channels_of}
-use Rattle.rn_rules.specs.Scopes.{faults_in_net}
+use Rattle.rn_declared.specs.link.Tables.{found_in}
+use Rattle.rn_declared.specs.link.Tables.{channel_in}
+use Rattle.rn_rules.specs.link.Numbers.{channels_of}
+use Rattle.rn_rules.specs.link.Scopes.{faults_in_net}
 use Rattle.rn_rules.proofs.nets.see_nets.Given as goal
 
 abbrev pub invariant-loop-net : goal.invariant-loop-net

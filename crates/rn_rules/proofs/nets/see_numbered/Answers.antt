@@ -2,8 +2,8 @@
 use Rattle.std.proofs.Common.{◌∙◌, ap}
 use Rattle.std.specs.Prelude.{flat_map, is_some}
 use Rattle.rn_declared.specs.Faults.{first_from}
-use Rattle.rn_declared.specs.Tables.{found_in, channel_in}
-use Rattle.rn_rules.specs.Scopes.{faults_in_net}
+use Rattle.rn_declared.specs.link.Tables.{found_in, channel_in}
+use Rattle.rn_rules.specs.link.Scopes.{faults_in_net}
 use Rattle.rn_rules.proofs.nets.see_numbered.Goals as goal
 
 pub returns : goal.returns

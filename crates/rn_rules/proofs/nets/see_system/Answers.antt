@@ -1,6 +1,6 @@
 -- The channels, and the nets.
-use Rattle.rn_declared.specs.Tables.{found_in}
-use Rattle.rn_declared.specs.Tables.{channel_in}
+use Rattle.rn_declared.specs.link.Tables.{found_in}
+use Rattle.rn_declared.specs.link.Tables.{channel_in}
 use Rattle.rn_rules.proofs.NetLemmas.{system_told}
 use Rattle.rn_rules.proofs.nets.see_system.Goals as goal
 

@@ -1,7 +1,7 @@
 -- One more transition, and the end of all.
 use Rattle.std.proofs.Common.{◌∙◌, ap}
 use Rattle.rn_declared.specs.Faults.{first_from}
-use Rattle.rn_rules.specs.Scopes.{scope_in}
+use Rattle.rn_rules.specs.link.Scopes.{scope_in}
 use Rattle.rn_rules.specs.Transitions.{transition_faults}
 use Rattle.rn_declared.proofs.ToldLemmas.{told_more}
 use Rattle.rn_rules.proofs.nets.see_transitions.Goals as goal

@@ -2,7 +2,7 @@
 use Rattle.std.proofs.Common.{◌≡◌, take}
 use Rattle.std.specs.Prelude.{flat_map}
 use Rattle.rn_declared.specs.Faults.{first_from}
-use Rattle.rn_rules.specs.Scopes.{scope_in}
+use Rattle.rn_rules.specs.link.Scopes.{scope_in}
 use Rattle.rn_rules.specs.Transitions.{transition_faults}
 use Rattle.rn_rules.proofs.nets.see_transitions.Given as goal
 

@@ -9,7 +9,7 @@ use Rattle.rn_model.specs.Limits.{most_parts}
 use Rattle.rn_declared.specs.Patterns.{share}
 use Rattle.rn_declared.specs.Faults.{first_from, broken_if, past_limit}
 use Rattle.rn_rules.specs.Expressions.{Seen, seen_of, whole, with_elements, listed, operand_faults, operands_faults, is_whole}
-use Rattle.rn_rules.specs.Sights.{where_of, sight_of, joined, are_apart, listed_sight, fits_pattern, tuple_sight}
+use Rattle.rn_rules.specs.link.Sights.{where_of, sight_of, joined, are_apart, listed_sight, fits_pattern, tuple_sight}
 use Rattle.rn_rules.proofs.SightLemmas.{tuple_is, tuple_told, joined_is, joined_told, listed_is, listed_faults}
 use Rattle.rn_rules.proofs.SightLemmas.{seen_more, all_told, elements_more, operand_whole, operand_told}
 use Rattle.rn_rules.proofs.SightLemmas.{operands_told, operands_whole}

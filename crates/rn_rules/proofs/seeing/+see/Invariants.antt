@@ -4,7 +4,7 @@ use Rattle.std.specs.Prelude.{flat_map}
 use Rattle.rn_declared.specs.declared.pattern.Pattern.TheVariants as Form
 use Rattle.rn_declared.specs.Faults.{first_from}
 use Rattle.rn_rules.specs.Expressions.{seen_of, whole, with_elements}
-use Rattle.rn_rules.specs.Sights.{where_of, sight_of}
+use Rattle.rn_rules.specs.link.Sights.{where_of, sight_of}
 use Rattle.rn_rules.proofs.seeing.+see.Given as goal
 
 abbrev pub invariant-see_all-loop-expr : goal.invariant-see_all-loop-expr

@@ -1,7 +1,7 @@
 -- One more inscription.
 use Rattle.std.proofs.Common.{◌∙◌, arith}
-use Rattle.rn_declared.specs.Tables.{found_in}
-use Rattle.rn_rules.specs.Scopes.{scope_in}
+use Rattle.rn_declared.specs.link.Tables.{found_in}
+use Rattle.rn_rules.specs.link.Scopes.{scope_in}
 use Rattle.rn_rules.proofs.TransitionLemmas.{inscriptions_told_more}
 use Rattle.rn_rules.proofs.transitions.see_inscriptions.Goals as goal
 

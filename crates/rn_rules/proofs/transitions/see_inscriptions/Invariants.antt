@@ -1,8 +1,8 @@
 -- What was reported, and is to be reported of the inscriptions that are left, is all.
 use Rattle.std.proofs.Common.{◌≡◌, ◌≤◌, ℕ, Bool, false, drop}
 use Rattle.rn_declared.specs.Faults.{first_from}
-use Rattle.rn_declared.specs.Tables.{found_in}
-use Rattle.rn_rules.specs.Scopes.{scope_in}
+use Rattle.rn_declared.specs.link.Tables.{found_in}
+use Rattle.rn_rules.specs.link.Scopes.{scope_in}
 use Rattle.rn_rules.specs.Transitions.{Progress, inscriptions_faults}
 use Rattle.rn_rules.proofs.transitions.see_inscriptions.Given as goal
 

@@ -2,8 +2,8 @@
 use Rattle.std.proofs.Common.{◌∙◌, ◌++◌, ap, map}
 use Rattle.rn_model.specs.Limits.{most_inscriptions}
 use Rattle.rn_declared.specs.Faults.{first_from, past_limit}
-use Rattle.rn_declared.specs.Tables.{found_in}
-use Rattle.rn_rules.specs.Scopes.{scope_in}
+use Rattle.rn_declared.specs.link.Tables.{found_in}
+use Rattle.rn_rules.specs.link.Scopes.{scope_in}
 use Rattle.rn_rules.specs.Transitions.{at_first, inscriptions_faults}
 use Rattle.rn_rules.proofs.TransitionLemmas.{transition_told}
 use Rattle.rn_rules.proofs.transitions.see_transition.Goals as goal

@@ -3,7 +3,7 @@ use Rattle.std.proofs.Common.{◌≡◌, ◌∙◌, ap, sym, arith, List, ℕ, [
 use Rattle.std.proofs.lemmas.List.{length-append}
 use Rattle.rn_declared.specs.Names.{number_among}
 use Rattle.rn_rules.specs.Actions.{set_name, set_names}
-use Rattle.rn_declared.specs.Tables.{found_in}
+use Rattle.rn_declared.specs.link.Tables.{found_in}
 use Rattle.rn_rules.proofs.TransitionLemmas.{set_names_more, setters_more, sets_none}
 use Rattle.rn_rules.proofs.transitions.setters_of.Goals as goal
 use Rattle.rn_rules.proofs.transitions.setters_of.Goals.{in-Set+in_ok-declare, in_default}

@@ -2,7 +2,7 @@
 use Rattle.std.proofs.Common.{◌≡◌, ◌≤◌, List, ℕ, length, take}
 use Rattle.rn_declared.specs.Names.{number_among}
 use Rattle.rn_rules.specs.Actions.{set_names}
-use Rattle.rn_declared.specs.Tables.{found_in}
+use Rattle.rn_declared.specs.link.Tables.{found_in}
 use Rattle.rn_rules.proofs.transitions.setters_of.Given as goal
 
 abbrev pub invariant-loop-inscription : goal.invariant-loop-inscription

@@ -2,7 +2,7 @@
 use Rattle.std.proofs.Common.{◌++◌, sym, ap, subst, ◌∙◌}
 use Rattle.std.proofs.lemmas.Result.{on_ok_weaker}
 use Rattle.rn_fire.specs.States.{State}
-use Rattle.rn_session.specs.Serving.{HasLast, last_text}
+use Rattle.rn_session.specs.link.Serving.{HasLast, last_text}
 use Rattle.rn_session.proofs.AnsweredLines.{fire_answered, has_come, last_of_come}
 use Rattle.rn_session.proofs.answering.put_fire.Goals as goal
 

@@ -2,7 +2,7 @@
 use Rattle.std.proofs.Common.{sym, subst}
 use Rattle.std.specs.Prelude.{Ok}
 use Rattle.rn_fire.specs.States.{State}
-use Rattle.rn_session.specs.Serving.{AreNamesBefore}
+use Rattle.rn_session.specs.link.Serving.{AreNamesBefore}
 use Rattle.rn_session.specs.Sessions.{UndoesBy}
 use Rattle.rn_session.proofs.AnsweredRequests.{names_left}
 use Rattle.rn_session.proofs.answering.put_undo.Goals as goal

@@ -2,7 +2,7 @@
 use Rattle.std.proofs.Common.{◌≡◌, ◌+◌, ◌-◌, length, ap, ◌∙◌, arith}
 use Rattle.rn_table.specs.Tables.{Kept}
 use Rattle.rn_fire.specs.States.{State}
-use Rattle.rn_session.specs.Serving.{names_at}
+use Rattle.rn_session.specs.link.Serving.{names_at}
 use Rattle.rn_session.proofs.NamesSoFar.{next_is}
 use Rattle.rn_session.proofs.TakenNames.{cut_none, cut_some}
 use Rattle.rn_session.proofs.naming.cut_names.Goals as goal

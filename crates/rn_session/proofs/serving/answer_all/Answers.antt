@@ -1,6 +1,6 @@
 -- One line more.
 use Rattle.std.proofs.Common.{subst, refl}
-use Rattle.rn_session.specs.Serving.{IsAnswered}
+use Rattle.rn_session.specs.link.Serving.{IsAnswered}
 use Rattle.rn_session.proofs.AnsweredLines.{no_line, one_line}
 use Rattle.rn_session.proofs.serving.answer_all.Goals as goal
 

@@ -2,7 +2,7 @@
 use Rattle.std.proofs.Common.{◌≡◌, ◌++◌, ℕ, List, length}
 use Rattle.rn_served.specs.Lines.{lines_of}
 use Rattle.rn_served.specs.Served.{Served}
-use Rattle.rn_session.specs.Serving.{ServesAll, names_at}
+use Rattle.rn_session.specs.link.Serving.{ServesAll, names_at}
 use Rattle.rn_session.specs.Sessions.{so_far}
 use Rattle.rn_session.proofs.serving.answer_all.Given as goal
 

@@ -1,6 +1,6 @@
 use Rattle.std.proofs.Common.{rules, ◌≡◌, true, false, sym, ap, ◌∙◌, ◌<◌, cond, refl, subst}
 use Rattle.std.specs.Bool.{OnTrue, OnFalse}
-use Rattle.rn_table.specs.Steps.{Step, stepped}
+use Rattle.rn_table.specs.link.Steps.{Step, stepped}
 use Rattle.rn_table.proofs.StepLemmas.{absent_stays}
 use Rattle.rn_model.specs.Lists.{count_of, with_value, without_one}
 use Rattle.std.specs.Prelude.{IsTrue}

@@ -1,6 +1,6 @@
 use Rattle.std.proofs.Common.{[], get_or, sym, ap, ◌∙◌, subst}
-use Rattle.rn_table.specs.Leaves.{held_if}
-use Rattle.rn_table.specs.LeafSteps.{Grows}
+use Rattle.rn_table.specs.link.Leaves.{held_if}
+use Rattle.rn_table.specs.link.LeafSteps.{Grows}
 use Rattle.rn_table.proofs.DirLemmas.{a_word, held_same}
 use Rattle.rn_table.proofs.dir.add_to_shared.Goals as goal
 

@@ -1,6 +1,6 @@
 use Rattle.std.proofs.Common.{[], get_or, sym, ap, ◌∙◌, subst}
-use Rattle.rn_table.specs.Leaves.{Ascending, held_if}
-use Rattle.rn_table.specs.LeafSteps.{HoldsAfterStep}
+use Rattle.rn_table.specs.link.Leaves.{Ascending, held_if}
+use Rattle.rn_table.specs.link.LeafSteps.{HoldsAfterStep}
 use Rattle.rn_table.proofs.DirLemmas.{a_word, held_some}
 use Rattle.rn_table.proofs.dir.edit_in_shared.Goals as goal
 

@@ -1,5 +1,5 @@
 use Rattle.std.proofs.Common.{◌≡◌, ◌++◌, take}
-use Rattle.rn_table.specs.Steps.{steps_in}
+use Rattle.rn_table.specs.link.Steps.{steps_in}
 use Rattle.rn_table.proofs.edits.append_rows.Given as goal
 
 abbrev pub invariant-loop-row : goal.invariant-loop-row

@@ -1,5 +1,5 @@
 use Rattle.std.proofs.Common.{take}
-use Rattle.rn_table.specs.Steps.{AreNet}
+use Rattle.rn_table.specs.link.Steps.{AreNet}
 use Rattle.rn_table.proofs.edits.cancelled.Given as goal
 
 abbrev pub invariant-loop-edit : goal.invariant-loop-edit

@@ -1,6 +1,6 @@
 use Rattle.std.proofs.Common.{[], None, map, refl, ap, ◌∙◌}
 use Rattle.std.specs.Option.{option_map_or}
-use Rattle.rn_table.specs.Leaves.{held_at}
+use Rattle.rn_table.specs.link.Leaves.{held_at}
 use Rattle.rn_table.proofs.DirLemmas.{dirs_more}
 use Rattle.rn_table.proofs.leaves.make_room.Goals as goal
 

@@ -1,6 +1,6 @@
 use Rattle.std.proofs.Common.{sym, ap, ◌∙◌, subst}
 use Rattle.std.specs.Prelude.{filter}
-use Rattle.rn_table.specs.Leaves.{Ascending, has_number}
+use Rattle.rn_table.specs.link.Leaves.{Ascending, has_number}
 use Rattle.rn_table.proofs.InstanceLemmas.{ascending_filtered}
 use Rattle.rn_table.proofs.page.edit_page.Goals as goal
 

@@ -1,6 +1,6 @@
 use Rattle.std.proofs.Common.{◌≡◌, ◌+◌, ◌++◌, drop}
 use Rattle.rn_table.specs.Changes.{new_from}
-use Rattle.rn_table.specs.Leaves.{IsTable, instances_in, starting_from}
+use Rattle.rn_table.specs.link.Leaves.{IsTable, instances_in, starting_from}
 use Rattle.rn_table.specs.Tables.{started}
 use Rattle.rn_table.proofs.pages.add_all.Given as goal
 

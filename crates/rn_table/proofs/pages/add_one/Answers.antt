@@ -4,7 +4,7 @@ use Rattle.std.specs.List.Sorted.{IsSorted}
 use Rattle.rn_value.specs.Order.{value_cmp}
 use Rattle.rn_model.specs.Lists.{ordered_values}
 use Rattle.rn_model.specs.Markings.{Instance, fresh_instance}
-use Rattle.rn_table.specs.Leaves.{Leaf, IsLeaf, IsTable, page_of, instances_in, starting_from}
+use Rattle.rn_table.specs.link.Leaves.{Leaf, IsLeaf, IsTable, page_of, instances_in, starting_from}
 use Rattle.rn_table.proofs.InstanceLemmas.{all_get}
 use Rattle.rn_table.proofs.TableLemmas.{leaf_here, added_in, starts_added, grown_table, sorted_places, one_started, same_instance}
 use Rattle.rn_table.proofs.pages.add_one.Goals as goal

@@ -1,6 +1,6 @@
 use Rattle.std.proofs.Common.{◌+◌, length, subst}
 use Rattle.std.specs.List.{AllByRecursion}
-use Rattle.rn_table.specs.Leaves.{Ascending, HasSortedPlaces}
+use Rattle.rn_table.specs.link.Leaves.{Ascending, HasSortedPlaces}
 use Rattle.rn_table.proofs.TableLemmas.{all_ascend, all_sorted}
 use Rattle.rn_table.proofs.pages.change_all.Goals as goal
 

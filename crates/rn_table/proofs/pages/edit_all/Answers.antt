@@ -1,7 +1,7 @@
 use Rattle.std.proofs.Common.{◌≡◌, ◌∷◌, ◌+◌, drop, sym, ap, ◌∙◌}
 use Rattle.std.proofs.lemmas.List.{drop_more}
-use Rattle.rn_table.specs.Leaves.{instances_in}
-use Rattle.rn_table.specs.Steps.{after_steps}
+use Rattle.rn_table.specs.link.Leaves.{instances_in}
+use Rattle.rn_table.specs.link.Steps.{after_steps}
 use Rattle.rn_table.proofs.pages.edit_all.Goals as goal
 
 pub edit_one-requires : goal.edit_one-requires

@@ -1,6 +1,6 @@
 use Rattle.std.proofs.Common.{◌≡◌, ℕ, drop}
-use Rattle.rn_table.specs.Leaves.{IsTable, instances_in, starting_from}
-use Rattle.rn_table.specs.Steps.{after_steps}
+use Rattle.rn_table.specs.link.Leaves.{IsTable, instances_in, starting_from}
+use Rattle.rn_table.specs.link.Steps.{after_steps}
 use Rattle.rn_table.proofs.pages.edit_all.Given as goal
 
 abbrev pub invariant-loop-edit : goal.invariant-loop-edit

@@ -1,6 +1,6 @@
 use Rattle.std.proofs.Common.{sym, ap, ◌∙◌, subst, arith}
-use Rattle.rn_table.specs.Leaves.{IsLeaf, IsTable, instances_in, page_of, starting_from}
-use Rattle.rn_table.specs.Steps.{Step}
+use Rattle.rn_table.specs.link.Leaves.{IsLeaf, IsTable, instances_in, page_of, starting_from}
+use Rattle.rn_table.specs.link.Steps.{Step}
 use Rattle.rn_table.proofs.TableLemmas.{leaf_here}
 use Rattle.rn_table.proofs.EditedLemmas.{edited_in, edited_none, edited_zero, starts_stay, table_stays}
 use Rattle.rn_table.proofs.pages.edit_one.Goals as goal

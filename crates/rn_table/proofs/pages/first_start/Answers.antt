@@ -1,7 +1,7 @@
 use Rattle.std.proofs.Common.{◌≡◌, ℕ, ◌<◌, ◌∷◌, [], ◌+◌, List, true, false, length, get_or, drop, sym, ap, ◌∙◌, subst, arith}
 use Rattle.std.specs.Prelude.{find, nat_le}
 use Rattle.std.proofs.lemmas.List.{drop_more, get_or_default}
-use Rattle.rn_table.specs.Leaves.{Leaf, bit_of, leaf_with, starting_from}
+use Rattle.rn_table.specs.link.Leaves.{Leaf, bit_of, leaf_with, starting_from}
 use Rattle.rn_bag.specs.Words.{has_bit}
 use Rattle.rn_table.proofs.CursorLemmas.{Begins, begins_first, begins_next, found_start, no_start, pages_before}
 use Rattle.rn_table.proofs.pages.first_start.Goals as goal

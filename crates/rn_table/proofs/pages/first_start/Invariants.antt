@@ -1,6 +1,6 @@
 use Rattle.std.proofs.Common.{◌≡◌, drop}
 use Rattle.std.specs.Prelude.{find, nat_le}
-use Rattle.rn_table.specs.Leaves.{starting_from}
+use Rattle.rn_table.specs.link.Leaves.{starting_from}
 use Rattle.rn_table.proofs.CursorLemmas.{Begins}
 use Rattle.rn_table.proofs.pages.first_start.Given as goal
 

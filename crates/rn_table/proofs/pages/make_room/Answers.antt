@@ -1,5 +1,5 @@
 use Rattle.std.proofs.Common.{[], refl, sym, ap, ◌∙◌, subst, arith}
-use Rattle.rn_table.specs.Leaves.{IsTable, instances_in, leaf_with, starting_from}
+use Rattle.rn_table.specs.link.Leaves.{IsTable, instances_in, leaf_with, starting_from}
 use Rattle.rn_table.proofs.TableLemmas.{page_more, one_page_more, one_start_more, empty_kept, empty_starts}
 use Rattle.rn_table.proofs.pages.make_room.Goals as goal
 

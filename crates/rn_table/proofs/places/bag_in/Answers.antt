@@ -1,6 +1,6 @@
 use Rattle.std.proofs.Common.{◌≡◌, ◌+◌, ◌*◌, ◌/◌, ◌%◌, map, slice_get, sym, ap, ◌∙◌, arith}
 use Rattle.std.proofs.lemmas.List.{length-map}
-use Rattle.rn_table.specs.Chunks.{joined}
+use Rattle.rn_table.specs.link.Chunks.{joined}
 use Rattle.rn_table.proofs.StepLemmas.{read_map}
 use Rattle.rn_table.proofs.ChunkLemmas.{get_in, get_past}
 use Rattle.rn_table.proofs.places.bag_in.Goals as goal

@@ -2,7 +2,7 @@ use Rattle.std.proofs.Common.{[], ◌≡◌, ◌∷◌, ◌++◌, length, map, a
 use Rattle.std.proofs.lemmas.List.{length-map, map-append, map_push}
 use Rattle.std.specs.Slice.Iter.{chunks_rest}
 use Rattle.rn_model.specs.Lists.{ordered_values}
-use Rattle.rn_table.specs.Chunks.{AreChunks, joined}
+use Rattle.rn_table.specs.link.Chunks.{AreChunks, joined}
 use Rattle.rn_table.proofs.ChunkLemmas.{chunks_more, full_more, joined_more}
 use Rattle.rn_table.proofs.places.chunks_of.Goals as goal
 

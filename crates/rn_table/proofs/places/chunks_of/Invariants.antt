@@ -2,7 +2,7 @@ use Rattle.std.proofs.Common.{◌≡◌, ◌<◌, ◌++◌, length, map}
 use Rattle.std.specs.List.{AllByRecursion}
 use Rattle.std.specs.Slice.Iter.{chunks_rest, chunks_size}
 use Rattle.rn_model.specs.Lists.{ordered_values}
-use Rattle.rn_table.specs.Chunks.{AreChunks, joined}
+use Rattle.rn_table.specs.link.Chunks.{AreChunks, joined}
 use Rattle.rn_table.proofs.places.chunks_of.Given as goal
 
 abbrev pub invariant-loop-piece : goal.invariant-loop-piece

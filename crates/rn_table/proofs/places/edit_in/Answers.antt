@@ -1,7 +1,7 @@
 use Rattle.std.proofs.Common.{◌≡◌, ◌+◌, ◌*◌, ◌/◌, ◌%◌, map, set, sym, ap, ◌∙◌, subst, arith}
 use Rattle.std.proofs.lemmas.List.{length-map, map-set}
-use Rattle.rn_table.specs.Chunks.{AreChunks, joined}
-use Rattle.rn_table.specs.Steps.{with_step}
+use Rattle.rn_table.specs.link.Chunks.{AreChunks, joined}
+use Rattle.rn_table.specs.link.Steps.{with_step}
 use Rattle.rn_table.proofs.StepLemmas.{read_map}
 use Rattle.rn_table.proofs.ChunkLemmas.{chunks_stay, joined_few, step_in, step_past}
 use Rattle.rn_table.proofs.places.edit_in.Goals as goal

@@ -1,5 +1,5 @@
 use Rattle.std.proofs.Common.{◌≡◌, ◌≤◌, ◌-◌, ℕ, length}
-use Rattle.rn_term.specs.Kept.{level_of}
+use Rattle.rn_term.specs.link.Kept.{level_of}
 use Rattle.rn_term.proofs.levels.note_levels.Given as goal
 
 abbrev pub invariant-loop-levels : goal.invariant-loop-levels

@@ -1,6 +1,6 @@
 use Rattle.std.proofs.Common.{◌≡◌, map, take}
 use Rattle.rn_told.specs.Bindings.{told_node}
-use Rattle.rn_told.specs.NodesAhead.{placed}
+use Rattle.rn_told.specs.link.NodesAhead.{placed}
 use Rattle.rn_told.proofs.bindings.told_binding.Given as goal
 
 abbrev pub invariant-loop-x : goal.invariant-loop-x

@@ -1,6 +1,6 @@
 use Rattle.std.proofs.Common.{◌≡◌, map, take}
 use Rattle.rn_model.specs.Firing.{renamed_value}
-use Rattle.rn_lines.specs.NodeSeen.{given}
+use Rattle.rn_lines.specs.link.NodeSeen.{given}
 use Rattle.rn_told.specs.Bindings.{unnumbered}
 use Rattle.rn_told.proofs.bindings.told_given.Given as goal
 

@@ -1,6 +1,6 @@
 use Rattle.std.proofs.Common.{◌≡◌, ◌+◌, map, drop}
 use Rattle.rn_told.specs.Called.{count_of_called}
-use Rattle.rn_told.specs.NodesAhead.{placed}
+use Rattle.rn_told.specs.link.NodesAhead.{placed}
 use Rattle.rn_told.proofs.called.count_of_called.Given as goal
 
 abbrev pub invariant-loop-i : goal.invariant-loop-i

@@ -4,8 +4,8 @@ use Rattle.std.specs.Prelude.{option_map}
 use Rattle.std.proofs.lemmas.List.{length-map}
 use Rattle.rn_told.specs.declared.role.Role.TheVariants.{Fault}
 use Rattle.rn_told.specs.Lines.{lines_in}
-use Rattle.rn_told.specs.NodesAhead.{placed, stop}
-use Rattle.rn_told.specs.CalledAhead.{bad_at}
+use Rattle.rn_told.specs.link.NodesAhead.{placed, stop}
+use Rattle.rn_told.specs.link.CalledAhead.{bad_at}
 use Rattle.rn_told.proofs.CountLemmas.{left, nodes_few, bad_early}
 use Rattle.rn_told.proofs.ends.read_fault.Goals as goal
 

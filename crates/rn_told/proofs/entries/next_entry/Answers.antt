@@ -2,10 +2,10 @@
 use Rattle.std.proofs.Common.{◌≡◌, ◌+◌, ◌≤◌, length, drop, sym, ap, ◌∙◌, subst, arith}
 use Rattle.rn_told.specs.Lines.{lines_in}
 use Rattle.rn_told.specs.Firings.{FiringRead, firing_read}
-use Rattle.rn_told.specs.FiringsAhead.{ReadsFiring}
-use Rattle.rn_told.specs.CalledAhead.{bad_at}
+use Rattle.rn_told.specs.link.FiringsAhead.{ReadsFiring}
+use Rattle.rn_told.specs.link.CalledAhead.{bad_at}
 use Rattle.rn_told.specs.Runs.{Opening, opening_of, end_read, Tells}
-use Rattle.rn_told.specs.RunsAhead.{OpensWith, end_verdict}
+use Rattle.rn_told.specs.link.RunsAhead.{OpensWith, end_verdict}
 use Rattle.rn_told.proofs.CountLemmas.{IsWithin, firing_few}
 use Rattle.rn_told.proofs.entries.next_entry.Goals as goal
 

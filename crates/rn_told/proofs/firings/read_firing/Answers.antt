@@ -3,7 +3,7 @@ use Rattle.std.proofs.Common.{◌+◌, ◌≤◌, length, map, ap, subst, arith}
 use Rattle.std.proofs.lemmas.List.{length-map}
 use Rattle.rn_told.specs.declared.role.Role.TheVariants.{Firing}
 use Rattle.rn_told.specs.Lines.{lines_in}
-use Rattle.rn_told.specs.NodesAhead.{placed, stop}
+use Rattle.rn_told.specs.link.NodesAhead.{placed, stop}
 use Rattle.rn_told.proofs.CountLemmas.{left, nodes_few}
 use Rattle.rn_told.proofs.firings.read_firing.Goals as goal
 

@@ -1,6 +1,6 @@
 -- The items that are left are told from the one before them.
 use Rattle.std.proofs.Common.{◌≡◌, map, drop}
-use Rattle.rn_lines.specs.LinesSeen.{item}
+use Rattle.rn_lines.specs.link.LinesSeen.{item}
 use Rattle.rn_told.specs.Marks.{parted_from}
 use Rattle.rn_told.proofs.items.parted_from.Given as goal
 

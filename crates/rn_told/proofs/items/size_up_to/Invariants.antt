@@ -1,6 +1,6 @@
 -- The values so far, and those of the items that are left, are all.
 use Rattle.std.proofs.Common.{◌≡◌, ◌≤◌, ◌+◌, map, drop}
-use Rattle.rn_lines.specs.LinesSeen.{item}
+use Rattle.rn_lines.specs.link.LinesSeen.{item}
 use Rattle.rn_told.specs.Marks.{size_of}
 use Rattle.rn_told.proofs.items.size_up_to.Given as goal
 

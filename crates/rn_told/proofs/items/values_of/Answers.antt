@@ -2,7 +2,7 @@
 use Rattle.std.proofs.Common.{length, map, take, sym, ap, ◌∙◌, arith}
 use Rattle.std.specs.Prelude.{nat_le}
 use Rattle.std.proofs.lemmas.Option.{cond_some, none-some}
-use Rattle.rn_lines.specs.LinesSeen.{item}
+use Rattle.rn_lines.specs.link.LinesSeen.{item}
 use Rattle.rn_lines.specs.LineText.{times_of}
 use Rattle.rn_lines.proofs.Digits.{some_within}
 use Rattle.rn_told.proofs.HeldValues.{values_are, within}

@@ -1,5 +1,5 @@
 use Rattle.std.proofs.Common.{◌≡◌, map, take}
-use Rattle.rn_lines.specs.LinesSeen.{item}
+use Rattle.rn_lines.specs.link.LinesSeen.{item}
 use Rattle.rn_told.specs.Marks.{values_told}
 use Rattle.rn_told.proofs.items.values_of.Given as goal
 

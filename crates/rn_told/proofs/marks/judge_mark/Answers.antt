@@ -1,7 +1,7 @@
 -- The values of a mark can be counted.
 use Rattle.std.proofs.Common.{◌≡◌, ◌<◌, true, length, map, rules, arith}
 use Rattle.std.proofs.lemmas.List.{length-map}
-use Rattle.rn_lines.specs.LinesSeen.{item}
+use Rattle.rn_lines.specs.link.LinesSeen.{item}
 use Rattle.rn_told.specs.Marks.{fits_format, counted_after}
 use Rattle.rn_told.proofs.HeldValues.{few_values, is_counted}
 use Rattle.rn_told.proofs.marks.judge_mark.Goals as goal

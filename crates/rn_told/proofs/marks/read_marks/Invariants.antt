@@ -2,7 +2,7 @@
 use Rattle.std.proofs.Common.{◌≡◌, ◌≤◌, length}
 use Rattle.rn_told.specs.Lines.{lines_in}
 use Rattle.rn_told.specs.Marks.{most_told_values, marks_from}
-use Rattle.rn_told.specs.MarksAhead.{with_lines}
+use Rattle.rn_told.specs.link.MarksAhead.{with_lines}
 use Rattle.rn_told.proofs.marks.read_marks.Given as goal
 
 abbrev pub invariant-loop-marks : goal.invariant-loop-marks

@@ -1,12 +1,12 @@
 -- One more node, or the line at which the nodes end.
 use Rattle.std.proofs.Common.{◌≡◌, [], ◌∙◌, false, length, map, sym, ap, subst, drop, rules}
 use Rattle.std.proofs.lemmas.List.{map_push}
-use Rattle.rn_lines.specs.NodeSeen.{node}
+use Rattle.rn_lines.specs.link.NodeSeen.{node}
 use Rattle.rn_model.specs.Systems.{transition_at}
 use Rattle.rn_told.specs.Lines.{lines_in}
 use Rattle.rn_told.specs.Nodes.{placed_at, count_called, Stop}
-use Rattle.rn_told.specs.NodesAhead.{ReadsNode, placed, stop}
-use Rattle.rn_told.specs.DueAhead.{due_paths, path_due, later}
+use Rattle.rn_told.specs.link.NodesAhead.{ReadsNode, placed, stop}
+use Rattle.rn_told.specs.link.DueAhead.{due_paths, path_due, later}
 use Rattle.rn_told.proofs.NodeLemmas.{node_on, node_stops, paths_due}
 use Rattle.rn_told.proofs.nodes.read_nodes.Goals as goal
 use Rattle.rn_told.proofs.nodes.read_nodes.Goals.{in-Late, in-Refused}

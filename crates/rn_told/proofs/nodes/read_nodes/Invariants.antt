@@ -2,8 +2,8 @@
 use Rattle.std.proofs.Common.{◌≡◌, length, map}
 use Rattle.rn_told.specs.Lines.{lines_in}
 use Rattle.rn_told.specs.Nodes.{nodes_from, binding_lines}
-use Rattle.rn_told.specs.NodesAhead.{placed, with_nodes}
-use Rattle.rn_told.specs.DueAhead.{due_paths}
+use Rattle.rn_told.specs.link.NodesAhead.{placed, with_nodes}
+use Rattle.rn_told.specs.link.DueAhead.{due_paths}
 use Rattle.rn_told.proofs.nodes.read_nodes.Given as goal
 
 abbrev pub invariant-loop-alloc : goal.invariant-loop-alloc

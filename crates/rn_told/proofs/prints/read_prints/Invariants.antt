@@ -2,7 +2,7 @@
 use Rattle.std.proofs.Common.{◌≡◌, length}
 use Rattle.rn_told.specs.Lines.{lines_in}
 use Rattle.rn_told.specs.Prints.{prints_from}
-use Rattle.rn_told.specs.PrintsAhead.{with_values}
+use Rattle.rn_told.specs.link.PrintsAhead.{with_values}
 use Rattle.rn_told.proofs.prints.read_prints.Given as goal
 
 abbrev pub invariant-loop-outs : goal.invariant-loop-outs

@@ -1,7 +1,7 @@
 -- The lines can be numbered, and one more entry is read.
 use Rattle.std.proofs.Common.{subst, arith}
 use Rattle.rn_told.specs.Lines.{lines_in}
-use Rattle.rn_told.specs.RunsAhead.{EntryTells}
+use Rattle.rn_told.specs.link.RunsAhead.{EntryTells}
 use Rattle.rn_told.proofs.CountLemmas.{lines_few}
 use Rattle.rn_told.proofs.RunLemmas.{one_read}
 use Rattle.rn_told.proofs.record.read_lines.Goals as goal

@@ -1,6 +1,6 @@
 use Rattle.std.proofs.Common.{rules}
 use Rattle.rn_unify.specs.declared.equation.Other.TheVariants as O
-use Rattle.rn_unify.specs.Equations.{IsOther}
+use Rattle.rn_unify.specs.link.Equations.{IsOther}
 use Rattle.rn_unify.proofs.Blocks.{value_added, all_added}
 use Rattle.rn_unify.proofs.adding.add_each.Goals as goal
 

@@ -1,8 +1,8 @@
 use Rattle.std.proofs.Common.{◌<◌, length, reverse}
 use Rattle.std.specs.Prelude.{All}
 use Rattle.rn_unify.specs.declared.equation.Other.TheVariants as O
-use Rattle.rn_unify.specs.Adding.{Turns}
-use Rattle.rn_unify.specs.Equations.{IsOther}
+use Rattle.rn_unify.specs.link.Adding.{Turns}
+use Rattle.rn_unify.specs.link.Equations.{IsOther}
 use Rattle.rn_unify.proofs.Blocks.{IsAll}
 use Rattle.rn_unify.proofs.adding.add_each.Given as goal
 

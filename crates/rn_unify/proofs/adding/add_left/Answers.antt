@@ -1,6 +1,6 @@
 use Rattle.std.proofs.Common.{◌≡◌, rules, ◌∙◌, ap, subst}
 use Rattle.std.specs.Prelude.{Some}
-use Rattle.rn_unify.specs.Adding.{IsKnown}
+use Rattle.rn_unify.specs.link.Adding.{IsKnown}
 use Rattle.rn_unify.proofs.KnownRests.{known_added, known_here}
 use Rattle.rn_unify.proofs.adding.add_left.Goals as goal
 

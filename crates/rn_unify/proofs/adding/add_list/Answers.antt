@@ -1,5 +1,5 @@
 use Rattle.std.proofs.Common.{arith, rules, ◌-◌}
-use Rattle.rn_unify.specs.Adding.{IsOf, list_of}
+use Rattle.rn_unify.specs.link.Adding.{IsOf, list_of}
 use Rattle.rn_unify.proofs.Turning.{turns_not, turns_through}
 use Rattle.rn_unify.proofs.Blocks.{block_added, through_result}
 use Rattle.rn_unify.proofs.adding.add_list.Goals as goal

@@ -1,5 +1,5 @@
 use Rattle.std.proofs.Common.{length}
-use Rattle.rn_unify.specs.Adding.{IsOf, MayStand, Turns, list_of}
+use Rattle.rn_unify.specs.link.Adding.{IsOf, MayStand, Turns, list_of}
 use Rattle.rn_unify.proofs.adding.add_list.Given as goal
 
 -- the list to be added turned into that of the first elements before a tail

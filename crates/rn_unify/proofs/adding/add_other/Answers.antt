@@ -1,8 +1,8 @@
 use Rattle.std.proofs.Common.{sym, subst}
 use Rattle.std.specs.Prelude.{IfOk}
 use Rattle.rn_unify.specs.declared.equation.Other.TheVariants as O
-use Rattle.rn_unify.specs.Adding.{IsOf, Turns}
-use Rattle.rn_unify.specs.Equations.{IsOther}
+use Rattle.rn_unify.specs.link.Adding.{IsOf, Turns}
+use Rattle.rn_unify.specs.link.Equations.{IsOther}
 use Rattle.rn_term.specs.declared.term.Term.TheVariants as T
 use Rattle.rn_unify.proofs.KnownRests.{known_result}
 use Rattle.rn_unify.proofs.adding.add_other.Goals as goal

@@ -3,7 +3,7 @@ use Rattle.std.specs.Prelude.{Some, None}
 use Rattle.std.proofs.lemmas.List.{take_rest}
 use Rattle.rn_term.specs.declared.term.Term.TheVariants as T
 use Rattle.rn_term.specs.Stores.{term_at}
-use Rattle.rn_unify.specs.Equations.{HasBefore}
+use Rattle.rn_unify.specs.link.Equations.{HasBefore}
 use Rattle.rn_unify.proofs.ListPrefixes.{from_on-drop}
 use Rattle.rn_unify.proofs.RestTerms.{list_added, values_added}
 use Rattle.rn_unify.proofs.adding.add_rest.Goals as goal

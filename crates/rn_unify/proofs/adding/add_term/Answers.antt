@@ -1,4 +1,4 @@
-use Rattle.rn_unify.specs.Adding.{IsOf}
+use Rattle.rn_unify.specs.link.Adding.{IsOf}
 use Rattle.rn_unify.proofs.Turning.{turns_not}
 use Rattle.rn_unify.proofs.Blocks.{whole_added, whole_placed}
 use Rattle.rn_unify.proofs.adding.add_term.Goals as goal

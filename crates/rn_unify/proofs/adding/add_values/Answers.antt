@@ -1,7 +1,7 @@
 use Rattle.rn_term.specs.declared.term.Term.TheVariants as T
 use Rattle.rn_unify.specs.declared.equation.Other.TheVariants as O
-use Rattle.rn_unify.specs.Adding.{IsOf}
-use Rattle.rn_unify.specs.Equations.{IsOther}
+use Rattle.rn_unify.specs.link.Adding.{IsOf}
+use Rattle.rn_unify.specs.link.Equations.{IsOther}
 use Rattle.rn_unify.proofs.Blocks.{through_result}
 use Rattle.rn_unify.proofs.adding.add_values.Goals as goal
 

@@ -5,7 +5,7 @@ use Rattle.rn_term.specs.declared.term.Term.TheVariants as T
 use Rattle.rn_term.specs.Stores.{State, Leads, term_at}
 use Rattle.rn_term.specs.Assignments.{MayBeOne}
 use Rattle.rn_term.proofs.Agreement.{leads-same}
-use Rattle.rn_unify.specs.Binding.{AreEnds, IsLeft, IsLinked, IsSolved}
+use Rattle.rn_unify.specs.link.Binding.{AreEnds, IsLeft, IsLinked, IsSolved}
 use Rattle.rn_unify.proofs.binding.solve.Goals as goal
 
 -- what is answered of the ends is one of the ids from which links lead there

@@ -14,9 +14,9 @@ use Rattle.rn_term.specs.Assignments.{Satisfies, value_at}
 use Rattle.rn_term.proofs.Agreement.{leads-same}
 use Rattle.rn_term.proofs.FillingSteps.{items_of-list}
 use Rattle.rn_term.proofs.OneValue.{said}
-use Rattle.rn_unify.specs.Equations.{Finds}
+use Rattle.rn_unify.specs.link.Equations.{Finds}
 use Rattle.rn_term.specs.Forcing.{items_of}
-use Rattle.rn_unify.specs.Rests.{elements_of, rest_value}
+use Rattle.rn_unify.specs.link.Rests.{elements_of, rest_value}
 use Rattle.rn_unify.proofs.MatchingValues.{value_of_end, as_tuple, as_list, has_list, one_more}
 use Rattle.rn_unify.proofs.MatchingValues.{back_no_deeper, part_no_deeper}
 use Rattle.rn_unify.proofs.Findings.{finds_same, finds_same_result, finds_answer, finds_then}
@@ -26,7 +26,7 @@ use Rattle.rn_unify.proofs.ListPrefixes.{ahead_within, ahead_wish, enough_values
 use Rattle.rn_unify.proofs.ListPrefixes.{wish_goes_on, some_ahead}
 use Rattle.rn_unify.proofs.ListPositions.{built_at, rest-List, rest-start}
 use Rattle.rn_unify.specs.declared.equation.Other.TheVariants as O
-use Rattle.rn_unify.specs.Equations.{IsOther, left_other}
+use Rattle.rn_unify.specs.link.Equations.{IsOther, left_other}
 use Rattle.rn_unify.proofs.RestTerms.{last_of_all, left_is, left_stands, left_not_here}
 use Rattle.rn_unify.proofs.matching.+matching.Goals as goal
 

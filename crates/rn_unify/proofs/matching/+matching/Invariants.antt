@@ -1,8 +1,8 @@
 use Rattle.std.proofs.Common.{◌≡◌, ℕ, List, Bool, true, map, length, take, drop}
 use Rattle.rn_term.specs.Assignments.{value_at}
 use Rattle.rn_unify.specs.declared.equation.Equation.{Equation}
-use Rattle.rn_unify.specs.Equations.{Finds}
-use Rattle.rn_unify.specs.Rests.{IsRest, rest_value}
+use Rattle.rn_unify.specs.link.Equations.{Finds}
+use Rattle.rn_unify.specs.link.Rests.{IsRest, rest_value}
 use Rattle.rn_unify.proofs.matching.+matching.Given as goal
 
 -- what gives the first ids the first values is found

@@ -2,7 +2,7 @@ use Rattle.std.proofs.Common.{reverse, sym, subst}
 use Rattle.std.proofs.lemmas.List.{reverse-reverse}
 use Rattle.std.specs.List.{AllByRecursion}
 use Rattle.rn_unify.specs.declared.equation.Equation.{Equation}
-use Rattle.rn_unify.specs.Equations.{GivesOther}
+use Rattle.rn_unify.specs.link.Equations.{GivesOther}
 use Rattle.rn_unify.proofs.Findings.{all_reversed}
 use Rattle.rn_unify.proofs.ordering.in_order.Goals as goal
 

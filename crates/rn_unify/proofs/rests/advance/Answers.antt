@@ -1,7 +1,7 @@
 use Rattle.std.proofs.Common.{◌≡◌, ◌+◌, length, sym, ap, arith, ◌∙◌}
 use Rattle.rn_term.specs.declared.term.Term.TheVariants as T
 use Rattle.rn_term.specs.Stores.{term_at}
-use Rattle.rn_unify.specs.Rests.{elements_of}
+use Rattle.rn_unify.specs.link.Rests.{elements_of}
 use Rattle.rn_unify.proofs.ListPositions.{rest-tail, at_tail}
 use Rattle.rn_unify.proofs.rests.advance.Goals as goal
 

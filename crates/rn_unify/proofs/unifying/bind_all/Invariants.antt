@@ -1,5 +1,5 @@
 use Rattle.std.proofs.Common.{length}
-use Rattle.rn_unify.specs.Adding.{IsKnown}
+use Rattle.rn_unify.specs.link.Adding.{IsKnown}
 use Rattle.rn_unify.proofs.BindingSteps.{IsOnTheWay}
 use Rattle.rn_unify.proofs.unifying.bind_all.Given as goal
 

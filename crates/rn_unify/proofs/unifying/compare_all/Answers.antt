@@ -7,7 +7,7 @@ use Rattle.rn_term.specs.Stores.{State}
 use Rattle.rn_term.specs.Assignments.{value_at}
 use Rattle.rn_unify.specs.declared.equation.Equation.{Equation}
 use Rattle.rn_unify.specs.declared.classes.Classes.{Classes}
-use Rattle.rn_unify.specs.Equations.{AreEachOne, AreWithin, Adds}
+use Rattle.rn_unify.specs.link.Equations.{AreEachOne, AreWithin, Adds}
 use Rattle.rn_unify.specs.Unifying.{AreOne}
 use Rattle.rn_unify.proofs.Findings.{adds_then, adds_nothing, adds_never, adds_alone}
 use Rattle.rn_unify.proofs.unifying.compare_all.Goals as goal

@@ -2,7 +2,7 @@ use Rattle.std.proofs.Common.{◌<◌, Bool, List, drop}
 use Rattle.rn_term.specs.Assignments.{Keeps}
 use Rattle.rn_unify.specs.declared.classes.Classes.{Classes}
 use Rattle.rn_unify.specs.declared.equation.Equation.{Equation}
-use Rattle.rn_unify.specs.Equations.{AreEachOne, AreMade, Adds}
+use Rattle.rn_unify.specs.link.Equations.{AreEachOne, AreMade, Adds}
 use Rattle.rn_unify.proofs.unifying.compare_all.Given as goal
 
 -- what is added for the pairs left is added for all

@@ -2,7 +2,7 @@ use Rattle.std.proofs.Common.{◌≡◌, length, rules, subst}
 use Rattle.std.specs.Prelude.{List, true}
 use Rattle.rn_value.specs.declared.value.Value.{Value}
 use Rattle.rn_term.specs.Assignments.{Satisfies}
-use Rattle.rn_unify.specs.Equations.{AreEachOne, Finds}
+use Rattle.rn_unify.specs.link.Equations.{AreEachOne, Finds}
 use Rattle.rn_unify.proofs.UnifyingRounds.{first_round, never_one, never_solved, next_round}
 use Rattle.rn_unify.proofs.UnifyingRounds.{bound_reordered, says_always, none_left, may_be_one, always_one}
 use Rattle.rn_unify.proofs.unifying.unify.Goals as goal

@@ -1,4 +1,4 @@
-use Rattle.rn_unify.specs.Binding.{free_number}
+use Rattle.rn_unify.specs.link.Binding.{free_number}
 use Rattle.rn_unify.proofs.UnifyingRounds.{IsUnderWay}
 use Rattle.rn_unify.proofs.unifying.unify.Given as goal
 

@@ -6,7 +6,7 @@ use Rattle.rn_desk.specs.Numbered.{EachAt}
 use Rattle.rn_desk.specs.Passes.{IsFresh}
 use Rattle.rn_fire.specs.declared.setup.Setup.{Setup}
 use Rattle.rn_fire.specs.States.{State}
-use Rattle.rn_worker.specs.Posts.{IsAtWork}
+use Rattle.rn_worker.specs.link.Posts.{IsAtWork}
 use Rattle.rn_worker.proofs.posts.posts_of.Given as goal
 
 abbrev pub invariant-loop-rest : goal.invariant-loop-rest

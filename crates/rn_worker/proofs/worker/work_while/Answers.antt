@@ -4,8 +4,8 @@ use Rattle.std.specs.Prelude.{IfSome}
 use Rattle.rn_desk.specs.Passes.{fixed_of, mine, seen}
 use Rattle.rn_fire.specs.declared.setup.Setup.{Setup}
 use Rattle.rn_firsts.specs.Resting.{KnowsIdle}
-use Rattle.rn_worker.specs.Seen.{Shows}
-use Rattle.rn_worker.specs.Views.{FollowsIdle, FollowsIn, ShowsView}
+use Rattle.rn_worker.specs.link.Seen.{Shows}
+use Rattle.rn_worker.specs.link.Views.{FollowsIdle, FollowsIn, ShowsView}
 use Rattle.rn_worker.proofs.LaterViews.{follow_then}
 use Rattle.rn_worker.proofs.SeenStates.{few_by, known_by, never_fewer, never_many, own_within, rounds_end, searched_by}
 use Rattle.rn_worker.proofs.worker.work_while.Goals as goal

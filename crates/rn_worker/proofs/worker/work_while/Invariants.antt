@@ -2,8 +2,8 @@
 use Rattle.std.proofs.Common.{◌≡◌, ◌+◌, ◌*◌, ◌-◌, ◌≤◌, cond, length}
 use Rattle.std.specs.Prelude.{IfNone, IfSome}
 use Rattle.rn_desk.specs.Passes.{HasNoTurn, IsOf, fixed_of, mine, number, seen}
-use Rattle.rn_worker.specs.Seen.{HasEnded}
-use Rattle.rn_worker.specs.Views.{FollowsIdle, ShowsView}
+use Rattle.rn_worker.specs.link.Seen.{HasEnded}
+use Rattle.rn_worker.specs.link.Views.{FollowsIdle, ShowsView}
 use Rattle.rn_worker.proofs.worker.work_while.Given as goal
 
 abbrev pub invariant-loop-view : goal.invariant-loop-view

@@ -1,6 +1,6 @@
 use Rattle.std.proofs.Common.{◌≡◌, drop}
 use Rattle.rn_model.specs.Firing.{after_actions}
-use Rattle.rn_acts.specs.Acting.{acts_of}
+use Rattle.rn_acts.specs.link.Acting.{acts_of}
 use Rattle.rn_acts.proofs.acting.Acting.take_all.Given as goal
 
 abbrev pub invariant-loop-action : goal.invariant-loop-action

@@ -1,6 +1,6 @@
 use Rattle.std.proofs.Common.{◌≡◌, ◌++◌, take, reverse}
 use Rattle.rn_model.specs.Lists.{value_beside}
-use Rattle.rn_calc.specs.NodeValues.{lent_env}
+use Rattle.rn_calc.specs.link.NodeValues.{lent_env}
 use Rattle.rn_acts.proofs.acting.ActingValues.value.Given as goal
 
 abbrev pub invariant-loop-i : goal.invariant-loop-i

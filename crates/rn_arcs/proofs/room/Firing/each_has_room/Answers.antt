@@ -1,8 +1,8 @@
 use Rattle.std.proofs.Common.{◌∙◌, sym, refl, length}
 use Rattle.std.proofs.lemmas.Bool.{false≢true}
 use Rattle.std.proofs.lemmas.Option.{slice_get_read}
-use Rattle.rn_arcs.specs.Room.{PlaceHasRoom}
-use Rattle.rn_arcs.specs.Seats.{seat_inst}
+use Rattle.rn_arcs.specs.link.Room.{PlaceHasRoom}
+use Rattle.rn_arcs.specs.link.Seats.{seat_inst}
 use Rattle.rn_arcs.proofs.EachIndex.{below_next, one_fails, all_hold}
 use Rattle.rn_arcs.proofs.room.Firing.each_has_room.Goals as goal
 

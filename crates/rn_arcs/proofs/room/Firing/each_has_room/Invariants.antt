@@ -1,5 +1,5 @@
-use Rattle.rn_arcs.specs.Room.{PlaceHasRoom}
-use Rattle.rn_arcs.specs.Seats.{seat_inst}
+use Rattle.rn_arcs.specs.link.Room.{PlaceHasRoom}
+use Rattle.rn_arcs.specs.link.Seats.{seat_inst}
 use Rattle.rn_arcs.proofs.EachIndex.{EachBelow}
 use Rattle.rn_arcs.proofs.room.Firing.each_has_room.Given as goal
 

@@ -1,5 +1,5 @@
 use Rattle.rn_arcs.specs.Places.{InstPlace}
-use Rattle.rn_arcs.specs.Seats.{seat_inst}
+use Rattle.rn_arcs.specs.link.Seats.{seat_inst}
 use Rattle.rn_arcs.proofs.RoomLemmas.{none_filled, some_filled}
 use Rattle.rn_arcs.proofs.room.Firing.filled.Goals as goal
 

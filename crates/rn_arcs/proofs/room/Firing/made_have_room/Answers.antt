@@ -3,7 +3,7 @@ use Rattle.std.proofs.lemmas.Bool.{false≢true}
 use Rattle.std.proofs.lemmas.Option.{slice_get-get_or}
 use Rattle.rn_value.specs.declared.value.InstRef.TheVariants.{New}
 use Rattle.rn_model.specs.declared.system.Creation.{Creation}
-use Rattle.rn_arcs.specs.Room.{PlacesHaveRoom}
+use Rattle.rn_arcs.specs.link.Room.{PlacesHaveRoom}
 use Rattle.rn_arcs.proofs.EachIndex.{below_next, one_fails, all_hold}
 use Rattle.rn_arcs.proofs.room.Firing.made_have_room.Goals as goal
 

@@ -1,5 +1,5 @@
 use Rattle.rn_value.specs.declared.value.InstRef.TheVariants.{New}
-use Rattle.rn_arcs.specs.Room.{PlacesHaveRoom}
+use Rattle.rn_arcs.specs.link.Room.{PlacesHaveRoom}
 use Rattle.rn_arcs.proofs.EachIndex.{EachBelow}
 use Rattle.rn_arcs.proofs.room.Firing.made_have_room.Given as goal
 

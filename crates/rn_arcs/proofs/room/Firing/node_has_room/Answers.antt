@@ -3,7 +3,7 @@ use Rattle.std.proofs.lemmas.Bool.{false≢true}
 use Rattle.rn_value.specs.declared.value.InstRef.TheVariants.{New}
 use Rattle.rn_model.specs.declared.system.Creation.{Creation}
 use Rattle.rn_model.specs.Systems.{transition_of}
-use Rattle.rn_arcs.specs.Room.{PlacesHaveRoom, MadeHaveRoom}
+use Rattle.rn_arcs.specs.link.Room.{PlacesHaveRoom, MadeHaveRoom}
 use Rattle.rn_arcs.proofs.EachIndex.{none_there}
 use Rattle.rn_arcs.proofs.room.Firing.node_has_room.Goals as goal
 

@@ -1,6 +1,6 @@
 use Rattle.std.proofs.Common.{◌∙◌, sym, refl, arith}
 use Rattle.std.proofs.lemmas.Bool.{false≢true}
-use Rattle.rn_arcs.specs.Room.{NodeHasRoom}
+use Rattle.rn_arcs.specs.link.Room.{NodeHasRoom}
 use Rattle.rn_arcs.proofs.TokenLemmas.{holds_more, not_all}
 use Rattle.rn_arcs.proofs.room.Firing.nodes_have_room.Goals as goal
 

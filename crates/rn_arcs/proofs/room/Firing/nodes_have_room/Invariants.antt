@@ -1,6 +1,6 @@
 use Rattle.std.proofs.Common.{ℕ, ◌<◌, get_or}
 use Rattle.rn_model.specs.declared.binding.Node.{Node}
-use Rattle.rn_arcs.specs.Room.{NodeHasRoom}
+use Rattle.rn_arcs.specs.link.Room.{NodeHasRoom}
 use Rattle.rn_arcs.proofs.room.Firing.nodes_have_room.Given as goal
 
 abbrev pub invariant-loop-node : goal.invariant-loop-node

@@ -1,5 +1,5 @@
 use Rattle.std.proofs.Common.{◌∙◌, sym, subst, refl}
-use Rattle.rn_arcs.specs.Room.{PlacesHaveRoom}
+use Rattle.rn_arcs.specs.link.Room.{PlacesHaveRoom}
 use Rattle.rn_arcs.proofs.room.Firing.own_has_room.Goals as goal
 
 pub returns-in-Old : goal.returns-in-Old

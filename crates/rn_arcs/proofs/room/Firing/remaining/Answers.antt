@@ -1,6 +1,6 @@
 use Rattle.std.proofs.Common.{◌-◌, ◌∙◌, ap}
 use Rattle.rn_arcs.specs.Places.{InstPlace}
-use Rattle.rn_arcs.specs.Seats.{seat_inst}
+use Rattle.rn_arcs.specs.link.Seats.{seat_inst}
 use Rattle.rn_arcs.proofs.RoomLemmas.{none_remaining, some_remaining}
 use Rattle.rn_arcs.proofs.room.Firing.remaining.Goals as goal
 

@@ -1,6 +1,6 @@
 use Rattle.std.proofs.Common.{◌≡◌, ◌∙◌, ap, sym, subst, refl, length}
-use Rattle.rn_arcs.specs.Room.{remaining_in, staying}
-use Rattle.rn_arcs.specs.Seats.{seat_inst}
+use Rattle.rn_arcs.specs.link.Room.{remaining_in, staying}
+use Rattle.rn_arcs.specs.link.Seats.{seat_inst}
 use Rattle.rn_arcs.specs.declared.seat.Seat.{Seat}
 use Rattle.rn_arcs.proofs.RoomLemmas.{there_stays}
 use Rattle.rn_arcs.proofs.room.Firing.staying.Goals as goal

@@ -1,8 +1,8 @@
 use Rattle.std.proofs.Common.{rules}
 use Rattle.std.proofs.lemmas.Fn.{always_returns_same}
-use Rattle.rn_arcs.specs.Groups.{place_of}
+use Rattle.rn_arcs.specs.link.Groups.{place_of}
 use Rattle.rn_arcs.specs.Places.{InstPlace, place_cmp}
-use Rattle.rn_arcs.specs.Seats.{seat_inst}
+use Rattle.rn_arcs.specs.link.Seats.{seat_inst}
 use Rattle.rn_arcs.specs.declared.asked.Asked.{Asked}
 use Rattle.rn_arcs.proofs.SearchedPlaces.{at_found, at_none}
 use Rattle.rn_arcs.proofs.seat.Seat.asked.Goals as goal

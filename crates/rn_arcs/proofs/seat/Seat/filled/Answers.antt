@@ -2,7 +2,7 @@ use Rattle.std.proofs.Common.{rules}
 use Rattle.std.proofs.lemmas.Fn.{always_returns_same}
 use Rattle.rn_arcs.specs.Demanded.{fill_place}
 use Rattle.rn_arcs.specs.Places.{InstPlace, place_cmp}
-use Rattle.rn_arcs.specs.Seats.{seat_inst}
+use Rattle.rn_arcs.specs.link.Seats.{seat_inst}
 use Rattle.rn_arcs.specs.declared.demands.Fill.{Fill}
 use Rattle.rn_arcs.proofs.SearchedPlaces.{at_found, at_none}
 use Rattle.rn_arcs.proofs.seat.Seat.filled.Goals as goal

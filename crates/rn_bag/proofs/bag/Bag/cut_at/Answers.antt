@@ -1,6 +1,6 @@
 use Rattle.std.proofs.Common.{◌≡◌, ◌≤◌, ◌<◌, ◌*◌, ◌+◌, length, take, drop, arith}
 use Rattle.rn_bag.specs.Cuts.{AllBefore, NoneBefore}
-use Rattle.rn_bag.specs.SlotIndices.{tokens_before}
+use Rattle.rn_bag.specs.link.SlotIndices.{tokens_before}
 use Rattle.rn_bag.proofs.BagLemmas.{cut_found, cut_count, bag_ascends}
 use Rattle.rn_bag.proofs.bag.Bag.cut_at.Goals as goal
 

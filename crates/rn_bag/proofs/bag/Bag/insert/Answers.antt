@@ -1,9 +1,9 @@
 use Rattle.std.proofs.Common.{ℕ, ◌≡◌, ◌++◌, ◌∷◌, Some, slice_get, List, get_or, ◌∙◌, subst, arith}
 use Rattle.std.proofs.lemmas.List.{get_or_read}
 use Rattle.rn_model.specs.Lists.{with_value}
-use Rattle.rn_bag.specs.SlotIndices.{tokens_before, tokens_after}
+use Rattle.rn_bag.specs.link.SlotIndices.{tokens_before, tokens_after}
 use Rattle.rn_bag.specs.declared.cut.Cut.TheVariants.{Below}
-use Rattle.rn_bag.specs.Chunks.{Slots, tokens_in}
+use Rattle.rn_bag.specs.link.Chunks.{Slots, tokens_in}
 use Rattle.rn_bag.proofs.BagLemmas.{put_again, put_anew}
 use Rattle.rn_bag.proofs.EditLemmas.{on_ok_then}
 use Rattle.rn_bag.proofs.SlotIndexLemmas.{chunk_ascends, rest_of_chunk}

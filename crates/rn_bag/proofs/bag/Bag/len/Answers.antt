@@ -1,7 +1,7 @@
 use Rattle.std.proofs.Common.{subst}
 use Rattle.std.specs.List.Sorted.{IsSorted}
 use Rattle.rn_value.specs.Order.{value_cmp}
-use Rattle.rn_bag.specs.Chunks.{tokens_in}
+use Rattle.rn_bag.specs.link.Chunks.{tokens_in}
 use Rattle.rn_bag.proofs.AscendingLemmas.{sorted_of}
 use Rattle.rn_bag.proofs.BagLemmas.{tokens_ascend}
 use Rattle.rn_bag.proofs.bag.Bag.len.Goals as goal

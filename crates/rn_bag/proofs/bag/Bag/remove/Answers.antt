@@ -2,7 +2,7 @@ use Rattle.std.proofs.Common.{◌≡◌, ◌<◌, true, List, length, get_or, re
 use Rattle.std.proofs.lemmas.Bool.{false≢true}
 use Rattle.rn_value.specs.declared.value.Value.{Value}
 use Rattle.rn_model.specs.Lists.{count_of}
-use Rattle.rn_bag.specs.Chunks.{Slots}
+use Rattle.rn_bag.specs.link.Chunks.{Slots}
 use Rattle.rn_bag.specs.Words.{has_bit}
 use Rattle.rn_bag.proofs.BagLemmas.{none_found, other_found, taken_out, not_same}
 use Rattle.rn_bag.proofs.bag.Bag.remove.Goals as goal

@@ -1,5 +1,5 @@
 use Rattle.std.proofs.Common.{◌≡◌, take}
-use Rattle.rn_bag.specs.Chunks.{tokens_in}
+use Rattle.rn_bag.specs.link.Chunks.{tokens_in}
 use Rattle.rn_bag.proofs.bag.Bag.sorted_list.Given as goal
 
 abbrev pub invariant-loop-index : goal.invariant-loop-index

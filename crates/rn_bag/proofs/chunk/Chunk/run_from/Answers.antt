@@ -3,7 +3,7 @@ use Rattle.std.proofs.Common.{take, ◌∙◌}
 use Rattle.std.specs.Prelude.{true, false, slice_get}
 use Rattle.std.specs.List.{slice_range}
 use Rattle.rn_value.specs.declared.value.Value.{Value}
-use Rattle.rn_bag.specs.Chunks.{Slots, HasRoom, tokens_in_chunk}
+use Rattle.rn_bag.specs.link.Chunks.{Slots, HasRoom, tokens_in_chunk}
 use Rattle.rn_bag.specs.Slots.{there_from}
 use Rattle.rn_bag.specs.Words.{has_bit}
 use Rattle.rn_bag.proofs.CountLemmas.{IsRun, run_bound, run_found, run_here, run_some}

@@ -1,5 +1,5 @@
 use Rattle.std.proofs.Common.{◌+◌, ap, ◌∙◌}
-use Rattle.rn_bag.specs.Tags.{chunks_of}
+use Rattle.rn_bag.specs.link.Tags.{chunks_of}
 use Rattle.rn_bag.proofs.TagLemmas.{inserted_is, inserted_tag, seen_more, on_err_too}
 use Rattle.rn_bag.proofs.chunks.Chunks.insert_after.Goals as goal
 

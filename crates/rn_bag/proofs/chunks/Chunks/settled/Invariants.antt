@@ -1,5 +1,5 @@
 use Rattle.std.proofs.Common.{◌≡◌, length, take}
-use Rattle.rn_bag.specs.Tags.{chunks_of, AreTags}
+use Rattle.rn_bag.specs.link.Tags.{chunks_of, AreTags}
 use Rattle.rn_bag.proofs.chunks.Chunks.settled.Given as goal
 
 abbrev pub invariant-loop-i : goal.invariant-loop-i

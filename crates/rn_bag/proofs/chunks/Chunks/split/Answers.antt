@@ -1,6 +1,6 @@
 use Rattle.std.proofs.Common.{◌+◌, List, sym, ap, subst, ◌∙◌, set}
 use Rattle.rn_bag.specs.declared.tag.Tag.{Tag}
-use Rattle.rn_bag.specs.Tags.{chunks_of, AreTags}
+use Rattle.rn_bag.specs.link.Tags.{chunks_of, AreTags}
 use Rattle.rn_bag.proofs.TagLemmas.{kept_more, seen_more, split_is, split_tags, on_err_too}
 use Rattle.rn_bag.proofs.chunks.Chunks.split.Goals as goal
 

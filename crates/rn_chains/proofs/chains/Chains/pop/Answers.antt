@@ -1,7 +1,7 @@
 -- The last key is its bucket's last no more.
 use Rattle.std.proofs.Common.{◌≡◌, ◌++◌, ◌∷◌, [], ◌%◌, rules, subst, sym, length}
 use Rattle.std.specs.Prelude.{slice_set}
-use Rattle.rn_chains.specs.Chains.{AreChained}
+use Rattle.rn_chains.specs.link.Chains.{AreChained}
 use Rattle.rn_chains.proofs.ChainSteps.{popped}
 use Rattle.rn_chains.proofs.chains.Chains.pop.Goals as goal
 

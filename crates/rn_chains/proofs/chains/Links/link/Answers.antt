@@ -4,7 +4,7 @@ use Rattle.std.proofs.Common.{length, ap, ◌∙◌}
 use Rattle.std.specs.Prelude.{slice_set, get_or}
 use Rattle.std.proofs.Math.Nat.{mod-lt}
 use Rattle.std.proofs.lemmas.Grind.{get_or_default_zero}
-use Rattle.rn_chains.specs.Chains.{AreChained}
+use Rattle.rn_chains.specs.link.Chains.{AreChained}
 use Rattle.rn_chains.proofs.ChainSteps.{pushed}
 use Rattle.rn_chains.proofs.chains.Links.link.Goals as goal
 

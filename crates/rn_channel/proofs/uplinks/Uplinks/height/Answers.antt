@@ -4,7 +4,7 @@ use Rattle.std.proofs.lemmas.List.{length-map}
 use Rattle.rn_model.specs.declared.system.Transition.{Transition}
 use Rattle.rn_model.specs.Systems.{net_at, transition_at}
 use Rattle.rn_channel.specs.Heights.{IsLeastHeight}
-use Rattle.rn_channel.specs.Kept.{least_height}
+use Rattle.rn_channel.specs.link.Kept.{least_height}
 use Rattle.rn_channel.proofs.NetLemmas.{kept_is_of, as_many}
 use Rattle.rn_channel.proofs.LeastHeights.{least_is_least, at_transition}
 use Rattle.rn_channel.proofs.uplinks.Uplinks.height.Goals as goal

@@ -1,8 +1,8 @@
 use Rattle.std.proofs.Common.{◌≡◌, ◌∙◌, ◌<◌, ℕ, ap, sym, subst, length, get_or, map, take, ◌∷◌, [], ◌+◌, ◌++◌}
 use Rattle.std.proofs.lemmas.List.{take_more}
 use Rattle.rn_model.specs.declared.system.Transition.{Transition}
-use Rattle.rn_channel.specs.Kept.{least_height, AreLevelsFrom}
-use Rattle.rn_channel.specs.Uplinks.{AreOfNet, AreOfNets}
+use Rattle.rn_channel.specs.link.Kept.{least_height, AreLevelsFrom}
+use Rattle.rn_channel.specs.link.Uplinks.{AreOfNet, AreOfNets}
 use Rattle.rn_channel.proofs.NetLemmas.{one_more_net}
 use Rattle.rn_channel.proofs.uplinks.Uplinks.new.Goals as goal
 

@@ -1,5 +1,5 @@
 use Rattle.std.proofs.Common.{take}
-use Rattle.rn_channel.specs.Uplinks.{AreOfNets}
+use Rattle.rn_channel.specs.link.Uplinks.{AreOfNets}
 use Rattle.rn_channel.proofs.uplinks.Uplinks.new.Given as goal
 
 abbrev pub invariant-loop-net : goal.invariant-loop-net

@@ -1,6 +1,6 @@
 -- A new name finds its number, and every other what it found.
 use Rattle.std.proofs.Common.{sym, ◌∙◌}
-use Rattle.rn_declared.specs.Tables.{found_in}
+use Rattle.rn_declared.specs.link.Tables.{found_in}
 use Rattle.rn_declared.proofs.TableLemmas.{declared_found}
 use Rattle.rn_declared.proofs.table.NameTable.declare.Goals as goal
 

@@ -3,8 +3,8 @@ use Rattle.std.proofs.Common.{ap, sym, subst, ◌∙◌, length, suc, ◌<◌}
 use Rattle.rn_table.specs.Changes.{MayCome, changed}
 use Rattle.rn_table.specs.Tables.{IsTableOf}
 use Rattle.rn_fire.specs.Commits.{HasFired, IsEnabledNow}
-use Rattle.rn_fire.specs.Outcomes.{FiresBy}
-use Rattle.rn_fire.specs.States.{KeepsState, state_of}
+use Rattle.rn_fire.specs.link.Outcomes.{FiresBy}
+use Rattle.rn_fire.specs.link.States.{KeepsState, state_of}
 use Rattle.rn_fire.specs.declared.setup.Setup.{Setup}
 use Rattle.rn_fire.proofs.FiringLemmas.{has_fired, keeps_fired, may_come}
 use Rattle.rn_fire.proofs.state.SimState.add.Goals as goal

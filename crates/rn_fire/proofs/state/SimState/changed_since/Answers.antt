@@ -1,5 +1,5 @@
 use Rattle.std.proofs.Common.{◌<◌, ◌≤◌, ◌-◌, ℕ, [], ◌∙◌, length, take, drop, ap, subst}
-use Rattle.rn_fire.specs.Changed.{EntryHasNodeOn, Gets, OneHas}
+use Rattle.rn_fire.specs.link.Changed.{EntryHasNodeOn, Gets, OneHas}
 use Rattle.rn_fire.specs.States.{State}
 use Rattle.rn_fire.proofs.ChangedLemmas.{differ_in_changed, just_changed, rest_whole}
 use Rattle.rn_fire.proofs.state.SimState.changed_since.Goals as goal

@@ -1,7 +1,7 @@
 -- One entry more, where there is room.
 use Rattle.std.proofs.Common.{ap, sym, subst, ◌∙◌}
 use Rattle.rn_fire.specs.Ends.{MayEndBy, with_end}
-use Rattle.rn_fire.specs.States.{KeepsState}
+use Rattle.rn_fire.specs.link.States.{KeepsState}
 use Rattle.rn_fire.specs.declared.setup.Setup.{Setup}
 use Rattle.rn_fire.proofs.StateLemmas.{ends, keeps_ended}
 use Rattle.rn_fire.proofs.state.SimState.end.Goals as goal

@@ -2,7 +2,8 @@
 use Rattle.std.proofs.Common.{ap, sym, ◌∙◌, subst, refl}
 use Rattle.std.specs.Prelude.{Some}
 use Rattle.std.specs.Option.{option_copied}
-use Rattle.rn_fire.specs.States.{IsState, firings_in, end_in}
+use Rattle.rn_fire.specs.States.{IsState}
+use Rattle.rn_fire.specs.link.States.{firings_in, end_in}
 use Rattle.rn_fire.proofs.EntryLemmas.{last_tells}
 use Rattle.rn_fire.proofs.state.SimState.has_ended.Goals as goal
 

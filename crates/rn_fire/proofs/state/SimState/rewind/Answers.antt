@@ -5,7 +5,8 @@ use Rattle.rn_model.specs.Liveness.{Stands}
 use Rattle.rn_model.specs.Runs.{end_of}
 use Rattle.rn_table.specs.Tables.{IsTableOf}
 use Rattle.rn_fire.specs.declared.setup.Setup.{Setup}
-use Rattle.rn_fire.specs.States.{State, KeepsState, state_of}
+use Rattle.rn_fire.specs.States.{State}
+use Rattle.rn_fire.specs.link.States.{KeepsState, state_of}
 use Rattle.rn_fire.proofs.RewindingLemmas.{goes_back, keeps_first}
 use Rattle.rn_fire.proofs.state.SimState.rewind.Goals as goal
 

@@ -2,7 +2,8 @@
 use Rattle.std.proofs.Common.{ℕ, sym, subst}
 use Rattle.std.specs.Prelude.{Contains}
 use Rattle.rn_model.specs.Liveness.{IsLive}
-use Rattle.rn_fire.specs.States.{end_marking, state_of}
+use Rattle.rn_fire.specs.States.{end_marking}
+use Rattle.rn_fire.specs.link.States.{state_of}
 use Rattle.rn_fire.specs.declared.setup.Setup.{Setup}
 use Rattle.rn_fire.proofs.DroppingLemmas.{still_stands}
 use Rattle.rn_fire.proofs.state.SimState.sweep.Goals as goal

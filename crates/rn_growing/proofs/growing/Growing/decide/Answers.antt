@@ -1,8 +1,9 @@
 use Rattle.std.proofs.Common.{◌≡◌, ◌++◌, ◌∷◌, [], rules, ap, ◌∙◌}
 use Rattle.std.specs.Prelude.{true, false}
 use Rattle.rn_growing.specs.Equations.{Brings}
-use Rattle.rn_growing.specs.Grown.{KeepsGrowing, Tries, TriesIn}
-use Rattle.rn_growing.specs.Laid.{Grows}
+use Rattle.rn_growing.specs.Grown.{Tries}
+use Rattle.rn_growing.specs.link.Grown.{KeepsGrowing, TriesIn}
+use Rattle.rn_growing.specs.link.Laid.{Grows}
 use Rattle.rn_growing.proofs.Growth.{decided_now, tries_yes, tries_no, tries_tells}
 use Rattle.rn_growing.proofs.ThingKeys.{keys_pushed}
 use Rattle.rn_growing.proofs.growing.Growing.decide.Goals as goal

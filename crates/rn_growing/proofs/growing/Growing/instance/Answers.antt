@@ -5,8 +5,8 @@ use Rattle.rn_value.specs.declared.value.InstRef.{InstRef}
 use Rattle.rn_value.specs.declared.value.Value.{Value}
 use Rattle.rn_value.specs.declared.value.Value.TheVariants as Worth
 use Rattle.rn_growing.specs.Equations.{IsForcedTo}
-use Rattle.rn_growing.specs.Laid.{IsGiven}
-use Rattle.rn_growing.specs.Layouts.{asked}
+use Rattle.rn_growing.specs.link.Laid.{IsGiven}
+use Rattle.rn_growing.specs.link.Layouts.{asked}
 use Rattle.rn_growing.proofs.ForcedInstances.{told_instance}
 use Rattle.rn_growing.proofs.growing.Growing.instance.Goals as goal
 

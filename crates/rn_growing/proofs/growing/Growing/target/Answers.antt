@@ -5,7 +5,7 @@ use Rattle.rn_value.specs.declared.value.Value.TheVariants as Worth
 use Rattle.rn_growing.specs.declared.slot.Unknown.TheVariants.{Var, Hole}
 use Rattle.rn_growing.specs.Decisions.{site_of}
 use Rattle.rn_growing.specs.Equations.{IsForcedTo, read_at}
-use Rattle.rn_growing.specs.Layouts.{asked}
+use Rattle.rn_growing.specs.link.Layouts.{asked}
 use Rattle.rn_growing.proofs.BuildingSteps.{neg_is, op_is, this_is, var_is}
 use Rattle.rn_growing.proofs.ForcedInstances.{NamesNone, cons_names_none, int_names_none}
 use Rattle.rn_growing.proofs.ForcedInstances.{list_names_none, step_names_none, text_names_none}

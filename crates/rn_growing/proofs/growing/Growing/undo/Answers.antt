@@ -1,6 +1,6 @@
 use Rattle.std.proofs.Common.{◌≡◌, ◌<◌, length, take, rules, subst, sym}
 use Rattle.std.specs.Prelude.{Some, slice_get}
-use Rattle.rn_growing.specs.Grown.{KeepsGrowing, laid_at}
+use Rattle.rn_growing.specs.link.Grown.{KeepsGrowing, laid_at}
 use Rattle.rn_growing.proofs.Growth.{stands_at, taken_back}
 use Rattle.rn_growing.proofs.ThingKeys.{keys_taken}
 use Rattle.rn_growing.proofs.growing.Growing.undo.Goals as goal

@@ -1,7 +1,7 @@
 use Rattle.std.proofs.Common.{◌≡◌, ◌≤◌, [], ◌∷◌, length, arith, rules, subst}
 use Rattle.std.specs.Prelude.{Some, None}
 use Rattle.rn_unify.proofs.EarlierMarks.{grown}
-use Rattle.rn_growing.specs.Building.{PutsBefore}
+use Rattle.rn_growing.specs.link.Building.{PutsBefore}
 use Rattle.rn_growing.proofs.BuildingLists.{nothing_before}
 use Rattle.rn_growing.proofs.laid.Laid.cons.Goals as goal
 

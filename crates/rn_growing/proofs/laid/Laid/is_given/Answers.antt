@@ -1,8 +1,8 @@
 use Rattle.std.proofs.Common.{◌≡◌, rules, sym, ◌∙◌, subst}
 use Rattle.std.specs.Prelude.{None, Some, true, false, IsTrue, is_some, ◌↔◌}
 use Rattle.rn_value.specs.declared.value.Value.{Value}
-use Rattle.rn_growing.specs.Laid.{IsGiven}
-use Rattle.rn_growing.specs.Layouts.{id_of}
+use Rattle.rn_growing.specs.link.Laid.{IsGiven}
+use Rattle.rn_growing.specs.link.Layouts.{id_of}
 use Rattle.rn_growing.proofs.Telling.{given_atom, given_free, given_ground, given_never}
 use Rattle.rn_growing.proofs.laid.Laid.is_given.Goals as goal
 

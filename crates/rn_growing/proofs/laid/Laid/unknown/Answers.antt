@@ -2,8 +2,8 @@ use Rattle.std.proofs.Common.{◌≡◌, ◌++◌, [], ◌∷◌, length, rules}
 use Rattle.std.specs.Prelude.{None, Some}
 use Rattle.rn_term.specs.declared.term.Term.TheVariants as T
 use Rattle.rn_term.specs.Stores.{with_term}
-use Rattle.rn_growing.specs.Laid.{Builds}
-use Rattle.rn_growing.specs.Layouts.{IsLaidIn, asked, id_of}
+use Rattle.rn_growing.specs.link.Laid.{Builds}
+use Rattle.rn_growing.specs.link.Layouts.{IsLaidIn, asked, id_of}
 use Rattle.rn_growing.proofs.LaidSteps.{old_unknown_answer, new_unknown_answer, new_slot}
 use Rattle.rn_growing.proofs.laid.Laid.unknown.Goals as goal
 use Rattle.rn_growing.proofs.laid.Laid.unknown.Goals.{In_ok-push-in-None}

@@ -1,8 +1,8 @@
 use Rattle.std.proofs.Common.{◌≡◌, rules, refl, subst}
 use Rattle.std.specs.Prelude.{None, Some, IfOk, ◌↔◌}
 use Rattle.rn_value.specs.declared.value.Value.{Value}
-use Rattle.rn_growing.specs.Laid.{IsGiven}
-use Rattle.rn_growing.specs.Layouts.{id_of}
+use Rattle.rn_growing.specs.link.Laid.{IsGiven}
+use Rattle.rn_growing.specs.link.Layouts.{id_of}
 use Rattle.rn_growing.proofs.Telling.{given_some, given_none}
 use Rattle.rn_growing.proofs.laid.Laid.value.Goals as goal
 

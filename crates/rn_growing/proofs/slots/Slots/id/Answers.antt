@@ -1,10 +1,10 @@
 -- By the slots that have the unknown's key.
 use Rattle.std.proofs.Common.{◌≡◌, ◌-◌, arith, subst, sym, ap, ◌∙◌, length}
 use Rattle.std.specs.Prelude.{Some, slice_get}
-use Rattle.rn_chains.specs.Chains.{IsUpToLast}
-use Rattle.rn_growing.specs.Indexed.{is_slot}
-use Rattle.rn_growing.specs.Keys.{slot_key, unknown_key}
-use Rattle.rn_growing.specs.Layouts.{id_of}
+use Rattle.rn_chains.specs.link.Chains.{IsUpToLast}
+use Rattle.rn_growing.specs.link.Indexed.{is_slot}
+use Rattle.rn_growing.specs.link.Keys.{slot_key, unknown_key}
+use Rattle.rn_growing.specs.link.Layouts.{id_of}
 use Rattle.rn_growing.proofs.Growth.{stands_at}
 use Rattle.rn_growing.proofs.KeySteps.{sought_first, sought_next, slot_alike, slot_found, no_id}
 use Rattle.rn_growing.proofs.slots.Slots.id.Goals as goal

@@ -1,6 +1,6 @@
 -- None from here on is of the unknown.
-use Rattle.rn_growing.specs.Indexed.{IsSought, is_slot}
-use Rattle.rn_growing.specs.Keys.{unknown_key}
+use Rattle.rn_growing.specs.link.Indexed.{IsSought, is_slot}
+use Rattle.rn_growing.specs.link.Keys.{unknown_key}
 use Rattle.rn_growing.proofs.slots.Slots.id.Given as goal
 
 abbrev pub invariant-loop-left : goal.invariant-loop-left

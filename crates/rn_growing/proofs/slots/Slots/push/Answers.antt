@@ -1,8 +1,8 @@
 -- The slot comes behind with its key.
 use Rattle.std.proofs.Common.{◌≡◌, ◌++◌, ◌∷◌, [], rules, subst, sym}
-use Rattle.rn_growing.specs.Indexed.{AreIndexed}
-use Rattle.rn_growing.specs.Keys.{slot_key}
-use Rattle.rn_growing.specs.Layouts.{id_of}
+use Rattle.rn_growing.specs.link.Indexed.{AreIndexed}
+use Rattle.rn_growing.specs.link.Keys.{slot_key}
+use Rattle.rn_growing.specs.link.Layouts.{id_of}
 use Rattle.std.specs.Prelude.{None}
 use Rattle.rn_growing.proofs.KeySteps.{slot_pushed}
 use Rattle.rn_growing.proofs.slots.Slots.push.Goals as goal

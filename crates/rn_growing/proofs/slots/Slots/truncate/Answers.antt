@@ -1,6 +1,6 @@
 -- The first slots and their keys are left.
 use Rattle.std.proofs.Common.{◌≡◌, take, rules, subst, sym}
-use Rattle.rn_growing.specs.Indexed.{AreIndexed}
+use Rattle.rn_growing.specs.link.Indexed.{AreIndexed}
 use Rattle.rn_growing.proofs.KeySteps.{slots_taken}
 use Rattle.rn_growing.proofs.slots.Slots.truncate.Goals as goal
 

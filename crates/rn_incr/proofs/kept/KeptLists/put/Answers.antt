@@ -1,5 +1,5 @@
 use Rattle.std.proofs.Common.{[], get_or, ap, sym, ◌∙◌}
-use Rattle.rn_incr.specs.Kept.{AreNoted}
+use Rattle.rn_incr.specs.link.Kept.{AreNoted}
 use Rattle.rn_incr.proofs.PutLemmas.{near_after, near_before, on_ok}
 use Rattle.rn_incr.proofs.kept.KeptLists.put.Goals as goal
 use Rattle.rn_incr.proofs.kept.KeptLists.put.Goals.{then-is_ok, else-is_ok}

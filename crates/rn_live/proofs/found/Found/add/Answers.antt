@@ -1,7 +1,7 @@
 use Rattle.std.proofs.Common.{◌≡◌, nat_eq, true, false, sym, subst, arith, rules, is_none}
 use Rattle.std.proofs.Math.ListN.{set}
 use Rattle.rn_model.specs.Markings.{net_of}
-use Rattle.rn_live.specs.Marks.{Finds}
+use Rattle.rn_live.specs.link.Marks.{Finds}
 use Rattle.rn_live.proofs.FindLemmas.{one, is_kept}
 use Rattle.rn_live.proofs.found.Found.add.Goals as goal
 

@@ -1,6 +1,6 @@
 -- The name finds its number, and every other what it found.
 use Rattle.std.proofs.Common.{◌∙◌}
-use Rattle.rn_lookup.specs.Tables.{found_in}
+use Rattle.rn_lookup.specs.link.Tables.{found_in}
 use Rattle.rn_lookup.proofs.TableLemmas.{put_found}
 use Rattle.rn_lookup.proofs.tables.NameTable.put.Goals as goal
 

@@ -3,7 +3,7 @@ use Rattle.std.proofs.Common.{◌∙◌, sym, ap}
 use Rattle.std.proofs.Math.Path.{fun_ext}
 use Rattle.std.specs.Prelude.{unwrap_or, position}
 use Rattle.std.specs.List.{position_from}
-use Rattle.rn_numbered.specs.NumbersFound.{is_key}
+use Rattle.rn_numbered.specs.link.NumbersFound.{is_key}
 use Rattle.rn_numbered.proofs.NumberLemmas.{found_at, text_key, keys_alike}
 use Rattle.rn_numbered.proofs.numbers.ChannelNumbers.number.Goals as goal
 

@@ -1,7 +1,7 @@
 -- The channel stands at the end, where it is new.
 use Rattle.std.proofs.Common.{◌≡◌, ◌∙◌, ◌∷◌, [], ◌++◌, List, ℕ, false, subst, ap}
 use Rattle.std.specs.List.{list_any}
-use Rattle.rn_numbered.specs.NumbersFound.{is_key}
+use Rattle.rn_numbered.specs.link.NumbersFound.{is_key}
 use Rattle.rn_numbered.proofs.NumberLemmas.{put_more, text_key, all_keys, keys_eq, keys_alike}
 use Rattle.rn_numbered.proofs.numbers.ChannelNumbers.put.Goals as goal
 

@@ -4,7 +4,7 @@ use Rattle.std.proofs.lemmas.List.{length-map}
 use Rattle.std.specs.Prelude.{string_bytes}
 use Rattle.std.specs.List.{list_any}
 use Rattle.rn_declared.specs.Names.{same_name}
-use Rattle.rn_declared.specs.Tables.{found_in}
+use Rattle.rn_declared.specs.link.Tables.{found_in}
 use Rattle.rn_numbered.proofs.NumberLemmas.{text_put, all_texts, found_with}
 use Rattle.rn_numbered.proofs.numbers.NameNumbers.with.Goals as goal
 

@@ -2,7 +2,7 @@
 use Rattle.std.proofs.Common.{◌++◌, ◌∷◌, [], ap, subst, ◌∙◌}
 use Rattle.std.specs.Prelude.{Ok}
 use Rattle.rn_fire.specs.States.{State}
-use Rattle.rn_session.specs.Keeping.{CommitsTo}
+use Rattle.rn_session.specs.link.Keeping.{CommitsTo}
 use Rattle.rn_session.proofs.Committed.{commits_to}
 use Rattle.rn_session.proofs.Sessions.{with_one_more}
 use Rattle.rn_session.proofs.session.Session.commit.Goals as goal

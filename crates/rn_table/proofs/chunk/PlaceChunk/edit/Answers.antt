@@ -1,6 +1,6 @@
 use Rattle.std.proofs.Common.{[], map, set, sym, ap, ◌∙◌, arith}
 use Rattle.std.proofs.lemmas.List.{get_or-map, map-set}
-use Rattle.rn_table.specs.Steps.{stepped, with_step}
+use Rattle.rn_table.specs.link.Steps.{stepped, with_step}
 use Rattle.rn_table.proofs.chunk.PlaceChunk.edit.Goals as goal
 
 pub returns-clause-places : goal.returns-clause-places

@@ -1,8 +1,8 @@
 use Rattle.std.proofs.Common.{[], sym, subst, arith}
 use Rattle.std.specs.Prelude.{slice_index_or}
 use Rattle.std.specs.Option.{option_map_or}
-use Rattle.rn_table.specs.Leaves.{held_if}
-use Rattle.rn_table.specs.LeafSteps.{Grows}
+use Rattle.rn_table.specs.link.Leaves.{held_if}
+use Rattle.rn_table.specs.link.LeafSteps.{Grows}
 use Rattle.rn_table.proofs.DirLemmas.{read_at, set_here, set_others}
 use Rattle.rn_table.proofs.dir.Dir.add.Goals as goal
 

@@ -1,6 +1,6 @@
 use Rattle.std.proofs.Common.{ap, ◌∙◌}
 use Rattle.rn_model.specs.Markings.{Instance}
-use Rattle.rn_table.specs.Steps.{after_step}
+use Rattle.rn_table.specs.link.Steps.{after_step}
 use Rattle.rn_table.proofs.StepLemmas.{step_of_places}
 use Rattle.rn_table.proofs.instance.Inst.edit.Goals as goal
 

@@ -1,7 +1,7 @@
 use Rattle.std.proofs.Common.{[], sym, ap, ◌∙◌}
 use Rattle.std.specs.Option.{option_map_or}
 use Rattle.rn_bag.specs.Words.{has_bit}
-use Rattle.rn_table.specs.Leaves.{Leaf, bit_of, kept_in, numbered}
+use Rattle.rn_table.specs.link.Leaves.{Leaf, bit_of, kept_in, numbered}
 use Rattle.rn_table.proofs.InstanceLemmas.{numbered_out, numbered_passed}
 use Rattle.rn_table.proofs.leaf.Leaf.get.Goals as goal
 

@@ -1,8 +1,8 @@
 use Rattle.std.proofs.Common.{◌≡◌, [], ◌-◌, ◌/◌, ◌%◌, ◌<◌, drop, get_or, length, map, refl, sym, ap, ◌∙◌, subst, arith, inl, inr}
 use Rattle.std.specs.Option.{option_map_or}
 use Rattle.rn_bag.specs.Words.{has_bit}
-use Rattle.rn_table.specs.Leaves.{Leaf, bit_of, held_at, held_if, leaf_with}
-use Rattle.rn_table.specs.LeafSteps.{Grows}
+use Rattle.rn_table.specs.link.Leaves.{Leaf, bit_of, held_at, held_if, leaf_with}
+use Rattle.rn_table.specs.link.LeafSteps.{Grows}
 use Rattle.rn_table.specs.declared.leaf.Words.{Words}
 use Rattle.rn_table.proofs.DirLemmas.{length_drop, page_changed, seen_leaf, seen_len, was_here, word_there}
 use Rattle.rn_table.proofs.OneLeafLemmas.{grown_leaf}

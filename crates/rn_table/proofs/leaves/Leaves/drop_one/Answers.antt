@@ -1,6 +1,6 @@
 use Rattle.std.proofs.Common.{◌≡◌, [], get_or, length, length-set, map, set, refl, sym, ap, ◌∙◌, subst, arith}
 use Rattle.std.specs.Option.{option_map_or}
-use Rattle.rn_table.specs.Leaves.{Leaf, held_at, leaf_with, leaves_by}
+use Rattle.rn_table.specs.link.Leaves.{Leaf, held_at, leaf_with, leaves_by}
 use Rattle.rn_table.specs.declared.leaf.Words.{Words}
 use Rattle.rn_table.proofs.DirLemmas.{leaves_set, seen_leaf, seen_len}
 use Rattle.rn_table.proofs.OneLeafLemmas.{dropped_one}

@@ -1,7 +1,7 @@
 use Rattle.std.proofs.Common.{◌≡◌, [], ◌-◌, ◌/◌, ◌%◌, ◌<◌, drop, get_or, length, map, set, refl, sym, ap, ◌∙◌, subst, arith}
 use Rattle.std.specs.Option.{option_map_or}
-use Rattle.rn_table.specs.Leaves.{Ascending, Leaf, held_at, held_if, leaf_with, leaves_by}
-use Rattle.rn_table.specs.LeafSteps.{HoldsAfterStep}
+use Rattle.rn_table.specs.link.Leaves.{Ascending, Leaf, held_at, held_if, leaf_with, leaves_by}
+use Rattle.rn_table.specs.link.LeafSteps.{HoldsAfterStep}
 use Rattle.rn_table.specs.declared.leaf.Words.{Words}
 use Rattle.rn_table.proofs.DirLemmas.{length_drop, page_changed, seen_leaf, seen_len, set_word, was_here, word_there}
 use Rattle.rn_table.proofs.OneLeafLemmas.{edited_one}

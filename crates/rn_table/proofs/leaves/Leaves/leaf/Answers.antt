@@ -1,6 +1,6 @@
 use Rattle.std.proofs.Common.{[], length, map, sym, ap, ◌∙◌, arith}
 use Rattle.std.specs.Option.{option_map_or}
-use Rattle.rn_table.specs.Leaves.{held_at}
+use Rattle.rn_table.specs.link.Leaves.{held_at}
 use Rattle.rn_table.proofs.DirLemmas.{held_none, held_some, leaf_read, seen_len}
 use Rattle.rn_table.proofs.leaves.Leaves.leaf.Goals.{then-kept-eq0, else-kept-eq0}
 use Rattle.rn_table.proofs.leaves.Leaves.leaf.Goals as goal

@@ -1,6 +1,6 @@
 use Rattle.std.proofs.Common.{[], map, arith}
 use Rattle.std.specs.Option.{option_map_or}
-use Rattle.rn_table.specs.Leaves.{held_at}
+use Rattle.rn_table.specs.link.Leaves.{held_at}
 use Rattle.rn_table.proofs.DirLemmas.{seen_len}
 use Rattle.rn_table.proofs.leaves.Leaves.len.Goals as goal
 

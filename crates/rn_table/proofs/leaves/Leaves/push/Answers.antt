@@ -1,6 +1,6 @@
 use Rattle.std.proofs.Common.{[], ◌++◌, ◌∷◌, map, refl, ap, ◌∙◌}
 use Rattle.std.specs.Option.{option_map_or}
-use Rattle.rn_table.specs.Leaves.{held_at, leaf_with, leaves_by}
+use Rattle.rn_table.specs.link.Leaves.{held_at, leaf_with, leaves_by}
 use Rattle.rn_table.specs.declared.leaf.Words.{Words}
 use Rattle.rn_table.proofs.DirLemmas.{leaves_push, leaves_same}
 use Rattle.rn_table.proofs.leaves.Leaves.push.Goals as goal

@@ -1,6 +1,6 @@
 use Rattle.std.proofs.Common.{[], map, sym, ap, ◌∙◌, arith}
 use Rattle.std.specs.Option.{option_map_or}
-use Rattle.rn_table.specs.Leaves.{Leaf, held_at}
+use Rattle.rn_table.specs.link.Leaves.{Leaf, held_at}
 use Rattle.rn_table.proofs.DirLemmas.{seen_leaf, seen_len}
 use Rattle.rn_table.proofs.leaves.Leaves.starting.Goals as goal
 

@@ -1,6 +1,6 @@
 use Rattle.std.proofs.Common.{◌≡◌, take, map}
 use Rattle.std.specs.Prelude.{filter}
-use Rattle.rn_table.specs.Leaves.{has_number}
+use Rattle.rn_table.specs.link.Leaves.{has_number}
 use Rattle.rn_table.proofs.page.Page.copy_kept.Given as goal
 
 abbrev pub invariant-loop-inst : goal.invariant-loop-inst

@@ -1,8 +1,8 @@
 use Rattle.std.proofs.Common.{length, map, refl, sym, ap, ◌∙◌, subst, arith}
 use Rattle.std.proofs.lemmas.List.{map-set}
 use Rattle.rn_model.specs.Markings.{Instance}
-use Rattle.rn_table.specs.Leaves.{Ascending}
-use Rattle.rn_table.specs.Steps.{Step, after_step}
+use Rattle.rn_table.specs.link.Leaves.{Ascending}
+use Rattle.rn_table.specs.link.Steps.{Step, after_step}
 use Rattle.rn_table.proofs.InstanceLemmas.{NoneHas, read_value}
 use Rattle.rn_table.proofs.StepLemmas.{none_stay, one_set}
 use Rattle.rn_table.proofs.page.Page.edit.Goals as goal

@@ -3,8 +3,8 @@ use Rattle.std.specs.List.{AllByRecursion}
 use Rattle.rn_model.specs.Lists.{IsWithin}
 use Rattle.rn_model.specs.Markings.{Instance, Marking, tokens_at}
 use Rattle.rn_table.specs.Changes.{changed, new_from, values_at, with_made}
-use Rattle.rn_table.specs.Leaves.{Ascending, HasSortedPlaces, IsTable, instances_in, starting_from}
-use Rattle.rn_table.specs.Steps.{AreNet, after_steps, all_steps}
+use Rattle.rn_table.specs.link.Leaves.{Ascending, HasSortedPlaces, IsTable, instances_in, starting_from}
+use Rattle.rn_table.specs.link.Steps.{AreNet, after_steps, all_steps}
 use Rattle.rn_table.specs.Tables.{Kept, started, starting_in}
 use Rattle.rn_table.proofs.ChangeLemmas.{changed_by_steps, still_of_system}
 use Rattle.rn_table.proofs.table.Table.apply.Goals as goal

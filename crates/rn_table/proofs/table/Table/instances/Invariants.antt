@@ -1,5 +1,5 @@
 use Rattle.std.proofs.Common.{◌≡◌, take, map}
-use Rattle.rn_table.specs.Leaves.{instances_in}
+use Rattle.rn_table.specs.link.Leaves.{instances_in}
 use Rattle.rn_table.proofs.table.Table.instances.Given as goal
 
 abbrev pub invariant-loop-at : goal.invariant-loop-at

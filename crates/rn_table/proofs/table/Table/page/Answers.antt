@@ -3,7 +3,7 @@ use Rattle.std.specs.Prelude.{find, nat_eq}
 use Rattle.std.proofs.lemmas.Bool.{false≢true}
 use Rattle.rn_model.specs.Markings.{Instance, IsThere, instance_at}
 use Rattle.rn_bag.specs.Words.{has_bit}
-use Rattle.rn_table.specs.Leaves.{kept_in, numbered}
+use Rattle.rn_table.specs.link.Leaves.{kept_in, numbered}
 use Rattle.rn_table.specs.Tables.{Kept}
 use Rattle.rn_table.proofs.LeafLemmas.{page_is}
 use Rattle.rn_table.proofs.TableLemmas.{found_in, found_none, leaf_here}

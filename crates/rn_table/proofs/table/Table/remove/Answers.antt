@@ -1,7 +1,7 @@
 use Rattle.std.proofs.Common.{sym, ap, ◌∙◌, subst, arith}
 use Rattle.std.specs.Prelude.{filter, not, nat_eq}
 use Rattle.rn_table.specs.Tables.{Kept}
-use Rattle.rn_table.specs.Leaves.{IsLeaf, IsTable, instances_in, starting_from}
+use Rattle.rn_table.specs.link.Leaves.{IsLeaf, IsTable, instances_in, starting_from}
 use Rattle.rn_table.proofs.EditedLemmas.{table_stays}
 use Rattle.rn_table.proofs.TableLemmas.{leaf_here, dropped_in, dropped_none, dropped_zero, starts_dropped, starts_none, starts_zero}
 use Rattle.rn_table.proofs.RemovalLemmas.{left_of_system}

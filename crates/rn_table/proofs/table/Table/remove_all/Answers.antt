@@ -2,7 +2,7 @@ use Rattle.std.proofs.Common.{◌≡◌, ◌+◌, ◌++◌, ◌∷◌, [], take,
 use Rattle.std.specs.Prelude.{filter, not, nat_eq}
 use Rattle.std.proofs.lemmas.List.{take_more}
 use Rattle.rn_model.specs.Markings.{Instance}
-use Rattle.rn_table.specs.Leaves.{stays}
+use Rattle.rn_table.specs.Staying.{stays}
 use Rattle.rn_table.proofs.TableLemmas.{filter_more, filter_start}
 use Rattle.rn_table.proofs.table.Table.remove_all.Goals as goal
 

@@ -1,7 +1,7 @@
 use Rattle.std.proofs.Common.{◌≡◌, take}
 use Rattle.std.specs.Prelude.{filter}
 use Rattle.rn_model.specs.declared.system.System.{System}
-use Rattle.rn_table.specs.Leaves.{stays}
+use Rattle.rn_table.specs.Staying.{stays}
 use Rattle.rn_table.specs.Tables.{IsTableOf}
 use Rattle.rn_table.proofs.table.Table.remove_all.Given as goal
 

@@ -3,7 +3,7 @@ use Rattle.rn_term.specs.declared.term.Term.TheVariants as T
 use Rattle.rn_term.specs.declared.store.TheConstants.{NO_LIST}
 use Rattle.rn_term.specs.Stores.{IsBuiltBelow}
 use Rattle.rn_term.specs.Assignments.{HasListTail}
-use Rattle.rn_term.specs.Kept.{AreLowered, IsLowAlong, last_cons, or_cons}
+use Rattle.rn_term.specs.link.Kept.{AreLowered, IsLowAlong, last_cons, or_cons}
 use Rattle.rn_term.proofs.KeepingLemmas.{kept_term}
 use Rattle.rn_term.proofs.store.Store.add.Goals as goal
 

@@ -3,7 +3,7 @@ use Rattle.std.proofs.lemmas.List.{get_or_read}
 use Rattle.std.specs.Prelude.{None, ◌↔◌}
 use Rattle.rn_term.specs.Stores.{link_of}
 use Rattle.rn_term.specs.Assignments.{IsNote, MayBeOne, Satisfies, value_at}
-use Rattle.rn_term.specs.Kept.{AreLevels, IsLowAlong}
+use Rattle.rn_term.specs.link.Kept.{AreLevels, IsLowAlong}
 use Rattle.rn_term.proofs.KeepingLemmas.{kept_note}
 use Rattle.rn_term.proofs.AssignmentLemmas.{note_means}
 use Rattle.rn_term.proofs.store.Store.bind.Goals as goal

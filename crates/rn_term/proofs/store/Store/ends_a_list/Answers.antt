@@ -1,5 +1,5 @@
 use Rattle.std.proofs.Common.{arith, ◌∙◌, ap}
-use Rattle.rn_term.specs.Kept.{last_cons}
+use Rattle.rn_term.specs.link.Kept.{last_cons}
 use Rattle.rn_term.proofs.ReadingLemmas.{EndsElsewhere, other_end, no_truth}
 use Rattle.rn_term.proofs.LastLists.{none_looked_at, next_within, one_looked_at, next_smaller}
 use Rattle.rn_term.proofs.LastLists.{all_looked_at, none_below}

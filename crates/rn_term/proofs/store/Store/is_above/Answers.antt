@@ -1,5 +1,5 @@
 use Rattle.std.proofs.Common.{rules, ◌<◌, arith, subst}
-use Rattle.rn_term.specs.Kept.{level_of}
+use Rattle.rn_term.specs.link.Kept.{level_of}
 use Rattle.rn_term.specs.Occurring.{IsFree, Occurs}
 use Rattle.rn_term.proofs.LevelLemmas.{level_of_occurring}
 use Rattle.rn_term.proofs.store.Store.is_above.Goals as goal

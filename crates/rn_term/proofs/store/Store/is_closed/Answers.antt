@@ -1,5 +1,5 @@
 use Rattle.std.proofs.Common.{subst}
-use Rattle.rn_term.specs.Kept.{IsClosed}
+use Rattle.rn_term.specs.link.Kept.{IsClosed}
 use Rattle.rn_term.proofs.Closed.{flagged_is_closed}
 use Rattle.rn_term.proofs.store.Store.is_closed.Goals as goal
 

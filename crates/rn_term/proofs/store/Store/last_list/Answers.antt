@@ -1,5 +1,5 @@
 use Rattle.std.proofs.Common.{◌≤◌, length, sym, subst, ◌∙◌, ap}
-use Rattle.rn_term.specs.Kept.{last_cons}
+use Rattle.rn_term.specs.link.Kept.{last_cons}
 use Rattle.rn_term.proofs.LastLists.{kept_list}
 use Rattle.rn_term.proofs.store.Store.last_list.Goals as goal
 

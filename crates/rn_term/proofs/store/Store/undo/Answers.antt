@@ -1,7 +1,7 @@
 use Rattle.std.proofs.Common.{◌≤◌, length, sym, subst, take, ◌∙◌}
 use Rattle.rn_term.specs.Assignments.{Keeps}
 use Rattle.rn_term.specs.Undoing.{Rolled}
-use Rattle.rn_term.specs.Kept.{AreFloors, AreLevels}
+use Rattle.rn_term.specs.link.Kept.{AreFloors, AreLevels}
 use Rattle.rn_term.proofs.Floors.{floors_of_fewer_notes}
 use Rattle.rn_term.proofs.LevelLemmas.{levels_of_fewer_notes}
 use Rattle.rn_term.proofs.KeepingLemmas.{kept_prefix}

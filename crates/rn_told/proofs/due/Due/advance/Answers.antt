@@ -1,6 +1,6 @@
 -- One step goes, or its next one comes.
 use Rattle.std.proofs.Common.{◌≡◌, ◌∙◌, ◌∷◌, ◌++◌, [], cond, drop, sym, ap, refl, rules}
-use Rattle.rn_told.specs.DueAhead.{numbers, later}
+use Rattle.rn_told.specs.link.DueAhead.{numbers, later}
 use Rattle.rn_told.proofs.DueLemmas.{advanced, popped_rest}
 use Rattle.rn_told.proofs.due.Due.advance.Goals as goal
 

@@ -1,5 +1,5 @@
 use Rattle.std.proofs.Common.{◌≡◌, [], length, false}
-use Rattle.rn_told.specs.DueAhead.{later}
+use Rattle.rn_told.specs.link.DueAhead.{later}
 use Rattle.rn_told.proofs.due.Due.advance.Given as goal
 
 -- what is due later stays

@@ -1,5 +1,5 @@
 use Rattle.std.proofs.Common.{◌≡◌, take}
-use Rattle.rn_told.specs.DueAhead.{numbers}
+use Rattle.rn_told.specs.link.DueAhead.{numbers}
 use Rattle.rn_told.proofs.due.Due.path.Given as goal
 
 abbrev pub invariant-loop-level : goal.invariant-loop-level

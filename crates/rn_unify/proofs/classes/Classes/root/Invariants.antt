@@ -1,6 +1,6 @@
 use Rattle.std.proofs.Common.{◌≡◌, ℕ}
 use Rattle.rn_value.specs.declared.value.Value.{Value}
-use Rattle.rn_unify.specs.Classes.{Fits}
+use Rattle.rn_unify.specs.link.Classes.{Fits}
 use Rattle.rn_unify.proofs.classes.Classes.root.Given as goal
 
 abbrev pub invariant-loop-root : goal.invariant-loop-root

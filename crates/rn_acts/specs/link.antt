@@ -1,0 +1,3 @@
+pub mod Acted
+pub mod Acting
+pub mod ChangeRows

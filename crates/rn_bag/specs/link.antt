@@ -1,0 +1,4 @@
+pub mod Chunks
+pub mod Pools
+pub mod SlotIndices
+pub mod Tags

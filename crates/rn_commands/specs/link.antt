@@ -1,0 +1,5 @@
+pub mod Bindings
+pub mod Counting
+pub mod Ends
+pub mod Replaying
+pub mod Workloads

@@ -1,0 +1,4 @@
+pub mod Forms
+pub mod SeenBefore
+pub mod Sizes
+pub mod Tables

@@ -1,0 +1,2 @@
+pub mod NextNames
+pub mod Stages

@@ -1,0 +1,3 @@
+pub mod Following
+pub mod LeastPlans
+pub mod LeastPosts

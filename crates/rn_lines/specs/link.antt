@@ -1,0 +1,3 @@
+pub mod LinesSeen
+pub mod NodeSeen
+pub mod Said

@@ -1,0 +1,23 @@
+-- The lines of marks by place and by instance. It only connects the code to the live part.
+use Rattle.std.specs.Prelude.{ℕ, ◌+◌, List, [], ◌∷◌, ◌++◌}
+use Rattle.std.specs.Option.{option_map_or}
+use Rattle.rn_value.specs.declared.value.Value.{Value}
+use Rattle.rn_model.specs.declared.log.MarkLine.{MarkLine}
+use Rattle.rn_model.specs.Markings.{Marking, net_of}
+use Rattle.rn_live.specs.link.Marks.{places_of}
+
+-- the line of a place, by the instance's number and net, where it holds tokens
+abbrev pub line_of : ℕ → ℕ → ℕ → List Value → List MarkLine
+line_of n net place [] = []
+line_of n net place (v ∷ vs) =
+    record { inst = n; net = net; place = place; values = v ∷ vs } ∷ []
+
+-- the lines of places, of which the first has this number
+abbrev pub lines_from : ℕ → ℕ → ℕ → List (List Value) → List MarkLine
+lines_from n net place [] = []
+lines_from n net place (vs ∷ places) =
+    line_of n net place vs ++ lines_from n net (place + 1) places
+
+-- the lines of an instance, and none where it isn't there
+abbrev pub lines_at : Marking → ℕ → List MarkLine
+lines_at m n = option_map_or (λ net. lines_from n net 0 (places_of m n)) (net_of m n) []

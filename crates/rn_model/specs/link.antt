@@ -1,0 +1,2 @@
+pub mod MarkingCodes
+pub mod OrderLaws

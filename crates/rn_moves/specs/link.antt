@@ -1,0 +1,3 @@
+pub mod Connecting
+pub mod Movable
+pub mod OrderLaws

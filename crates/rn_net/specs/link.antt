@@ -1,0 +1,4 @@
+pub mod Answers
+pub mod Lists
+pub mod Parts
+pub mod Progress

@@ -1,0 +1,2 @@
+pub mod NumbersFound
+pub mod Parts

@@ -1,0 +1,4 @@
+pub mod Plans
+pub mod Posts
+pub mod Seen
+pub mod Views
