@@ -3,9 +3,9 @@ ghost use Rattle.std.specs.Prelude.{◌≡◌, ◌⊎◌, codes, drop, map, stri
 ghost use Rattle.rn_outside.specs.Faults.{Rose};
 ghost use Rattle.rn_words.specs.declared.command.Command.{Command as Given};
 ghost use Rattle.rn_words.specs.Commands.{WordsOk};
-ghost use Rattle.rn_answer.specs.declared.status.TheConstants.{DONE, FAULTED, NO_MEMORY};
-ghost use Rattle.rn_answer.specs.declared.status.TheConstants.{READ_FAULT, WRITE_FAULT};
-ghost use Rattle.rn_answer.specs.Writing.{TakesLine};
+ghost use Rattle.rn_answering.specs.declared.status.TheConstants.{DONE, FAULTED, NO_MEMORY};
+ghost use Rattle.rn_answering.specs.declared.status.TheConstants.{READ_FAULT, WRITE_FAULT};
+ghost use Rattle.rn_answering.specs.Writing.{TakesLine};
 ghost use Rattle.rn_app.specs.TopCall.{IsFine, IsOwnStatus, IsStatus, MayFault};
 ghost use Rattle.rn_app.specs.TopCall.{FailsToTell, FailsToWrite, Writes};
 ghost use Rattle.rn_app.specs.TopCall.{WritesUnfinished};

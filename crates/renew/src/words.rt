@@ -1,9 +1,9 @@
 //! The words of the program, as the system gives them.
 ghost use Rattle.std.specs.Prelude.{◌≡◌, ◌⊎◌, drop, IfErr};
-ghost use Rattle.rn_answer.specs.declared.status.TheConstants.{NO_MEMORY};
+ghost use Rattle.rn_answering.specs.declared.status.TheConstants.{NO_MEMORY};
 ghost use Rattle.renew.specs.declared.words.TheConstants.{NO_WORDS};
 
-use rn_answer::NO_MEMORY;
+use rn_answering::NO_MEMORY;
 use std::env;
 use std::io::ErrorKind;
 

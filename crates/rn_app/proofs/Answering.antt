@@ -8,10 +8,10 @@ use Rattle.rn_words.specs.declared.command.Command.TheVariants as command
 use Rattle.rn_words.specs.declared.command.WordsFault.{WordsFault}
 use Rattle.rn_words.specs.Commands.{WordsOk}
 use Rattle.rn_words.specs.Reading.{reading}
-use Rattle.rn_answer.specs.declared.answer.Answer.{Answer}
-use Rattle.rn_answer.specs.declared.status.TheConstants.{DONE, FAULTED, NET_REFUSED, NO_MEMORY, RECORD_REFUSED, WORDS_REFUSED, WRITE_FAULT}
-use Rattle.rn_answer.specs.declared.stopped.Stopped.{Stopped}
-use Rattle.rn_answer.specs.declared.stopped.Stopped.TheVariants.{ReadFault, Refused}
+use Rattle.rn_answering.specs.declared.answer.Answer.{Answer}
+use Rattle.rn_answering.specs.declared.status.TheConstants.{DONE, FAULTED, NET_REFUSED, NO_MEMORY, RECORD_REFUSED, WORDS_REFUSED, WRITE_FAULT}
+use Rattle.rn_answering.specs.declared.stopped.Stopped.{Stopped}
+use Rattle.rn_answering.specs.declared.stopped.Stopped.TheVariants.{ReadFault, Refused}
 use Rattle.rn_commands.specs.declared.jobs.Job.{Job}
 use Rattle.rn_app.specs.declared.beginning.Begun.TheVariants.{Done, Working}
 use Rattle.rn_app.specs.declared.preparing.Prepared.{Prepared}

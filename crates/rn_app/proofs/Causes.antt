@@ -7,8 +7,8 @@ use Rattle.rn_model.specs.declared.log.Reason.{Reason}
 use Rattle.rn_model.specs.declared.log.Reason.TheVariants as End
 use Rattle.rn_model.specs.declared.system.System.{System}
 use Rattle.rn_record.specs.RecordText.{IsFormat}
-use Rattle.rn_told.specs.Laws.{OneReading}
-use Rattle.rn_told.specs.Runs.{Verdict, TellsRecord}
+use Rattle.rn_record_reader.specs.Laws.{OneReading}
+use Rattle.rn_record_reader.specs.Runs.{Verdict, TellsRecord}
 use Rattle.rn_notation.specs.Limits.{longest_net_text, longest_text}
 use Rattle.rn_words.specs.declared.command.Command.{Command}
 use Rattle.rn_words.specs.declared.command.Command.TheVariants as command
@@ -16,12 +16,12 @@ use Rattle.rn_words.specs.declared.command.WordsFault.{WordsFault}
 use Rattle.rn_words.specs.Commands.{WordsOk}
 use Rattle.rn_words.specs.Laws.{AcceptedAreWithinLimits, IsWithinLimits, ReadsWhatIsAccepted}
 use Rattle.rn_words.specs.Reading.{reading}
-use Rattle.rn_answer.specs.declared.answer.Answer.{Answer}
-use Rattle.rn_answer.specs.declared.status.TheConstants.{DONE, NET_REFUSED, WORDS_REFUSED, FAULTED, NO_MEMORY, RECORD_REFUSED}
-use Rattle.rn_answer.specs.Input.{longest_input, IsTooLong}
-use Rattle.rn_answer.specs.NetTexts.{Accepted, AcceptedIn, IsRefusedBy, RefusesNet}
-use Rattle.rn_answer.specs.TextCommands.{ChecksTo, PrintsTo}
-use Rattle.rn_answer.specs.Refusing.{done, refusal}
+use Rattle.rn_answering.specs.declared.answer.Answer.{Answer}
+use Rattle.rn_answering.specs.declared.status.TheConstants.{DONE, NET_REFUSED, WORDS_REFUSED, FAULTED, NO_MEMORY, RECORD_REFUSED}
+use Rattle.rn_answering.specs.Input.{longest_input, IsTooLong}
+use Rattle.rn_answering.specs.NetTexts.{Accepted, AcceptedIn, IsRefusedBy, RefusesNet}
+use Rattle.rn_answering.specs.TextCommands.{ChecksTo, PrintsTo}
+use Rattle.rn_answering.specs.Refusing.{done, refusal}
 use Rattle.rn_commands.specs.Ends.{end_status}
 use Rattle.rn_commands.specs.Laws.{OneAnswerToRecord, OneParting}
 use Rattle.rn_commands.specs.NetCommands.{EnabledTo, ReplaysTo, ReplayComesTo}

@@ -7,9 +7,9 @@ use Rattle.rn_words.specs.declared.command.Command.{Command}
 use Rattle.rn_words.specs.declared.command.Command.TheVariants as command
 use Rattle.rn_words.specs.Commands.{WordsOk}
 use Rattle.rn_words.specs.Laws.{ReadsWhatIsAccepted}
-use Rattle.rn_answer.specs.declared.answer.Answer.{Answer}
-use Rattle.rn_answer.specs.declared.stopped.Stopped.{Stopped}
-use Rattle.rn_answer.specs.Input.{longest_input}
+use Rattle.rn_answering.specs.declared.answer.Answer.{Answer}
+use Rattle.rn_answering.specs.declared.stopped.Stopped.{Stopped}
+use Rattle.rn_answering.specs.Input.{longest_input}
 use Rattle.rn_commands.specs.declared.jobs.Job.{Job}
 use Rattle.rn_commands.specs.Jobs.{JobComesTo}
 use Rattle.rn_commands.specs.LeastRuns.{RunsLeastTo}

@@ -11,11 +11,11 @@ use Rattle.rn_check.specs.Checked.{Checked}
 use Rattle.rn_rules.specs.Broken.{BreaksFirst}
 use Rattle.rn_declared.specs.Faults.{broken}
 use Rattle.rn_check.specs.Laws.{CheckedTextsAreGood}
-use Rattle.rn_told.specs.Laws.{TextsTell}
-use Rattle.rn_told.specs.Runs.{Verdict, TellsRecord}
-use Rattle.rn_written.specs.Laws.{LogsHaveText}
+use Rattle.rn_record_reader.specs.Laws.{TextsTell}
+use Rattle.rn_record_reader.specs.Runs.{Verdict, TellsRecord}
+use Rattle.rn_state_record.specs.Laws.{LogsHaveText}
 use Rattle.rn_readable.specs.Laws.{LogsAreReadable}
-use Rattle.rn_answer.specs.NetTexts.{IsRefusedBy}
+use Rattle.rn_answering.specs.NetTexts.{IsRefusedBy}
 use Rattle.rn_app.specs.Laws.{AcceptedIsNotRefused, NotationsAreFormats, OneNotation, OneSystemAccepted, RunIsRead}
 
 -- where no rule is broken, none is the first

@@ -12,10 +12,10 @@ use Rattle.rn_words.specs.declared.command.Command.{Command}
 use Rattle.rn_words.specs.declared.command.Command.TheVariants as command
 use Rattle.rn_words.specs.Commands.{WordsOk}
 use Rattle.rn_words.specs.Laws.{ReadsWhatIsAccepted}
-use Rattle.rn_answer.specs.declared.answer.Answer.{Answer}
-use Rattle.rn_answer.specs.declared.status.TheConstants.{DONE, NET_REFUSED, WORDS_REFUSED, FAULTED, NO_MEMORY, RECORD_REFUSED}
-use Rattle.rn_answer.specs.Input.{longest_input}
-use Rattle.rn_answer.specs.NetTexts.{RefusesNet}
+use Rattle.rn_answering.specs.declared.answer.Answer.{Answer}
+use Rattle.rn_answering.specs.declared.status.TheConstants.{DONE, NET_REFUSED, WORDS_REFUSED, FAULTED, NO_MEMORY, RECORD_REFUSED}
+use Rattle.rn_answering.specs.Input.{longest_input}
+use Rattle.rn_answering.specs.NetTexts.{RefusesNet}
 use Rattle.rn_commands.specs.Ends.{end_status, end_message}
 use Rattle.rn_commands.specs.Replaying.{RecordTo}
 use Rattle.rn_commands.specs.Moves.{RecordMovesTo}

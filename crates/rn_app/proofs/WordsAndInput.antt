@@ -10,13 +10,13 @@ use Rattle.rn_words.specs.declared.command.WordsFault.{WordsFault}
 use Rattle.rn_words.specs.Commands.{WordsOk}
 use Rattle.rn_words.specs.Laws.{ReadsWhatIsAccepted}
 use Rattle.rn_words.specs.Reading.{reading}
-use Rattle.rn_answer.specs.declared.answer.Answer.{Answer}
-use Rattle.rn_answer.specs.declared.stopped.Stopped.{Stopped}
-use Rattle.rn_answer.specs.declared.stopped.Stopped.TheVariants.{Refused, ReadFault, NoMemory}
-use Rattle.rn_answer.specs.Input.{longest_input, IsUnread}
-use Rattle.rn_answer.specs.declared.status.TheConstants.{NET_REFUSED, WORDS_REFUSED}
-use Rattle.rn_answer.specs.Lines.{words_line}
-use Rattle.rn_answer.specs.Refusing.{Stops, refusal}
+use Rattle.rn_answering.specs.declared.answer.Answer.{Answer}
+use Rattle.rn_answering.specs.declared.stopped.Stopped.{Stopped}
+use Rattle.rn_answering.specs.declared.stopped.Stopped.TheVariants.{Refused, ReadFault, NoMemory}
+use Rattle.rn_answering.specs.Input.{longest_input, IsUnread}
+use Rattle.rn_answering.specs.declared.status.TheConstants.{NET_REFUSED, WORDS_REFUSED}
+use Rattle.rn_answering.specs.Lines.{words_line}
+use Rattle.rn_answering.specs.Refusing.{Stops, refusal}
 use Rattle.rn_app.specs.declared.preparing.Prepared.{Prepared}
 use Rattle.rn_app.specs.declared.preparing.Prepared.TheVariants.{Answered, Due}
 use Rattle.rn_app.specs.Commands.{ComesTo}

@@ -11,9 +11,9 @@ use Rattle.rn_outside.proofs.FaultLemmas.{Rose-risen}
 use Rattle.rn_words.specs.declared.command.Command.{Command}
 use Rattle.rn_words.specs.declared.command.Command.TheVariants as command
 use Rattle.rn_words.specs.Commands.{WordsOk}
-use Rattle.rn_answer.specs.declared.answer.Answer.{Answer}
-use Rattle.rn_answer.specs.declared.status.TheConstants.{DONE, FAULTED, NO_MEMORY, READ_FAULT, WRITE_FAULT}
-use Rattle.rn_answer.specs.Writing.{TakesLine}
+use Rattle.rn_answering.specs.declared.answer.Answer.{Answer}
+use Rattle.rn_answering.specs.declared.status.TheConstants.{DONE, FAULTED, NO_MEMORY, READ_FAULT, WRITE_FAULT}
+use Rattle.rn_answering.specs.Writing.{TakesLine}
 use Rattle.rn_app.specs.TopCall.{Comes, FailsToTell, FailsToWrite, IsOwnStatus, IsStatus, RoseOnceAtMost, Writes, WritesLeastRun, WritesRun, WritesUnfinished}
 use Rattle.rn_commands.specs.Runs.{RunsTo}
 use Rattle.rn_app.proofs.Causes.{Laws}

@@ -7,8 +7,8 @@ use Rattle.rn_words.specs.declared.command.Command.{Command}
 use Rattle.rn_words.specs.declared.command.Command.TheVariants as command
 use Rattle.rn_words.specs.Commands.{WordsOk}
 use Rattle.rn_gen.specs.Workload.{workload}
-use Rattle.rn_answer.specs.NetTexts.{Accepted, AcceptedIn}
-use Rattle.rn_answer.specs.Input.{longest_input}
+use Rattle.rn_answering.specs.NetTexts.{Accepted, AcceptedIn}
+use Rattle.rn_answering.specs.Input.{longest_input}
 use Rattle.rn_commands.specs.declared.jobs.Job.{Job}
 use Rattle.rn_commands.specs.declared.jobs.Pick.TheVariants.{Any, Seeded, Least}
 use Rattle.rn_commands.specs.declared.jobs.Telling.TheVariants.{Record, Tally}

@@ -2,9 +2,9 @@
 use Rattle.std.specs.Prelude.{ℕ, ◌≡◌, ◌⊎◌, List}
 use Rattle.rn_words.specs.declared.command.Command.{Command}
 use Rattle.rn_words.specs.declared.command.Command.TheVariants as command
-use Rattle.rn_answer.specs.declared.answer.Answer.{Answer}
-use Rattle.rn_answer.specs.NetTexts.{RefusesNet}
-use Rattle.rn_answer.specs.TextCommands.{ChecksTo, PrintsTo}
+use Rattle.rn_answering.specs.declared.answer.Answer.{Answer}
+use Rattle.rn_answering.specs.NetTexts.{RefusesNet}
+use Rattle.rn_answering.specs.TextCommands.{ChecksTo, PrintsTo}
 use Rattle.rn_commands.specs.Runs.{RunsTo}
 use Rattle.rn_commands.specs.LeastRuns.{RunsLeastTo}
 use Rattle.rn_commands.specs.Parts.{HasParts}

@@ -6,9 +6,9 @@ use Rattle.rn_model.specs.declared.log.Reason.{Reason}
 use Rattle.rn_model.specs.declared.system.System.{System}
 use Rattle.rn_model.specs.Runs.{entries_of}
 use Rattle.rn_record.specs.RecordText.{IsFormat}
-use Rattle.rn_told.specs.Laws.{HoldsFew}
-use Rattle.rn_told.specs.Runs.{Verdict, TellsRecord}
-use Rattle.rn_answer.specs.NetTexts.{Accepted, AcceptedIn, IsRefusedBy}
+use Rattle.rn_record_reader.specs.Laws.{HoldsFew}
+use Rattle.rn_record_reader.specs.Runs.{Verdict, TellsRecord}
+use Rattle.rn_answering.specs.NetTexts.{Accepted, AcceptedIn, IsRefusedBy}
 use Rattle.rn_commands.specs.Replaying.{IsRecordOfRun}
 
 -- a net text isn't both accepted and refused

@@ -8,8 +8,8 @@ use Rattle.rn_model.specs.declared.system.System.{System}
 use Rattle.rn_least.specs.LeastRuns.{LeastLog}
 use Rattle.rn_notation.specs.Limits.{longest_text}
 use Rattle.rn_lookup.specs.declared.refusal.Refusal.{Refusal}
-use Rattle.rn_told.specs.Laws.{HoldsFew}
-use Rattle.rn_told.specs.Runs.{Verdict, TellsRecord}
+use Rattle.rn_record_reader.specs.Laws.{HoldsFew}
+use Rattle.rn_record_reader.specs.Runs.{Verdict, TellsRecord}
 use Rattle.rn_weighted.specs.declared.weighted.Weighted.{Weighted}
 use Rattle.rn_pt.specs.declared.fault.PtFault.{PtFault}
 use Rattle.rn_pt.specs.Texts.{Spells, IsRefused}
@@ -20,13 +20,13 @@ use Rattle.rn_words.specs.declared.command.Command.TheVariants as command
 use Rattle.rn_words.specs.declared.command.WordsFault.{WordsFault}
 use Rattle.rn_words.specs.Commands.{WordsOk}
 use Rattle.rn_words.specs.Reading.{reading}
-use Rattle.rn_answer.specs.declared.answer.Answer.{Answer}
-use Rattle.rn_answer.specs.declared.status.TheConstants.{WORDS_REFUSED}
-use Rattle.rn_answer.specs.declared.status.TheConstants.{READ_FAULT, WRITE_FAULT, NO_MEMORY, RECORD_REFUSED}
-use Rattle.rn_answer.specs.Lines.{words_line}
-use Rattle.rn_answer.specs.Refusing.{refusal}
-use Rattle.rn_answer.specs.NetTexts.{Accepted, AcceptedIn, IsRefusedBy}
-use Rattle.rn_answer.specs.Input.{longest_input, IsTooLong, too_long}
+use Rattle.rn_answering.specs.declared.answer.Answer.{Answer}
+use Rattle.rn_answering.specs.declared.status.TheConstants.{WORDS_REFUSED}
+use Rattle.rn_answering.specs.declared.status.TheConstants.{READ_FAULT, WRITE_FAULT, NO_MEMORY, RECORD_REFUSED}
+use Rattle.rn_answering.specs.Lines.{words_line}
+use Rattle.rn_answering.specs.Refusing.{refusal}
+use Rattle.rn_answering.specs.NetTexts.{Accepted, AcceptedIn, IsRefusedBy}
+use Rattle.rn_answering.specs.Input.{longest_input, IsTooLong, too_long}
 use Rattle.rn_commands.specs.Parts.{HasParts}
 use Rattle.rn_commands.specs.Replaying.{IsNoRunBy, IsRecordOfRun}
 use Rattle.rn_commands.specs.Runs.{IsRunOf}

@@ -10,10 +10,10 @@ ghost use Rattle.rn_words.specs.declared.command.Command.TheVariants as Command;
 ghost use Rattle.rn_words.specs.declared.command.WordsFault.{WordsFault as Fault};
 ghost use Rattle.rn_words.specs.Commands.{WordsOk};
 ghost use Rattle.rn_words.specs.Reading.{reading};
-ghost use Rattle.rn_answer.specs.declared.status.TheConstants.{DONE, FAULTED, NET_REFUSED};
-ghost use Rattle.rn_answer.specs.declared.status.TheConstants.{RECORD_REFUSED, WORDS_REFUSED, WRITE_FAULT};
-ghost use Rattle.rn_answer.specs.Input.{longest_input};
-ghost use Rattle.rn_answer.specs.Writing.{TakesLine};
+ghost use Rattle.rn_answering.specs.declared.status.TheConstants.{DONE, FAULTED, NET_REFUSED};
+ghost use Rattle.rn_answering.specs.declared.status.TheConstants.{RECORD_REFUSED, WORDS_REFUSED, WRITE_FAULT};
+ghost use Rattle.rn_answering.specs.Input.{longest_input};
+ghost use Rattle.rn_answering.specs.Writing.{TakesLine};
 ghost use Rattle.rn_app.specs.Begun.{IfDone, IfWorking, IsDone, IsDue, NeedsThreads};
 ghost use Rattle.rn_app.specs.TopCall.{IsStatus, IsOwnStatus, IsFaultStatus};
 ghost use Rattle.rn_app.specs.TopCall.{Writes, WritesUnfinished, FailsToWrite, FailsToTell};
@@ -21,7 +21,7 @@ ghost use Rattle.rn_app.specs.TopCall.{IsNoInput, IsNoRecord, IsUnread, IsFine, 
 
 use crate::laws::input_laws;
 use crate::preparing::{Prepared, prepare};
-use rn_answer::{NO_MEMORY, READ_FAULT, Stopped, write_answer, write_line};
+use rn_answering::{NO_MEMORY, READ_FAULT, Stopped, write_answer, write_line};
 use rn_commands::{Job, answer_laws, parts_laws};
 use rn_outside::{Sink, Source};
 use rn_words::words_laws;

@@ -8,12 +8,12 @@ ghost use Rattle.rn_words.specs.declared.command.Command.{Command as Given};
 ghost use Rattle.rn_words.specs.declared.command.WordsFault.{WordsFault as Fault};
 ghost use Rattle.rn_words.specs.Commands.{WordsOk};
 ghost use Rattle.rn_words.specs.Reading.{reading};
-ghost use Rattle.rn_answer.specs.declared.status.TheConstants.{NET_REFUSED};
-ghost use Rattle.rn_answer.specs.Input.{longest_input};
+ghost use Rattle.rn_answering.specs.declared.status.TheConstants.{NET_REFUSED};
+ghost use Rattle.rn_answering.specs.Input.{longest_input};
 ghost use Rattle.rn_app.specs.Begun.{NeedsThreads};
 ghost use Rattle.rn_app.specs.link.Begun.{IfAnswered, IsPrepared, PreparesOrStops};
 
-use rn_answer::{Answer, Stopped, check, command_of, input_of, print};
+use rn_answering::{Answer, Stopped, check, command_of, input_of, print};
 use rn_commands::{
     Job, Pick, counts, enabled, migrate, moves, net_job, pt, replay, session, workload_job,
 };

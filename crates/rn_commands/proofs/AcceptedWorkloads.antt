@@ -3,10 +3,10 @@ use Rattle.std.proofs.Common.{◌≡◌, ℕ, ◌≤◌, List, refl}
 use Rattle.rn_items.specs.Memory.{no_memory}
 use Rattle.rn_gen.specs.Workload.{workload}
 use Rattle.rn_gen.specs.Laws.{WorkloadIsNotRefused}
-use Rattle.rn_answer.specs.declared.stopped.Stopped.{Stopped}
-use Rattle.rn_answer.specs.declared.stopped.Stopped.TheVariants.{Refused, ReadFault, NoMemory}
-use Rattle.rn_answer.specs.NetTexts.{IsRefusedBy, RefusesNet}
-use Rattle.rn_answer.specs.Refusing.{Stops}
+use Rattle.rn_answering.specs.declared.stopped.Stopped.{Stopped}
+use Rattle.rn_answering.specs.declared.stopped.Stopped.TheVariants.{Refused, ReadFault, NoMemory}
+use Rattle.rn_answering.specs.NetTexts.{IsRefusedBy, RefusesNet}
+use Rattle.rn_answering.specs.Refusing.{Stops}
 
 module _ (law : WorkloadIsNotRefused) (copies : ℕ) (few : copies ≤ 10000) where
   not_refused : (line : List ℕ) → IsRefusedBy (workload copies) line → ⊥

@@ -10,8 +10,8 @@ use Rattle.rn_model.specs.declared.log.Options.{Options}
 use Rattle.rn_least.specs.LeastRuns.{LeastLog}
 use Rattle.rn_fire.specs.States.{State}
 use Rattle.rn_incr.specs.Counts.{IsCounted}
-use Rattle.rn_answer.specs.declared.answer.Answer.{Answer}
-use Rattle.rn_answer.specs.NetTexts.{Accepted}
+use Rattle.rn_answering.specs.declared.answer.Answer.{Answer}
+use Rattle.rn_answering.specs.NetTexts.{Accepted}
 use Rattle.rn_commands.specs.Counting.{CountsTo, count_line, count_lines}
 use Rattle.rn_commands.specs.link.Counting.{IsCountedBy}
 use Rattle.rn_commands.specs.Ends.{end_message, end_status}

@@ -13,8 +13,8 @@ use Rattle.rn_record.specs.RecordText.{record_text}
 use Rattle.rn_fire.specs.declared.setup.Setup.{Setup}
 use Rattle.rn_fire.specs.States.{State, end_marking}
 use Rattle.rn_gen.specs.Workload.{workload}
-use Rattle.rn_answer.specs.declared.answer.Answer.{Answer}
-use Rattle.rn_answer.specs.NetTexts.{Accepted, AcceptedIn}
+use Rattle.rn_answering.specs.declared.answer.Answer.{Answer}
+use Rattle.rn_answering.specs.NetTexts.{Accepted, AcceptedIn}
 use Rattle.rn_commands.specs.Ends.{end_message, end_status}
 use Rattle.rn_commands.specs.link.Ends.{IsWrittenBy}
 use Rattle.rn_commands.specs.Runs.{IsOfWorkers, RunsTo, run_text}

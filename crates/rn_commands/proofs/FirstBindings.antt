@@ -9,7 +9,7 @@ use Rattle.rn_model.specs.Enabling.{Enabled}
 use Rattle.rn_model.specs.Good.{Good}
 use Rattle.rn_model.specs.Markings.{Marking, initial_marking}
 use Rattle.rn_record.specs.RecordText.{binding_text, first_names}
-use Rattle.rn_written.proofs.TextsOfLogs.{enabled_have_lines}
+use Rattle.rn_state_record.proofs.TextsOfLogs.{enabled_have_lines}
 use Rattle.rn_commands.specs.Bindings.{AreEnabledFirst, IsBelow, bindings_text, numbered_lead}
 use Rattle.rn_commands.specs.link.Bindings.{HasFirstLines}
 

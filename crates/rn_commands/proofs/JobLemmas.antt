@@ -3,7 +3,7 @@ use Rattle.std.proofs.Common.{◌≡◌, ◌∙◌, sym}
 use Rattle.std.specs.Prelude.{All, Err, IfOk, Ok, Result}
 use Rattle.rn_fire.specs.States.{State}
 use Rattle.rn_least_state.specs.LeastStates.{HasLeastLog}
-use Rattle.rn_answer.specs.declared.answer.Answer.{Answer}
+use Rattle.rn_answering.specs.declared.answer.Answer.{Answer}
 use Rattle.rn_commands.specs.declared.jobs.Job.{Job}
 use Rattle.rn_commands.specs.declared.jobs.Pick.TheVariants.{Least}
 use Rattle.rn_commands.specs.declared.jobs.Telling.TheVariants.{Record, Tally}

@@ -6,8 +6,8 @@ use Rattle.rn_model.specs.declared.log.Options.{Options}
 use Rattle.rn_least.specs.LeastRuns.{LeastLog}
 use Rattle.rn_fire.specs.declared.setup.Setup.{Setup}
 use Rattle.rn_fire.specs.States.{State}
-use Rattle.rn_answer.specs.declared.answer.Answer.{Answer}
-use Rattle.rn_answer.specs.NetTexts.{AcceptedIn}
+use Rattle.rn_answering.specs.declared.answer.Answer.{Answer}
+use Rattle.rn_answering.specs.NetTexts.{AcceptedIn}
 use Rattle.rn_least_state.specs.LeastStates.{HasLeastLog}
 use Rattle.rn_commands.specs.link.Ends.{IsWrittenBy}
 use Rattle.rn_commands.specs.LeastRuns.{RunsLeastTo}

@@ -10,23 +10,23 @@ use Rattle.rn_model.specs.declared.system.System.{System}
 use Rattle.rn_model.specs.declared.log.Told.{Told}
 use Rattle.rn_lookup.specs.declared.refusal.Refusal.{Refusal}
 use Rattle.rn_lookup.specs.declared.refusal.Refusal.TheVariants.{Form, Name, Step, Many}
-use Rattle.rn_told.specs.Runs.{Verdict, TellsRecord}
-use Rattle.rn_told.specs.link.RunsAhead.{FaultTells}
-use Rattle.rn_told.specs.declared.fault.RecordFault.{RecordFault}
-use Rattle.rn_told.specs.declared.fault.RecordFault.TheVariants.{Q1, Q2, Q3, Q4}
-use Rattle.rn_told.specs.declared.fault.RecordFault.TheVariants as Q
+use Rattle.rn_record_reader.specs.Runs.{Verdict, TellsRecord}
+use Rattle.rn_record_reader.specs.link.RunsAhead.{FaultTells}
+use Rattle.rn_record_reader.specs.declared.fault.RecordFault.{RecordFault}
+use Rattle.rn_record_reader.specs.declared.fault.RecordFault.TheVariants.{Q1, Q2, Q3, Q4}
+use Rattle.rn_record_reader.specs.declared.fault.RecordFault.TheVariants as Q
 use Rattle.rn_net.specs.declared.plain.Plain.{Plain}
 use Rattle.rn_net.specs.Texts.{IsNotation, Spells}
 use Rattle.rn_check.specs.Checked.{Checked}
 use Rattle.rn_migrate.specs.Migrated.{migrated_text}
-use Rattle.rn_answer.specs.declared.answer.Answer.{Answer}
-use Rattle.rn_answer.specs.declared.stopped.Stopped.{Stopped}
-use Rattle.rn_answer.specs.declared.stopped.Stopped.TheVariants.{Refused, ReadFault, NoMemory}
-use Rattle.rn_answer.specs.declared.status.TheConstants.{NET_REFUSED, RECORD_REFUSED}
-use Rattle.rn_answer.specs.Lines.{number_line, spot_line}
-use Rattle.rn_answer.specs.NetTexts.{RefusesNet, RefusesPlain}
-use Rattle.rn_answer.specs.Refusing.{Stops, done, refusal}
-use Rattle.rn_answer.proofs.Causes.{net_refused}
+use Rattle.rn_answering.specs.declared.answer.Answer.{Answer}
+use Rattle.rn_answering.specs.declared.stopped.Stopped.{Stopped}
+use Rattle.rn_answering.specs.declared.stopped.Stopped.TheVariants.{Refused, ReadFault, NoMemory}
+use Rattle.rn_answering.specs.declared.status.TheConstants.{NET_REFUSED, RECORD_REFUSED}
+use Rattle.rn_answering.specs.Lines.{number_line, spot_line}
+use Rattle.rn_answering.specs.NetTexts.{RefusesNet, RefusesPlain}
+use Rattle.rn_answering.specs.Refusing.{Stops, done, refusal}
+use Rattle.rn_answering.proofs.Causes.{net_refused}
 use Rattle.rn_commands.specs.Migrating.{MigrateComesTo, NetMigratesTo, migrated_pair}
 use Rattle.rn_commands.specs.Parts.{HasParts, after_line, first_line, is_parting, line_length}
 use Rattle.rn_commands.specs.Replaying.{line_code}

@@ -9,14 +9,14 @@ use Rattle.rn_model.specs.Runs.{Log, end_of, entries_of}
 use Rattle.rn_fire.specs.States.{State, IsState, logged}
 use Rattle.rn_moves.specs.MovesText.{MovesText}
 use Rattle.rn_record.specs.RecordText.{record_text}
-use Rattle.rn_told.specs.Runs.{Verdict, TellsRecord}
+use Rattle.rn_record_reader.specs.Runs.{Verdict, TellsRecord}
 use Rattle.rn_replay.specs.Replays.{IsReplayed, IsWhole}
-use Rattle.rn_answer.specs.declared.answer.Answer.{Answer}
-use Rattle.rn_answer.specs.declared.stopped.Stopped.{Stopped}
-use Rattle.rn_answer.specs.declared.stopped.Stopped.TheVariants.{Refused, ReadFault, NoMemory}
-use Rattle.rn_answer.specs.Refusing.{Stops, done, refusal}
-use Rattle.rn_answer.specs.NetTexts.{AcceptedIn, RefusesNet}
-use Rattle.rn_answer.specs.declared.status.TheConstants.{RECORD_REFUSED}
+use Rattle.rn_answering.specs.declared.answer.Answer.{Answer}
+use Rattle.rn_answering.specs.declared.stopped.Stopped.{Stopped}
+use Rattle.rn_answering.specs.declared.stopped.Stopped.TheVariants.{Refused, ReadFault, NoMemory}
+use Rattle.rn_answering.specs.Refusing.{Stops, done, refusal}
+use Rattle.rn_answering.specs.NetTexts.{AcceptedIn, RefusesNet}
+use Rattle.rn_answering.specs.declared.status.TheConstants.{RECORD_REFUSED}
 use Rattle.rn_commands.specs.Laws.{MovesGoWithReplay}
 use Rattle.rn_commands.specs.Moves.{MovesComeTo, RecordMovesTo}
 use Rattle.rn_commands.specs.Parts.{HasParts}

@@ -14,16 +14,16 @@ use Rattle.rn_lookup.specs.declared.refusal.Refusal.{Refusal}
 use Rattle.rn_fire.specs.link.States.{end_in, firings_in}
 use Rattle.rn_fire.proofs.EntryLemmas.{end_of_entries, firings_of}
 use Rattle.rn_record.specs.RecordText.{IsFormat}
-use Rattle.rn_told.specs.Laws.{OneReading}
-use Rattle.rn_told.specs.Runs.{Verdict, TellsRecord}
+use Rattle.rn_record_reader.specs.Laws.{OneReading}
+use Rattle.rn_record_reader.specs.Runs.{Verdict, TellsRecord}
 use Rattle.rn_replay.specs.declared.fault.ReplayFault.{ReplayFault}
 use Rattle.rn_replay.specs.declared.fault.ReplayFault.TheVariants.{V1, V2, V3, V4, V5, NoMemory}
 use Rattle.rn_replay.specs.Laws.{RefusedAreUntrue, RefusedForOneCause}
 use Rattle.rn_replay.specs.Replays.{Refused}
-use Rattle.rn_answer.specs.declared.answer.Answer.{Answer}
-use Rattle.rn_answer.specs.declared.status.TheConstants.{RECORD_REFUSED}
-use Rattle.rn_answer.specs.Lines.{number_line}
-use Rattle.rn_answer.specs.Refusing.{done, refusal}
+use Rattle.rn_answering.specs.declared.answer.Answer.{Answer}
+use Rattle.rn_answering.specs.declared.status.TheConstants.{RECORD_REFUSED}
+use Rattle.rn_answering.specs.Lines.{number_line}
+use Rattle.rn_answering.specs.Refusing.{done, refusal}
 use Rattle.rn_commands.specs.Laws.{OneAnswerToRecord}
 use Rattle.rn_commands.specs.Replaying.{HasCause, IsNoRunBy, IsRecordOfRun, RecordTo}
 use Rattle.rn_commands.specs.Replaying.{entry_line, line_code, replayed_text}

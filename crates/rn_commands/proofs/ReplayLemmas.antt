@@ -12,22 +12,22 @@ use Rattle.rn_fire.specs.States.{State, IsState}
 use Rattle.rn_fire.specs.link.States.{end_in}
 use Rattle.rn_fire.proofs.EntryLemmas.{end_of_entries}
 use Rattle.rn_record.specs.RecordText.{IsFormat, record_text}
-use Rattle.rn_told.specs.Laws.{TellsWholeRuns}
-use Rattle.rn_told.specs.Runs.{Verdict, TellsRecord}
-use Rattle.rn_told.specs.link.RunsAhead.{FaultTells}
-use Rattle.rn_told.specs.declared.fault.RecordFault.{RecordFault}
-use Rattle.rn_told.specs.declared.fault.RecordFault.TheVariants.{Q1, Q2, Q3, Q4}
-use Rattle.rn_told.specs.declared.fault.RecordFault.TheVariants as Q
+use Rattle.rn_record_reader.specs.Laws.{TellsWholeRuns}
+use Rattle.rn_record_reader.specs.Runs.{Verdict, TellsRecord}
+use Rattle.rn_record_reader.specs.link.RunsAhead.{FaultTells}
+use Rattle.rn_record_reader.specs.declared.fault.RecordFault.{RecordFault}
+use Rattle.rn_record_reader.specs.declared.fault.RecordFault.TheVariants.{Q1, Q2, Q3, Q4}
+use Rattle.rn_record_reader.specs.declared.fault.RecordFault.TheVariants as Q
 use Rattle.rn_replay.specs.declared.fault.ReplayFault.{ReplayFault}
 use Rattle.rn_replay.specs.declared.fault.ReplayFault.TheVariants.{V1, V2, V3, V4, V5}
 use Rattle.rn_replay.specs.declared.fault.ReplayFault.TheVariants as R
 use Rattle.rn_replay.specs.Replays.{IsReplayed, IsWhole, Refuses}
-use Rattle.rn_answer.specs.declared.answer.Answer.{Answer}
-use Rattle.rn_answer.specs.declared.stopped.Stopped.{Stopped}
-use Rattle.rn_answer.specs.declared.stopped.Stopped.TheVariants.{Refused, ReadFault, NoMemory}
-use Rattle.rn_answer.specs.declared.status.TheConstants.{RECORD_REFUSED}
-use Rattle.rn_answer.specs.Refusing.{Stops, done, refusal}
-use Rattle.rn_answer.specs.NetTexts.{AcceptedIn, RefusesNet}
+use Rattle.rn_answering.specs.declared.answer.Answer.{Answer}
+use Rattle.rn_answering.specs.declared.stopped.Stopped.{Stopped}
+use Rattle.rn_answering.specs.declared.stopped.Stopped.TheVariants.{Refused, ReadFault, NoMemory}
+use Rattle.rn_answering.specs.declared.status.TheConstants.{RECORD_REFUSED}
+use Rattle.rn_answering.specs.Refusing.{Stops, done, refusal}
+use Rattle.rn_answering.specs.NetTexts.{AcceptedIn, RefusesNet}
 use Rattle.rn_commands.specs.NetCommands.{ReplayComesTo}
 use Rattle.rn_commands.specs.Parts.{HasParts}
 use Rattle.rn_commands.specs.Replaying.{IsNoRunBy, IsRecordOfRun, RecordTo}

@@ -5,10 +5,10 @@ use Rattle.rn_model.specs.declared.log.Options.{Options}
 use Rattle.rn_served.specs.Entries.{nothing}
 use Rattle.rn_served.specs.Lines.{lines_of}
 use Rattle.rn_served.specs.Served.{Served}
-use Rattle.rn_answer.specs.declared.stopped.Stopped.{Stopped}
-use Rattle.rn_answer.specs.declared.stopped.Stopped.TheVariants.{Refused, ReadFault, NoMemory}
-use Rattle.rn_answer.specs.Refusing.{Stops, done}
-use Rattle.rn_answer.specs.NetTexts.{Accepted, RefusesNet}
+use Rattle.rn_answering.specs.declared.stopped.Stopped.{Stopped}
+use Rattle.rn_answering.specs.declared.stopped.Stopped.TheVariants.{Refused, ReadFault, NoMemory}
+use Rattle.rn_answering.specs.Refusing.{Stops, done}
+use Rattle.rn_answering.specs.NetTexts.{Accepted, RefusesNet}
 use Rattle.rn_commands.specs.Parts.{HasParts}
 use Rattle.rn_commands.specs.Stepping.{SessionComesTo}
 

@@ -12,11 +12,11 @@ use Rattle.rn_pt.specs.Texts.{Answers, IsReason, IsRefused, Spells}
 use Rattle.rn_print.specs.Nets.{canonical_text}
 use Rattle.rn_translated.specs.AcceptedLaws.{TranslationsAreAccepted, TextsHaveTheirLength}
 use Rattle.rn_translated.specs.Translation.{translated}
-use Rattle.rn_answer.specs.declared.answer.Answer.{Answer}
-use Rattle.rn_answer.specs.declared.stopped.Stopped.{Stopped}
-use Rattle.rn_answer.specs.declared.stopped.Stopped.TheVariants.{Refused, ReadFault, NoMemory}
-use Rattle.rn_answer.specs.declared.status.TheConstants.{NET_REFUSED}
-use Rattle.rn_answer.specs.Refusing.{Stops, done, refusal}
+use Rattle.rn_answering.specs.declared.answer.Answer.{Answer}
+use Rattle.rn_answering.specs.declared.stopped.Stopped.{Stopped}
+use Rattle.rn_answering.specs.declared.stopped.Stopped.TheVariants.{Refused, ReadFault, NoMemory}
+use Rattle.rn_answering.specs.declared.status.TheConstants.{NET_REFUSED}
+use Rattle.rn_answering.specs.Refusing.{Stops, done, refusal}
 use Rattle.rn_commands.specs.Translating.{pt_line, IsUnrefused, RefusesWeighted, TranslatesTo}
 
 -- a refusal is no net

@@ -8,8 +8,8 @@ use Rattle.rn_model.specs.declared.log.Reason.TheVariants.{Memory}
 use Rattle.rn_model.specs.Runs.{Firing}
 use Rattle.rn_least.specs.LeastRuns.{LeastLog}
 use Rattle.rn_incr.specs.Counts.{AreCounts}
-use Rattle.rn_answer.specs.declared.answer.Answer.{Answer}
-use Rattle.rn_answer.specs.NetTexts.{Accepted}
+use Rattle.rn_answering.specs.declared.answer.Answer.{Answer}
+use Rattle.rn_answering.specs.NetTexts.{Accepted}
 use Rattle.rn_commands.specs.Ends.{end_line, end_message, end_status}
 
 -- the line of a number of firings and of how many bindings are enabled after them, as `3 2`

@@ -4,8 +4,8 @@ use Rattle.rn_model.specs.declared.log.FaultKind.{FaultKind}
 use Rattle.rn_model.specs.declared.log.FaultKind.TheVariants.{Action, Instances}
 use Rattle.rn_model.specs.declared.log.Reason.{Reason}
 use Rattle.rn_model.specs.declared.log.Reason.TheVariants.{Dead, Steps, Fault, Memory}
-use Rattle.rn_answer.specs.declared.status.TheConstants.{DONE, FAULTED, NO_MEMORY}
-use Rattle.rn_answer.specs.Lines.{number_line}
+use Rattle.rn_answering.specs.declared.status.TheConstants.{DONE, FAULTED, NO_MEMORY}
+use Rattle.rn_answering.specs.Lines.{number_line}
 
 -- the status of a run whose log ended so
 abbrev pub end_status : Reason → ℕ

@@ -2,8 +2,8 @@
 use Rattle.std.specs.Prelude.{ℕ, ◌≡◌, List}
 use Rattle.rn_model.specs.declared.log.Options.{Options}
 use Rattle.rn_gen.specs.Workload.{workload}
-use Rattle.rn_answer.specs.declared.answer.Answer.{Answer}
-use Rattle.rn_answer.specs.NetTexts.{Accepted, AcceptedIn}
+use Rattle.rn_answering.specs.declared.answer.Answer.{Answer}
+use Rattle.rn_answering.specs.NetTexts.{Accepted, AcceptedIn}
 use Rattle.rn_commands.specs.declared.jobs.Job.{Job}
 use Rattle.rn_commands.specs.declared.jobs.Pick.{Pick}
 use Rattle.rn_commands.specs.declared.jobs.Pick.TheVariants.{Least}

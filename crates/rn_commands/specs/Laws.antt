@@ -5,8 +5,8 @@ use Rattle.rn_model.specs.declared.system.System.{System}
 use Rattle.rn_model.specs.declared.log.Options.{Options}
 use Rattle.rn_record.specs.RecordText.{IsFormat}
 use Rattle.rn_gen.specs.Workload.{workload}
-use Rattle.rn_answer.specs.declared.answer.Answer.{Answer}
-use Rattle.rn_answer.specs.NetTexts.{Accepted}
+use Rattle.rn_answering.specs.declared.answer.Answer.{Answer}
+use Rattle.rn_answering.specs.NetTexts.{Accepted}
 use Rattle.rn_commands.specs.Moves.{MovesComeTo}
 use Rattle.rn_commands.specs.NetCommands.{ReplayComesTo}
 use Rattle.rn_commands.specs.Parts.{HasParts}

@@ -2,7 +2,7 @@
 use Rattle.std.specs.Prelude.{ℕ, List, Some}
 use Rattle.rn_model.specs.declared.log.Options.{Options}
 use Rattle.rn_least.specs.LeastRuns.{LeastLog}
-use Rattle.rn_answer.specs.declared.answer.Answer.{Answer}
+use Rattle.rn_answering.specs.declared.answer.Answer.{Answer}
 use Rattle.rn_commands.specs.Runs.{RunsTo}
 
 -- What `run` comes to where each firing is by the first binding that is enabled: what it comes to else,

@@ -4,14 +4,14 @@ use Rattle.rn_model.specs.declared.system.System.{System}
 use Rattle.rn_model.specs.declared.log.Told.{Told}
 use Rattle.rn_lookup.specs.declared.refusal.Refusal.{Refusal}
 use Rattle.rn_record.specs.RecordText.{record_text}
-use Rattle.rn_told.specs.Runs.{Verdict, TellsRecord}
+use Rattle.rn_record_reader.specs.Runs.{Verdict, TellsRecord}
 use Rattle.rn_net.specs.declared.plain.Plain.{Plain}
 use Rattle.rn_migrate.specs.Migrated.{migrated_text}
-use Rattle.rn_answer.specs.declared.answer.Answer.{Answer}
-use Rattle.rn_answer.specs.declared.status.TheConstants.{NET_REFUSED, RECORD_REFUSED}
-use Rattle.rn_answer.specs.Lines.{number_line}
-use Rattle.rn_answer.specs.NetTexts.{Accepted, RefusesNet}
-use Rattle.rn_answer.specs.Refusing.{done, refusal}
+use Rattle.rn_answering.specs.declared.answer.Answer.{Answer}
+use Rattle.rn_answering.specs.declared.status.TheConstants.{NET_REFUSED, RECORD_REFUSED}
+use Rattle.rn_answering.specs.Lines.{number_line}
+use Rattle.rn_answering.specs.NetTexts.{Accepted, RefusesNet}
+use Rattle.rn_answering.specs.Refusing.{done, refusal}
 use Rattle.rn_commands.specs.Parts.{HasParts}
 use Rattle.rn_commands.specs.Replaying.{line_code}
 

@@ -5,11 +5,11 @@ use Rattle.rn_model.specs.declared.log.Options.{Options}
 use Rattle.rn_model.specs.declared.log.Reason.{Reason}
 use Rattle.rn_model.specs.Runs.{entries_of}
 use Rattle.rn_moves.specs.MovesText.{MovesText}
-use Rattle.rn_told.specs.Runs.{Verdict, TellsRecord}
-use Rattle.rn_answer.specs.declared.answer.Answer.{Answer}
-use Rattle.rn_answer.specs.declared.status.TheConstants.{RECORD_REFUSED}
-use Rattle.rn_answer.specs.NetTexts.{Accepted, RefusesNet}
-use Rattle.rn_answer.specs.Refusing.{done, refusal}
+use Rattle.rn_record_reader.specs.Runs.{Verdict, TellsRecord}
+use Rattle.rn_answering.specs.declared.answer.Answer.{Answer}
+use Rattle.rn_answering.specs.declared.status.TheConstants.{RECORD_REFUSED}
+use Rattle.rn_answering.specs.NetTexts.{Accepted, RefusesNet}
+use Rattle.rn_answering.specs.Refusing.{done, refusal}
 use Rattle.rn_commands.specs.Parts.{HasParts}
 use Rattle.rn_commands.specs.Replaying.{IsNoRunBy, IsRecordOfRun}
 

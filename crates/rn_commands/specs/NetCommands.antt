@@ -3,9 +3,9 @@ use Rattle.std.specs.Prelude.{ℕ, ◌≡◌, ◌⊎◌, List}
 use Rattle.rn_model.specs.declared.system.System.{System}
 use Rattle.rn_model.specs.declared.binding.Binding.{Binding}
 use Rattle.rn_model.specs.declared.log.Options.{Options}
-use Rattle.rn_answer.specs.declared.answer.Answer.{Answer}
-use Rattle.rn_answer.specs.Refusing.{done}
-use Rattle.rn_answer.specs.NetTexts.{Accepted, RefusesNet}
+use Rattle.rn_answering.specs.declared.answer.Answer.{Answer}
+use Rattle.rn_answering.specs.Refusing.{done}
+use Rattle.rn_answering.specs.NetTexts.{Accepted, RefusesNet}
 use Rattle.rn_commands.specs.Bindings.{AreEnabledFirst, bindings_text}
 use Rattle.rn_commands.specs.Parts.{HasParts}
 use Rattle.rn_commands.specs.Replaying.{RecordTo}

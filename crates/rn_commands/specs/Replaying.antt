@@ -10,15 +10,15 @@ use Rattle.rn_model.specs.Runs.{Firing, Log, end_of, entries_of}
 use Rattle.rn_model.specs.Liveness.{LivePart}
 use Rattle.rn_lookup.specs.declared.refusal.Refusal.{Refusal}
 use Rattle.rn_lookup.specs.declared.refusal.Refusal.TheVariants.{Form, Name, Step, Many, Memory}
-use Rattle.rn_told.specs.Runs.{Verdict, TellsRecord}
+use Rattle.rn_record_reader.specs.Runs.{Verdict, TellsRecord}
 use Rattle.rn_replay.specs.declared.fault.ReplayFault.{ReplayFault}
 use Rattle.rn_replay.specs.declared.fault.ReplayFault.TheVariants.{V1, V2, V3, V4, V5}
 use Rattle.rn_replay.specs.declared.fault.ReplayFault.TheVariants as R
 use Rattle.rn_replay.specs.Replays.{Refused}
-use Rattle.rn_answer.specs.declared.answer.Answer.{Answer}
-use Rattle.rn_answer.specs.declared.status.TheConstants.{RECORD_REFUSED}
-use Rattle.rn_answer.specs.Refusing.{done, refusal}
-use Rattle.rn_answer.specs.Lines.{number_line}
+use Rattle.rn_answering.specs.declared.answer.Answer.{Answer}
+use Rattle.rn_answering.specs.declared.status.TheConstants.{RECORD_REFUSED}
+use Rattle.rn_answering.specs.Refusing.{done, refusal}
+use Rattle.rn_answering.specs.Lines.{number_line}
 use Rattle.rn_commands.specs.Ends.{end_word}
 use Rattle.rn_commands.specs.Runs.{run_text}
 

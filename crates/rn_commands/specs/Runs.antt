@@ -7,8 +7,8 @@ use Rattle.rn_model.specs.declared.log.Reason.{Reason}
 use Rattle.rn_model.specs.Runs.{Firing, Log, end_of, entries_of}
 use Rattle.rn_model.specs.Liveness.{LivePart}
 use Rattle.rn_record.specs.RecordText.{record_text}
-use Rattle.rn_answer.specs.declared.answer.Answer.{Answer}
-use Rattle.rn_answer.specs.NetTexts.{Accepted}
+use Rattle.rn_answering.specs.declared.answer.Answer.{Answer}
+use Rattle.rn_answering.specs.NetTexts.{Accepted}
 use Rattle.rn_commands.specs.Ends.{end_status, end_message}
 
 -- the text of these firings, of this end, and of these marks, in this format

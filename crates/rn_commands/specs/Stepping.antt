@@ -5,9 +5,9 @@ use Rattle.rn_model.specs.declared.log.Options.{Options}
 use Rattle.rn_served.specs.Entries.{nothing}
 use Rattle.rn_served.specs.Lines.{lines_of}
 use Rattle.rn_served.specs.Served.{Served}
-use Rattle.rn_answer.specs.declared.answer.Answer.{Answer}
-use Rattle.rn_answer.specs.Refusing.{done}
-use Rattle.rn_answer.specs.NetTexts.{Accepted, RefusesNet}
+use Rattle.rn_answering.specs.declared.answer.Answer.{Answer}
+use Rattle.rn_answering.specs.Refusing.{done}
+use Rattle.rn_answering.specs.NetTexts.{Accepted, RefusesNet}
 use Rattle.rn_commands.specs.Parts.{HasParts}
 
 -- The lines after an accepted net text: all that a session answers to them, from no entries on.

@@ -9,11 +9,11 @@ use Rattle.rn_pt.specs.Texts.{Spells, IsRefused}
 use Rattle.rn_print.specs.Nets.{canonical_text}
 use Rattle.rn_translated.specs.TranslatedSystem.{translated_system}
 use Rattle.rn_translated.specs.Translation.{translated}
-use Rattle.rn_answer.specs.declared.answer.Answer.{Answer}
-use Rattle.rn_answer.specs.declared.status.TheConstants.{NET_REFUSED}
-use Rattle.rn_answer.specs.Lines.{spot_line}
-use Rattle.rn_answer.specs.NetTexts.{Accepted}
-use Rattle.rn_answer.specs.Refusing.{done, refusal}
+use Rattle.rn_answering.specs.declared.answer.Answer.{Answer}
+use Rattle.rn_answering.specs.declared.status.TheConstants.{NET_REFUSED}
+use Rattle.rn_answering.specs.Lines.{spot_line}
+use Rattle.rn_answering.specs.NetTexts.{Accepted}
+use Rattle.rn_answering.specs.Refusing.{done, refusal}
 
 -- the line of a text that spells no weighted net; want of memory is no reason, and has no line
 abbrev pub pt_line : PtFault → List ℕ

@@ -9,8 +9,8 @@ use Rattle.rn_model.specs.Markings.{Marking}
 use Rattle.rn_model.specs.Runs.{Firing, Log, end_of}
 use Rattle.rn_model.specs.Liveness.{IsLive}
 use Rattle.rn_gen.specs.Workload.{workload}
-use Rattle.rn_answer.specs.declared.answer.Answer.{Answer}
-use Rattle.rn_answer.specs.NetTexts.{Accepted}
+use Rattle.rn_answering.specs.declared.answer.Answer.{Answer}
+use Rattle.rn_answering.specs.NetTexts.{Accepted}
 use Rattle.rn_commands.specs.Ends.{end_status, end_message, end_line}
 use Rattle.rn_commands.specs.Runs.{IsOfWorkers}
 

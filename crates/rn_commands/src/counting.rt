@@ -2,14 +2,14 @@
 ghost use Rattle.std.specs.Prelude.{◌≡◌, ◌≢◌, ◌++◌, ◌⊎◌, None, IfOk, OnOk};
 ghost use Rattle.rn_model.specs.Good.{Good, IsInLimits};
 ghost use Rattle.rn_incr.specs.Counts.{IsCounted};
-ghost use Rattle.rn_answer.specs.NetTexts.{RefusesNet};
-ghost use Rattle.rn_answer.specs.Refusing.{Concludes};
+ghost use Rattle.rn_answering.specs.NetTexts.{RefusesNet};
+ghost use Rattle.rn_answering.specs.Refusing.{Concludes};
 ghost use Rattle.rn_commands.specs.Counting.{count_line, count_lines, CountsTo};
 ghost use Rattle.rn_commands.specs.link.Counting.{AreLinesOf, IsCountedBy};
 
 use crate::runs::closed_by;
 use crate::workload::end_line;
-use rn_answer::{Answer, Stopped, system_of};
+use rn_answering::{Answer, Stopped, system_of};
 use rn_fire::SimState;
 use rn_incr::{Counted, run_counts};
 use rn_items::{Items, NoMemory};

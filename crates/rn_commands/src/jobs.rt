@@ -3,14 +3,14 @@ ghost use Rattle.std.specs.Prelude.{◌≤◌, IfOk, IfErr};
 ghost use Rattle.rn_model.specs.Good.{Good, IsInLimits};
 ghost use Rattle.rn_gen.specs.Workload.{workload};
 ghost use Rattle.rn_record.specs.RecordText.{IsFormat};
-ghost use Rattle.rn_answer.specs.NetTexts.{Accepted, AcceptedIn, RefusesNet};
-ghost use Rattle.rn_answer.specs.Refusing.{Stops};
+ghost use Rattle.rn_answering.specs.NetTexts.{Accepted, AcceptedIn, RefusesNet};
+ghost use Rattle.rn_answering.specs.Refusing.{Stops};
 ghost use Rattle.rn_commands.specs.Jobs.{IsAskedBy, JobComesTo};
 
 use crate::running::run_system;
 use crate::runs::written;
 use crate::workload::{tallied, workload_system};
-use rn_answer::{Answer, Stopped, net_of};
+use rn_answering::{Answer, Stopped, net_of};
 use rn_items::NoMemory;
 use rn_model::{Options, System};
 use rn_worker::Gate;

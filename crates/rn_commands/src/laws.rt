@@ -3,8 +3,8 @@ ghost use Rattle.rn_commands.specs.Laws.{MovesGoWithReplay, OneAnswerToRecord, O
 ghost use Rattle.rn_commands.specs.Laws.{WorkloadsAreAccepted};
 
 use rn_gen::workload_laws;
+use rn_record_reader::record_laws;
 use rn_replay::replay_laws;
-use rn_told::record_laws;
 
 /// The input of `replay` has one net text and one record.
 pub fn parts_laws()

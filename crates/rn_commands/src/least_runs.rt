@@ -1,14 +1,14 @@
 //! The command `run` with the first of the bindings that are enabled: the least run of a net text.
 ghost use Rattle.std.specs.Prelude.{◌⊎◌};
 ghost use Rattle.rn_model.specs.Good.{IsInLimits};
-ghost use Rattle.rn_answer.specs.NetTexts.{RefusesNet};
-ghost use Rattle.rn_answer.specs.Refusing.{Concludes};
+ghost use Rattle.rn_answering.specs.NetTexts.{RefusesNet};
+ghost use Rattle.rn_answering.specs.Refusing.{Concludes};
 ghost use Rattle.rn_commands.specs.LeastLaws.{LeastTextsAreOne};
 ghost use Rattle.rn_commands.specs.LeastRuns.{RunsLeastTo};
 
 use crate::jobs::Pick;
 use crate::runs::run_by;
-use rn_answer::{Answer, Stopped};
+use rn_answering::{Answer, Stopped};
 use rn_model::Options;
 use rn_worker::Gate;
 use std::alloc::Global;

@@ -1,11 +1,11 @@
 //! The command `migrate`: a net text of notation 1, and its record, in notation 2.
 ghost use Rattle.std.specs.Prelude.{◌≡◌, ◌≤◌, ◌++◌, IfOk, codes, length, nat_eq};
-ghost use Rattle.rn_told.specs.Runs.{longest_record};
-ghost use Rattle.rn_answer.specs.Refusing.{Concludes};
+ghost use Rattle.rn_record_reader.specs.Runs.{longest_record};
+ghost use Rattle.rn_answering.specs.Refusing.{Concludes};
 ghost use Rattle.rn_commands.specs.Migrating.{MigrateComesTo};
 
 use crate::replays::{parted, refused_record};
-use rn_answer::{Answer, Stopped, checked, done, plain_of, refused_at};
+use rn_answering::{Answer, Stopped, checked, done, plain_of, refused_at};
 use rn_items::NoMemory;
 use rn_migrate::{migrate_record, migrate_text};
 use rn_notation::Spot;

@@ -2,13 +2,13 @@
 ghost use Rattle.std.specs.Prelude.{◌≤◌, IfOk, length};
 ghost use Rattle.rn_model.specs.Good.{IsInLimits};
 ghost use Rattle.rn_fire.specs.States.{IsState, logged};
-ghost use Rattle.rn_told.specs.Runs.{longest_record};
+ghost use Rattle.rn_record_reader.specs.Runs.{longest_record};
 ghost use Rattle.rn_moves.specs.MovesText.{MovesText};
-ghost use Rattle.rn_answer.specs.Refusing.{Concludes};
+ghost use Rattle.rn_answering.specs.Refusing.{Concludes};
 ghost use Rattle.rn_commands.specs.Moves.{MovesComeTo};
 
 use crate::replays::{parted, refused_replay, replayed, told_of};
-use rn_answer::{Answer, Stopped, done, net_of};
+use rn_answering::{Answer, Stopped, done, net_of};
 use rn_fire::SimState;
 use rn_items::NoMemory;
 use rn_model::Options;

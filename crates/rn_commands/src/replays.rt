@@ -5,22 +5,22 @@ ghost use Rattle.rn_model.specs.Good.{Good, IsInLimits};
 ghost use Rattle.rn_model.specs.declared.log.Options.{Options as RunOptions};
 ghost use Rattle.rn_record.specs.RecordText.{IsFormat, record_text};
 ghost use Rattle.rn_fire.specs.States.{IsState};
-ghost use Rattle.rn_told.specs.Runs.{TellsRecord, Verdict, longest_record};
+ghost use Rattle.rn_record_reader.specs.Runs.{TellsRecord, Verdict, longest_record};
 ghost use Rattle.rn_replay.specs.Replays.{IsWhole, Replays};
 ghost use Rattle.rn_commands.specs.NetCommands.{ReplayComesTo};
-ghost use Rattle.rn_answer.specs.Lines.{number_line};
+ghost use Rattle.rn_answering.specs.Lines.{number_line};
 ghost use Rattle.rn_commands.specs.Parts.{HasParts, line_length, is_parting};
-ghost use Rattle.rn_answer.specs.Refusing.{Concludes, Stops, refusal};
+ghost use Rattle.rn_answering.specs.Refusing.{Concludes, Stops, refusal};
 ghost use Rattle.rn_commands.specs.Replaying.{entry_line, replayed_text};
 ghost use Rattle.rn_commands.specs.link.Replaying.{RefusesRecord, record_line};
 
 use crate::ends::{end_reason, end_word, fired_count};
-use rn_answer::{Answer, RECORD_REFUSED, Stopped, done, net_of, number_line, refused};
+use rn_answering::{Answer, RECORD_REFUSED, Stopped, done, net_of, number_line, refused};
 use rn_fire::SimState;
 use rn_items::NoMemory;
 use rn_model::{Options, Reason, System, Told};
+use rn_record_reader::{RecordFault, read_record, record_laws};
 use rn_replay::ReplayFault;
-use rn_told::{RecordFault, read_record, record_laws};
 use std::alloc::Global;
 use std::sync::Arc;
 

@@ -4,11 +4,11 @@ ghost use Rattle.rn_model.specs.Good.{Good, IsInLimits};
 ghost use Rattle.rn_served.specs.Entries.{nothing};
 ghost use Rattle.rn_served.specs.Lines.{lines_of};
 ghost use Rattle.rn_served.specs.Served.{Served};
-ghost use Rattle.rn_answer.specs.Refusing.{Concludes};
+ghost use Rattle.rn_answering.specs.Refusing.{Concludes};
 ghost use Rattle.rn_commands.specs.Stepping.{SessionComesTo};
 
 use crate::replays::parted;
-use rn_answer::{Answer, Stopped, done, system_of};
+use rn_answering::{Answer, Stopped, done, system_of};
 use rn_items::NoMemory;
 use rn_model::{Options, System};
 use rn_session::serve;

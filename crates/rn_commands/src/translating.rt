@@ -3,11 +3,11 @@ ghost use Rattle.std.specs.Prelude.{◌≡◌, ◌⊎◌, IfOk, IfErr};
 ghost use Rattle.rn_items.specs.Memory.{no_memory};
 ghost use Rattle.rn_weighted.specs.Weighted.{IsWeighted};
 ghost use Rattle.rn_pt.specs.Texts.{Spells};
-ghost use Rattle.rn_answer.specs.declared.status.TheConstants.{NET_REFUSED};
-ghost use Rattle.rn_answer.specs.Refusing.{Concludes, Stops, refusal};
+ghost use Rattle.rn_answering.specs.declared.status.TheConstants.{NET_REFUSED};
+ghost use Rattle.rn_answering.specs.Refusing.{Concludes, Stops, refusal};
 ghost use Rattle.rn_commands.specs.Translating.{pt_line, IsUnrefused, RefusesWeighted, TranslatesTo};
 
-use rn_answer::{Answer, Stopped, done, refused_at};
+use rn_answering::{Answer, Stopped, done, refused_at};
 use rn_print::print_system;
 use rn_pt::{PtFault, read_pt};
 use rn_translated::{translate, translations_are_accepted, translations_have_their_length};

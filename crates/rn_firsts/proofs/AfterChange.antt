@@ -16,9 +16,9 @@ use Rattle.rn_model.proofs.MarkingsOfRuns.{found_is_there}
 use Rattle.rn_reach.specs.Reach.{Reach, itself, further, RefersTo, StartsIn}
 use Rattle.rn_reach.proofs.ReachLemmas.{reach_decides}
 use Rattle.rn_holders.specs.Holders.{HasItsHolders, HaveTheseHolders, KeepHolders, MentionNear, held_by}
-use Rattle.rn_found.specs.Idle.{AreIdle, IsIn}
-use Rattle.rn_found.specs.Starting.{HasStartIn, start_of}
-use Rattle.rn_found.proofs.StartingBindings.{is_start_of, may_start_there, net_may_start}
+use Rattle.rn_finder.specs.Idle.{AreIdle, IsIn}
+use Rattle.rn_finder.specs.Starting.{HasStartIn, start_of}
+use Rattle.rn_finder.proofs.StartingBindings.{is_start_of, may_start_there, net_may_start}
 use Rattle.rn_firsts.specs.Known.{ComesAfter, HasFewPlaces, HaveLiveHolders, IsLookedAt}
 use Rattle.rn_items.proofs.Numbers.{in_or_not}
 

@@ -9,12 +9,12 @@ use Rattle.rn_model.specs.Markings.{Marking}
 use Rattle.rn_model.proofs.EnablingLemmas.{not_in_nil}
 use Rattle.rn_channel.specs.declared.uplinks.Uplinks.{Uplinks}
 use Rattle.rn_table.specs.Tables.{Kept}
-use Rattle.rn_found.specs.First.{IsFirstOf}
-use Rattle.rn_found.specs.Starting.{AreJust, HasStartIn, IsSearchable}
-use Rattle.rn_found.proofs.FirstBindings.{first_of_all, less_by_instance, none_first}
-use Rattle.rn_found.proofs.JustThese.{just_none}
-use Rattle.rn_found.proofs.Numbers.{less_or_not}
-use Rattle.rn_found.proofs.StartingBindings.{HasStartBefore, all_before, more_before, starts_in}
+use Rattle.rn_finder.specs.First.{IsFirstOf}
+use Rattle.rn_finder.specs.Starting.{AreJust, HasStartIn, IsSearchable}
+use Rattle.rn_finder.proofs.FirstBindings.{first_of_all, less_by_instance, none_first}
+use Rattle.rn_finder.proofs.JustThese.{just_none}
+use Rattle.rn_finder.proofs.Numbers.{less_or_not}
+use Rattle.rn_finder.proofs.StartingBindings.{HasStartBefore, all_before, more_before, starts_in}
 use Rattle.rn_firsts.specs.Known.{IsLookedAt}
 
 -- a number that isn't the first and isn't among the others

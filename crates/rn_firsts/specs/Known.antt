@@ -7,7 +7,7 @@ use Rattle.rn_model.specs.Liveness.{IsLive}
 use Rattle.rn_model.specs.Markings.{Marking, Instance, IsThere, instance_at}
 use Rattle.rn_reach.specs.Reach.{RefersTo}
 use Rattle.rn_holders.specs.Holders.{held_by}
-use Rattle.rn_found.specs.Starting.{HasStartIn}
+use Rattle.rn_finder.specs.Starting.{HasStartIn}
 
 -- What is known: up to which number instances were looked at, and which of them are to be looked
 -- at again; and, where they are held, which instances may refer to which.

@@ -2,7 +2,7 @@
 use Rattle.std.specs.Prelude.{ℕ, ◌≡◌, Bool, true, List}
 use Rattle.rn_model.specs.declared.system.System.{System}
 use Rattle.rn_model.specs.Markings.{Marking}
-use Rattle.rn_found.specs.Idle.{AreIdle}
+use Rattle.rn_finder.specs.Idle.{AreIdle}
 use Rattle.rn_firsts.specs.Known.{HaveLiveHolders}
 
 -- The set of the instances of which it is known; and, where they are held, which instances may refer

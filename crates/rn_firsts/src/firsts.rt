@@ -13,7 +13,7 @@ ghost use Rattle.rn_model.specs.Order.{binding_cmp};
 ghost use Rattle.rn_channel.specs.link.Uplinks.{AreUplinksOf};
 ghost use Rattle.rn_search.specs.Problems.{HasFitTokens};
 ghost use Rattle.rn_table.specs.Tables.{IsTableOf};
-ghost use Rattle.rn_found.specs.First.{IsFirstOf};
+ghost use Rattle.rn_finder.specs.First.{IsFirstOf};
 ghost use Rattle.rn_firsts.specs.Known.{ComesAfter, HasFewPlaces, IsKnown};
 
 use crate::following::{hold_changes, mark_all};
@@ -21,7 +21,7 @@ use crate::looking::{first_again, first_from};
 use crate::pace::{LookPace, weight_within};
 use rn_binding::Candidate;
 use rn_channel::Uplinks;
-use rn_found::Room;
+use rn_finder::Room;
 use rn_holders::may_reach;
 use rn_items::NoMemory;
 use rn_model::{Nums, System};

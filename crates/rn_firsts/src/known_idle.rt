@@ -10,7 +10,7 @@ ghost use Rattle.rn_model.specs.Markings.{Marking};
 ghost use Rattle.rn_channel.specs.link.Uplinks.{AreUplinksOf};
 ghost use Rattle.rn_search.specs.Problems.{HasFitTokens};
 ghost use Rattle.rn_table.specs.Tables.{IsTableOf};
-ghost use Rattle.rn_found.specs.Idle.{IsIn};
+ghost use Rattle.rn_finder.specs.Idle.{IsIn};
 ghost use Rattle.rn_firsts.specs.Known.{ComesAfter, HasFewPlaces};
 ghost use Rattle.rn_firsts.specs.Resting.{KnowsIdle};
 
@@ -19,7 +19,7 @@ use crate::pace::{Credit, FEW, LookPace, weight_within};
 use rn_binding::Candidate;
 use rn_channel::Uplinks;
 use rn_choices::Asked;
-use rn_found::{Finding, Idle};
+use rn_finder::{Finding, Idle};
 use rn_holders::may_reach;
 use rn_items::NoMemory;
 use rn_model::{Nums, System};

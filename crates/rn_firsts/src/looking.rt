@@ -3,14 +3,14 @@
 //! are searched in vain on the way become known, for the next look (`docs/SEARCH.md`, 'The first of
 //! all').
 ghost use Rattle.std.specs.Prelude.{◌≡◌, ⊤, [], Some, IfOk, MatchOption};
-ghost use Rattle.rn_found.specs.First.{IsFirstOf};
-ghost use Rattle.rn_found.specs.Starting.{IsSearchable};
+ghost use Rattle.rn_finder.specs.First.{IsFirstOf};
+ghost use Rattle.rn_finder.specs.Starting.{IsSearchable};
 ghost use Rattle.rn_firsts.specs.Known.{IsLookedAt};
 
 use crate::pace::LookPace;
 use rn_binding::Candidate;
 use rn_channel::Uplinks;
-use rn_found::{Room, least_of};
+use rn_finder::{Room, least_of};
 use rn_items::NoMemory;
 use rn_model::System;
 use rn_table::Table;

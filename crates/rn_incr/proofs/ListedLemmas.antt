@@ -15,11 +15,11 @@ use Rattle.rn_model.specs.Order.{binding_cmp}
 use Rattle.rn_model.specs.link.OrderLaws.{binding_cmp-total}
 use Rattle.rn_model.proofs.EnablingLemmas.{not_in_nil}
 use Rattle.rn_least.specs.LeastRuns.{IsLeast}
-use Rattle.rn_found.specs.Starting.{AreJust, HasStartIn}
-use Rattle.rn_found.proofs.JustThese.{just_more, just_none}
-use Rattle.rn_found.proofs.Numbers.{less_or_not}
-use Rattle.rn_found.proofs.Ordered.{sorted_is_least}
-use Rattle.rn_found.proofs.StartingBindings.{one_number, starts_in}
+use Rattle.rn_finder.specs.Starting.{AreJust, HasStartIn}
+use Rattle.rn_finder.proofs.JustThese.{just_more, just_none}
+use Rattle.rn_finder.proofs.Numbers.{less_or_not}
+use Rattle.rn_finder.proofs.Ordered.{sorted_is_least}
+use Rattle.rn_finder.proofs.StartingBindings.{one_number, starts_in}
 use Rattle.rn_incr.specs.Lists.{IsListOf, IsCount}
 use Rattle.rn_incr.proofs.OrderLemmas.{adjacent_apart, lower_is_less}
 

@@ -19,8 +19,8 @@ use Rattle.rn_model.specs.Enabling.{Enabled}
 use Rattle.rn_model.specs.Markings.{Marking}
 use Rattle.rn_model.specs.Order.{node_cmp, binding_cmp}
 use Rattle.rn_model.specs.link.OrderLaws.{binding_cmp-total}
-use Rattle.rn_found.specs.Starting.{HasStartIn}
-use Rattle.rn_found.proofs.FirstBindings.{root_is_first}
+use Rattle.rn_finder.specs.Starting.{HasStartIn}
+use Rattle.rn_finder.proofs.FirstBindings.{root_is_first}
 use Rattle.rn_incr.proofs.StartLemmas.{starts_with}
 
 -- where each is less than the next, each is another one

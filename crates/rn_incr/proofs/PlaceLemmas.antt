@@ -26,8 +26,8 @@ use Rattle.rn_model.proofs.MarkingsOfRuns.{found_is_there}
 use Rattle.rn_search.specs.Problems.{HasFitTokens}
 use Rattle.rn_search.proofs.Alternatives.{from_map}
 use Rattle.rn_holders.specs.Holders.{MentionNear}
-use Rattle.rn_found.specs.Starting.{HasStartIn, start_of}
-use Rattle.rn_found.proofs.StartingBindings.{is_start_of, may_start_there}
+use Rattle.rn_finder.specs.Starting.{HasStartIn, start_of}
+use Rattle.rn_finder.proofs.StartingBindings.{is_start_of, may_start_there}
 use Rattle.rn_incr.specs.Lists.{IsListOf}
 
 empty_layer : (y : V.Value-F Value) (n : ℕ) →

@@ -10,7 +10,7 @@ use Rattle.std.proofs.lemmas.List.{map-append, get_or-set_same, get_or-set_other
 use Rattle.std.proofs.lemmas.List.{set_past, take_more}
 use Rattle.std.proofs.lemmas.List.Elements.{All-head, All-tail, All-push}
 use Rattle.rn_model.specs.declared.binding.Binding.{Binding}
-use Rattle.rn_found.proofs.Numbers.{less_or_not}
+use Rattle.rn_finder.proofs.Numbers.{less_or_not}
 use Rattle.rn_incr.specs.declared.fresh.Fresh.{Fresh}
 use Rattle.rn_incr.specs.link.Kept.{some_in, AreBusy, AreNear, AreNoted, ArePut, GrowsBy}
 use Rattle.rn_incr.specs.link.Kept.{numbers_of, put_in}

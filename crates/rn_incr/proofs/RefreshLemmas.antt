@@ -12,7 +12,7 @@ use Rattle.rn_model.proofs.MarkingsOfRuns.{found_is_there}
 use Rattle.rn_reach.specs.Reach.{RefersTo, ReachesOne, DifferAtMostIn}
 use Rattle.rn_reach.proofs.ChangedInstances.{changes_are_reached_in_both, others_stay}
 use Rattle.rn_holders.specs.Holders.{HaveHolders, KeepHolders, HaveTheseHolders}
-use Rattle.rn_found.specs.Starting.{HasStartIn}
+use Rattle.rn_finder.specs.Starting.{HasStartIn}
 use Rattle.rn_incr.specs.Lists.{IsListOf, IsNumberOf}
 use Rattle.rn_incr.proofs.StartLemmas.{starts_in_it}
 use Rattle.rn_items.proofs.Numbers.{in_or_not}

@@ -15,7 +15,7 @@ use Rattle.rn_model.proofs.SoundRuns.{runs_end_sound}
 use Rattle.rn_search.specs.Problems.{HasFitTokens}
 use Rattle.rn_binding.specs.Soundness.{IsSound}
 use Rattle.rn_least.specs.LeastRuns.{IsLeast, LeastLog}
-use Rattle.rn_found.proofs.FitTokens.{standing_tokens_fit}
+use Rattle.rn_finder.proofs.FitTokens.{standing_tokens_fit}
 use Rattle.rn_fire.specs.Commits.{HasFired}
 use Rattle.rn_fire.specs.declared.setup.Setup.{Setup}
 use Rattle.rn_fire.specs.Ends.{EndsAtLimit, with_end}

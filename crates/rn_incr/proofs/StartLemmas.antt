@@ -9,7 +9,7 @@ use Rattle.rn_model.specs.declared.system.System.{System}
 use Rattle.rn_model.specs.Enabling.{Enabled}
 use Rattle.rn_model.specs.Markings.{Marking}
 use Rattle.rn_model.proofs.MarkingsOfRuns.{found_is_there}
-use Rattle.rn_found.specs.Starting.{HasStartIn}
+use Rattle.rn_finder.specs.Starting.{HasStartIn}
 use Rattle.rn_reach.specs.Reach.{StartsIn}
 
 -- a binding that starts by a transition of an instance starts in it

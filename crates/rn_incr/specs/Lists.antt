@@ -9,7 +9,7 @@ use Rattle.rn_model.specs.Enabling.{Enabled}
 use Rattle.rn_model.specs.Markings.{Marking, Instance, instance_at}
 use Rattle.rn_model.specs.Order.{binding_cmp}
 use Rattle.rn_model.specs.Systems.{may_start}
-use Rattle.rn_found.specs.Starting.{HasStartIn}
+use Rattle.rn_finder.specs.Starting.{HasStartIn}
 use Rattle.rn_reach.specs.Reach.{ReachesOne}
 
 -- Kept lists: the marking and the depth for which they were made, and the list of each instance, at

@@ -8,7 +8,7 @@ ghost use Rattle.rn_incr.specs.Lists.{IsListOf};
 
 use crate::lists::Cands;
 use rn_channel::Uplinks;
-use rn_found::bindings_of;
+use rn_finder::bindings_of;
 use rn_items::{Items, NoMemory};
 use rn_model::System;
 use rn_table::Table;

@@ -10,7 +10,7 @@ use crate::held::holders_at;
 use crate::kept::KeptLists;
 use rn_binding::Candidate;
 use rn_channel::Uplinks;
-use rn_found::bindings_of;
+use rn_finder::bindings_of;
 use rn_items::{Items, NoMemory};
 use rn_model::{Nums, System};
 use rn_table::Table;

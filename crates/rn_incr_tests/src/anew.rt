@@ -4,8 +4,8 @@ ghost use Rattle.rn_model.specs.Limits.{most_steps};
 
 use crate::nets::{options_of, system_of};
 use rn_channel::Uplinks;
+use rn_finder::all_bindings;
 use rn_fire::SimState;
-use rn_found::all_bindings;
 use rn_incr::run_counts;
 use std::alloc::Global;
 use std::test::Fail;

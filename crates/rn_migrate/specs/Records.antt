@@ -3,7 +3,7 @@ use Rattle.std.specs.Prelude.{ℕ, ◌≡◌, List}
 use Rattle.rn_model.specs.declared.system.System.{System}
 use Rattle.rn_model.specs.declared.log.Told.{Told}
 use Rattle.rn_record.specs.RecordText.{record_text}
-use Rattle.rn_told.specs.Runs.{Verdict, TellsRecord}
+use Rattle.rn_record_reader.specs.Runs.{Verdict, TellsRecord}
 
 -- the bytes are the text in format 2 of what these tell in format 1, and tell the same
 pub record MigratesRecord (system : System) (bytes text : List ℕ) : Type 0 where

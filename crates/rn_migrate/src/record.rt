@@ -3,13 +3,13 @@ ghost use Rattle.std.specs.Prelude.{◌≡◌, ◌≤◌, All, length, IfErr, If
 ghost use Rattle.rn_model.specs.Good.{Good};
 ghost use Rattle.rn_record.specs.RecordText.{first_names, names_at_end, record_text};
 ghost use Rattle.rn_value.specs.Names.{AreNamed};
-ghost use Rattle.rn_told.specs.Runs.{TellsRecord, longest_record};
-ghost use Rattle.rn_told.specs.link.RunsAhead.{FaultTells};
+ghost use Rattle.rn_record_reader.specs.Runs.{TellsRecord, longest_record};
+ghost use Rattle.rn_record_reader.specs.link.RunsAhead.{FaultTells};
 ghost use Rattle.rn_migrate.specs.Records.{MigratesRecord};
 
 use rn_model::{Entry, System, Told};
 use rn_record::{first_names, push_made, put_marks};
-use rn_told::{RecordFault, read_record, record_laws};
+use rn_record_reader::{RecordFault, read_record, record_laws};
 use rn_value::{Names, NoMemory};
 use std::alloc::Global;
 

@@ -31,7 +31,7 @@ use Rattle.rn_model.proofs.ReplacedValues.{replaced, replaced_step, replaced-Int
 use Rattle.rn_model.proofs.ReplacedValues.{replaced-Tuple, replaced-List, replaced-Inst}
 use Rattle.rn_model.proofs.ReplacedValues.{renamed_is_replaced}
 use Rattle.rn_lines.specs.Laws.{has_sixty_four_bits}
-use Rattle.rn_told.specs.Readable.{readable_step, readable_within}
+use Rattle.rn_record_reader.specs.Readable.{readable_step, readable_within}
 
 abbrev pub mended_int : Bool → ℤ → Value
 mended_int true n = Value.Int n

@@ -28,8 +28,8 @@ use Rattle.rn_model.specs.Runs.{EndsTruly, end_entries, entries_of}
 use Rattle.rn_model.proofs.EachElement.{each_append, each_map, each_weaker}
 use Rattle.rn_model.proofs.EnablingLemmas.{not_in_nil}
 use Rattle.rn_model.proofs.SoundRuns.{runs_end_sound}
-use Rattle.rn_told.specs.Readable.{IsReadable, HasReadableValues, IsReadableEnd}
-use Rattle.rn_told.specs.Readable.{IsReadableEntry, IsReadableRun}
+use Rattle.rn_record_reader.specs.Readable.{IsReadable, HasReadableValues, IsReadableEnd}
+use Rattle.rn_record_reader.specs.Readable.{IsReadableEntry, IsReadableRun}
 use Rattle.rn_check.proofs.GoodSystems.{checked_texts_are_good}
 use Rattle.rn_readable.specs.Laws.{LogsAreReadable}
 use Rattle.rn_readable.proofs.MendedValues.{fine_within}

@@ -10,7 +10,7 @@ use Rattle.rn_model.specs.Runs.{Firing, Log, end_of, entries_of}
 use Rattle.rn_net.specs.declared.plain.Plain.{Plain}
 use Rattle.rn_net.specs.Texts.{Spells}
 use Rattle.rn_check.specs.Checked.{Checked}
-use Rattle.rn_told.specs.Readable.{IsReadableRun}
+use Rattle.rn_record_reader.specs.Readable.{IsReadableRun}
 
 -- All values of a log of the system that a net text means, and of the marks of what is live at its
 -- end, can be read again. The number of a firing is a value too, by `step()`, so there are fewer

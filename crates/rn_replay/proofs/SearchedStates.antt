@@ -7,7 +7,7 @@ use Rattle.rn_model.proofs.SoundRuns.{runs_end_sound}
 use Rattle.rn_fire.specs.States.{State, IsState, end_marking}
 use Rattle.rn_table.specs.Tables.{Kept}
 use Rattle.rn_search.specs.Problems.{HasFitTokens}
-use Rattle.rn_found.proofs.FitTokens.{standing_tokens_fit}
+use Rattle.rn_finder.proofs.FitTokens.{standing_tokens_fit}
 
 -- the tokens of a state's table fit
 pub tokens_of_state : (s : State) → IsState s → HasFitTokens s.setup.system s.table.marking

@@ -3,9 +3,9 @@ ghost use Rattle.std.specs.Prelude.{◌≡◌, ◌↔◌, IsTrue, IfOk};
 ghost use Rattle.rn_model.specs.Liveness.{LivePart};
 ghost use Rattle.rn_fire.specs.States.{end_marking};
 
+use rn_end_marking::live_part;
 use rn_fire::SimState;
 use rn_items::NoMemory;
-use rn_marks::live_part;
 use rn_model::{MarkLine, same_repeats};
 use std::alloc::Global;
 

@@ -7,7 +7,7 @@ use Rattle.rn_model.specs.declared.system.System.{System}
 use Rattle.rn_model.specs.Liveness.{LivePart}
 use Rattle.rn_table.specs.Tables.{Kept}
 use Rattle.rn_fire.specs.States.{State, end_marking, logged}
-use Rattle.rn_written.proofs.TextsOfLogs.{logs_have_text}
+use Rattle.rn_state_record.proofs.TextsOfLogs.{logs_have_text}
 use Rattle.rn_session.specs.link.Serving.{AreNamesBefore, names_at}
 use Rattle.rn_session.specs.Sessions.{IsSession, UndoesBy}
 use Rattle.rn_session.proofs.NamesSoFar.{names_before}

@@ -12,7 +12,7 @@ use Rattle.rn_record.specs.RecordText.{first_names, names_at_end, names_past}
 use Rattle.rn_record.specs.Writable.{HasEntry, HaveEntries}
 use Rattle.rn_fire.specs.declared.setup.Setup.{Setup}
 use Rattle.rn_fire.specs.States.{State, IsState, end_marking, logged}
-use Rattle.rn_written.proofs.TextsOfLogs.{logs_have_entries, names_are_counted}
+use Rattle.rn_state_record.proofs.TextsOfLogs.{logs_have_entries, names_are_counted}
 use Rattle.rn_session.specs.link.Serving.{AreNamesBefore, HasLast, names_at}
 use Rattle.rn_session.specs.Sessions.{IsSession}
 

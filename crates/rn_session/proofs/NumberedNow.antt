@@ -15,7 +15,7 @@ use Rattle.rn_record.specs.Writable.{HasLines}
 use Rattle.rn_fire.specs.States.{State, IsState, end_marking}
 use Rattle.rn_served.specs.Listed.{AreEnabled, IsBelow, IsNumbered, NoneIsNumbered, numbered, numbered_text}
 use Rattle.rn_served.proofs.NumberedBindings.{least_is_first, none_is_first}
-use Rattle.rn_written.proofs.TextsOfLogs.{enabled_have_lines}
+use Rattle.rn_state_record.proofs.TextsOfLogs.{enabled_have_lines}
 use Rattle.rn_session.specs.link.Serving.{names_at}
 
 -- what is said of a table is said of the end of the log

@@ -8,7 +8,7 @@ use Rattle.rn_model.specs.Enabling.{Enabled}
 use Rattle.rn_model.specs.Runs.{Firing, end_of, entries_of}
 use Rattle.rn_model.proofs.SoundRuns.{runs_end_sound}
 use Rattle.rn_search.specs.Problems.{HasFitTokens}
-use Rattle.rn_found.proofs.FitTokens.{standing_tokens_fit}
+use Rattle.rn_finder.proofs.FitTokens.{standing_tokens_fit}
 use Rattle.rn_fire.specs.Commits.{IsEnabledNow, WasEnabled}
 use Rattle.rn_fire.specs.States.{State, IsState, end_marking, logged}
 use Rattle.rn_fire.proofs.EntryLemmas.{count_ended, count_going, going_count}

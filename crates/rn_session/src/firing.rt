@@ -8,8 +8,8 @@ ghost use Rattle.rn_session.specs.Sessions.{FiresBy};
 
 use crate::session::Session;
 use rn_binding::Candidate;
+use rn_finder::least;
 use rn_fire::Commit;
-use rn_found::least;
 use rn_items::NoMemory;
 use rn_served::FireAnswer;
 use std::alloc::Global;

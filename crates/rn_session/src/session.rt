@@ -7,8 +7,8 @@ ghost use Rattle.rn_session.specs.Sessions.{IsSession};
 
 use rn_binding::Candidate;
 use rn_channel::Uplinks;
+use rn_finder::all_bindings;
 use rn_fire::{SimState, open_state};
-use rn_found::all_bindings;
 use rn_items::NoMemory;
 use rn_model::{Options, System};
 use rn_table::Table;

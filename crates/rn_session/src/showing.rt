@@ -4,8 +4,8 @@ ghost use Rattle.rn_served.specs.declared.requests.Request.TheVariants as Ask;
 ghost use Rattle.rn_session.specs.link.Serving.{IsAnswered, names_at};
 
 use crate::session::Session;
+use rn_end_marking::live_part;
 use rn_items::NoMemory;
-use rn_marks::live_part;
 use rn_record::put_marks;
 use rn_value::Names;
 use std::alloc::Global;

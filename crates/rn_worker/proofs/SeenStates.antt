@@ -19,7 +19,7 @@ use Rattle.rn_channel.specs.declared.uplinks.Uplinks.{Uplinks}
 use Rattle.rn_channel.specs.link.Uplinks.{AreUplinksOf}
 use Rattle.rn_desk.specs.Entries.{StartsWith}
 use Rattle.rn_table.specs.Tables.{IsTableOf}
-use Rattle.rn_found.proofs.FitTokens.{standing_tokens_fit}
+use Rattle.rn_finder.proofs.FitTokens.{standing_tokens_fit}
 use Rattle.rn_live.proofs.GoodPlaces.{good_places}
 use Rattle.rn_fire.specs.declared.setup.Setup.{Setup}
 use Rattle.rn_fire.specs.States.{State, IsState, logged}

@@ -2,7 +2,7 @@
 ghost use Rattle.std.specs.Prelude.{◌≡◌};
 
 use rn_choices::Asked;
-use rn_found::{Finding, Flag, Halt};
+use rn_finder::{Finding, Flag, Halt};
 use std::sync::Wait;
 use std::sync::atomic::{AtomicU64, Ordering};
 

@@ -2,7 +2,7 @@
 use Rattle.std.specs.Prelude.{ℕ, ◌≡◌, List, ◌++◌, Some}
 use Rattle.rn_model.specs.declared.log.Reason.{Reason}
 use Rattle.rn_fire.specs.States.{State}
-use Rattle.rn_answer.specs.declared.answer.Answer.{Answer}
+use Rattle.rn_answering.specs.declared.answer.Answer.{Answer}
 use Rattle.rn_commands.specs.Ends.{end_line}
 use Rattle.rn_commands.specs.link.Ends.{IsClosedBy}
 use Rattle.rn_commands.specs.Counting.{count_lines}

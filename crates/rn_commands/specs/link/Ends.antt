@@ -3,8 +3,8 @@ use Rattle.std.specs.Prelude.{ℕ, suc, ◌≡◌, List, Some, length}
 use Rattle.rn_model.specs.declared.log.Reason.{Reason}
 use Rattle.rn_model.specs.Runs.{Log}
 use Rattle.rn_fire.specs.States.{State}
-use Rattle.rn_written.specs.Written.{IsRecordOf}
-use Rattle.rn_answer.specs.declared.answer.Answer.{Answer}
+use Rattle.rn_state_record.specs.Written.{IsRecordOf}
+use Rattle.rn_answering.specs.declared.answer.Answer.{Answer}
 use Rattle.rn_commands.specs.Ends.{end_status, end_message}
 
 -- the status and the line of a state whose log has ended, truly

@@ -2,13 +2,13 @@
 use Rattle.std.specs.Prelude.{ℕ, ◌≡◌, List, [], codes}
 use Rattle.rn_model.specs.declared.system.System.{System}
 use Rattle.rn_model.specs.declared.log.Options.{Options}
-use Rattle.rn_told.specs.declared.fault.RecordFault.{RecordFault}
-use Rattle.rn_told.specs.declared.fault.RecordFault.TheVariants.{Q1, Q2, Q3, Q4}
-use Rattle.rn_told.specs.declared.fault.RecordFault.TheVariants as Q
-use Rattle.rn_answer.specs.declared.answer.Answer.{Answer}
-use Rattle.rn_answer.specs.declared.status.TheConstants.{RECORD_REFUSED}
-use Rattle.rn_answer.specs.Refusing.{refusal}
-use Rattle.rn_answer.specs.Lines.{number_line}
+use Rattle.rn_record_reader.specs.declared.fault.RecordFault.{RecordFault}
+use Rattle.rn_record_reader.specs.declared.fault.RecordFault.TheVariants.{Q1, Q2, Q3, Q4}
+use Rattle.rn_record_reader.specs.declared.fault.RecordFault.TheVariants as Q
+use Rattle.rn_answering.specs.declared.answer.Answer.{Answer}
+use Rattle.rn_answering.specs.declared.status.TheConstants.{RECORD_REFUSED}
+use Rattle.rn_answering.specs.Refusing.{refusal}
+use Rattle.rn_answering.specs.Lines.{number_line}
 use Rattle.rn_commands.specs.Replaying.{IsNoRunBy}
 
 -- the line of a record that tells no run; want of memory has none

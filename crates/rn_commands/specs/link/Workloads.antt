@@ -1,7 +1,7 @@
 -- The tally of a state whose log has ended.
 use Rattle.std.specs.Prelude.{ℕ, ◌≡◌, ◌-◌, List, Some, length}
 use Rattle.rn_model.specs.declared.log.Reason.{Reason}
-use Rattle.rn_answer.specs.declared.answer.Answer.{Answer}
+use Rattle.rn_answering.specs.declared.answer.Answer.{Answer}
 use Rattle.rn_fire.specs.States.{State, end_marking}
 use Rattle.rn_commands.specs.link.Ends.{IsClosedBy}
 use Rattle.rn_commands.specs.Workloads.{tally_text, CountsLive}

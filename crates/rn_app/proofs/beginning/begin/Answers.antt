@@ -1,7 +1,7 @@
 -- What words and input come to is written, or a run is due.
 use Rattle.std.proofs.Common.{◌≡◌, ◌∙◌, Ok, Err, inl, inr, map, string_bytes, ap, refl, sym, subst, arith}
 use Rattle.std.specs.Prelude.{⊤}
-use Rattle.rn_answer.specs.declared.status.TheConstants.{DONE, NET_REFUSED, NO_MEMORY, READ_FAULT, RECORD_REFUSED, WRITE_FAULT}
+use Rattle.rn_answering.specs.declared.status.TheConstants.{DONE, NET_REFUSED, NO_MEMORY, READ_FAULT, RECORD_REFUSED, WRITE_FAULT}
 use Rattle.rn_outside.proofs.ByteLemmas.{IsCalledSeldom-never}
 use Rattle.rn_app.specs.declared.beginning.Begun.TheVariants.{Done}
 use Rattle.rn_app.specs.Begun.{IsDue}

@@ -1,7 +1,7 @@
 use Rattle.std.proofs.Common.{◌≡◌, ◌+◌, ◌≤◌, ℕ, List, None, Some, Err, map, string_bytes, length, ap, refl, sym, subst, arith, rules}
 use Rattle.rn_outside.specs.Bytes.{GivesAtMost}
-use Rattle.rn_answer.specs.Input.{longest_input}
-use Rattle.rn_answer.specs.declared.status.TheConstants.{NET_REFUSED}
+use Rattle.rn_answering.specs.Input.{longest_input}
+use Rattle.rn_answering.specs.declared.status.TheConstants.{NET_REFUSED}
 use Rattle.rn_app.specs.Begun.{NeedsThreads}
 use Rattle.rn_app.specs.link.Begun.{IfAnswered, IsPrepared, PreparesOrStops}
 use Rattle.rn_app.proofs.WordsAndInput.{few_bytes, no_read, no_read_words, nothing_given, of_command, of_fault, one_command, prepared_refused, prepares, taken_at_most}

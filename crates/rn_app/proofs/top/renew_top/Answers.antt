@@ -1,8 +1,8 @@
 -- All is done, or the run that is due is done and written.
 use Rattle.std.proofs.Common.{◌≡◌, ◌∙◌, inl, inr, map, string_bytes, codes, ap, refl, sym, subst, arith}
 use Rattle.rn_words.specs.declared.command.Command.TheVariants as command
-use Rattle.rn_answer.specs.declared.status.TheConstants.{DONE, FAULTED, NET_REFUSED, NO_MEMORY, READ_FAULT, RECORD_REFUSED, WRITE_FAULT}
-use Rattle.rn_answer.specs.Writing.{TakesLine}
+use Rattle.rn_answering.specs.declared.status.TheConstants.{DONE, FAULTED, NET_REFUSED, NO_MEMORY, READ_FAULT, RECORD_REFUSED, WRITE_FAULT}
+use Rattle.rn_answering.specs.Writing.{TakesLine}
 use Rattle.rn_outside.specs.Bytes.{IsCalledSeldom}
 use Rattle.rn_outside.proofs.ByteLemmas.{IsCalledSeldom-never}
 use Rattle.rn_app.specs.declared.beginning.Begun.TheVariants.{Done}

@@ -1,6 +1,6 @@
 -- The table is that of the first marking.
 use Rattle.std.proofs.Common.{sym, subst}
-use Rattle.rn_found.proofs.FitTokens.{initial_tokens_fit}
+use Rattle.rn_finder.proofs.FitTokens.{initial_tokens_fit}
 use Rattle.rn_search.specs.Problems.{HasFitTokens}
 use Rattle.rn_commands.proofs.FirstBindings.{all_first}
 use Rattle.rn_commands.proofs.bindings.enabled_first.Goals as goal

@@ -1,7 +1,7 @@
 -- The canonical text of the translation.
 use Rattle.std.proofs.Common.{inr, ap, ◌∙◌}
 use Rattle.rn_print.specs.Nets.{canonical_text}
-use Rattle.rn_answer.specs.Refusing.{done}
+use Rattle.rn_answering.specs.Refusing.{done}
 use Rattle.rn_commands.proofs.Translations.{translates}
 use Rattle.rn_commands.proofs.translating.pt.Goals as goal
 

@@ -1,7 +1,7 @@
 -- The text is the workload's, which isn't refused.
 use Rattle.std.proofs.Common.{◌∙◌, subst}
-use Rattle.rn_answer.specs.NetTexts.{RefusesNet}
-use Rattle.rn_answer.specs.Refusing.{Stops}
+use Rattle.rn_answering.specs.NetTexts.{RefusesNet}
+use Rattle.rn_answering.specs.Refusing.{Stops}
 use Rattle.rn_commands.proofs.AcceptedWorkloads.{stops_by_memory}
 use Rattle.rn_commands.proofs.workload.workload_system.Goals as goal
 

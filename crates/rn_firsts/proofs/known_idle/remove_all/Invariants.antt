@@ -1,6 +1,6 @@
 use Rattle.std.proofs.Common.{ℕ, take}
 use Rattle.std.specs.Prelude.{Contains}
-use Rattle.rn_found.specs.Idle.{IsIn}
+use Rattle.rn_finder.specs.Idle.{IsIn}
 use Rattle.rn_firsts.proofs.known_idle.remove_all.Given as goal
 
 abbrev pub invariant-loop-number : goal.invariant-loop-number

@@ -1,5 +1,5 @@
 use Rattle.std.proofs.Common.{◌∙◌, sym, arith}
-use Rattle.rn_found.proofs.StartingBindings.{next_is_below, next_is_later}
+use Rattle.rn_finder.proofs.StartingBindings.{next_is_below, next_is_later}
 use Rattle.rn_firsts.proofs.InOrder.{first_with_next, none_at_all, one_more_looked}
 use Rattle.rn_firsts.proofs.looking.first_from.Goals as goal
 

@@ -1,6 +1,6 @@
 -- What the bytes tell they are the text of, and its text in format 2 tells the same.
 use Rattle.std.proofs.Common.{inl, refl, subst, sym}
-use Rattle.rn_told.specs.Runs.{Verdict, TellsRecord}
+use Rattle.rn_record_reader.specs.Runs.{Verdict, TellsRecord}
 use Rattle.rn_migrate.proofs.record.migrate_record.Goals as goal
 
 pub rewritten-requires-clause-text : goal.rewritten-requires-clause-text

@@ -1,5 +1,5 @@
 use Rattle.std.proofs.lemmas.Result.{IfOk-weaker}
-use Rattle.rn_found.proofs.FirstBindings.{least_of_all, none_of_all}
+use Rattle.rn_finder.proofs.FirstBindings.{least_of_all, none_of_all}
 use Rattle.rn_firsts.proofs.firsts.Firsts.look.Goals as goal
 
 pub first-requires-clause-known : goal.first-requires-clause-known

@@ -1,5 +1,0 @@
-use Rattle.rn_answer.proofs.net_text.plain_of.Goals as goal
-
-pub returns-in-Ok-clause-notation : goal.returns-in-Ok-clause-notation
-returns-in-Ok-clause-notation c =
-    c.net_laws.ensures.notations c.args.bytes.now c.in-Ok.plain c.in-Ok.ensures.read

@@ -1,9 +1,0 @@
-use Rattle.std.proofs.Common.{ℕ, ◌≤◌, ◌<◌}
-use Rattle.rn_found.specs.Starting.{IsNoStart, start_of}
-use Rattle.rn_found.proofs.finding.find_among.Given as goal
-
--- the transitions before this one start nothing
-abbrev pub invariant-loop-t : goal.invariant-loop-t
-invariant-loop-t g l = (k : ℕ) → l.from ≤ k → k < l.t →
-    IsNoStart l.marked.system.now l.marked.table.now.marking l.marked.depth
-    (start_of l.inst.number l.inst.net k)

@@ -1,7 +1,0 @@
-use Rattle.rn_found.proofs.Branches.{opened_at}
-use Rattle.rn_found.proofs.first.find_any.Goals as goal
-
-pub find-found-requires : goal.find-found-requires
-find-found-requires c =
-    opened_at c.args.sought.now c.args.system.now c.open-branch.result c.requires
-    c.open-branch.ensures

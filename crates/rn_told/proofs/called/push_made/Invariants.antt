@@ -1,8 +1,0 @@
-use Rattle.std.proofs.Common.{◌≡◌, ◌++◌, map, take}
-use Rattle.rn_told.specs.Called.{nets_made}
-use Rattle.rn_told.specs.link.NodesAhead.{placed}
-use Rattle.rn_told.proofs.called.push_made.Given as goal
-
-abbrev pub invariant-loop-x : goal.invariant-loop-x
-invariant-loop-x l =
-    l.made.items ≡ l.initial.made.items ++ nets_made l.system (map placed (take l.x-index l.nodes))

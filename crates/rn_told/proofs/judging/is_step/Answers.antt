@@ -1,5 +1,0 @@
-use Rattle.rn_told.proofs.NodeLemmas.{step_is}
-use Rattle.rn_told.proofs.judging.is_step.Goals as goal
-
-pub returns : goal.returns
-returns c = step_is c.args.step c.args.digits.now c.is_numeral.result c.is_numeral.ensures

@@ -1,8 +1,0 @@
-use Rattle.std.proofs.Common.{◌≡◌, map, take}
-use Rattle.rn_told.specs.Bindings.{makers_of}
-use Rattle.rn_told.specs.link.NodesAhead.{placed}
-use Rattle.rn_told.proofs.makers.makers_of.Given as goal
-
-abbrev pub invariant-loop-x : goal.invariant-loop-x
-invariant-loop-x l =
-    l.makers.items ≡ makers_of l.system (map placed (take l.x-index l.nodes))
