@@ -10,7 +10,6 @@ use Rattle.rn_words.specs.declared.table.Picked.TheVariants.{Least}
 use Rattle.rn_words.specs.declared.chosen.OptionValue.{OptionValue}
 use Rattle.rn_words.specs.declared.chosen.OptionValue.TheVariants.{Number, Picks}
 use Rattle.rn_words.specs.declared.chosen.Chosen.{Chosen}
-use Rattle.rn_words.specs.declared.chosen.TheConstants.{WORKERS, STEPS, GEN_STEPS, DEPTH, SWEEP_EVERY}
 use Rattle.rn_words.specs.declared.command.Command.{Command}
 use Rattle.rn_words.specs.declared.command.Command.TheVariants as command
 
@@ -67,10 +66,10 @@ with_given chosen s (Picks picked) = record chosen { pick = Some picked }
 -- on the command
 abbrev pub options_of : ℕ → Chosen → Options
 options_of steps chosen = record {
-  workers = unwrap_or chosen.workers WORKERS;
+  workers = unwrap_or chosen.workers 4;
   steps = unwrap_or chosen.steps steps;
-  depth = unwrap_or chosen.depth DEPTH;
-  sweep_every = unwrap_or chosen.sweep SWEEP_EVERY;
+  depth = unwrap_or chosen.depth 4;
+  sweep_every = unwrap_or chosen.sweep 64;
 }
 
 -- the command `run`: of any bindings, of the first ones, or with a seed
@@ -86,14 +85,14 @@ gen_of n options (Some seed) = command.GenSeeded n options seed
 
 -- the command of its word, the number after it, which `gen` alone has, and the options
 abbrev pub command_of : Verb → ℕ → Chosen → Command
-command_of verb.Run n chosen = run_of (options_of STEPS chosen) chosen.pick chosen.seed
+command_of verb.Run n chosen = run_of (options_of 1000 chosen) chosen.pick chosen.seed
 command_of verb.Check n chosen = command.Check
 command_of verb.Print n chosen = command.Print
-command_of verb.Enabled n chosen = command.Enabled (unwrap_or chosen.depth DEPTH)
-command_of verb.Replay n chosen = command.Replay (options_of STEPS chosen)
-command_of verb.Gen n chosen = gen_of n (options_of GEN_STEPS chosen) chosen.seed
-command_of verb.Session n chosen = command.Session (options_of STEPS chosen)
-command_of verb.Counts n chosen = command.Counts (options_of STEPS chosen)
-command_of verb.Moves n chosen = command.Moves (options_of STEPS chosen)
+command_of verb.Enabled n chosen = command.Enabled (unwrap_or chosen.depth 4)
+command_of verb.Replay n chosen = command.Replay (options_of 1000 chosen)
+command_of verb.Gen n chosen = gen_of n (options_of 200000 chosen) chosen.seed
+command_of verb.Session n chosen = command.Session (options_of 1000 chosen)
+command_of verb.Counts n chosen = command.Counts (options_of 1000 chosen)
+command_of verb.Moves n chosen = command.Moves (options_of 1000 chosen)
 command_of verb.Pt n chosen = command.Pt
 command_of verb.Migrate n chosen = command.Migrate

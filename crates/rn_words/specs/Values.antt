@@ -7,7 +7,6 @@ use Rattle.rn_words.specs.declared.table.Setting.{Setting}
 use Rattle.rn_words.specs.declared.table.Setting.TheVariants.{Pick}
 use Rattle.rn_words.specs.declared.chosen.OptionValue.{OptionValue}
 use Rattle.rn_words.specs.declared.chosen.OptionValue.TheVariants.{Number, Picks}
-use Rattle.rn_words.specs.declared.values.TheConstants.{MOST_DIGITS}
 use Rattle.rn_words.specs.Table.{pick_named, least, most}
 
 -- the number that these digits spell after a number: each digit makes it ten times as great
@@ -17,7 +16,7 @@ number_after n (d ∷ ds) = number_after (n * 10 + (d - 48)) ds
 
 -- whether a word is one to six digits
 abbrev pub is_number : List ℕ → Bool
-is_number word = nat_le 1 (length word) && nat_le (length word) MOST_DIGITS && list_all is_digit word
+is_number word = nat_le 1 (length word) && nat_le (length word) 6 && list_all is_digit word
 
 -- the number that a word spells, where it is one to six digits, leading zeros allowed, and is
 -- within these limits
