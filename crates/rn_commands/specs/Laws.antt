@@ -4,7 +4,7 @@ use Rattle.std.specs.Prelude.{ℕ, ◌≡◌, ◌≤◌, List}
 use Rattle.rn_model.specs.declared.system.System.{System}
 use Rattle.rn_model.specs.declared.log.Options.{Options}
 use Rattle.rn_record.specs.RecordText.{IsFormat}
-use Rattle.rn_gen.specs.Workload.{workload}
+use Rattle.rn_gen.specs.Workload.{workload, most_copies}
 use Rattle.rn_answering.specs.declared.answer.Answer.{Answer}
 use Rattle.rn_answering.specs.NetTexts.{Accepted}
 use Rattle.rn_commands.specs.Moves.{MovesComeTo}
@@ -30,7 +30,7 @@ MovesGoWithReplay = (options : Options) (bytes : List ℕ) (a : Answer) →
     MovesComeTo options bytes a →
     (b : Answer) × ReplayComesTo options bytes b × (a.status ≡ b.status) × (a.line ≡ b.line)
 
--- The workload text of 10,000 workers at most is a net text.
+-- The workload text of as many copies as one may have is a net text.
 abbrev pub WorkloadsAreAccepted : Type 0
-WorkloadsAreAccepted = (copies : ℕ) → copies ≤ 10000 →
+WorkloadsAreAccepted = (copies : ℕ) → copies ≤ most_copies →
     (system : System) × Accepted (workload copies) system

@@ -1,7 +1,7 @@
 //! Runs that are due: all is done for them but what needs threads.
 ghost use Rattle.std.specs.Prelude.{◌≤◌, IfOk, IfErr};
 ghost use Rattle.rn_model.specs.Good.{Good, IsInLimits};
-ghost use Rattle.rn_gen.specs.Workload.{workload};
+ghost use Rattle.rn_gen.specs.Workload.{workload, most_copies};
 ghost use Rattle.rn_record.specs.RecordText.{IsFormat};
 ghost use Rattle.rn_answering.specs.NetTexts.{Accepted, AcceptedIn, RefusesNet};
 ghost use Rattle.rn_answering.specs.Refusing.{Stops};
@@ -73,7 +73,7 @@ pub fn workload_job(
     options: Options,
     pick: Pick,
 ) -> Result<Job, NoMemory>
-    requires copies { (1 ≤ copies) × (copies ≤ 10000) }
+    requires copies { (1 ≤ copies) × (copies ≤ most_copies) }
     ensures asked { IfOk result (IsAskedBy options pick Telling.Tally) }
     ensures accepted { IfOk result (λ job. Accepted (workload copies) job.system) }
     ensures format { IfOk result (λ job. IsFormat job.format) }

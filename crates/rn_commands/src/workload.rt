@@ -2,7 +2,7 @@
 ghost use Rattle.std.specs.Prelude.{◌≡◌, ◌≢◌, ◌≤◌, ◌++◌, None, IfOk, IfSome, OnOk};
 ghost use Rattle.rn_items.specs.Memory.{no_memory};
 ghost use Rattle.rn_model.specs.Good.{Good, IsInLimits};
-ghost use Rattle.rn_gen.specs.Workload.{workload};
+ghost use Rattle.rn_gen.specs.Workload.{workload, most_copies};
 ghost use Rattle.rn_commands.specs.Ends.{end_line};
 ghost use Rattle.rn_answering.specs.NetTexts.{Accepted};
 ghost use Rattle.rn_answering.specs.Refusing.{Concludes};
@@ -94,7 +94,7 @@ fn out_of_memory(stopped: Stopped) -> NoMemory
 
 /// The system of the workload text of so many workers, which is never refused.
 pub(crate) fn workload_system(alloc: Global, copies: u32) -> Result<System, NoMemory>
-    requires copies { (1 ≤ copies) × (copies ≤ 10000) }
+    requires copies { (1 ≤ copies) × (copies ≤ most_copies) }
     ensures accepted { IfOk result (λ system. Accepted (workload copies) system) }
     ensures good { IfOk result Good }
 {
@@ -116,7 +116,7 @@ fn run_workload_by<R: Threads + Wait + Sync, G: Gate + Sync>(
     pick: Pick,
     gate: &G,
 ) -> Result<Answer, Stopped>
-    requires copies { (1 ≤ copies) × (copies ≤ 10000) }
+    requires copies { (1 ≤ copies) × (copies ≤ most_copies) }
     requires limits { IsInLimits options }
     ensures { Concludes (GensTo copies options) result }
 {
@@ -132,7 +132,7 @@ pub fn run_workload<R: Threads + Wait + Sync, G: Gate + Sync>(
     options: Options,
     gate: &G,
 ) -> Result<Answer, Stopped>
-    requires copies { (1 ≤ copies) × (copies ≤ 10000) }
+    requires copies { (1 ≤ copies) × (copies ≤ most_copies) }
     requires limits { IsInLimits options }
     ensures { Concludes (GensTo copies options) result }
 {
@@ -148,7 +148,7 @@ pub fn run_workload_seeded<R: Threads + Wait + Sync, G: Gate + Sync>(
     seed: u32,
     gate: &G,
 ) -> Result<Answer, Stopped>
-    requires copies { (1 ≤ copies) × (copies ≤ 10000) }
+    requires copies { (1 ≤ copies) × (copies ≤ most_copies) }
     requires limits { IsInLimits options }
     ensures { Concludes (GensTo copies options) result }
 {

@@ -10,22 +10,21 @@ use Rattle.rn_declared.specs.declared.fault.Rule.{Rule}
 use Rattle.rn_check.specs.Checked.{Checked}
 use Rattle.rn_rules.specs.Broken.{BreaksFirst}
 use Rattle.rn_print.specs.Nets.{canonical_text}
-use Rattle.rn_gen.specs.declared.text.TheConstants.{MOST_WORKERS}
-use Rattle.rn_gen.specs.Workload.{workload}
+use Rattle.rn_gen.specs.Workload.{workload, most_copies}
 
 -- The workload text is accepted: it spells a plain form in which no rule is broken.
 abbrev pub WorkloadIsAccepted : Type 0
-WorkloadIsAccepted = (n : ℕ) → n ≤ MOST_WORKERS →
+WorkloadIsAccepted = (n : ℕ) → n ≤ most_copies →
     (plain : Plain) × (system : System) × Spells (workload n) plain × Checked plain system
 
 -- it is the canonical text of what it spells
 abbrev pub WorkloadIsCanonical : Type 0
-WorkloadIsCanonical = (n : ℕ) (plain : Plain) → n ≤ MOST_WORKERS → Spells (workload n) plain →
+WorkloadIsCanonical = (n : ℕ) (plain : Plain) → n ≤ most_copies → Spells (workload n) plain →
     canonical_text plain ≡ workload n
 
 -- there is no reason to refuse it, and no rule is broken in what it spells
 abbrev pub WorkloadIsNotRefused : Type 0
-WorkloadIsNotRefused = (n : ℕ) → n ≤ MOST_WORKERS →
+WorkloadIsNotRefused = (n : ℕ) → n ≤ most_copies →
     ((why : Refusal) → IsRefused (workload n) why → ⊥)
     × ((plain : Plain) (rule : Rule) (spot : Spot) → Spells (workload n) plain →
     BreaksFirst plain rule spot → ⊥)

@@ -3,6 +3,10 @@ use Rattle.std.specs.Prelude.{ℕ, List, [], ◌∷◌, ◌++◌, codes}
 use Rattle.std.specs.List.{flat_map}
 use Rattle.std.specs.Fmt.{decimal}
 
+-- how many copies of net `worker` a workload text makes at most
+abbrev pub most_copies : ℕ
+most_copies = 10000
+
 -- these lines, each with its end
 abbrev pub lines : List (List ℕ) → List ℕ
 lines = flat_map (λ line. line ++ 10 ∷ [])

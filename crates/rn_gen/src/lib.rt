@@ -5,4 +5,4 @@ mod laws;
 mod text;
 
 pub use laws::workload_laws;
-pub use text::{MOST_WORKERS, gen_text};
+pub use text::{MOST_COPIES, gen_text};

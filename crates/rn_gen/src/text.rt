@@ -1,12 +1,12 @@
 //! The workload text.
 ghost use Rattle.std.specs.Prelude.{◌≡◌, ◌≤◌, IfOk};
-ghost use Rattle.rn_gen.specs.Workload.{workload};
+ghost use Rattle.rn_gen.specs.Workload.{workload, most_copies};
 
 use rn_items::NoMemory;
 use std::alloc::Global;
 
-/// The most workers of a workload text.
-pub const MOST_WORKERS: u32 = 10_000;
+/// How many copies of net `worker` a workload text makes at most.
+pub const MOST_COPIES: u32 = 10_000;
 
 // The text up to the number of workers.
 const BEFORE: &str = "channel go(int);
@@ -60,7 +60,7 @@ net worker {
 /// leaves `main` alone alive.
 pub fn gen_text(alloc: Global, n: u32) -> Result<Vec<u8>, NoMemory>
     requires least { 1 ≤ n }
-    requires most { n ≤ MOST_WORKERS }
+    requires most { n ≤ most_copies }
     ensures { IfOk result (λ text. text.items ≡ workload n) }
 {
     let number = n.to_string(alloc)?;

@@ -8,7 +8,10 @@ use Rattle.rn_notation.specs.declared.token.Token.{Token}
 use Rattle.rn_notation.specs.declared.token.TokenKind.{TokenKind}
 use Rattle.rn_notation.specs.declared.token.TokenKind.TheVariants.{Name, Word, Number, Text, Sign}
 use Rattle.rn_model.specs.Limits.{most_nested}
-use Rattle.rn_inscript.specs.declared.cursor.TheConstants.{MOST_OPERATORS}
+
+-- how many operators an expression or an inscription has at most
+abbrev pub most_operators : ℕ
+most_operators = 256
 
 -- What opens a level: a bracket until it closes, and a unary minus until its operand ends.
 pub data Level : Type 0 where
@@ -92,7 +95,7 @@ after_token c kind = record {
 abbrev pub goes_too_far : Count → TokenKind → Bool
 goes_too_far c kind =
     (opens_level c kind && nat_le most_nested (length (levels_at c kind)))
-    || (is_operator kind && nat_le MOST_OPERATORS c.operators)
+    || (is_operator kind && nat_le most_operators c.operators)
 
 -- at the first token
 abbrev pub at_first : Count

@@ -5,7 +5,7 @@ use Rattle.rn_value.specs.Grammar.{IsNumeral}
 use Rattle.rn_value.specs.Text.{numeral}
 use Rattle.rn_value.proofs.Numerals.{IsNumeral-first, IsNumeral-numeral, numeral_only}
 use Rattle.rn_lines.specs.LineText.{IsCount, count_of}
-use Rattle.rn_lines.specs.Reading.{number_after}
+use Rattle.rn_value.specs.Characters.{number_after}
 use Rattle.rn_lines.proofs.NumeralReading.{numeral_value}
 
 -- the digits of a numeral say its number

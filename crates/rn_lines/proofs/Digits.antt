@@ -2,7 +2,7 @@
 use Rattle.std.proofs.Common.{◌≡◌, ◌<◌, ◌≤◌, ◌+◌, ◌-◌, ◌*◌, ◌/◌, ℕ, List, [], ◌∷◌, nat_le, arith}
 use Rattle.std.specs.Prelude.{Some, None, if◌then◌else◌}
 use Rattle.std.proofs.lemmas.Bool.Decides.{nat_tests}
-use Rattle.rn_lines.specs.Reading.{number_after}
+use Rattle.rn_value.specs.Characters.{number_after}
 
 -- more digits make no number smaller
 grows : (n : ℕ) (ds : List ℕ) → n ≤ number_after n ds

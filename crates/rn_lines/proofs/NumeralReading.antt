@@ -9,7 +9,7 @@ use Rattle.std.proofs.lemmas.List.Folds.{length-prefix_len}
 use Rattle.std.proofs.lemmas.Option.{cond_some, same_Some, none-some}
 use borrow.Author.Tests.{ne_eqb, eq-eqb, eqb-true, leb-true}
 use Rattle.rn_items.proofs.Bools.{and_left, and_right}
-use Rattle.rn_value.specs.Characters.{is_letter, is_digit}
+use Rattle.rn_value.specs.Characters.{is_letter, is_digit, number_after}
 use Rattle.rn_value.specs.Grammar.{IsNumeral, IsWholeNumber}
 use Rattle.rn_value.specs.Grammar.IsNumeral.{digit, more}
 use Rattle.rn_value.specs.Grammar.IsWholeNumber.{positive, negative}
@@ -18,7 +18,7 @@ use Rattle.rn_value.proofs.Spans.{Stops}
 use Rattle.rn_lines.specs.ValueText.{HasSixtyFourBits}
 use Rattle.rn_lines.specs.LineReading.{step_at}
 use Rattle.rn_lines.specs.Reading as reading
-use Rattle.rn_lines.specs.Reading.{◌>>=◌, are_plain, number_after, plain_number, numeral_at, whole_at}
+use Rattle.rn_lines.specs.Reading.{◌>>=◌, are_plain, plain_number, numeral_at, whole_at}
 use Rattle.rn_lines.proofs.Digits.{some_within}
 use Rattle.rn_lines.proofs.Prefixes.{longest_prefix, prefix_is}
 

@@ -3,10 +3,9 @@
 use Rattle.std.specs.Prelude.{ℕ, zero, suc, List, [], ◌∷◌, length, take, drop, Bool, true, false, nat_eq, nat_lt, bytes_eq, if◌then◌else◌, Option, Some, None}
 use Rattle.std.specs.List.{prefix_len}
 use Rattle.rn_value.specs.Characters.{is_digit}
-use Rattle.rn_lines.specs.LineText.{LeadSaid, Token, Held, LineSaid, ending_text}
+use Rattle.rn_lines.specs.LineText.{LeadSaid, Token, Held, LineSaid, greatest_worker, ending_text}
 use Rattle.rn_lines.specs.NodeReading.{node_at}
 use Rattle.rn_lines.specs.Reading.{◌>>=◌, are_plain, numeral_at, byte_at, name_at, inst_at, front_at, seen_at}
-use Rattle.rn_lines.specs.declared.lines.TheConstants.{MOST_WORKERS}
 use Rattle.rn_lines.specs.declared.lines.Ending.{Ending}
 use Rattle.rn_lines.specs.declared.lines.Ending.TheVariants.{Dead, Steps, Memory, ActionFault, InstancesFault}
 
@@ -20,7 +19,7 @@ step_at bytes =
 -- a worker's number, before a space
 abbrev pub worker_at : List ℕ → Option (ℕ × List ℕ)
 worker_at bytes =
-    numeral_at MOST_WORKERS bytes >>= λ n.
+    numeral_at greatest_worker bytes >>= λ n.
     if nat_eq n.0 0 then None else (byte_at 32 n.1 >>= λ rest. Some (n.0, rest))
 
 -- how a line of a firing begins

@@ -8,10 +8,13 @@ use Rattle.rn_value.specs.Words.{IsName}
 use Rattle.rn_value.specs.declared.value.Value.{Value}
 use Rattle.rn_lines.specs.ValueText.{Said, IsValue, most_brackets}
 use Rattle.rn_lines.specs.NodeText.{NodeSaid, IsInstance, IsNode}
-use Rattle.rn_lines.specs.Reading.{number_after}
-use Rattle.rn_lines.specs.declared.lines.TheConstants.{MOST_WORKERS}
+use Rattle.rn_value.specs.Characters.{number_after}
 use Rattle.rn_lines.specs.declared.lines.Ending.{Ending}
 use Rattle.rn_lines.specs.declared.lines.Ending.TheVariants.{Dead, Steps, Memory, ActionFault, InstancesFault}
+
+-- the greatest number of a worker
+abbrev pub greatest_worker : ℕ
+greatest_worker = 64
 
 -- how the lines of a firing begin: the digits of its step, which may be too long for a machine's
 -- number, and the number of its worker
@@ -26,7 +29,7 @@ pub record Token : Type 0 where
 
 -- The step of a firing is a numeral. Its worker, from 1 to 64, stands behind ` w`, before a space.
 pub data IsLead : LeadSaid → List ℕ → Type 0 where
-  lead : {n worker : ℕ} {step digits : List ℕ} → IsNumeral n step → 1 ≤ worker → worker ≤ MOST_WORKERS →
+  lead : {n worker : ℕ} {step digits : List ℕ} → IsNumeral n step → 1 ≤ worker → worker ≤ greatest_worker →
       IsNumeral worker digits →
       IsLead (record { step = step; worker = worker }) (step ++ (32 ∷ 119 ∷ (digits ++ 32 ∷ [])))
 

@@ -4,7 +4,7 @@
 use Rattle.std.specs.Prelude.{◌≡◌, ℕ, zero, suc, ◌+◌, ◌-◌, ◌*◌, ◌^◌, ℤ, pos, negsuc, List, [], ◌∷◌, ◌++◌, length, take, drop, Bool, true, false, not, ◌&&◌, nat_eq, nat_le, Option, Some, None, Result, Ok, Err, if◌then◌else◌}
 use Rattle.std.specs.List.{prefix_len}
 use Rattle.std.specs.Str.{is_utf8}
-use Rattle.rn_value.specs.Characters.{is_letter, is_digit, is_name_byte}
+use Rattle.rn_value.specs.Characters.{is_letter, is_digit, is_name_byte, number_after}
 use Rattle.rn_value.specs.TextLaws.{is_delimiter}
 use Rattle.rn_value.specs.Words.{is_name}
 use Rattle.rn_value.specs.declared.value.InstRef.TheVariants.{Old}
@@ -34,11 +34,6 @@ abbrev pub are_plain : List ℕ → Bool
 are_plain [] = false
 are_plain (d ∷ []) = true
 are_plain (d ∷ e ∷ ds) = not (nat_eq d 48)
-
--- the number that these digits spell after a number: each digit makes it ten times as great
-abbrev pub number_after : ℕ → List ℕ → ℕ
-number_after n [] = n
-number_after n (d ∷ ds) = number_after (n * 10 + (d - 48)) ds
 
 -- the number of these digits, where they are plain and it isn't greater than `most`
 abbrev pub plain_number : ℕ → List ℕ → Option ℕ

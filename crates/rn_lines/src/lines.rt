@@ -16,7 +16,7 @@ use rn_value::{Value, is_digit};
 use std::alloc::Global;
 
 /// The greatest number of a worker.
-const MOST_WORKERS: u64 = 64;
+const GREATEST_WORKER: u64 = 64;
 
 /// How the lines of a firing begin, as `3 w1 `: the digits of its step, and its worker.
 #[derive(Clone, Copy, Debug, Drop)]
@@ -142,7 +142,7 @@ fn fault_at(alloc: Global, bytes: &[u8]) -> Result<Line<'_>, Unread>
 fn worker_at(bytes: &[u8]) -> Result<(u32, &[u8]), Unread>
     ensures { ReturnsRead (λ x. (x.0, x.1.now)) result (worker_at bytes.now) }
 {
-    let (worker, rest) = numeral_at(MOST_WORKERS, bytes)?;
+    let (worker, rest) = numeral_at(GREATEST_WORKER, bytes)?;
     if worker == 0 {
         return Err(Unread::NotThere);
     }

@@ -2,10 +2,10 @@
 ghost use Rattle.std.specs.Prelude.{◌≡◌, ◌↔◌, ◌≤◌, ◌-◌, ◌^◌, negsuc, nat_le, if◌then◌else◌};
 ghost use Rattle.std.specs.Prelude.{IsTrue, IfOk, IfSome, Some, None};
 ghost use Rattle.std.specs.List.{prefix_len};
-ghost use Rattle.rn_value.specs.Characters.{is_digit};
+ghost use Rattle.rn_value.specs.Characters.{is_digit, number_after};
 ghost use Rattle.rn_value.specs.Grammar.{IsNumeral};
 ghost use Rattle.rn_lines.specs.LineReading.{step_at, is_several, several_at};
-ghost use Rattle.rn_lines.specs.Reading.{ReturnsRead, are_plain, number_after, numeral_at, whole_at};
+ghost use Rattle.rn_lines.specs.Reading.{ReturnsRead, are_plain, numeral_at, whole_at};
 
 use crate::unread::Unread;
 use rn_value::is_digit;

@@ -11,9 +11,9 @@ use Rattle.rn_notation.specs.link.Scanning.{Cuts, token, fault}
 use Rattle.rn_notation.specs.declared.token.TokenKind.TheVariants.{Number}
 use Rattle.rn_notation.specs.declared.token.Cause.TheVariants.{P3}
 use Rattle.std.proofs.Math.Dec.{T, leb→le}
-use Rattle.rn_value.specs.Characters.{is_digit}
+use Rattle.rn_value.specs.Characters.{is_digit, number_after}
 use Rattle.rn_value.specs.Words.{begins_with}
-use Rattle.rn_notation.specs.Words.{are_digits, number_of, number_after, greatest_number}
+use Rattle.rn_notation.specs.Words.{are_digits, number_of, greatest_number}
 
 -- more digits make no number smaller
 pub grows : (n : ℕ) (ds : List ℕ) → n ≤ number_after n ds

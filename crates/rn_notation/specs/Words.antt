@@ -3,7 +3,7 @@ use Rattle.std.specs.Prelude.{ℕ, ◌+◌, ◌-◌, ◌*◌, Bool, true, false,
 use Rattle.std.specs.Prelude.{◌∷◌, length, nat_eq, nat_le, codes}
 use Rattle.std.specs.List.{list_any, list_all}
 use Rattle.rn_notation.specs.Bytes.{slash}
-use Rattle.rn_value.specs.Characters.{is_digit}
+use Rattle.rn_value.specs.Characters.{is_digit, number_after}
 use Rattle.rn_value.specs.Words.{begins_with}
 
 -- space, tab, carriage return and line feed
@@ -13,11 +13,6 @@ is_blank c = list_any (nat_eq c) (32 ∷ 9 ∷ 13 ∷ 10 ∷ [])
 -- one or more digits
 abbrev pub are_digits : List ℕ → Bool
 are_digits ds = begins_with is_digit ds && list_all is_digit ds
-
--- the number that these digits spell after a number: each digit makes it ten times as great
-abbrev pub number_after : ℕ → List ℕ → ℕ
-number_after n [] = n
-number_after n (d ∷ ds) = number_after (n * 10 + (d - 48)) ds
 
 -- the number that digits spell
 abbrev pub number_of : List ℕ → ℕ

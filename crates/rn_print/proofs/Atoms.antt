@@ -1,13 +1,13 @@
 -- The tokens and blanks that canonical texts are made of stand where they are written.
 use Rattle.std.proofs.Common.{◌≡◌, ℕ, ◌+◌, ◌*◌, ◌-◌, ◌≤◌, pos, Bool, true, false, ◌||◌, List, [], ◌∷◌, ◌++◌, refl, sym, ap, ◌∙◌, subst, arith, true≢false}
 use Rattle.std.specs.Prelude.{codes, None, nat_eq}
-use Rattle.rn_value.specs.Characters.{is_letter, is_digit}
+use Rattle.rn_value.specs.Characters.{is_letter, is_digit, number_after}
 use Rattle.rn_value.specs.Words.{begins_with, is_identifier, index_of, reserved_words}
 use Rattle.rn_value.specs.Text.{numeral, quoted}
 use Rattle.rn_value.specs.Grammar.{IsNumeral}
 use Rattle.rn_value.specs.Grammar.IsNumeral.{digit, more}
 use Rattle.rn_value.proofs.Numerals.{IsNumeral-numeral, IsNumeral-digits, IsNumeral-first}
-use Rattle.rn_notation.specs.Words.{signs, number_after, number_of, are_digits, greatest_number}
+use Rattle.rn_notation.specs.Words.{signs, number_of, are_digits, greatest_number}
 use Rattle.rn_notation.specs.Texts.{Part, AreParts, meant}
 use Rattle.rn_notation.specs.Tokens.{IsGap, IsToken}
 use Rattle.rn_notation.specs.Reading.{gap, token}

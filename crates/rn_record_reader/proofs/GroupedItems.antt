@@ -11,7 +11,7 @@ use Rattle.rn_value.proofs.Numerals.{IsNumeral-first, IsNumeral-numeral}
 use Rattle.rn_model.specs.Lists.{same_value}
 use Rattle.rn_model.proofs.ValueLists.{same_is}
 use Rattle.rn_lines.specs.LineText.{AreItems, Held, IsCount, Token, count_of, times_of}
-use Rattle.rn_lines.specs.Reading.{number_after}
+use Rattle.rn_value.specs.Characters.{number_after}
 use Rattle.rn_lines.specs.ValueText.{IsValue, Said, most_brackets}
 use Rattle.rn_lines.proofs.NumeralReading.{numeral_value}
 use Rattle.rn_lookup.specs.Found.{tokens_held}

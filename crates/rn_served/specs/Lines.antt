@@ -3,8 +3,7 @@ use Rattle.std.specs.Prelude.{ℕ, Bool, ◌&&◌, if◌then◌else◌, nat_eq, 
 use Rattle.std.specs.Prelude.{Option, Some, None, bytes_eq, codes}
 use Rattle.std.specs.List.{list_all}
 use Rattle.std.specs.Option.{option_map_or}
-use Rattle.rn_value.specs.Characters.{is_digit}
-use Rattle.rn_lines.specs.Reading.{number_after}
+use Rattle.rn_value.specs.Characters.{is_digit, number_after}
 use Rattle.rn_served.specs.declared.requests.Request.{Request}
 use Rattle.rn_served.specs.declared.requests.Request.TheVariants as Ask
 

@@ -2,17 +2,12 @@
 use Rattle.std.specs.Prelude.{ℕ, ◌+◌, ◌*◌, ◌-◌, List, [], ◌∷◌, Bool, ◌&&◌, Option, Some, None, length}
 use Rattle.std.specs.Prelude.{nat_le, option_map, if◌then◌else◌}
 use Rattle.std.specs.List.{list_all}
-use Rattle.rn_value.specs.Characters.{is_digit}
+use Rattle.rn_value.specs.Characters.{is_digit, number_after}
 use Rattle.rn_words.specs.declared.table.Setting.{Setting}
 use Rattle.rn_words.specs.declared.table.Setting.TheVariants.{Pick}
 use Rattle.rn_words.specs.declared.chosen.OptionValue.{OptionValue}
 use Rattle.rn_words.specs.declared.chosen.OptionValue.TheVariants.{Number, Picks}
 use Rattle.rn_words.specs.Table.{pick_named, least, most}
-
--- the number that these digits spell after a number: each digit makes it ten times as great
-abbrev pub number_after : ℕ → List ℕ → ℕ
-number_after n [] = n
-number_after n (d ∷ ds) = number_after (n * 10 + (d - 48)) ds
 
 -- whether a word is one to six digits
 abbrev pub is_number : List ℕ → Bool

@@ -1,8 +1,8 @@
 //! Values of options: numbers of one to six digits, within limits, or what `--pick` names.
 ghost use Rattle.std.specs.Prelude.{◌≡◌, ◌≤◌, ◌<◌, length, IsTrue};
 ghost use Rattle.std.specs.List.{list_all};
-ghost use Rattle.rn_value.specs.Characters.{is_digit};
-ghost use Rattle.rn_words.specs.Values.{is_number, number_after, value_within, value_of};
+ghost use Rattle.rn_value.specs.Characters.{is_digit, number_after};
+ghost use Rattle.rn_words.specs.Values.{is_number, value_within, value_of};
 
 use crate::chosen::OptionValue;
 use crate::table::{Setting, least, most, pick_named};

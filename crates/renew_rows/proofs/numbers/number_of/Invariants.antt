@@ -1,7 +1,6 @@
 use Rattle.std.proofs.Common.{◌≡◌, drop}
 use Rattle.std.specs.List.{list_all}
-use Rattle.rn_value.specs.Characters.{is_digit}
-use Rattle.renew_rows.specs.Numbers.{number_after}
+use Rattle.rn_value.specs.Characters.{is_digit, number_after}
 use Rattle.renew_rows.proofs.numbers.number_of.Given as goal
 
 -- the number so far and the digits to come spell the number

@@ -1,6 +1,6 @@
 use Rattle.std.proofs.Common.{◌≡◌, ◌-◌, ◌+◌, ◌<◌, drop, get_or, ◌∷◌, sym, ap, ◌∙◌, arith}
 use Rattle.std.proofs.lemmas.List.{drop_more}
-use Rattle.rn_lines.specs.Reading.{number_after}
+use Rattle.rn_value.specs.Characters.{number_after}
 use Rattle.rn_lines.proofs.Digits.{too_great, too_many_units, none_above}
 use Rattle.rn_lines.proofs.numerals.number_up_to.Goals.{then-most-units-via-then-most-units, then-most-units-via-else-most-units+then-most-units-2}
 use Rattle.rn_lines.proofs.numerals.number_up_to.Goals as goal

@@ -1,5 +1,5 @@
 use Rattle.std.proofs.Common.{◌≡◌, ◌≤◌, drop}
-use Rattle.rn_lines.specs.Reading.{number_after}
+use Rattle.rn_value.specs.Characters.{number_after}
 use Rattle.rn_lines.proofs.numerals.number_up_to.Given as goal
 
 -- the number so far and the digits to come spell the number

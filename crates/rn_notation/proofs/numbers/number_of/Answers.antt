@@ -2,8 +2,8 @@ use Rattle.std.proofs.Common.{◌≡◌, ◌-◌, ◌+◌, drop, get_or, ◌∷�
 use Rattle.std.specs.Prelude.{IsTrue}
 use Rattle.std.specs.List.{list_all}
 use Rattle.rn_items.proofs.Bools.{both_true}
-use Rattle.rn_value.specs.Characters.{is_digit}
-use Rattle.rn_notation.specs.Words.{number_after, greatest_number}
+use Rattle.rn_value.specs.Characters.{is_digit, number_after}
+use Rattle.rn_notation.specs.Words.{greatest_number}
 use Rattle.rn_notation.proofs.NumberLemmas.{too_great, digit_units}
 use Rattle.std.proofs.lemmas.List.{drop_more}
 use Rattle.rn_notation.proofs.numbers.number_of.Goals as goal

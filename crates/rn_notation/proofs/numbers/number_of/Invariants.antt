@@ -1,7 +1,7 @@
 use Rattle.std.proofs.Common.{◌≡◌, ◌≤◌, IsTrue, drop}
 use Rattle.std.specs.List.{list_all}
-use Rattle.rn_value.specs.Characters.{is_digit}
-use Rattle.rn_notation.specs.Words.{number_of, number_after, greatest_number}
+use Rattle.rn_value.specs.Characters.{is_digit, number_after}
+use Rattle.rn_notation.specs.Words.{number_of, greatest_number}
 use Rattle.rn_notation.proofs.numbers.number_of.Given as goal
 
 abbrev pub invariant-loop-digit : goal.invariant-loop-digit

@@ -4,8 +4,7 @@ use Rattle.std.specs.Prelude.{IsTrue}
 use Rattle.std.specs.List.{list_all}
 use Rattle.std.proofs.lemmas.List.{drop_more}
 use Rattle.rn_items.proofs.Bools.{both_true}
-use Rattle.rn_value.specs.Characters.{is_digit}
-use Rattle.rn_lines.specs.Reading.{number_after}
+use Rattle.rn_value.specs.Characters.{is_digit, number_after}
 use Rattle.rn_served.proofs.LineReading.{digit_units, more_nines, nines_low}
 use Rattle.rn_served.proofs.reading.number_of.Goals as goal
 

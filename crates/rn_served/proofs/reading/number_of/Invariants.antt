@@ -1,8 +1,7 @@
 -- The number so far and the digits to come spell the number.
 use Rattle.std.proofs.Common.{◌≡◌, ◌≤◌, IsTrue, drop, length}
 use Rattle.std.specs.List.{list_all}
-use Rattle.rn_value.specs.Characters.{is_digit}
-use Rattle.rn_lines.specs.Reading.{number_after}
+use Rattle.rn_value.specs.Characters.{is_digit, number_after}
 use Rattle.rn_served.proofs.LineReading.{nines}
 use Rattle.rn_served.proofs.reading.number_of.Given as goal
 

@@ -1,7 +1,6 @@
 use Rattle.std.proofs.Common.{◌≡◌, ◌<◌, ◌^◌, IsTrue, drop}
 use Rattle.std.specs.List.{list_all}
-use Rattle.rn_value.specs.Characters.{is_digit}
-use Rattle.rn_words.specs.Values.{number_after}
+use Rattle.rn_value.specs.Characters.{is_digit, number_after}
 use Rattle.rn_words.proofs.values.number_of.Given as goal
 
 -- the number so far is below ten to the number of digits
