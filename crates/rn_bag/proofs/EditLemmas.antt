@@ -328,11 +328,11 @@ set_chunk vs t u count n is within free there others =
 pub few_counted : (vs : List Value) (t count : ℕ) → IsChunk vs t count → count ≤ 64
 few_counted vs t count is = omega (arith, is.counted, is.room.small, there_length (has_bit t) 0 vs)
 
--- where a chunk is full and the value comes after all its slots
-pub full_grown : (x : Slots) (n : ℕ) (v : Value) → n ≡ length x.values → length (tokens_in_chunk x) ≡ 64 → HasRoom x.values →
+-- where each slot of a chunk holds a token and the value comes after them
+pub full_grown : (x : Slots) (n : ℕ) (v : Value) → n ≡ length x.values → length (tokens_in_chunk x) ≡ n →
     (tokens_in_chunk x ≡ x.values) × (x.values ++ v ∷ [] ≡ there_from (has_bit x.there) 0 (take n x.values) ++ v ∷ there_from (has_bit x.there) n (drop n x.values))
-full_grown x n v end full room =
-    let size : length (tokens_in_chunk x) ≡ length x.values = omega (arith, full, room.small, there_length (has_bit x.there) 0 x.values) in
+full_grown x n v end full =
+    let size : length (tokens_in_chunk x) ≡ length x.values = full ∙ end in
     let all : tokens_in_chunk x ≡ x.values = there_full (has_bit x.there) 0 x.values size in
     let prefix : there_from (has_bit x.there) 0 (take n x.values) ≡ x.values = ap (there_from (has_bit x.there) 0) (take_all n x.values (omega (arith, end))) ∙ all in
     let rest : there_from (has_bit x.there) n (drop n x.values) ≡ [] = ap (there_from (has_bit x.there) n) (drop_all n x.values (omega (arith, end))) in

@@ -1,12 +1,12 @@
 //! The chunks of a bag, which contracts see as a list of chunks.
-ghost use Rattle.std.specs.Prelude.{◌≡◌, ◌+◌, ◌*◌, ◌^◌, ◌<◌, ◌≤◌, [], ◌∷◌, ◌++◌, length, take, drop, suc, set, slice_index_or as get_or, IfOk, OnOk, OnErr};
+ghost use Rattle.std.specs.Prelude.{◌≡◌, ◌+◌, ◌*◌, ◌^◌, ◌<◌, ◌≤◌, [], ◌∷◌, ◌++◌, length, take, drop, suc, set, slice_index_or as get_or, IfOk, IfSome, IfNone, OnOk, OnErr};
 ghost use Rattle.rn_bag.specs.link.Chunks.{Slots, HasRoom, IsChunk, tokens_in_chunk};
 ghost use Rattle.rn_bag.specs.link.Tags.{IsFull};
 
 use crate::chunk::Chunk;
 use crate::pool::Pool;
 use crate::tag::Tag;
-use crate::words::ROOM;
+use crate::words::{self, ROOM};
 use rn_items::NoMemory;
 use rn_value::Value;
 use std::alloc::Global;
@@ -69,7 +69,7 @@ impl Chunks {
         *self.tags.allocator()
     }
 
-    /// How many chunks there are. Each takes 32 bytes, so their tokens can be counted.
+    /// How many chunks there are. Each takes 40 bytes, so their tokens can be counted.
     pub(crate) fn len(&self) -> usize
         ensures count { result ≡ length self.now }
         ensures small { ROOM * length self.now < 2 ^ 64 }
@@ -84,7 +84,7 @@ impl Chunks {
         ensures small { ROOM * length self.now < 2 ^ 64 }
     {
         let tag = self.tags.as_slice()[index];
-        Chunk::new(self.pool.get(tag.at).get().as_slice(), tag)
+        Chunk::new(&self.pool.get(tag.at).as_slice()[..tag.len], tag)
     }
 
     /// How many tokens the chunk of an index has.
@@ -177,6 +177,32 @@ impl Chunks {
         let tag = self.pool.keep(alloc, tokens)?;
         self.tags[index] = tag;
         Ok(())
+    }
+
+    /// The value comes after those of the chunk of an index, which are all tokens, in place where no
+    /// copy shares them. Where one does, the answer is the value.
+    pub(crate) fn push(&mut self, index: usize, value: Value) -> Result<Option<Value>, NoMemory>
+        requires inside { index < length self.old }
+        requires tokens { (x : Slots) → x ≡ get_or self.old index x → tokens_in_chunk x ≡ x.values }
+        requires room { (x : Slots) → x ≡ get_or self.old index x → length x.values < ROOM }
+        ensures pushed { IfOk result (λ left. IfNone left ((x : Slots) → x ≡ get_or self.old index x →
+            (y : Slots) × IsFull (x.values ++ value ∷ []) y × (self.new ≡ set self.old index y))) }
+        ensures left { IfOk result (λ left. IfSome left (λ v. (v ≡ value) × (self.new ≡ self.old))) }
+        ensures err { OnErr result (self.new ≡ self.old) }
+    {
+        let tag = self.tags[index];
+        if let Some(value) = self.pool.push(tag.at, tag.len, value)? {
+            return Ok(Some(value));
+        }
+        let len = tag.len + 1;
+        self.tags[index] = Tag {
+            word: words::all_below(len),
+            count: len,
+            before: 0,
+            at: tag.at,
+            len,
+        };
+        Ok(None)
     }
 
     /// A chunk of these tokens comes after the one of an index.

@@ -133,8 +133,12 @@ fn grow(chunks: &mut Chunks, alloc: Global, at: SlotIndex, value: Value) -> Resu
     ensures err { OnErr result (chunks.new ≡ chunks.old) }
 {
     let chunk = chunks.at(at.chunk);
-    if at.slot == chunk.values().len() && chunk.count() == ROOM {
-        return put_after(chunks, alloc, at.chunk, value);
+    let count = chunk.count();
+    if at.slot == chunk.values().len() && count == at.slot {
+        if count == ROOM {
+            return put_after(chunks, alloc, at.chunk, value);
+        }
+        return put_last(chunks, alloc, at.chunk, value);
     }
     let tokens = chunk.with_token(alloc, at.slot, value)?;
     replace(chunks, alloc, at.chunk, tokens)
@@ -170,6 +174,25 @@ fn put_after(chunks: &mut Chunks, alloc: Global, at: usize, value: Value) -> Res
     let mut tokens = Vec::with_capacity(alloc, 1)?;
     tokens.push(value)?;
     chunks.insert_after(alloc, at, tokens)
+}
+
+/// The value comes after those of the chunk of this index, which are all tokens: in place where no
+/// copy shares them, and else the chunk is made anew.
+fn put_last(chunks: &mut Chunks, alloc: Global, at: usize, value: Value) -> Result<(), NoMemory>
+    requires at { at < length chunks.old }
+    requires tokens { (x : Slots) → x ≡ slice_index_or chunks.old at x →
+        tokens_in_chunk x ≡ x.values }
+    requires room { (x : Slots) → x ≡ slice_index_or chunks.old at x → length x.values < ROOM }
+    ensures ok { OnOk result ((x : Slots) → x ≡ slice_index_or chunks.old at x →
+        Replaces chunks.old at (x.values ++ value ∷ []) chunks.new) }
+    ensures err { OnErr result (chunks.new ≡ chunks.old) }
+{
+    let Some(value) = chunks.push(at, value)? else {
+        return Ok(());
+    };
+    let chunk = chunks.at(at);
+    let tokens = chunk.with_token(alloc, chunk.values().len(), value)?;
+    put_one(chunks, alloc, at, tokens)
 }
 
 /// A chunk of these tokens comes in place of one.

@@ -8,6 +8,7 @@ mod counting;
 mod cursor;
 mod cut;
 mod edits;
+mod list;
 mod pool;
 mod seek;
 mod sharing;

@@ -1,13 +1,15 @@
 //! The lists of values that chunks have, found by their positions.
-ghost use Rattle.std.specs.Prelude.{◌≡◌, ◌<◌, [], ◌∷◌, ◌++◌, length, slice_index_or, IfOk, OnOk, OnErr};
+ghost use Rattle.std.specs.Prelude.{◌≡◌, ◌<◌, [], ◌∷◌, ◌++◌, length, slice_index_or, IfOk, IfSome, IfNone, OnOk, OnErr};
 ghost use Rattle.rn_bag.specs.link.Chunks.{HasRoom};
+ghost use Rattle.rn_bag.specs.link.Pools.{IsPushed};
 ghost use Rattle.rn_bag.specs.link.Tags.{IsKept};
 
+use crate::list::SharedList;
 use crate::tag::Tag;
 use crate::words;
 use rn_items::{Items, NoMemory};
 use rn_shared::Shared;
-use rn_value::{Vals, Value};
+use rn_value::Value;
 use std::alloc::Global;
 use std::marker::Model;
 
@@ -27,8 +29,8 @@ const FEW: usize = 4;
 /// a pointer of their own for each of the rest. A list is put at the end, and none goes alone.
 #[derive(Drop)]
 pub(crate) struct Pool {
-    base: Option<Shared<Items<Shared<Vals>>>>,
-    own: Vec<Shared<Vals>>,
+    base: Option<Shared<Items<SharedList>>>,
+    own: Vec<SharedList>,
 }
 
 impl Model for Pool {
@@ -57,7 +59,7 @@ impl Pool {
     }
 
     /// A pool of these lists, which all its copies share behind one pointer where they are many.
-    pub(crate) fn of(alloc: Global, lists: Vec<Shared<Vals>>) -> Result<Pool, NoMemory>
+    pub(crate) fn of(alloc: Global, lists: Vec<SharedList>) -> Result<Pool, NoMemory>
         ensures { IfOk result (λ pool. pool ≡ lists.items) }
     {
         if lists.len() <= FEW {
@@ -94,7 +96,7 @@ impl Pool {
     }
 
     /// The list at a position.
-    pub(crate) fn get(&self, at: usize) -> &Shared<Vals>
+    pub(crate) fn get(&self, at: usize) -> &SharedList
         requires { at < length self.now }
         ensures { result.now ≡ slice_index_or self.now at [] }
     {
@@ -122,14 +124,38 @@ impl Pool {
         let at = self.len();
         let count = tokens.len();
         let word = words::all_below(count);
-        let list = Shared::new(alloc, Items::from_vec(tokens))?;
+        let list = SharedList::new(alloc, tokens)?;
         self.own.push(list)?;
         Ok(Tag {
             word,
             count,
             before: 0,
             at,
+            len: count,
         })
+    }
+
+    /// The value comes after those of the list at a position, in place, where no copy shares the
+    /// list and it has so many values. Where it doesn't, the answer is the value.
+    pub(crate) fn push(
+        &mut self,
+        at: usize,
+        len: usize,
+        value: Value,
+    ) -> Result<Option<Value>, NoMemory>
+        requires { at < length self.old }
+        ensures pushed { IfOk result (λ left. IfNone left (IsPushed self.old at len value self.new)) }
+        ensures left { IfOk result (λ left. IfSome left (λ v. (v ≡ value) × (self.new ≡ self.old))) }
+        ensures err { OnErr result (self.new ≡ self.old) }
+    {
+        let shared = match &self.base {
+            None => 0,
+            Some(lists) => lists.get().as_slice().len(),
+        };
+        if at < shared {
+            return Ok(Some(value));
+        }
+        push_to(&mut self.own, at - shared, len, value)
     }
 
     /// No list is left. It takes no memory.
@@ -148,10 +174,32 @@ impl Pool {
     }
 }
 
+/// The value comes after those of the list of an index, where this is its one owner and it has so
+/// many values. Where it doesn't, the answer is the value.
+fn push_to(
+    own: &mut Vec<SharedList>,
+    index: usize,
+    len: usize,
+    value: Value,
+) -> Result<Option<Value>, NoMemory>
+    requires { index < length own.old.items }
+    ensures pushed { IfOk result (λ left.
+        IfNone left (IsPushed own.old.items index len value own.new.items)) }
+    ensures left { IfOk result (λ left.
+        IfSome left (λ v. (v ≡ value) × (own.new.items ≡ own.old.items))) }
+    ensures err { OnErr result (own.new.items ≡ own.old.items) }
+{
+    let list = &mut own[index];
+    if list.as_slice().len() != len {
+        return Ok(Some(value));
+    }
+    list.push(value)
+}
+
 /// The same lists behind one more pointer.
 fn shared(
-    base: &Option<Shared<Items<Shared<Vals>>>>,
-) -> Result<Option<Shared<Items<Shared<Vals>>>>, NoMemory>
+    base: &Option<Shared<Items<SharedList>>>,
+) -> Result<Option<Shared<Items<SharedList>>>, NoMemory>
     ensures { IfOk result (λ copy. copy ≡ base.now) }
 {
     match base {
@@ -161,7 +209,7 @@ fn shared(
 }
 
 /// The same lists behind one more pointer each, with room for one more list.
-fn each_shared(alloc: Global, lists: &[Shared<Vals>]) -> Result<Vec<Shared<Vals>>, NoMemory>
+fn each_shared(alloc: Global, lists: &[SharedList]) -> Result<Vec<SharedList>, NoMemory>
     ensures { IfOk result (λ copy. copy.items ≡ lists.now) }
 {
     let mut copy = Vec::with_capacity(alloc, lists.len() + 1)?;
