@@ -15,7 +15,7 @@ ghost use Rattle.rn_finder.specs.Starting.{IsSearchable, start_of};
 
 use crate::drawing::Draws;
 use crate::exploring::{explore, visit};
-use crate::hint::Hint;
+use crate::hint::{Hint, Start};
 use crate::idle::Idle;
 use crate::marked::{Marked, problem_at};
 use crate::room::Room;
@@ -235,8 +235,8 @@ impl Finding {
     }
 
     /// What it found last came too late to fire. So it doesn't go on there: where it had found that
-    /// beside home, it goes on at home, and else where the number says.
-    pub fn go_beside(&mut self, start: u64) {
+    /// beside home, it goes on at home, and else at this start.
+    pub fn go_beside(&mut self, start: Start) {
         self.turns.go_beside(start);
     }
 

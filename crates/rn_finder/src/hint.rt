@@ -5,6 +5,15 @@ use rn_branch::SHARES;
 use rn_choices::Choice;
 use rn_search::Point;
 
+/// Where a searcher is told to go on: at the instance of a number, with a transition of it and a
+/// token. Each may be any number.
+#[derive(Clone, Copy, Debug)]
+pub struct Start {
+    pub number: u32,
+    pub transition: u32,
+    pub token: usize,
+}
+
 /// Where a search begins: at the instance of a number, by a transition of it, and each choice of a
 /// token with one of them. It goes on from there, round.
 #[derive(Clone, Copy, Debug, PartialEq, Eq)]
@@ -26,6 +35,16 @@ impl Hint {
             transition: (start / 1048576 % 1048576) as u32,
             token: (start / 1048576 / 1048576) as usize,
             lap: 0,
+        }
+    }
+
+    /// At this start, and the choices behind the first so far behind.
+    pub(crate) fn at(start: Start, lap: u64) -> Hint {
+        Hint {
+            number: start.number,
+            transition: start.transition,
+            token: start.token,
+            lap,
         }
     }
 

@@ -25,6 +25,7 @@ mod turns;
 pub use every::all_bindings;
 pub use finding::{Finding, find};
 pub use first::least;
+pub use hint::Start;
 pub use idle::Idle;
 pub use instance::{bindings_of, least_of};
 pub use laws::tokens_fit;

@@ -6,7 +6,7 @@ ghost use Rattle.std.specs.Prelude.{◌<◌};
 
 use crate::drawing::Draws;
 use crate::explorer::Explorer;
-use crate::hint::Hint;
+use crate::hint::{Hint, Start};
 use rn_choices::Choice;
 use rn_search::Point;
 use rn_table::Table;
@@ -153,17 +153,11 @@ impl Turns {
     }
 
     /// What was found last came too late. Where the guest found it, there is no guest any more; else
-    /// home is where a number says.
-    pub(crate) fn go_beside(&mut self, start: u64) {
+    /// home is at this start.
+    pub(crate) fn go_beside(&mut self, start: Start) {
         match self.guest {
             Some(_) => self.guest = None,
-            None => {
-                let lap = self.home.lap;
-                self.home = Hint {
-                    lap,
-                    ..Hint::of(start)
-                };
-            }
+            None => self.home = Hint::at(start, self.home.lap),
         }
     }
 }

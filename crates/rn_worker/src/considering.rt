@@ -15,7 +15,7 @@ use crate::tally::{Done, Tally};
 use rn_binding::Candidate;
 use rn_channel::Uplinks;
 use rn_choices::ToTheEnd;
-use rn_finder::{Finding, Halt};
+use rn_finder::{Finding, Halt, Start};
 use rn_firsts::KnownIdle;
 use rn_items::NoMemory;
 use rn_live::garbage;
@@ -220,27 +220,20 @@ pub(crate) fn count_round(tally: &mut Tally, pace: &mut Pace, plan: &Result<Plan
 }
 
 // A number of a worker's own after so many entries, below 2^24.
-fn mixed(worker: u32, seen: u64) -> u64 {
+fn mixed(worker: u32, seen: u64) -> u32 {
     let mixed = (worker as u64)
         .wrapping_mul(11400714819323198485)
         .wrapping_add(seen.wrapping_mul(15111042398283466643));
-    (mixed / 1048576) % 16777216
-}
-
-// The start that these say to a search: a token, a transition and an instance.
-fn start_at(token: u64, transition: u64, number: u64) -> u64 {
-    token
-        .wrapping_mul(1099511627776)
-        .wrapping_add((transition % 1048576) * 1048576)
-        .wrapping_add(number % 1048576)
+    (mixed / 1048576 % 16777216) as u32
 }
 
 // Another instance, drawn by a number, where several were made: the next one gets a number.
-fn beside(number: u32, next: u32, drawn: u64) -> u64 {
+fn beside(number: u32, next: u32, drawn: u32) -> u32 {
     if next <= 2 {
-        return number as u64;
+        return number;
     }
-    (number as u64 + 1 + drawn % (next as u64 - 1)) % next as u64
+    let steps = 1 + drawn % (next - 1);
+    ((number as u64 + steps as u64) % next as u64) as u32
 }
 
 /// Where a worker goes on that found something and came too late: with the same transition at other
@@ -252,7 +245,7 @@ pub(crate) fn start_beside(
     late: u64,
     next: u32,
     plan: &Result<Plan, Halt>,
-) -> Option<u64> {
+) -> Option<Start> {
     let Ok(plan) = plan else {
         return None;
     };
@@ -263,14 +256,17 @@ pub(crate) fn start_beside(
     let InstRef::Old(number) = node.inst else {
         return None;
     };
-    let transition = (node.transition as u64).wrapping_add(late / 2);
-    let token = mixed(worker, seen);
-    Some(start_at(token, transition, beside(number, next, token)))
+    let drawn = mixed(worker, seen);
+    Some(Start {
+        number: beside(number, next, drawn),
+        transition: node.transition.wrapping_add((late / 2) as u32),
+        token: drawn as usize,
+    })
 }
 
 /// Where a worker found something and came too late, its searcher goes on where it is told, and else
 /// where it would.
-pub(crate) fn go_beside(finding: &mut Finding, fired: bool, beside: Option<u64>) {
+pub(crate) fn go_beside(finding: &mut Finding, fired: bool, beside: Option<Start>) {
     if fired {
         return;
     }
