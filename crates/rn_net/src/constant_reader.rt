@@ -1,6 +1,7 @@
 //! Reading constants. A call goes deeper only where a bracket opens a level.
 ghost use Rattle.std.specs.Prelude.{◌≡◌, ℕ, ◌+◌, ◌≤◌, ◌≤ℤ◌, length, neg_ℤ, pos};
 ghost use Rattle.rn_notation.specs.declared.token.TokenKind.TheVariants as Kind;
+ghost use Rattle.rn_model.specs.Limits.{most_nested};
 ghost use Rattle.rn_inscript.specs.Signs.{open_brace, open_bracket, minus};
 ghost use Rattle.rn_net.specs.Constants.{IsConstant, AreItems};
 ghost use Rattle.rn_net.specs.Levels.{Region, after};
@@ -27,7 +28,7 @@ pub(crate) fn constant(
     requires inside { at ≤ length tokens.now }
     requires naturals { HaveNaturals tokens.now }
     ensures moved { MovesOn tokens.now at result }
-    ensures reads { (depth : ℕ) → levels + depth ≡ 64 →
+    ensures reads { (depth : ℕ) → levels + depth ≡ most_nested →
         Reads IsConstant tokens.now at (declaring depth) (declaring depth) result }
 {
     if let Some((spot, number, end)) = past_number(tokens, at) {
@@ -94,7 +95,7 @@ fn tuple(
     requires next { HasNext tokens.now at open_bracket spot }
     requires inside { inside ≡ at + 1 }
     ensures moved { MovesOn tokens.now at result }
-    ensures reads { (depth : ℕ) → levels + depth ≡ 64 →
+    ensures reads { (depth : ℕ) → levels + depth ≡ most_nested →
         Reads IsConstant tokens.now at (declaring depth) (declaring depth) result }
 {
     let levels_inside = open_level(at, levels)?;
@@ -117,7 +118,7 @@ fn list(
     requires next { HasNext tokens.now at open_brace spot }
     requires inside { inside ≡ at + 1 }
     ensures moved { MovesOn tokens.now at result }
-    ensures reads { (depth : ℕ) → levels + depth ≡ 64 →
+    ensures reads { (depth : ℕ) → levels + depth ≡ most_nested →
         Reads IsConstant tokens.now at (declaring depth) (declaring depth) result }
 {
     let levels_inside = open_level(at, levels)?;
@@ -139,7 +140,7 @@ fn constants_listed(
     requires naturals { HaveNaturals tokens.now }
     requires close { IsEnd close }
     ensures moved { MovesOn tokens.now at result }
-    ensures reads { (depth : ℕ) → levels + depth ≡ 64 →
+    ensures reads { (depth : ℕ) → levels + depth ≡ most_nested →
         (last : Region) → after (declaring depth) (Kind.Sign close) ≡ last →
         Reads (AreItems (Kind.Sign close)) tokens.now at (declaring depth) last result }
 {
@@ -162,7 +163,7 @@ pub(crate) fn constants_up_to(
     requires naturals { HaveNaturals tokens.now }
     requires close { IsEnd close }
     ensures moved { MovesOn tokens.now at result }
-    ensures reads { (depth : ℕ) → levels + depth ≡ 64 →
+    ensures reads { (depth : ℕ) → levels + depth ≡ most_nested →
         (last : Region) → after (declaring depth) (Kind.Sign close) ≡ last →
         Reads (AreConstantsUpTo (Kind.Sign close)) tokens.now at (declaring depth) last result }
 {

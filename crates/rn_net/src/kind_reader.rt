@@ -1,6 +1,7 @@
 //! Reading kinds. A call goes deeper only where a bracket opens a level.
 ghost use Rattle.std.specs.Prelude.{◌≡◌, ℕ, ◌+◌, ◌≤◌, length};
 ghost use Rattle.rn_notation.specs.declared.token.TokenKind.TheVariants as Kind;
+ghost use Rattle.rn_model.specs.Limits.{most_nested};
 ghost use Rattle.rn_inscript.specs.Signs.{open_brace, open_bracket};
 ghost use Rattle.rn_net.specs.Kinds.{IsKind, AreListed};
 ghost use Rattle.rn_net.specs.Levels.Region.{declaring};
@@ -25,7 +26,7 @@ pub(crate) fn kind(
 ) -> Result<(PKind, usize), InscriptFault>
     requires { at ≤ length tokens.now }
     ensures moved { MovesOn tokens.now at result }
-    ensures reads { (depth : ℕ) → levels + depth ≡ 64 →
+    ensures reads { (depth : ℕ) → levels + depth ≡ most_nested →
         Reads IsKind tokens.now at (declaring depth) (declaring depth) result }
 {
     if let Some((spot, end)) = past_word(tokens, at, word::INT) {
@@ -62,7 +63,7 @@ fn tuple(
     requires next { HasNext tokens.now at open_bracket spot }
     requires inside { inside ≡ at + 1 }
     ensures moved { MovesOn tokens.now at result }
-    ensures reads { (depth : ℕ) → levels + depth ≡ 64 →
+    ensures reads { (depth : ℕ) → levels + depth ≡ most_nested →
         Reads IsKind tokens.now at (declaring depth) (declaring depth) result }
 {
     let levels_inside = open_level(at, levels)?;
@@ -84,7 +85,7 @@ fn list(
     requires next { HasNext tokens.now at open_brace spot }
     requires inside { inside ≡ at + 1 }
     ensures moved { MovesOn tokens.now at result }
-    ensures reads { (depth : ℕ) → levels + depth ≡ 64 →
+    ensures reads { (depth : ℕ) → levels + depth ≡ most_nested →
         Reads IsKind tokens.now at (declaring depth) (declaring depth) result }
 {
     let levels_inside = open_level(at, levels)?;
@@ -106,7 +107,7 @@ pub(crate) fn kinds_listed(
     requires inside { at ≤ length tokens.now }
     requires close { IsClose close }
     ensures moved { MovesOn tokens.now at result }
-    ensures reads { (depth : ℕ) → levels + (depth + 1) ≡ 64 →
+    ensures reads { (depth : ℕ) → levels + (depth + 1) ≡ most_nested →
         Reads (AreListed (Kind.Sign close)) tokens.now at (declaring (depth + 1)) (declaring depth) result }
 {
     if let Some((_, end)) = past_sign(tokens, at, close) {
@@ -127,7 +128,7 @@ fn kinds_up_to(
     requires inside { at ≤ length tokens.now }
     requires close { IsClose close }
     ensures moved { MovesOn tokens.now at result }
-    ensures reads { (depth : ℕ) → levels + (depth + 1) ≡ 64 →
+    ensures reads { (depth : ℕ) → levels + (depth + 1) ≡ most_nested →
         Reads (AreKindsUpTo (Kind.Sign close)) tokens.now at (declaring (depth + 1)) (declaring depth) result }
 {
     let (first, after_first) = kind(alloc, tokens, at, levels)?;

@@ -2,6 +2,7 @@
 ghost use Rattle.std.specs.Prelude.{◌≡◌, ◌≤◌, ◌++◌, OnOk, IfOk, map, length};
 ghost use Rattle.std.specs.List.{enumerate_from};
 ghost use Rattle.rn_model.specs.Good.{Good};
+ghost use Rattle.rn_model.specs.Limits.{most_inscriptions};
 ghost use Rattle.rn_record_reader.specs.Bindings.{makers_by, makers_of, reference};
 ghost use Rattle.rn_record_reader.specs.link.NodesAhead.{placed};
 
@@ -18,7 +19,7 @@ fn put_makers(
     creations: &[Creation],
     makers: &mut Vec<Maker>,
 ) -> Result<(), NoMemory>
-    requires { length creations.now ≤ 200 }
+    requires { length creations.now ≤ most_inscriptions }
     ensures { OnOk result (makers.new.items ≡ makers.old.items
         ++ map (λ c. record { path = path.now; index = c.0 }) (enumerate_from 0 creations.now)) }
 {
