@@ -6,6 +6,7 @@ use Rattle.rn_notation.specs.declared.word.TheConstants as word
 use Rattle.rn_notation.specs.declared.token.Token.{Token}
 use Rattle.rn_notation.specs.declared.token.TokenKind.{TokenKind}
 use Rattle.rn_notation.specs.declared.token.TokenKind.TheVariants.{Word, Sign}
+use Rattle.rn_model.specs.Limits.{most_nested}
 use Rattle.rn_inscript.specs.Levels.{Count, at_first, after_token, opens, closes, goes_too_far}
 
 -- Where a token stands: between the statements of a text, in the heading of a net or transition,
@@ -74,7 +75,7 @@ after (inscribing n c) kind = inscribed_by n c kind
 -- Whether a token opens level 65, or is the 257th operator of its inscription. The minus of a
 -- constant opens no level and is no operator.
 abbrev pub is_too_deep : Region → TokenKind → Bool
-is_too_deep (declaring n) kind = opens kind && nat_le 64 n
+is_too_deep (declaring n) kind = opens kind && nat_le most_nested n
 is_too_deep (inscribing n c) kind = goes_too_far c kind
 is_too_deep _ kind = false
 

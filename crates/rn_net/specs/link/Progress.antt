@@ -2,6 +2,7 @@
 -- the readers to the grammar.
 use Rattle.std.specs.Prelude.{◌≡◌, refl, ℕ, ℤ, pos, ◌+◌, ◌≤◌, true, List, [], ◌∷◌, ◌++◌, length, drop}
 use Rattle.std.specs.Prelude.{Result, Ok, Err, ◌⊎◌}
+use Rattle.rn_notation.specs.declared.sign.TheConstants as sign
 use Rattle.rn_notation.specs.declared.token.Token.{Token}
 use Rattle.rn_notation.specs.declared.token.TokenKind.{TokenKind}
 use Rattle.rn_notation.specs.declared.token.TokenKind.TheVariants.{Number, Text}
@@ -76,7 +77,7 @@ MovesOn tokens at (Err e) = Unit {0}
 
 -- `}`, `]` or `;`
 abbrev pub IsEnd : ℕ → Type 0
-IsEnd k = (k ≡ 1) ⊎ ((k ≡ 3) ⊎ (k ≡ 7))
+IsEnd k = (k ≡ sign.RIGHT_BRACE) ⊎ ((k ≡ sign.RIGHT_BRACKET) ⊎ (k ≡ sign.SEMICOLON))
 
 -- a token of this kind is at an index, with this spot
 abbrev pub HasNext : List Token → ℕ → TokenKind → Spot → Type 0
