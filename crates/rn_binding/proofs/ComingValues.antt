@@ -43,6 +43,14 @@ pub tested : (test : List ℕ → Decision → Bool) (answer value : Bool) (ds :
 tested test answer value ds at path is there e =
     ap (λ p. list_any (test p) ds) (sym there) ∙ sym is ∙ e
 
+-- and along the same way
+pub tested_along : (test : List ℕ → List ℕ → Decision → Bool) (answer value : Bool)
+    (ds : List Decision) (at path along way : List ℕ) → answer ≡ list_any (test at along) ds →
+    at ≡ path → along ≡ way → answer ≡ value → list_any (test path way) ds ≡ value
+tested_along test answer value ds at path along way is there same e =
+    ap (λ w. list_any (test path w) ds) (sym same)
+    ∙ tested (λ p. test p along) answer value ds at path is there e
+
 module _ (system : System) (b : Binding) (given : IsGiven system b) (g : Grown)
     (followed : IsFollowed system b g) where
   abbrev ds : List Decision

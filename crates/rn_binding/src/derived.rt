@@ -6,10 +6,11 @@ ghost use Rattle.rn_binding.specs.link.Passing.{IsGiven, IsFollowed, IsPassed, A
 
 use crate::bringing::{bring, enter_start};
 use crate::forcing::are_all_forced;
-use crate::headed::{Headed, headed_of};
+use crate::headed::headed_of;
 use crate::part::Part;
 use crate::parts::parts_of;
 use crate::propagating::propagate;
+use crate::subject::Subject;
 use rn_growing::{Growing, GrowingRoom};
 use rn_model::{Binding, System};
 use rn_value::NoMemory;
@@ -20,21 +21,20 @@ use std::alloc::Global;
 // way.
 fn pass(
     alloc: Global,
-    system: &System,
-    binding: &Binding,
-    headed: &[Headed<'_>],
+    subject: Subject<'_>,
     growing: &mut Growing<'_>,
     parts: &[Part<'_>],
     pending: &[usize],
 ) -> Result<Vec<usize>, NoMemory>
-    requires given { IsGiven system.now binding.now }
-    requires headed { headed.now ≡ binding.now.nodes }
-    requires followed { IsFollowed system.now binding.now growing.old }
+    requires given { IsGiven subject.system.now subject.binding.now }
+    requires headed { subject.headed.now ≡ subject.binding.now.nodes }
+    requires followed { IsFollowed subject.system.now subject.binding.now growing.old }
     requires within { AllWithin parts.now pending.now }
     requires items { (item : Item) → Contains (picked parts.now pending.now) item
-        → Contains (items_of system.now binding.now) item }
-    ensures passed { IfOk result (λ left. IsPassed system.now binding.now growing.old
-        (picked parts.now pending.now) growing.new (picked parts.now left.items)) }
+        → Contains (items_of subject.system.now subject.binding.now) item }
+    ensures passed { IfOk result (λ left. IsPassed subject.entry.system.now
+        subject.entry.binding.now growing.old (picked parts.now pending.now) growing.new
+        (picked parts.now left.items)) }
     ensures within { IfOk result (λ left. AllWithin parts.now left.items) }
 {
     let mut left = Vec::new(alloc);
@@ -42,7 +42,7 @@ fn pass(
     while 0 < k {
         k -= 1;
         let i = pending[k];
-        if !bring(alloc, system, binding, headed, growing, &parts[i])? {
+        if !bring(alloc, subject, growing, &parts[i])? {
             left.push(i)?;
         }
     }
@@ -67,62 +67,43 @@ fn all_of(alloc: Global, parts: &[Part<'_>]) -> Result<Vec<usize>, NoMemory>
 // Tries all items in order, and those that are left against it. Gives those that are left then.
 fn sweep(
     alloc: Global,
-    system: &System,
-    binding: &Binding,
-    headed: &[Headed<'_>],
+    subject: Subject<'_>,
     growing: &mut Growing<'_>,
     parts: &[Part<'_>],
 ) -> Result<Vec<usize>, NoMemory>
-    requires given { IsGiven system.now binding.now }
-    requires headed { headed.now ≡ binding.now.nodes }
-    requires followed { IsFollowed system.now binding.now growing.old }
-    requires items { map item_of parts.now ≡ items_of system.now binding.now }
-    ensures left { IfOk result (λ left. AreLeft system.now binding.now growing.new
-        (picked parts.now left.items)) }
+    requires given { IsGiven subject.system.now subject.binding.now }
+    requires headed { subject.headed.now ≡ subject.binding.now.nodes }
+    requires followed { IsFollowed subject.system.now subject.binding.now growing.old }
+    requires items { map item_of parts.now ≡ items_of subject.system.now subject.binding.now }
+    ensures left { IfOk result (λ left. AreLeft subject.entry.system.now
+        subject.entry.binding.now growing.new (picked parts.now left.items)) }
     ensures within { IfOk result (λ left. AllWithin parts.now left.items) }
 {
     let all = all_of(alloc, parts)?;
     let all = all.as_slice();
-    let left = pass(alloc, system, binding, headed, growing, parts, all)?;
+    let left = pass(alloc, subject, growing, parts, all)?;
     let left = left.as_slice();
-    pass(alloc, system, binding, headed, growing, parts, left)
+    pass(alloc, subject, growing, parts, left)
 }
 
 // Brings items in until none of those that are left may come in. True if none is left.
 fn bring_all(
     alloc: Global,
-    system: &System,
-    binding: &Binding,
-    headed: &[Headed<'_>],
+    subject: Subject<'_>,
     growing: &mut Growing<'_>,
     parts: &[Part<'_>],
 ) -> Result<bool, NoMemory>
-    requires given { IsGiven system.now binding.now }
-    requires headed { headed.now ≡ binding.now.nodes }
-    requires followed { IsFollowed system.now binding.now growing.old }
-    requires items { map item_of parts.now ≡ items_of system.now binding.now }
-    ensures { IfOk result (λ all. Ends system.now binding.now growing.new all) }
+    requires given { IsGiven subject.system.now subject.binding.now }
+    requires headed { subject.headed.now ≡ subject.binding.now.nodes }
+    requires followed { IsFollowed subject.system.now subject.binding.now growing.old }
+    requires items { map item_of parts.now ≡ items_of subject.system.now subject.binding.now }
+    ensures { IfOk result (λ all. Ends subject.entry.system.now subject.entry.binding.now
+        growing.new all) }
 {
-    let mut pending = sweep(alloc, system, binding, headed, growing, parts)?;
-    propagate(
-        alloc,
-        system,
-        binding,
-        headed,
-        growing,
-        parts,
-        pending.as_slice(),
-    )?;
+    let mut pending = sweep(alloc, subject, growing, parts)?;
+    propagate(alloc, subject, growing, parts, pending.as_slice())?;
     loop {
-        let left = pass(
-            alloc,
-            system,
-            binding,
-            headed,
-            growing,
-            parts,
-            pending.as_slice(),
-        )?;
+        let left = pass(alloc, subject, growing, parts, pending.as_slice())?;
         if left.len() == pending.len() {
             return Ok(left.is_empty());
         }
@@ -145,15 +126,13 @@ pub(crate) fn is_derived(
     let parts = parts_of(alloc, system, headed)?;
     let room = GrowingRoom::with_room(alloc, parts.len())?;
     let mut growing = Growing::open_in(room, system);
-    enter_start(alloc, system, binding, headed, &mut growing)?;
-    if !bring_all(
-        alloc,
+    let subject = Subject {
         system,
         binding,
         headed,
-        &mut growing,
-        parts.as_slice(),
-    )? {
+    };
+    enter_start(alloc, subject, &mut growing)?;
+    if !bring_all(alloc, subject, &mut growing, parts.as_slice())? {
         return Ok(false);
     }
     are_all_forced(alloc, system, &growing, binding.nodes.as_slice())

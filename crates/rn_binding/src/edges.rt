@@ -1,36 +1,43 @@
 //! The edges of a binding: which items and variables may follow from which.
 ghost use Rattle.rn_agree.specs.Paths.{AscendByPath};
 
-use crate::applications::uplink_args;
+use crate::applications::{Application, uplink_args};
 use crate::call::{across, call_of, part_on};
 use crate::equations::{put_equation, put_equations};
 use crate::event::{Edge, Event};
 use crate::part::Part;
+use crate::subject::Subject;
 use rn_agree::node_index;
-use rn_growing::Site;
-use rn_model::{Binding, Expr, Node, System, find_transition, put_vars};
+use rn_model::{Expr, Node, find_transition, put_vars};
 use rn_value::NoMemory;
 use std::alloc::Global;
+
+// The index of an item, and its node with the node's own index.
+#[derive(Clone, Copy)]
+struct Indexed<'a> {
+    i: usize,
+    n: usize,
+    node: &'a Node,
+}
 
 // Puts the edges of a node's equalities, and of the arguments of its call.
 fn put_node(
     alloc: Global,
-    system: &System,
-    binding: &Binding,
+    subject: Subject<'_>,
     n: usize,
     node: &Node,
     edges: &mut Vec<Edge>,
 ) -> Result<(), NoMemory>
-    requires ascending { AscendByPath binding.now.nodes }
+    requires ascending { AscendByPath subject.binding.now.nodes }
 {
-    let Some(transition) = find_transition(system, node) else {
+    let Some(transition) = find_transition(subject.system, node) else {
         return Ok(());
     };
     for k in 0..transition.equalities.len() {
         let (left, right) = &transition.equalities.as_slice()[k];
         put_equation(alloc, left, n, right, n, edges)?;
     }
-    let Some(call) = call_of(system, binding, node) else {
+    let Some(call) = call_of(subject.system, subject.binding, node) else {
         return Ok(());
     };
     let args = call.downlink.args.as_slice();
@@ -112,20 +119,18 @@ fn put_forcing_all(
 // the node and those of the arguments of its call.
 fn put_entry(
     alloc: Global,
-    system: &System,
-    binding: &Binding,
+    subject: Subject<'_>,
     entries: &[usize],
-    i: usize,
-    n: usize,
-    node: &Node,
+    indexed: Indexed<'_>,
     edges: &mut Vec<Edge>,
 ) -> Result<(), NoMemory>
-    requires ascending { AscendByPath binding.now.nodes }
+    requires ascending { AscendByPath subject.binding.now.nodes }
 {
-    if let Some(transition) = find_transition(system, node) {
+    let Indexed { i, n, node } = indexed;
+    if let Some(transition) = find_transition(subject.system, node) {
         put_forced(i, n, transition.vars.as_slice(), edges)?;
     }
-    let Some(call) = call_of(system, binding, node) else {
+    let Some(call) = call_of(subject.system, subject.binding, node) else {
         return Ok(());
     };
     put_after(entries, call.caller, i, edges)?;
@@ -137,54 +142,49 @@ fn put_entry(
 // those of the other side of its equation.
 fn put_computed(
     alloc: Global,
-    system: &System,
-    binding: &Binding,
+    subject: Subject<'_>,
     entries: &[usize],
-    i: usize,
-    n: usize,
-    node: &Node,
-    site: Site,
-    way: &[usize],
-    form: &Expr,
+    indexed: Indexed<'_>,
+    application: &Application<'_>,
     edges: &mut Vec<Edge>,
 ) -> Result<(), NoMemory>
-    requires ascending { AscendByPath binding.now.nodes }
+    requires ascending { AscendByPath subject.binding.now.nodes }
 {
+    let Indexed { i, n, node } = indexed;
     put_after(entries, n, i, edges)?;
-    put_waiting(alloc, n, form, i, edges)?;
-    let Some((m, other)) = across(system, binding, node, n, site) else {
+    put_waiting(alloc, n, application.form, i, edges)?;
+    let site = application.site;
+    let Some((m, other)) = across(subject.system, subject.binding, node, n, site) else {
         return Ok(());
     };
-    put_forcing(alloc, i, m, part_on(other, way), edges)
+    let part = part_on(other, application.way.as_slice());
+    put_forcing(alloc, i, m, part, edges)
 }
 
 // Puts the edges of an item.
 fn put_part(
     alloc: Global,
-    system: &System,
-    binding: &Binding,
+    subject: Subject<'_>,
     entries: &[usize],
     i: usize,
     part: &Part<'_>,
     edges: &mut Vec<Edge>,
 ) -> Result<(), NoMemory>
-    requires ascending { AscendByPath binding.now.nodes }
+    requires ascending { AscendByPath subject.binding.now.nodes }
 {
     let node = part.node();
-    let Some(n) = node_index(binding, node.path.as_slice()) else {
+    let Some(n) = node_index(subject.binding, node.path.as_slice()) else {
         return Ok(());
     };
+    let indexed = Indexed { i, n, node };
     match part {
-        Part::Entry(_) => put_entry(alloc, system, binding, entries, i, n, node, edges),
+        Part::Entry(_) => put_entry(alloc, subject, entries, indexed, edges),
         Part::Found(_, _, arc) => {
             put_after(entries, n, i, edges)?;
             put_forcing(alloc, i, n, &arc.inscription, edges)
         }
-        Part::Computed(_, site, way, form) => {
-            let way = way.as_slice();
-            put_computed(
-                alloc, system, binding, entries, i, n, node, *site, way, form, edges,
-            )
+        Part::Computed(_, application) => {
+            put_computed(alloc, subject, entries, indexed, application, edges)
         }
     }
 }
@@ -201,17 +201,12 @@ fn entries_of(alloc: Global, parts: &[Part<'_>]) -> Result<Vec<usize>, NoMemory>
 }
 
 // Puts the edges of all nodes.
-fn put_nodes(
-    alloc: Global,
-    system: &System,
-    binding: &Binding,
-    edges: &mut Vec<Edge>,
-) -> Result<(), NoMemory>
-    requires ascending { AscendByPath binding.now.nodes }
+fn put_nodes(alloc: Global, subject: Subject<'_>, edges: &mut Vec<Edge>) -> Result<(), NoMemory>
+    requires ascending { AscendByPath subject.binding.now.nodes }
 {
-    let nodes = binding.nodes.as_slice();
+    let nodes = subject.binding.nodes.as_slice();
     for n in 0..nodes.len() {
-        put_node(alloc, system, binding, n, &nodes[n], edges)?;
+        put_node(alloc, subject, n, &nodes[n], edges)?;
     }
     Ok(())
 }
@@ -219,27 +214,18 @@ fn put_nodes(
 /// The edges of a binding of which these items wait, in order.
 pub(crate) fn edges_of(
     alloc: Global,
-    system: &System,
-    binding: &Binding,
+    subject: Subject<'_>,
     parts: &[Part<'_>],
     pending: &[usize],
 ) -> Result<Vec<Edge>, NoMemory>
-    requires ascending { AscendByPath binding.now.nodes }
+    requires ascending { AscendByPath subject.binding.now.nodes }
 {
     let entries = entries_of(alloc, parts)?;
     let mut edges = Vec::new(alloc);
-    put_nodes(alloc, system, binding, &mut edges)?;
+    put_nodes(alloc, subject, &mut edges)?;
     for i in pending {
         if let Some(part) = parts.get(*i) {
-            put_part(
-                alloc,
-                system,
-                binding,
-                entries.as_slice(),
-                *i,
-                part,
-                &mut edges,
-            )?;
+            put_part(alloc, subject, entries.as_slice(), *i, part, &mut edges)?;
         }
     }
     edges.sort_unstable();

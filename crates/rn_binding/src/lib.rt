@@ -15,6 +15,7 @@ mod headed;
 mod part;
 mod parts;
 mod propagating;
+mod subject;
 
 pub use applications::{Application, applications_of};
 pub use candidate::{Candidate, NotSound};

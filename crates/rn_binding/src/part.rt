@@ -1,7 +1,7 @@
 //! The items of a binding, as what the code goes through.
+use crate::applications::Application;
 use crate::headed::Headed;
-use rn_growing::{Site, Way};
-use rn_model::{Expr, NetArc, Node};
+use rn_model::{NetArc, Node};
 
 /// An item of a binding: the entry of a node, what an arc of it finds, or an outermost operator
 /// application of it.
@@ -9,7 +9,7 @@ use rn_model::{Expr, NetArc, Node};
 pub(crate) enum Part<'a> {
     Entry(&'a Headed<'a>),
     Found(&'a Headed<'a>, usize, &'a NetArc),
-    Computed(&'a Headed<'a>, Site, Way, &'a Expr),
+    Computed(&'a Headed<'a>, Application<'a>),
 }
 
 impl<'a> Part<'a> {
@@ -18,7 +18,7 @@ impl<'a> Part<'a> {
         match self {
             Part::Entry(node) => node.node(),
             Part::Found(node, _, _) => node.node(),
-            Part::Computed(node, _, _, _) => node.node(),
+            Part::Computed(node, _) => node.node(),
         }
     }
 }

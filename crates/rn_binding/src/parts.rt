@@ -5,7 +5,7 @@ ghost use Rattle.rn_model.specs.Bindings.{IsNodeOf};
 ghost use Rattle.rn_model.specs.Derivation.{computed_at, sites_of, node_items};
 ghost use Rattle.rn_binding.specs.link.Parts.{item_of, found_at};
 
-use crate::applications::{Application, applications_of};
+use crate::applications::applications_of;
 use crate::headed::Headed;
 use crate::part::Part;
 use rn_model::{NetArc, System, Transition, finds_values, transition_of};
@@ -41,8 +41,7 @@ fn put_computed<'a>(
 {
     let found = applications_of(alloc, transition)?;
     for application in found {
-        let Application { site, way, form } = application;
-        parts.push(Part::Computed(node, site, way, form))?;
+        parts.push(Part::Computed(node, application))?;
     }
     Ok(())
 }

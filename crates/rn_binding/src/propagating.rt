@@ -7,12 +7,19 @@ ghost use Rattle.rn_binding.specs.link.Passing.{IsGiven, IsFollowed, IsLater};
 use crate::bringing::bring;
 use crate::edges::edges_of;
 use crate::event::{Edge, Event};
-use crate::headed::Headed;
 use crate::part::Part;
+use crate::subject::Subject;
 use rn_growing::Growing;
-use rn_model::{Binding, System};
 use rn_value::NoMemory;
 use std::alloc::Global;
+
+// The items of a binding, and the edges between its events, in order.
+#[derive(Clone, Copy)]
+struct Graph<'a> {
+    subject: Subject<'a>,
+    parts: &'a [Part<'a>],
+    edges: &'a [Edge],
+}
 
 // Which events happened, and those of them whose edges are still to be followed. Each is given by
 // the index of the first edge from it.
@@ -59,45 +66,43 @@ fn first_from(edges: &[Edge], event: Event) -> Option<usize> {
 // Whether the item at an index is in. Where it may come in, it is brought in.
 fn comes_in(
     alloc: Global,
-    system: &System,
-    binding: &Binding,
-    headed: &[Headed<'_>],
+    graph: Graph<'_>,
     growing: &mut Growing<'_>,
-    parts: &[Part<'_>],
     i: usize,
 ) -> Result<bool, NoMemory>
-    requires given { IsGiven system.now binding.now }
-    requires headed { headed.now ≡ binding.now.nodes }
-    requires followed { IsFollowed system.now binding.now growing.old }
-    requires items { map item_of parts.now ≡ items_of system.now binding.now }
-    ensures { OnOk result (IsLater system.now binding.now growing.old growing.new) }
+    requires given { IsGiven graph.subject.system.now graph.subject.binding.now }
+    requires headed { graph.subject.headed.now ≡ graph.subject.binding.now.nodes }
+    requires followed { IsFollowed graph.subject.system.now graph.subject.binding.now growing.old }
+    requires items { map item_of graph.parts.now
+        ≡ items_of graph.subject.system.now graph.subject.binding.now }
+    ensures { OnOk result (IsLater graph.entry.subject.system.now
+        graph.entry.subject.binding.now growing.old growing.new) }
 {
-    let Some(part) = parts.get(i) else {
+    let Some(part) = graph.parts.get(i) else {
         return Ok(false);
     };
-    bring(alloc, system, binding, headed, growing, part)
+    bring(alloc, graph.subject, growing, part)
 }
 
 // Whether an event happened by now.
 fn happens(
     alloc: Global,
-    system: &System,
-    binding: &Binding,
-    headed: &[Headed<'_>],
+    graph: Graph<'_>,
     growing: &mut Growing<'_>,
-    parts: &[Part<'_>],
     event: Event,
 ) -> Result<bool, NoMemory>
-    requires given { IsGiven system.now binding.now }
-    requires headed { headed.now ≡ binding.now.nodes }
-    requires followed { IsFollowed system.now binding.now growing.old }
-    requires items { map item_of parts.now ≡ items_of system.now binding.now }
-    ensures { OnOk result (IsLater system.now binding.now growing.old growing.new) }
+    requires given { IsGiven graph.subject.system.now graph.subject.binding.now }
+    requires headed { graph.subject.headed.now ≡ graph.subject.binding.now.nodes }
+    requires followed { IsFollowed graph.subject.system.now graph.subject.binding.now growing.old }
+    requires items { map item_of graph.parts.now
+        ≡ items_of graph.subject.system.now graph.subject.binding.now }
+    ensures { OnOk result (IsLater graph.entry.subject.system.now
+        graph.entry.subject.binding.now growing.old growing.new) }
 {
     match event {
-        Event::In(i) => comes_in(alloc, system, binding, headed, growing, parts, i),
+        Event::In(i) => comes_in(alloc, graph, growing, i),
         Event::Forced(n, x) => {
-            let Some(node) = binding.nodes.get(n) else {
+            let Some(node) = graph.subject.binding.nodes.get(n) else {
                 return Ok(false);
             };
             let forced = growing.is_forced(alloc, node.path.as_slice(), x)?;
@@ -109,25 +114,24 @@ fn happens(
 // Looks whether an event happened by now. Where it did, it is put on the agenda, once.
 fn look_once(
     alloc: Global,
-    system: &System,
-    binding: &Binding,
-    headed: &[Headed<'_>],
+    graph: Graph<'_>,
     growing: &mut Growing<'_>,
-    parts: &[Part<'_>],
     agenda: &mut Agenda,
     first: usize,
     event: Event,
 ) -> Result<(), NoMemory>
-    requires given { IsGiven system.now binding.now }
-    requires headed { headed.now ≡ binding.now.nodes }
-    requires followed { IsFollowed system.now binding.now growing.old }
-    requires items { map item_of parts.now ≡ items_of system.now binding.now }
-    ensures { OnOk result (IsLater system.now binding.now growing.old growing.new) }
+    requires given { IsGiven graph.subject.system.now graph.subject.binding.now }
+    requires headed { graph.subject.headed.now ≡ graph.subject.binding.now.nodes }
+    requires followed { IsFollowed graph.subject.system.now graph.subject.binding.now growing.old }
+    requires items { map item_of graph.parts.now
+        ≡ items_of graph.subject.system.now graph.subject.binding.now }
+    ensures { OnOk result (IsLater graph.entry.subject.system.now
+        graph.entry.subject.binding.now growing.old growing.new) }
 {
     if agenda.has(first) {
         return Ok(());
     }
-    if !happens(alloc, system, binding, headed, growing, parts, event)? {
+    if !happens(alloc, graph, growing, event)? {
         return Ok(());
     }
     agenda.put(first)?;
@@ -137,29 +141,25 @@ fn look_once(
 // Looks at an event. Of one from which no edge goes on, an item is brought in where it may come in.
 fn look(
     alloc: Global,
-    system: &System,
-    binding: &Binding,
-    headed: &[Headed<'_>],
+    graph: Graph<'_>,
     growing: &mut Growing<'_>,
-    parts: &[Part<'_>],
-    edges: &[Edge],
     agenda: &mut Agenda,
     event: Event,
 ) -> Result<(), NoMemory>
-    requires given { IsGiven system.now binding.now }
-    requires headed { headed.now ≡ binding.now.nodes }
-    requires followed { IsFollowed system.now binding.now growing.old }
-    requires items { map item_of parts.now ≡ items_of system.now binding.now }
-    ensures { OnOk result (IsLater system.now binding.now growing.old growing.new) }
+    requires given { IsGiven graph.subject.system.now graph.subject.binding.now }
+    requires headed { graph.subject.headed.now ≡ graph.subject.binding.now.nodes }
+    requires followed { IsFollowed graph.subject.system.now graph.subject.binding.now growing.old }
+    requires items { map item_of graph.parts.now
+        ≡ items_of graph.subject.system.now graph.subject.binding.now }
+    ensures { OnOk result (IsLater graph.entry.subject.system.now
+        graph.entry.subject.binding.now growing.old growing.new) }
 {
-    if let Some(first) = first_from(edges, event) {
-        return look_once(
-            alloc, system, binding, headed, growing, parts, agenda, first, event,
-        );
+    if let Some(first) = first_from(graph.edges, event) {
+        return look_once(alloc, graph, growing, agenda, first, event);
     }
     match event {
         Event::In(i) => {
-            let _came = comes_in(alloc, system, binding, headed, growing, parts, i)?;
+            let _came = comes_in(alloc, graph, growing, i)?;
             Ok(())
         }
         Event::Forced(_, _) => Ok(()),
@@ -169,53 +169,45 @@ fn look(
 // Looks at an event, unless it is the same as the last.
 fn look_at_next(
     alloc: Global,
-    system: &System,
-    binding: &Binding,
-    headed: &[Headed<'_>],
+    graph: Graph<'_>,
     growing: &mut Growing<'_>,
-    parts: &[Part<'_>],
-    edges: &[Edge],
     agenda: &mut Agenda,
     last: Option<Event>,
     event: Event,
 ) -> Result<(), NoMemory>
-    requires given { IsGiven system.now binding.now }
-    requires headed { headed.now ≡ binding.now.nodes }
-    requires followed { IsFollowed system.now binding.now growing.old }
-    requires items { map item_of parts.now ≡ items_of system.now binding.now }
-    ensures { OnOk result (IsLater system.now binding.now growing.old growing.new) }
+    requires given { IsGiven graph.subject.system.now graph.subject.binding.now }
+    requires headed { graph.subject.headed.now ≡ graph.subject.binding.now.nodes }
+    requires followed { IsFollowed graph.subject.system.now graph.subject.binding.now growing.old }
+    requires items { map item_of graph.parts.now
+        ≡ items_of graph.subject.system.now graph.subject.binding.now }
+    ensures { OnOk result (IsLater graph.entry.subject.system.now
+        graph.entry.subject.binding.now growing.old growing.new) }
 {
     if last == Some(event) {
         return Ok(());
     }
-    look(
-        alloc, system, binding, headed, growing, parts, edges, agenda, event,
-    )
+    look(alloc, graph, growing, agenda, event)
 }
 
 // Looks at all events from which edges go on.
 fn look_at_all(
     alloc: Global,
-    system: &System,
-    binding: &Binding,
-    headed: &[Headed<'_>],
+    graph: Graph<'_>,
     growing: &mut Growing<'_>,
-    parts: &[Part<'_>],
-    edges: &[Edge],
     agenda: &mut Agenda,
 ) -> Result<(), NoMemory>
-    requires given { IsGiven system.now binding.now }
-    requires headed { headed.now ≡ binding.now.nodes }
-    requires followed { IsFollowed system.now binding.now growing.old }
-    requires items { map item_of parts.now ≡ items_of system.now binding.now }
-    ensures { OnOk result (IsLater system.now binding.now growing.old growing.new) }
+    requires given { IsGiven graph.subject.system.now graph.subject.binding.now }
+    requires headed { graph.subject.headed.now ≡ graph.subject.binding.now.nodes }
+    requires followed { IsFollowed graph.subject.system.now graph.subject.binding.now growing.old }
+    requires items { map item_of graph.parts.now
+        ≡ items_of graph.subject.system.now graph.subject.binding.now }
+    ensures { OnOk result (IsLater graph.entry.subject.system.now
+        graph.entry.subject.binding.now growing.old growing.new) }
 {
     let mut last = None;
-    for k in 0..edges.len() {
-        let event = edges[k].from;
-        look_at_next(
-            alloc, system, binding, headed, growing, parts, edges, agenda, last, event,
-        )?;
+    for k in 0..graph.edges.len() {
+        let event = graph.edges[k].from;
+        look_at_next(alloc, graph, growing, agenda, last, event)?;
         last = Some(event);
     }
     Ok(())
@@ -224,36 +216,24 @@ fn look_at_all(
 // Looks at what may follow at once from the event whose first edge has this index.
 fn follow(
     alloc: Global,
-    system: &System,
-    binding: &Binding,
-    headed: &[Headed<'_>],
+    graph: Graph<'_>,
     growing: &mut Growing<'_>,
-    parts: &[Part<'_>],
-    edges: &[Edge],
     agenda: &mut Agenda,
     first: usize,
 ) -> Result<(), NoMemory>
-    requires given { IsGiven system.now binding.now }
-    requires headed { headed.now ≡ binding.now.nodes }
-    requires followed { IsFollowed system.now binding.now growing.old }
-    requires items { map item_of parts.now ≡ items_of system.now binding.now }
-    ensures { OnOk result (IsLater system.now binding.now growing.old growing.new) }
+    requires given { IsGiven graph.subject.system.now graph.subject.binding.now }
+    requires headed { graph.subject.headed.now ≡ graph.subject.binding.now.nodes }
+    requires followed { IsFollowed graph.subject.system.now graph.subject.binding.now growing.old }
+    requires items { map item_of graph.parts.now
+        ≡ items_of graph.subject.system.now graph.subject.binding.now }
+    ensures { OnOk result (IsLater graph.entry.subject.system.now
+        graph.entry.subject.binding.now growing.old growing.new) }
 {
-    for k in first..edges.len() {
-        if edges[k].from != edges[first].from {
+    for k in first..graph.edges.len() {
+        if graph.edges[k].from != graph.edges[first].from {
             return Ok(());
         }
-        look(
-            alloc,
-            system,
-            binding,
-            headed,
-            growing,
-            parts,
-            edges,
-            agenda,
-            edges[k].to,
-        )?;
+        look(alloc, graph, growing, agenda, graph.edges[k].to)?;
     }
     Ok(())
 }
@@ -261,27 +241,23 @@ fn follow(
 // Follows edges until none is left that an event opens.
 fn follow_all(
     alloc: Global,
-    system: &System,
-    binding: &Binding,
-    headed: &[Headed<'_>],
+    graph: Graph<'_>,
     growing: &mut Growing<'_>,
-    parts: &[Part<'_>],
-    edges: &[Edge],
     agenda: &mut Agenda,
 ) -> Result<(), NoMemory>
-    requires given { IsGiven system.now binding.now }
-    requires headed { headed.now ≡ binding.now.nodes }
-    requires followed { IsFollowed system.now binding.now growing.old }
-    requires items { map item_of parts.now ≡ items_of system.now binding.now }
-    ensures { OnOk result (IsLater system.now binding.now growing.old growing.new) }
+    requires given { IsGiven graph.subject.system.now graph.subject.binding.now }
+    requires headed { graph.subject.headed.now ≡ graph.subject.binding.now.nodes }
+    requires followed { IsFollowed graph.subject.system.now graph.subject.binding.now growing.old }
+    requires items { map item_of graph.parts.now
+        ≡ items_of graph.subject.system.now graph.subject.binding.now }
+    ensures { OnOk result (IsLater graph.entry.subject.system.now
+        graph.entry.subject.binding.now growing.old growing.new) }
 {
-    for _event in 0..edges.len() {
+    for _event in 0..graph.edges.len() {
         let Some(first) = agenda.open.pop() else {
             return Ok(());
         };
-        follow(
-            alloc, system, binding, headed, growing, parts, edges, agenda, first,
-        )?;
+        follow(alloc, graph, growing, agenda, first)?;
     }
     Ok(())
 }
@@ -291,45 +267,31 @@ fn follow_all(
 /// edge leads to them.
 pub(crate) fn propagate(
     alloc: Global,
-    system: &System,
-    binding: &Binding,
-    headed: &[Headed<'_>],
+    subject: Subject<'_>,
     growing: &mut Growing<'_>,
     parts: &[Part<'_>],
     pending: &[usize],
 ) -> Result<(), NoMemory>
-    requires given { IsGiven system.now binding.now }
-    requires headed { headed.now ≡ binding.now.nodes }
-    requires followed { IsFollowed system.now binding.now growing.old }
-    requires items { map item_of parts.now ≡ items_of system.now binding.now }
-    ensures { OnOk result (IsLater system.now binding.now growing.old growing.new) }
+    requires given { IsGiven subject.system.now subject.binding.now }
+    requires headed { subject.headed.now ≡ subject.binding.now.nodes }
+    requires followed { IsFollowed subject.system.now subject.binding.now growing.old }
+    requires items { map item_of parts.now ≡ items_of subject.system.now subject.binding.now }
+    ensures { OnOk result (IsLater subject.entry.system.now subject.entry.binding.now
+        growing.old growing.new) }
 {
     if pending.is_empty() {
         return Ok(());
     }
-    let edges = edges_of(alloc, system, binding, parts, pending)?;
+    let edges = edges_of(alloc, subject, parts, pending)?;
     let edges = edges.as_slice();
     let happened = vec![in alloc; false; edges.len()]?;
     let open = Vec::new(alloc);
     let mut agenda = Agenda { happened, open };
-    look_at_all(
-        alloc,
-        system,
-        binding,
-        headed,
-        growing,
+    let graph = Graph {
+        subject,
         parts,
         edges,
-        &mut agenda,
-    )?;
-    follow_all(
-        alloc,
-        system,
-        binding,
-        headed,
-        growing,
-        parts,
-        edges,
-        &mut agenda,
-    )
+    };
+    look_at_all(alloc, graph, growing, &mut agenda)?;
+    follow_all(alloc, graph, growing, &mut agenda)
 }

@@ -7,15 +7,19 @@ use Rattle.rn_model.specs.declared.binding.Node.{Node}
 use Rattle.rn_model.specs.Derivation.{Item, entry, found, computed}
 use Rattle.rn_model.specs.Derivation.{finds_values}
 use Rattle.rn_growing.specs.Decisions.{site_of}
+use Rattle.rn_binding.specs.declared.applications.Application.{Application}
 use Rattle.rn_binding.specs.declared.part.Part.{Part}
 use Rattle.rn_binding.specs.declared.part.Part.TheVariants.{Entry, Found, Computed}
+
+-- an operator application of a node
+abbrev pub computed_by : Node → Application → Item
+computed_by node a = computed node (site_of a.site) (record { way = a.way; form = a.form.now })
 
 -- the item that a part is
 abbrev pub item_of : Part → Item
 item_of (Entry node) = entry node.now
 item_of (Found node k x) = found node.now k x.now
-item_of (Computed node site way form) =
-    computed node.now (site_of site) (record { way = way; form = form.now })
+item_of (Computed node application) = computed_by node.now application
 
 -- the item at an index
 abbrev pub item_at : Option Part → List Item

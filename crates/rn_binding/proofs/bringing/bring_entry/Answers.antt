@@ -12,91 +12,91 @@ use Rattle.rn_binding.proofs.bringing.bring_entry.Goals as goal
 
 pub returns-then-was_entered-clause-brings : goal.returns-then-was_entered-clause-brings
 returns-then-was_entered-clause-brings c =
-    entry_already c.args.system.now c.args.binding.now c.requires.given c.args.growing.now
-    c.requires.followed c.args.node.now c.requires.item
+    entry_already c.args.subject.system.now c.args.subject.binding.now c.requires.given c.args.growing.now
+    c.requires.followed c.args.headed.now c.requires.item
     (tested enters c.was_entered.result true
-    c.args.growing.now.decisions c.as_slice-path.result.now c.args.node.now.path
-    c.was_entered.ensures c.as_slice-path.ensures c.if-was_entered.true)
+    c.args.growing.now.decisions c.as_slice-path.result.now c.args.headed.now.path
+    c.was_entered.ensures (c.as_slice-path.ensures ∙ ap (λ n. n.path) c.node-node.ensures) c.if-was_entered.true)
 
 pub returns-in_default-clause-brings : goal.returns-in_default-clause-brings
 returns-in_default-clause-brings c =
-    entry_out c.args.system.now c.args.binding.now c.requires.given c.args.growing.now
-    c.requires.followed c.args.node.now c.requires.item
-    (start_out c.args.system.now c.args.binding.now c.requires.given c.args.growing.now.decisions
-    c.requires.followed.turns c.args.node.now
+    entry_out c.args.subject.system.now c.args.subject.binding.now c.requires.given c.args.growing.now
+    c.requires.followed c.args.headed.now c.requires.item
+    (start_out c.args.subject.system.now c.args.subject.binding.now c.requires.given c.args.growing.now.decisions
+    c.requires.followed.turns c.args.headed.now
     (tested enters c.was_entered.result false
-    c.args.growing.now.decisions c.as_slice-path.result.now c.args.node.now.path
-    c.was_entered.ensures c.as_slice-path.ensures c.if-was_entered.false) (ap length (sym c.as_slice-path.ensures) ∙ c.in_default.ensures.cases))
+    c.args.growing.now.decisions c.as_slice-path.result.now c.args.headed.now.path
+    c.was_entered.ensures (c.as_slice-path.ensures ∙ ap (λ n. n.path) c.node-node.ensures) c.if-was_entered.false) (ap length (sym (c.as_slice-path.ensures ∙ ap (λ n. n.path) c.node-node.ensures)) ∙ c.in_default.ensures.cases))
 
 pub returns-in_default-headed_on-clause-brings : goal.returns-in_default-headed_on-clause-brings
 returns-in_default-headed_on-clause-brings c =
-    entry_out c.args.system.now c.args.binding.now c.requires.given c.args.growing.now
-    c.requires.followed c.args.node.now c.requires.item
-    (orphan_out c.args.system.now c.args.binding.now c.requires.given c.args.growing.now.decisions
-    c.requires.followed.turns c.args.node.now
+    entry_out c.args.subject.system.now c.args.subject.binding.now c.requires.given c.args.growing.now
+    c.requires.followed c.args.headed.now c.requires.item
+    (orphan_out c.args.subject.system.now c.args.subject.binding.now c.requires.given c.args.growing.now.decisions
+    c.requires.followed.turns c.args.headed.now
     (tested enters c.was_entered.result false
-    c.args.growing.now.decisions c.as_slice-path.result.now c.args.node.now.path
-    c.was_entered.ensures c.as_slice-path.ensures c.if-was_entered.false) c.in-Some.front.now c.in-Some.i.now
-    (sym c.as_slice-path.ensures ∙ c.in-Some.ensures.cases.0)
+    c.args.growing.now.decisions c.as_slice-path.result.now c.args.headed.now.path
+    c.was_entered.ensures (c.as_slice-path.ensures ∙ ap (λ n. n.path) c.node-node.ensures) c.if-was_entered.false) c.in-Some.front.now c.in-Some.i.now
+    (sym (c.as_slice-path.ensures ∙ ap (λ n. n.path) c.node-node.ensures) ∙ c.in-Some.ensures.cases.0)
     (sym c.headed_on.ensures.node ∙ ap option_copied c.in_default-headed_on.is))
 
 pub returns-then-not-was_entered-clause-brings : goal.returns-then-not-was_entered-clause-brings
 returns-then-not-was_entered-clause-brings c =
-    entry_out c.args.system.now c.args.binding.now c.requires.given c.args.growing.now
-    c.requires.followed c.args.node.now c.requires.item
-    (early_out c.args.system.now c.args.binding.now c.requires.given c.args.growing.now.decisions
-    c.requires.followed.turns c.args.node.now
+    entry_out c.args.subject.system.now c.args.subject.binding.now c.requires.given c.args.growing.now
+    c.requires.followed c.args.headed.now c.requires.item
+    (early_out c.args.subject.system.now c.args.subject.binding.now c.requires.given c.args.growing.now.decisions
+    c.requires.followed.turns c.args.headed.now
     (tested enters c.was_entered.result false
-    c.args.growing.now.decisions c.as_slice-path.result.now c.args.node.now.path
-    c.was_entered.ensures c.as_slice-path.ensures c.if-was_entered.false) c.in-Some.front.now c.in-Some.i.now
-    (sym c.as_slice-path.ensures ∙ c.in-Some.ensures.cases.0)
+    c.args.growing.now.decisions c.as_slice-path.result.now c.args.headed.now.path
+    c.was_entered.ensures (c.as_slice-path.ensures ∙ ap (λ n. n.path) c.node-node.ensures) c.if-was_entered.false) c.in-Some.front.now c.in-Some.i.now
+    (sym (c.as_slice-path.ensures ∙ ap (λ n. n.path) c.node-node.ensures) ∙ c.in-Some.ensures.cases.0)
     (tested enters c.was_entered-2.result false
     c.args.growing.now.decisions c.in-Some.front.now c.in-Some.front.now
     c.was_entered-2.ensures refl c.if-not-was_entered.true))
 
 pub returns-in_default-get-clause-brings : goal.returns-in_default-get-clause-brings
 returns-in_default-get-clause-brings c =
-    entry_out c.args.system.now c.args.binding.now c.requires.given c.args.growing.now
-    c.requires.followed c.args.node.now c.requires.item
-    (no_downlink_out c.args.system.now c.args.binding.now c.requires.given c.args.growing.now.decisions
-    c.requires.followed.turns c.args.node.now
+    entry_out c.args.subject.system.now c.args.subject.binding.now c.requires.given c.args.growing.now
+    c.requires.followed c.args.headed.now c.requires.item
+    (no_downlink_out c.args.subject.system.now c.args.subject.binding.now c.requires.given c.args.growing.now.decisions
+    c.requires.followed.turns c.args.headed.now
     (tested enters c.was_entered.result false
-    c.args.growing.now.decisions c.as_slice-path.result.now c.args.node.now.path
-    c.was_entered.ensures c.as_slice-path.ensures c.if-was_entered.false) c.in-Some.front.now c.in-Some.i.now
-    (sym c.as_slice-path.ensures ∙ c.in-Some.ensures.cases.0) c.in-Some-headed_on.caller.now
+    c.args.growing.now.decisions c.as_slice-path.result.now c.args.headed.now.path
+    c.was_entered.ensures (c.as_slice-path.ensures ∙ ap (λ n. n.path) c.node-node.ensures) c.if-was_entered.false) c.in-Some.front.now c.in-Some.i.now
+    (sym (c.as_slice-path.ensures ∙ ap (λ n. n.path) c.node-node.ensures) ∙ c.in-Some.ensures.cases.0) c.in-Some-headed_on.caller.now
     (sym c.headed_on.ensures.node ∙ ap option_copied c.in-Some-headed_on.is)
-    (ap (λ t. slice_get t.downlinks c.in-Some.i.now) (sym (c.transition_of.ensures ∙ ap (transition_of c.args.system.now) c.node.ensures))
+    (ap (λ t. slice_get t.downlinks c.in-Some.i.now) (sym (c.transition_of.ensures ∙ ap (transition_of c.args.subject.system.now) c.node.ensures))
     ∙ sym c.get.ensures.value ∙ ap option_copied c.in_default-get.is))
 
 pub returns-in_default-2-clause-brings : goal.returns-in_default-2-clause-brings
 returns-in_default-2-clause-brings c =
-    unforced c.args.system.now c.args.binding.now c.requires.given c.args.growing.now
-    c.requires.followed c.args.node.now c.requires.item
+    unforced c.args.subject.system.now c.args.subject.binding.now c.requires.given c.args.growing.now
+    c.requires.followed c.args.headed.now c.requires.item
     (tested enters c.was_entered.result false
-    c.args.growing.now.decisions c.as_slice-path.result.now c.args.node.now.path
-    c.was_entered.ensures c.as_slice-path.ensures c.if-was_entered.false)
+    c.args.growing.now.decisions c.as_slice-path.result.now c.args.headed.now.path
+    c.was_entered.ensures (c.as_slice-path.ensures ∙ ap (λ n. n.path) c.node-node.ensures) c.if-was_entered.false)
     c.in-Some.front.now c.in-Some.i.now
-    (sym c.as_slice-path.ensures ∙ c.in-Some.ensures.cases.0) c.in-Some-headed_on.caller.now
+    (sym (c.as_slice-path.ensures ∙ ap (λ n. n.path) c.node-node.ensures) ∙ c.in-Some.ensures.cases.0) c.in-Some-headed_on.caller.now
     (sym c.headed_on.ensures.node ∙ ap option_copied c.in-Some-headed_on.is)
     c.in_ok-from.from (c.in_ok-from.ensures ∙ c.head.ensures) c.in-Some-get.downlink.now
-    (ap (λ t. slice_get t.downlinks c.in-Some.i.now) (sym (c.transition_of.ensures ∙ ap (transition_of c.args.system.now) c.node.ensures))
+    (ap (λ t. slice_get t.downlinks c.in-Some.i.now) (sym (c.transition_of.ensures ∙ ap (transition_of c.args.subject.system.now) c.node.ensures))
     ∙ sym c.get.ensures.value ∙ ap option_copied c.in-Some-get.is)
     (λ inst told. c.in_default-2.not-Some inst ((c.in_ok-_inst.ensures inst).1 told))
 
 pub enter-requires-clause-may_come : goal.enter-requires-clause-may_come
 enter-requires-clause-may_come c =
-    (entry_comes c.args.system.now c.args.binding.now c.requires.given c.args.growing.now
-    c.requires.followed c.args.node.now c.requires.item
+    (entry_comes c.args.subject.system.now c.args.subject.binding.now c.requires.given c.args.growing.now
+    c.requires.followed c.args.headed.now c.requires.item
     (tested enters c.was_entered.result false
-    c.args.growing.now.decisions c.as_slice-path.result.now c.args.node.now.path
-    c.was_entered.ensures c.as_slice-path.ensures c.if-was_entered.false)
+    c.args.growing.now.decisions c.as_slice-path.result.now c.args.headed.now.path
+    c.was_entered.ensures (c.as_slice-path.ensures ∙ ap (λ n. n.path) c.node-node.ensures) c.if-was_entered.false)
     c.in-Some.front.now c.in-Some.i.now
-    (sym c.as_slice-path.ensures ∙ c.in-Some.ensures.cases.0) c.in-Some-headed_on.caller.now
+    (sym (c.as_slice-path.ensures ∙ ap (λ n. n.path) c.node-node.ensures) ∙ c.in-Some.ensures.cases.0) c.in-Some-headed_on.caller.now
     (sym c.headed_on.ensures.node ∙ ap option_copied c.in-Some-headed_on.is)
     c.in_ok-from.from (c.in_ok-from.ensures ∙ c.head.ensures) c.in-Some-get.downlink.now
-    (ap (λ t. slice_get t.downlinks c.in-Some.i.now) (sym (c.transition_of.ensures ∙ ap (transition_of c.args.system.now) c.node.ensures))
+    (ap (λ t. slice_get t.downlinks c.in-Some.i.now) (sym (c.transition_of.ensures ∙ ap (transition_of c.args.subject.system.now) c.node.ensures))
     ∙ sym c.get.ensures.value ∙ ap option_copied c.in-Some-get.is)
-    c.in_ok-head.head c.in-Some-2._inst (c.in_ok-head.ensures ∙ c.requires.head) c.in-Some-headed_on.ensures.there
+    c.in_ok-head.head c.in-Some-2._inst (c.in_ok-head.ensures ∙ c.head-2.ensures) c.in-Some-headed_on.ensures.there
     (tested enters c.was_entered-2.result true
     c.args.growing.now.decisions c.in-Some.front.now c.in-Some.front.now
     c.was_entered-2.ensures refl c.if-not-was_entered.false)
@@ -104,18 +104,18 @@ enter-requires-clause-may_come c =
 
 pub enter-requires-clause-fresh : goal.enter-requires-clause-fresh
 enter-requires-clause-fresh c =
-    (entry_comes c.args.system.now c.args.binding.now c.requires.given c.args.growing.now
-    c.requires.followed c.args.node.now c.requires.item
+    (entry_comes c.args.subject.system.now c.args.subject.binding.now c.requires.given c.args.growing.now
+    c.requires.followed c.args.headed.now c.requires.item
     (tested enters c.was_entered.result false
-    c.args.growing.now.decisions c.as_slice-path.result.now c.args.node.now.path
-    c.was_entered.ensures c.as_slice-path.ensures c.if-was_entered.false)
+    c.args.growing.now.decisions c.as_slice-path.result.now c.args.headed.now.path
+    c.was_entered.ensures (c.as_slice-path.ensures ∙ ap (λ n. n.path) c.node-node.ensures) c.if-was_entered.false)
     c.in-Some.front.now c.in-Some.i.now
-    (sym c.as_slice-path.ensures ∙ c.in-Some.ensures.cases.0) c.in-Some-headed_on.caller.now
+    (sym (c.as_slice-path.ensures ∙ ap (λ n. n.path) c.node-node.ensures) ∙ c.in-Some.ensures.cases.0) c.in-Some-headed_on.caller.now
     (sym c.headed_on.ensures.node ∙ ap option_copied c.in-Some-headed_on.is)
     c.in_ok-from.from (c.in_ok-from.ensures ∙ c.head.ensures) c.in-Some-get.downlink.now
-    (ap (λ t. slice_get t.downlinks c.in-Some.i.now) (sym (c.transition_of.ensures ∙ ap (transition_of c.args.system.now) c.node.ensures))
+    (ap (λ t. slice_get t.downlinks c.in-Some.i.now) (sym (c.transition_of.ensures ∙ ap (transition_of c.args.subject.system.now) c.node.ensures))
     ∙ sym c.get.ensures.value ∙ ap option_copied c.in-Some-get.is)
-    c.in_ok-head.head c.in-Some-2._inst (c.in_ok-head.ensures ∙ c.requires.head) c.in-Some-headed_on.ensures.there
+    c.in_ok-head.head c.in-Some-2._inst (c.in_ok-head.ensures ∙ c.head-2.ensures) c.in-Some-headed_on.ensures.there
     (tested enters c.was_entered-2.result true
     c.args.growing.now.decisions c.in-Some.front.now c.in-Some.front.now
     c.was_entered-2.ensures refl c.if-not-was_entered.false)
@@ -123,18 +123,18 @@ enter-requires-clause-fresh c =
 
 pub returns-clause-brings : goal.returns-clause-brings
 returns-clause-brings c =
-    IfOk-weaker _ _ _ (λ yes tries. ((entry_comes c.args.system.now c.args.binding.now c.requires.given c.args.growing.now
-    c.requires.followed c.args.node.now c.requires.item
+    IfOk-weaker _ _ _ (λ yes tries. ((entry_comes c.args.subject.system.now c.args.subject.binding.now c.requires.given c.args.growing.now
+    c.requires.followed c.args.headed.now c.requires.item
     (tested enters c.was_entered.result false
-    c.args.growing.now.decisions c.as_slice-path.result.now c.args.node.now.path
-    c.was_entered.ensures c.as_slice-path.ensures c.if-was_entered.false)
+    c.args.growing.now.decisions c.as_slice-path.result.now c.args.headed.now.path
+    c.was_entered.ensures (c.as_slice-path.ensures ∙ ap (λ n. n.path) c.node-node.ensures) c.if-was_entered.false)
     c.in-Some.front.now c.in-Some.i.now
-    (sym c.as_slice-path.ensures ∙ c.in-Some.ensures.cases.0) c.in-Some-headed_on.caller.now
+    (sym (c.as_slice-path.ensures ∙ ap (λ n. n.path) c.node-node.ensures) ∙ c.in-Some.ensures.cases.0) c.in-Some-headed_on.caller.now
     (sym c.headed_on.ensures.node ∙ ap option_copied c.in-Some-headed_on.is)
     c.in_ok-from.from (c.in_ok-from.ensures ∙ c.head.ensures) c.in-Some-get.downlink.now
-    (ap (λ t. slice_get t.downlinks c.in-Some.i.now) (sym (c.transition_of.ensures ∙ ap (transition_of c.args.system.now) c.node.ensures))
+    (ap (λ t. slice_get t.downlinks c.in-Some.i.now) (sym (c.transition_of.ensures ∙ ap (transition_of c.args.subject.system.now) c.node.ensures))
     ∙ sym c.get.ensures.value ∙ ap option_copied c.in-Some-get.is)
-    c.in_ok-head.head c.in-Some-2._inst (c.in_ok-head.ensures ∙ c.requires.head) c.in-Some-headed_on.ensures.there
+    c.in_ok-head.head c.in-Some-2._inst (c.in_ok-head.ensures ∙ c.head-2.ensures) c.in-Some-headed_on.ensures.there
     (tested enters c.was_entered-2.result true
     c.args.growing.now.decisions c.in-Some.front.now c.in-Some.front.now
     c.was_entered-2.ensures refl c.if-not-was_entered.false)
@@ -142,18 +142,18 @@ returns-clause-brings c =
 
 pub returns-clause-followed : goal.returns-clause-followed
 returns-clause-followed c =
-    IfOk-weaker _ _ _ (λ yes tries. ((entry_comes c.args.system.now c.args.binding.now c.requires.given c.args.growing.now
-    c.requires.followed c.args.node.now c.requires.item
+    IfOk-weaker _ _ _ (λ yes tries. ((entry_comes c.args.subject.system.now c.args.subject.binding.now c.requires.given c.args.growing.now
+    c.requires.followed c.args.headed.now c.requires.item
     (tested enters c.was_entered.result false
-    c.args.growing.now.decisions c.as_slice-path.result.now c.args.node.now.path
-    c.was_entered.ensures c.as_slice-path.ensures c.if-was_entered.false)
+    c.args.growing.now.decisions c.as_slice-path.result.now c.args.headed.now.path
+    c.was_entered.ensures (c.as_slice-path.ensures ∙ ap (λ n. n.path) c.node-node.ensures) c.if-was_entered.false)
     c.in-Some.front.now c.in-Some.i.now
-    (sym c.as_slice-path.ensures ∙ c.in-Some.ensures.cases.0) c.in-Some-headed_on.caller.now
+    (sym (c.as_slice-path.ensures ∙ ap (λ n. n.path) c.node-node.ensures) ∙ c.in-Some.ensures.cases.0) c.in-Some-headed_on.caller.now
     (sym c.headed_on.ensures.node ∙ ap option_copied c.in-Some-headed_on.is)
     c.in_ok-from.from (c.in_ok-from.ensures ∙ c.head.ensures) c.in-Some-get.downlink.now
-    (ap (λ t. slice_get t.downlinks c.in-Some.i.now) (sym (c.transition_of.ensures ∙ ap (transition_of c.args.system.now) c.node.ensures))
+    (ap (λ t. slice_get t.downlinks c.in-Some.i.now) (sym (c.transition_of.ensures ∙ ap (transition_of c.args.subject.system.now) c.node.ensures))
     ∙ sym c.get.ensures.value ∙ ap option_copied c.in-Some-get.is)
-    c.in_ok-head.head c.in-Some-2._inst (c.in_ok-head.ensures ∙ c.requires.head) c.in-Some-headed_on.ensures.there
+    c.in_ok-head.head c.in-Some-2._inst (c.in_ok-head.ensures ∙ c.head-2.ensures) c.in-Some-headed_on.ensures.there
     (tested enters c.was_entered-2.result true
     c.args.growing.now.decisions c.in-Some.front.now c.in-Some.front.now
     c.was_entered-2.ensures refl c.if-not-was_entered.false)

@@ -2,6 +2,7 @@
 use Rattle.std.proofs.Common.{◌∙◌, ap, sym, true, false}
 use Rattle.std.proofs.lemmas.Result.{IfOk-weaker}
 use Rattle.rn_model.specs.Evaluation.{worth}
+use Rattle.rn_model.specs.Bindings.{env_of}
 use Rattle.rn_growing.specs.Decided.{enters, finds}
 use Rattle.rn_binding.proofs.ComingValues.{tested, found_already, found_early, found_has_value}
 use Rattle.rn_binding.proofs.ComingValues.{found_comes}
@@ -9,82 +10,82 @@ use Rattle.rn_binding.proofs.bringing.bring_found.Goals as goal
 
 pub returns-then-was_found-clause-brings : goal.returns-then-was_found-clause-brings
 returns-then-was_found-clause-brings c =
-    found_already c.args.system.now c.args.binding.now c.requires.given c.args.growing.now
-    c.requires.followed c.args.node.now c.args.k c.args.arc.now c.requires.item
+    found_already c.args.subject.system.now c.args.subject.binding.now c.requires.given c.args.growing.now
+    c.requires.followed c.args.headed.now c.args.k c.args.arc.now c.requires.item
     (tested (λ p. finds p c.args.k) c.was_found.result true
-    c.args.growing.now.decisions c.as_slice-path.result.now c.args.node.now.path
-    c.was_found.ensures c.as_slice-path.ensures c.if-was_found.true)
+    c.args.growing.now.decisions c.as_slice-path.result.now c.args.headed.now.path
+    c.was_found.ensures (c.as_slice-path.ensures ∙ ap (λ n. n.path) c.node-node.ensures) c.if-was_found.true)
 
 pub returns-then-not-was_entered-clause-brings : goal.returns-then-not-was_entered-clause-brings
 returns-then-not-was_entered-clause-brings c =
-    found_early c.args.system.now c.args.binding.now c.requires.given c.args.growing.now
-    c.requires.followed c.args.node.now c.args.k c.args.arc.now c.requires.item
+    found_early c.args.subject.system.now c.args.subject.binding.now c.requires.given c.args.growing.now
+    c.requires.followed c.args.headed.now c.args.k c.args.arc.now c.requires.item
     (tested (λ p. finds p c.args.k) c.was_found.result false
-    c.args.growing.now.decisions c.as_slice-path.result.now c.args.node.now.path
-    c.was_found.ensures c.as_slice-path.ensures c.if-was_found.false)
+    c.args.growing.now.decisions c.as_slice-path.result.now c.args.headed.now.path
+    c.was_found.ensures (c.as_slice-path.ensures ∙ ap (λ n. n.path) c.node-node.ensures) c.if-was_found.false)
     (tested (enters) c.was_entered.result false
-    c.args.growing.now.decisions c.as_slice-path.result.now c.args.node.now.path
-    c.was_entered.ensures c.as_slice-path.ensures c.if-not-was_entered.true)
+    c.args.growing.now.decisions c.as_slice-path.result.now c.args.headed.now.path
+    c.was_entered.ensures (c.as_slice-path.ensures ∙ ap (λ n. n.path) c.node-node.ensures) c.if-not-was_entered.true)
 
 pub returns-in_default-clause-brings : goal.returns-in_default-clause-brings
 returns-in_default-clause-brings c =
-    absurd (found_has_value c.args.system.now c.args.binding.now c.requires.given c.args.growing.now
-    c.requires.followed c.args.node.now c.args.k c.args.arc.now c.requires.item
-    (ap (worth c.args.arc.now.inscription) (sym c.new-values.ensures) ∙ sym c.in_ok-value.ensures.value
+    absurd (found_has_value c.args.subject.system.now c.args.subject.binding.now c.requires.given c.args.growing.now
+    c.requires.followed c.args.headed.now c.args.k c.args.arc.now c.requires.item
+    (ap (worth c.args.arc.now.inscription) (sym (c.new-values.ensures ∙ ap (env_of c.args.subject.system.now) c.node-node.ensures)) ∙ sym c.in_ok-value.ensures.value
     ∙ c.in_default.is))
 
 pub find-requires-clause-may_come : goal.find-requires-clause-may_come
 find-requires-clause-may_come c =
-    (found_comes c.args.system.now c.args.binding.now c.requires.given c.args.growing.now
-    c.requires.followed c.args.node.now c.args.k c.args.arc.now c.requires.item
-    c.in_ok-head.head c.in-Some.value (c.in_ok-head.ensures ∙ c.requires.head)
-    (ap (worth c.args.arc.now.inscription) (sym c.new-values.ensures) ∙ sym c.in_ok-value.ensures.value
+    (found_comes c.args.subject.system.now c.args.subject.binding.now c.requires.given c.args.growing.now
+    c.requires.followed c.args.headed.now c.args.k c.args.arc.now c.requires.item
+    c.in_ok-head.head c.in-Some.value (c.in_ok-head.ensures ∙ c.head.ensures)
+    (ap (worth c.args.arc.now.inscription) (sym (c.new-values.ensures ∙ ap (env_of c.args.subject.system.now) c.node-node.ensures)) ∙ sym c.in_ok-value.ensures.value
     ∙ c.in-Some.is)
     (tested (λ p. finds p c.args.k) c.was_found.result false
-    c.args.growing.now.decisions c.as_slice-path.result.now c.args.node.now.path
-    c.was_found.ensures c.as_slice-path.ensures c.if-was_found.false)
+    c.args.growing.now.decisions c.as_slice-path.result.now c.args.headed.now.path
+    c.was_found.ensures (c.as_slice-path.ensures ∙ ap (λ n. n.path) c.node-node.ensures) c.if-was_found.false)
     (tested (enters) c.was_entered.result true
-    c.args.growing.now.decisions c.as_slice-path.result.now c.args.node.now.path
-    c.was_entered.ensures c.as_slice-path.ensures c.if-not-was_entered.false)).0
+    c.args.growing.now.decisions c.as_slice-path.result.now c.args.headed.now.path
+    c.was_entered.ensures (c.as_slice-path.ensures ∙ ap (λ n. n.path) c.node-node.ensures) c.if-not-was_entered.false)).0
 
 pub find-requires-clause-fresh : goal.find-requires-clause-fresh
 find-requires-clause-fresh c =
-    (found_comes c.args.system.now c.args.binding.now c.requires.given c.args.growing.now
-    c.requires.followed c.args.node.now c.args.k c.args.arc.now c.requires.item
-    c.in_ok-head.head c.in-Some.value (c.in_ok-head.ensures ∙ c.requires.head)
-    (ap (worth c.args.arc.now.inscription) (sym c.new-values.ensures) ∙ sym c.in_ok-value.ensures.value
+    (found_comes c.args.subject.system.now c.args.subject.binding.now c.requires.given c.args.growing.now
+    c.requires.followed c.args.headed.now c.args.k c.args.arc.now c.requires.item
+    c.in_ok-head.head c.in-Some.value (c.in_ok-head.ensures ∙ c.head.ensures)
+    (ap (worth c.args.arc.now.inscription) (sym (c.new-values.ensures ∙ ap (env_of c.args.subject.system.now) c.node-node.ensures)) ∙ sym c.in_ok-value.ensures.value
     ∙ c.in-Some.is)
     (tested (λ p. finds p c.args.k) c.was_found.result false
-    c.args.growing.now.decisions c.as_slice-path.result.now c.args.node.now.path
-    c.was_found.ensures c.as_slice-path.ensures c.if-was_found.false)
+    c.args.growing.now.decisions c.as_slice-path.result.now c.args.headed.now.path
+    c.was_found.ensures (c.as_slice-path.ensures ∙ ap (λ n. n.path) c.node-node.ensures) c.if-was_found.false)
     (tested (enters) c.was_entered.result true
-    c.args.growing.now.decisions c.as_slice-path.result.now c.args.node.now.path
-    c.was_entered.ensures c.as_slice-path.ensures c.if-not-was_entered.false)).1
+    c.args.growing.now.decisions c.as_slice-path.result.now c.args.headed.now.path
+    c.was_entered.ensures (c.as_slice-path.ensures ∙ ap (λ n. n.path) c.node-node.ensures) c.if-not-was_entered.false)).1
 
 pub returns-clause-brings : goal.returns-clause-brings
 returns-clause-brings c =
-    IfOk-weaker _ _ _ (λ yes tries. ((found_comes c.args.system.now c.args.binding.now c.requires.given c.args.growing.now
-    c.requires.followed c.args.node.now c.args.k c.args.arc.now c.requires.item
-    c.in_ok-head.head c.in-Some.value (c.in_ok-head.ensures ∙ c.requires.head)
-    (ap (worth c.args.arc.now.inscription) (sym c.new-values.ensures) ∙ sym c.in_ok-value.ensures.value
+    IfOk-weaker _ _ _ (λ yes tries. ((found_comes c.args.subject.system.now c.args.subject.binding.now c.requires.given c.args.growing.now
+    c.requires.followed c.args.headed.now c.args.k c.args.arc.now c.requires.item
+    c.in_ok-head.head c.in-Some.value (c.in_ok-head.ensures ∙ c.head.ensures)
+    (ap (worth c.args.arc.now.inscription) (sym (c.new-values.ensures ∙ ap (env_of c.args.subject.system.now) c.node-node.ensures)) ∙ sym c.in_ok-value.ensures.value
     ∙ c.in-Some.is)
     (tested (λ p. finds p c.args.k) c.was_found.result false
-    c.args.growing.now.decisions c.as_slice-path.result.now c.args.node.now.path
-    c.was_found.ensures c.as_slice-path.ensures c.if-was_found.false)
+    c.args.growing.now.decisions c.as_slice-path.result.now c.args.headed.now.path
+    c.was_found.ensures (c.as_slice-path.ensures ∙ ap (λ n. n.path) c.node-node.ensures) c.if-was_found.false)
     (tested (enters) c.was_entered.result true
-    c.args.growing.now.decisions c.as_slice-path.result.now c.args.node.now.path
-    c.was_entered.ensures c.as_slice-path.ensures c.if-not-was_entered.false)).2 c.find.new.self yes tries).0) c.find.ensures.tries
+    c.args.growing.now.decisions c.as_slice-path.result.now c.args.headed.now.path
+    c.was_entered.ensures (c.as_slice-path.ensures ∙ ap (λ n. n.path) c.node-node.ensures) c.if-not-was_entered.false)).2 c.find.new.self yes tries).0) c.find.ensures.tries
 
 pub returns-clause-followed : goal.returns-clause-followed
 returns-clause-followed c =
-    IfOk-weaker _ _ _ (λ yes tries. ((found_comes c.args.system.now c.args.binding.now c.requires.given c.args.growing.now
-    c.requires.followed c.args.node.now c.args.k c.args.arc.now c.requires.item
-    c.in_ok-head.head c.in-Some.value (c.in_ok-head.ensures ∙ c.requires.head)
-    (ap (worth c.args.arc.now.inscription) (sym c.new-values.ensures) ∙ sym c.in_ok-value.ensures.value
+    IfOk-weaker _ _ _ (λ yes tries. ((found_comes c.args.subject.system.now c.args.subject.binding.now c.requires.given c.args.growing.now
+    c.requires.followed c.args.headed.now c.args.k c.args.arc.now c.requires.item
+    c.in_ok-head.head c.in-Some.value (c.in_ok-head.ensures ∙ c.head.ensures)
+    (ap (worth c.args.arc.now.inscription) (sym (c.new-values.ensures ∙ ap (env_of c.args.subject.system.now) c.node-node.ensures)) ∙ sym c.in_ok-value.ensures.value
     ∙ c.in-Some.is)
     (tested (λ p. finds p c.args.k) c.was_found.result false
-    c.args.growing.now.decisions c.as_slice-path.result.now c.args.node.now.path
-    c.was_found.ensures c.as_slice-path.ensures c.if-was_found.false)
+    c.args.growing.now.decisions c.as_slice-path.result.now c.args.headed.now.path
+    c.was_found.ensures (c.as_slice-path.ensures ∙ ap (λ n. n.path) c.node-node.ensures) c.if-was_found.false)
     (tested (enters) c.was_entered.result true
-    c.args.growing.now.decisions c.as_slice-path.result.now c.args.node.now.path
-    c.was_entered.ensures c.as_slice-path.ensures c.if-not-was_entered.false)).2 c.find.new.self yes tries).1) c.find.ensures.tries
+    c.args.growing.now.decisions c.as_slice-path.result.now c.args.headed.now.path
+    c.was_entered.ensures (c.as_slice-path.ensures ∙ ap (λ n. n.path) c.node-node.ensures) c.if-not-was_entered.false)).2 c.find.new.self yes tries).1) c.find.ensures.tries

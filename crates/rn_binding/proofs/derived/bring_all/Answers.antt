@@ -9,7 +9,7 @@ use Rattle.rn_binding.proofs.derived.bring_all.Goals as goal
 
 pub loop-pending-init : goal.loop-pending-init
 loop-pending-init c = (
-  left_later c.args.system.now c.args.binding.now c.sweep.new.growing c.propagate.new.growing
+  left_later c.args.subject.system.now c.args.subject.binding.now c.sweep.new.growing c.propagate.new.growing
       (picked c.args.parts.now c.in_ok-pending.pending.items) c.in_ok-pending.ensures.left
       c.in_ok-propagate.ensures,
   c.in_ok-pending.ensures.within,
@@ -19,10 +19,10 @@ pub returns-then-len : goal.returns-then-len
 returns-then-len c =
     let many : length c.in_ok-left.left.items ≡ length c.loop-pending.pending.items = search rules in
     let none : IsTrue c.is_empty.result ↔ (length c.in_ok-left.left.items ≡ 0) = search rules in
-    ends c.args.system.now c.args.binding.now c.args.parts.now c.loop-pending.growing
+    ends c.args.subject.system.now c.args.subject.binding.now c.args.parts.now c.loop-pending.growing
     c.pass.new.growing c.loop-pending.pending.items c.in_ok-left.left.items
     c.loop-pending.invariant.0
-    (subst (λ ks. IsPassed c.args.system.now c.args.binding.now c.loop-pending.growing
+    (subst (λ ks. IsPassed c.args.subject.system.now c.args.subject.binding.now c.loop-pending.growing
     (picked c.args.parts.now ks) c.pass.new.growing (picked c.args.parts.now c.in_ok-left.left.items))
     c.as_slice-in-loop-pending.ensures.value c.in_ok-left.ensures.passed)
     c.loop-pending.invariant.1 c.in_ok-left.ensures.within c.is_empty.result many none
@@ -31,20 +31,20 @@ pub loop-pending-smaller : goal.loop-pending-smaller
 loop-pending-smaller c =
     let differ : length c.in_ok-left.left.items ≡ length c.loop-pending.pending.items → ⊥ =
     λ e. let no : ⊥ = search (rules, e) in no in
-    fewer c.args.system.now c.args.binding.now c.args.parts.now c.loop-pending.growing
+    fewer c.args.subject.system.now c.args.subject.binding.now c.args.parts.now c.loop-pending.growing
     c.pass.new.growing c.loop-pending.pending.items c.in_ok-left.left.items
     c.loop-pending.invariant.0
-    (subst (λ ks. IsPassed c.args.system.now c.args.binding.now c.loop-pending.growing
+    (subst (λ ks. IsPassed c.args.subject.system.now c.args.subject.binding.now c.loop-pending.growing
     (picked c.args.parts.now ks) c.pass.new.growing (picked c.args.parts.now c.in_ok-left.left.items))
     c.as_slice-in-loop-pending.ensures.value c.in_ok-left.ensures.passed)
     c.loop-pending.invariant.1 c.in_ok-left.ensures.within differ
 
 pub loop-pending-preserved : goal.loop-pending-preserved
 loop-pending-preserved c = (
-  goes_on c.args.system.now c.args.binding.now c.args.parts.now c.loop-pending.growing
+  goes_on c.args.subject.system.now c.args.subject.binding.now c.args.parts.now c.loop-pending.growing
       c.pass.new.growing c.loop-pending.pending.items c.in_ok-left.left.items
       c.loop-pending.invariant.0
-      (subst (λ ks. IsPassed c.args.system.now c.args.binding.now c.loop-pending.growing
+      (subst (λ ks. IsPassed c.args.subject.system.now c.args.subject.binding.now c.loop-pending.growing
       (picked c.args.parts.now ks) c.pass.new.growing (picked c.args.parts.now c.in_ok-left.left.items))
       c.as_slice-in-loop-pending.ensures.value c.in_ok-left.ensures.passed)
       c.loop-pending.invariant.1 c.in_ok-left.ensures.within,

@@ -6,7 +6,7 @@ use Rattle.rn_binding.proofs.derived.bring_all.Given as goal
 
 abbrev pub invariant-loop-pending : goal.invariant-loop-pending
 invariant-loop-pending l =
-    AreLeft l.system l.binding l.growing (picked l.parts l.pending.items)
+    AreLeft l.subject.system.now l.subject.binding.now l.growing (picked l.parts l.pending.items)
     × AllWithin l.parts l.pending.items
 
 abbrev pub decreases-loop-pending : goal.decreases-loop-pending

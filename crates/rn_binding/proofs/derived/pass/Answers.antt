@@ -22,7 +22,7 @@ loop-k-preserved-in_ok-push c =
     omega (arith, c.loop-k.invariant.room, c.loop-k-test.true) in
     let then : (c.loop-k.k - 1) + 1 ≡ c.loop-k.k = omega (arith, c.loop-k-test.true) in
     let few : c.loop-k.k - 1 ≤ length c.args.pending.now = omega (arith, room) in
-    let both = is_left c.args.system.now c.args.binding.now c.args.parts.now
+    let both = is_left c.args.subject.system.now c.args.subject.binding.now c.args.parts.now
     c.args.pending.now (c.loop-k.k - 1) c.loop-k.k (get_or c.args.pending.now (c.loop-k.k - 1) 0)
     c.index-parts-i.result then room refl (c.requires.within (c.loop-k.k - 1) 0 room)
     c.index-parts-i.is c.args.growing.now c.loop-k.growing c.bring.new.growing
@@ -37,7 +37,7 @@ loop-k-preserved c =
     omega (arith, c.loop-k.invariant.room, c.loop-k-test.true) in
     let then : (c.loop-k.k - 1) + 1 ≡ c.loop-k.k = omega (arith, c.loop-k-test.true) in
     let few : c.loop-k.k - 1 ≤ length c.args.pending.now = omega (arith, room) in
-    let both = is_in c.args.system.now c.args.binding.now c.args.parts.now
+    let both = is_in c.args.subject.system.now c.args.subject.binding.now c.args.parts.now
     c.args.pending.now (c.loop-k.k - 1) c.loop-k.k (get_or c.args.pending.now (c.loop-k.k - 1) 0)
     c.index-parts-i.result then room refl (c.requires.within (c.loop-k.k - 1) 0 room)
     c.index-parts-i.is c.args.growing.now c.loop-k.growing c.bring.new.growing
@@ -49,6 +49,6 @@ loop-k-preserved c =
 pub returns-clause-passed : goal.returns-clause-passed
 returns-clause-passed c =
     let end : c.loop-k.k ≡ 0 = omega arith in
-    subst (λ n. IsPassed c.args.system.now c.args.binding.now c.args.growing.now
+    subst (λ n. IsPassed c.args.subject.system.now c.args.subject.binding.now c.args.growing.now
     (picked c.args.parts.now (drop n c.args.pending.now)) c.loop-k.growing
     (picked c.args.parts.now c.loop-k.left.items)) end c.loop-k.invariant.passed

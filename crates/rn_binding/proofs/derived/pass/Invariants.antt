@@ -6,7 +6,7 @@ use Rattle.rn_binding.proofs.derived.pass.Given as goal
 
 abbrev pub invariant-loop-k : goal.invariant-loop-k
 invariant-loop-k l = record {
-  passed : IsPassed l.system l.binding l.initial.growing (picked l.parts (drop l.k l.pending))
+  passed : IsPassed l.subject.system.now l.subject.binding.now l.initial.growing (picked l.parts (drop l.k l.pending))
       l.growing (picked l.parts l.left.items);
   within : AllWithin l.parts l.left.items;
   room : l.k ≤ length l.pending;

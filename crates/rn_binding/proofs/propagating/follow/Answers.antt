@@ -4,9 +4,9 @@ use Rattle.rn_binding.proofs.propagating.follow.Goals as goal
 
 pub loop-k-init : goal.loop-k-init
 loop-k-init c =
-    not_yet c.args.system.now c.args.binding.now c.args.growing.now c.requires.followed
+    not_yet c.args.graph.subject.system.now c.args.graph.subject.binding.now c.args.growing.now c.requires.followed
 
 pub loop-k-preserved : goal.loop-k-preserved
 loop-k-preserved c =
-    later_then c.args.system.now c.args.binding.now c.args.growing.now c.loop-k.growing
+    later_then c.args.graph.subject.system.now c.args.graph.subject.binding.now c.args.growing.now c.loop-k.growing
     c.look.new.growing c.loop-k.invariant c.in_ok-look.ensures

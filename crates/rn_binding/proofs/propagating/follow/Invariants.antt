@@ -3,4 +3,4 @@ use Rattle.rn_binding.specs.link.Passing.{IsLater}
 use Rattle.rn_binding.proofs.propagating.follow.Given as goal
 
 abbrev pub invariant-loop-k : goal.invariant-loop-k
-invariant-loop-k l = IsLater l.system l.binding l.initial.growing l.growing
+invariant-loop-k l = IsLater l.graph.subject.system.now l.graph.subject.binding.now l.initial.growing l.growing

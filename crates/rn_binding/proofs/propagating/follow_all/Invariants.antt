@@ -3,4 +3,4 @@ use Rattle.rn_binding.specs.link.Passing.{IsLater}
 use Rattle.rn_binding.proofs.propagating.follow_all.Given as goal
 
 abbrev pub invariant-loop-event : goal.invariant-loop-event
-invariant-loop-event l = IsLater l.system l.binding l.initial.growing l.growing
+invariant-loop-event l = IsLater l.graph.subject.system.now l.graph.subject.binding.now l.initial.growing l.growing
