@@ -259,7 +259,7 @@ pub(crate) fn start_beside(
     let drawn = mixed(worker, seen);
     Some(Start {
         number: beside(number, next, drawn),
-        transition: node.transition.wrapping_add((late / 2) as u32),
+        transition: node.transition.wrapping_add((late / 2 % 16777216) as u32),
         token: drawn as usize,
     })
 }
