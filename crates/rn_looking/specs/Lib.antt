@@ -1,3 +1,4 @@
+pub mod link
 pub mod Applying
 pub mod Branches
 pub mod Calling

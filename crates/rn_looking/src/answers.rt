@@ -4,6 +4,7 @@
 use crate::arcs::known_value;
 use crate::guard_vars::put_guard;
 use crate::known::Known;
+use crate::views::NodeView;
 use rn_calc::{Values, is_true};
 use rn_growing::{Growing, Head};
 use rn_model::{ArcKind, Downlink, Expr, NetArc, Transition, Uplink, finds_token, transition_at};
@@ -282,23 +283,20 @@ fn left_among(
 /// from a literal, a guard over known arguments isn't true, or an arc finds no token.
 pub(crate) fn answers_left(
     alloc: Global,
-    problem: &Problem<'_>,
-    growing: &Growing<'_>,
-    node: usize,
-    head: &Head,
+    at: NodeView<'_>,
     i: usize,
     downlink: &Downlink,
     inst: &InstRef,
     called: Called,
 ) -> Result<Left, NoMemory> {
-    let decisions = growing.decisions();
-    let answers = problem.answers(decisions, node, i, called);
+    let decisions = at.growing.decisions();
+    let answers = at.problem.answers(decisions, at.node, i, called);
     if answers.len() < 2 || answers.len() > FEW {
         return Ok(all_of(answers.len()));
     }
-    let Some(net) = problem.net_called(decisions, called) else {
+    let Some(net) = at.problem.net_called(decisions, called) else {
         return Ok(all_of(answers.len()));
     };
-    let values = known_args(alloc, growing, head, downlink.args.as_slice())?;
-    left_among(alloc, problem, inst, net, answers, values.as_slice())
+    let values = known_args(alloc, at.growing, at.head, downlink.args.as_slice())?;
+    left_among(alloc, at.problem, inst, net, answers, values.as_slice())
 }

@@ -3,10 +3,10 @@
 //! tokens of the place are. So what is known already isn't found out by trying tokens
 //! (`docs/SEARCH.md`, 'What it does next').
 ghost use Rattle.std.specs.Prelude.{◌≡◌, ◌<◌, IfOk, IfSome, Some, length, slice_get};
-ghost use Rattle.rn_looking.specs.Branches.{IsLookedAt};
+ghost use Rattle.rn_looking.specs.link.Views.{IsNodeView, NodeLooked};
 ghost use Rattle.rn_looking.specs.Equating.{IsKnownToken, IsTokenOf};
 ghost use Rattle.rn_looking.specs.Knowing.{IsKnownFirst, IsKnownTokenFirst, IsKnownValue};
-ghost use Rattle.rn_looking.specs.Looks.{Looked, Urges};
+ghost use Rattle.rn_looking.specs.Looks.{Urges};
 ghost use Rattle.rn_looking.specs.Things.{IsOnArc, IsOnArcs, FindsToken};
 
 use crate::among::among;
@@ -15,11 +15,12 @@ use crate::equated::{equated, known_worth};
 use crate::known::known_in;
 use crate::look::Look;
 use crate::narrowed::narrowed;
+use crate::views::NodeView;
 use rn_calc::evaluate;
 use rn_choices::Next;
 use rn_growing::{Growing, Head};
 use rn_model::{Expr, NetArc, Transition, finds_token, finds_values};
-use rn_search::{Point, Problem};
+use rn_search::Point;
 use rn_value::{NoMemory, Value};
 use std::alloc::Global;
 
@@ -88,111 +89,70 @@ fn known_token(
 }
 
 // Goes on with the token of an arc, which is known, or where it is known that there is none.
-fn with_token(
-    problem: &Problem<'_>,
-    growing: &Growing<'_>,
-    node: usize,
-    head: &Head,
-    transition: &Transition,
-    k: usize,
-    told: &Option<Value>,
-) -> Look
-    requires at { IsLookedAt problem.now growing.now node head.now transition.now }
-    requires token { FindsToken growing.now.decisions head.now transition.now k }
-    requires known { IsKnownToken growing.now head.now transition.now k told.now }
-    ensures { Looked problem.now growing.now.decisions (IsOnArc head.now k) result }
+fn with_token(at: NodeView<'_>, k: usize, told: &Option<Value>) -> Look
+    requires at { IsNodeView at }
+    requires token { FindsToken at.growing.now.decisions at.head.now at.transition.now k }
+    requires known { IsKnownToken at.growing.now at.head.now at.transition.now k told.now }
+    ensures { NodeLooked at.entry (IsOnArc at.entry.head.now k) result }
 {
-    // Only clauses speak of these.
-    let _ = head;
-    let _ = transition;
     let Some(value) = told else {
         return Look::Goes(Next::Stuck, 0);
     };
-    match problem.only_token(growing.decisions(), node, k, value) {
-        Some(from) => Look::Goes(Next::Forced(Point::Token(node, k, from)), 1),
+    let decisions = at.growing.decisions();
+    match at.problem.only_token(decisions, at.node, k, value) {
+        Some(from) => Look::Goes(Next::Forced(Point::Token(at.node, k, from)), 1),
         None => Look::Goes(Next::Stuck, 0),
     }
 }
 
 // Goes on with one of the tokens of an arc whose first part is known.
-fn with_first(
-    problem: &Problem<'_>,
-    growing: &Growing<'_>,
-    node: usize,
-    head: &Head,
-    transition: &Transition,
-    k: usize,
-    part: &Value,
-    first: usize,
-) -> Look
-    requires at { IsLookedAt problem.now growing.now node head.now transition.now }
-    requires token { FindsToken growing.now.decisions head.now transition.now k }
-    requires known { IsKnownTokenFirst growing.now head.now transition.now k part.now }
-    ensures { Looked problem.now growing.now.decisions (IsOnArc head.now k) result }
+fn with_first(at: NodeView<'_>, k: usize, part: &Value, first: usize) -> Look
+    requires at { IsNodeView at }
+    requires token { FindsToken at.growing.now.decisions at.head.now at.transition.now k }
+    requires known { IsKnownTokenFirst at.growing.now at.head.now at.transition.now k part.now }
+    ensures { NodeLooked at.entry (IsOnArc at.entry.head.now k) result }
 {
-    // Only clauses speak of these.
-    let _ = head;
-    let _ = transition;
-    let range = problem.range_of_first(growing.decisions(), node, k, part);
+    let decisions = at.growing.decisions();
+    let range = at.problem.range_of_first(decisions, at.node, k, part);
     let of = range.end - range.start;
-    Look::Goes(among(Point::Token(node, k, range.start), of, first), of)
+    Look::Goes(among(Point::Token(at.node, k, range.start), of, first), of)
 }
 
 // Looks for the token of an arc.
-fn look_for_token(
-    alloc: Global,
-    problem: &Problem<'_>,
-    growing: &Growing<'_>,
-    node: usize,
-    head: &Head,
-    transition: &Transition,
-    k: usize,
-    first: usize,
-) -> Result<Look, NoMemory>
-    requires at { IsLookedAt problem.now growing.now node head.now transition.now }
-    requires token { FindsToken growing.now.decisions head.now transition.now k }
-    ensures { IfOk result (λ look. Looked problem.now growing.now.decisions
-        (IsOnArc head.now k) look) }
+fn look_for_token(alloc: Global, at: NodeView<'_>, k: usize, first: usize) -> Result<Look, NoMemory>
+    requires at { IsNodeView at }
+    requires token { FindsToken at.growing.now.decisions at.head.now at.transition.now k }
+    ensures { IfOk result (NodeLooked at.entry (IsOnArc at.entry.head.now k)) }
 {
-    let arc = arc_at(transition, k);
-    if let Some(told) = known_token(alloc, growing, head, transition, &arc.inscription)? {
-        return Ok(with_token(problem, growing, node, head, transition, k, &told));
+    let arc = arc_at(at.transition, k);
+    if let Some(told) = known_token(alloc, at.growing, at.head, at.transition, &arc.inscription)? {
+        return Ok(with_token(at, k, &told));
     }
-    if let Some(part) = known_first_part(alloc, growing, head, &arc.inscription)? {
-        return Ok(with_first(problem, growing, node, head, transition, k, &part, first));
+    if let Some(part) = known_first_part(alloc, at.growing, at.head, &arc.inscription)? {
+        return Ok(with_first(at, k, &part, first));
     }
-    let point = Point::Token(node, k, 0);
-    let of = problem.alternatives(growing.decisions(), point);
+    let point = Point::Token(at.node, k, 0);
+    let of = at.problem.alternatives(at.growing.decisions(), point);
     Ok(Look::Goes(among(point, of, first), of))
 }
 
 // Looks at one of them.
-fn look_at_arc(
-    alloc: Global,
-    problem: &Problem<'_>,
-    growing: &Growing<'_>,
-    node: usize,
-    head: &Head,
-    transition: &Transition,
-    k: usize,
-    first: usize,
-) -> Result<Look, NoMemory>
-    requires at { IsLookedAt problem.now growing.now node head.now transition.now }
-    requires within { k < length transition.now.arcs }
-    ensures { IfOk result (λ look. Looked problem.now growing.now.decisions
-        (IsOnArc head.now k) look) }
+fn look_at_arc(alloc: Global, at: NodeView<'_>, k: usize, first: usize) -> Result<Look, NoMemory>
+    requires at { IsNodeView at }
+    requires within { k < length at.transition.now.arcs }
+    ensures { IfOk result (NodeLooked at.entry (IsOnArc at.entry.head.now k)) }
 {
-    let arc = arc_at(transition, k);
+    let arc = arc_at(at.transition, k);
     if !finds_values(arc.kind) {
         return Ok(Look::Done);
     }
-    if growing.was_found(head.path.as_slice(), k) {
+    if at.growing.was_found(at.head.path.as_slice(), k) {
         return Ok(Look::Done);
     }
     if !finds_token(arc.kind) {
-        return Ok(Look::Goes(Next::Forced(Point::List(node, k)), 1));
+        return Ok(Look::Goes(Next::Forced(Point::List(at.node, k)), 1));
     }
-    look_for_token(alloc, problem, growing, node, head, transition, k, first)
+    look_for_token(alloc, at, k, first)
 }
 
 // Among fewer tokens than so many a choice isn't narrowed by guards.
@@ -201,27 +161,22 @@ const SMALL: usize = 16;
 // Looks at the arcs of a node once more, and counts what passes its guards.
 fn look_by_guards(
     alloc: Global,
-    problem: &Problem<'_>,
-    growing: &Growing<'_>,
-    node: usize,
-    head: &Head,
-    transition: &Transition,
+    at: NodeView<'_>,
     first: usize,
     known: Look,
 ) -> Result<Look, NoMemory>
-    requires at { IsLookedAt problem.now growing.now node head.now transition.now }
+    requires at { IsNodeView at }
     requires urges { Urges known }
-    requires looked { Looked problem.now growing.now.decisions
-        (IsOnArcs head.now (length transition.now.arcs)) known }
-    ensures { IfOk result (λ look. Looked problem.now growing.now.decisions
-        (IsOnArcs head.now (length transition.now.arcs)) look) }
+    requires looked { NodeLooked at (IsOnArcs at.head.now (length at.transition.now.arcs)) known }
+    ensures { IfOk result (NodeLooked at.entry
+        (IsOnArcs at.entry.head.now (length at.entry.transition.now.arcs))) }
 {
     let mut best = known;
-    for k in 0..transition.arcs.len() {
-        let look = look_at_arc(alloc, problem, growing, node, head, transition, k, first)?;
-        let arc = arc_at(transition, k);
+    for k in 0..at.transition.arcs.len() {
+        let look = look_at_arc(alloc, at, k, first)?;
+        let arc = arc_at(at.transition, k);
         let most = count_of(best);
-        let look = narrowed(alloc, problem, growing, head, transition, arc, look, most)?;
+        let look = narrowed(alloc, at, arc, look, most)?;
         best = better(best, look);
         if is_best(best) {
             return Ok(best);
@@ -231,23 +186,15 @@ fn look_by_guards(
 }
 
 /// Looks at what the arcs of a node find. Choices of a token begin with this one, round.
-pub(crate) fn look_at_arcs(
-    alloc: Global,
-    problem: &Problem<'_>,
-    growing: &Growing<'_>,
-    node: usize,
-    head: &Head,
-    transition: &Transition,
-    first: usize,
-) -> Result<Look, NoMemory>
-    requires { IsLookedAt problem.now growing.now node head.now transition.now }
-    ensures { IfOk result (λ look. Looked problem.now growing.now.decisions
-        (IsOnArcs head.now (length transition.now.arcs)) look) }
+pub(crate) fn look_at_arcs(alloc: Global, at: NodeView<'_>, first: usize) -> Result<Look, NoMemory>
+    requires { IsNodeView at }
+    ensures { IfOk result (NodeLooked at.entry
+        (IsOnArcs at.entry.head.now (length at.entry.transition.now.arcs))) }
 {
     let mut best = Look::Done;
     let mut open = 0usize;
-    for k in 0..transition.arcs.len() {
-        let look = look_at_arc(alloc, problem, growing, node, head, transition, k, first)?;
+    for k in 0..at.transition.arcs.len() {
+        let look = look_at_arc(alloc, at, k, first)?;
         if goes_on(look) {
             open = open.saturating_add(1);
         }
@@ -256,8 +203,8 @@ pub(crate) fn look_at_arcs(
             return Ok(best);
         }
     }
-    if open >= 2 && !transition.guards.is_empty() && count_of(best) >= SMALL && goes_on(best) {
-        return look_by_guards(alloc, problem, growing, node, head, transition, first, best);
+    if open >= 2 && !at.transition.guards.is_empty() && count_of(best) >= SMALL && goes_on(best) {
+        return look_by_guards(alloc, at, first, best);
     }
     Ok(best)
 }

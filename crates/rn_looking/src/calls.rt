@@ -4,26 +4,25 @@
 //! does next').
 ghost use Rattle.std.specs.Prelude.{◌≡◌, ◌<◌, ◌^◌, ◌++◌, ◌∷◌, [], ℕ, IfOk, IfSome, Some, length, nat_lt};
 ghost use Rattle.std.specs.Prelude.{IsTrue, slice_get};
-ghost use Rattle.rn_choices.specs.declared.next.Next.TheVariants.{Stuck};
 ghost use Rattle.rn_growing.specs.Decisions.{transition_in};
 ghost use Rattle.rn_model.specs.Derivation.{target};
 ghost use Rattle.rn_model.specs.Kinds.{HasExprKind};
 ghost use Rattle.rn_value.specs.declared.value.Kind.{Kind};
 ghost use Rattle.rn_value.specs.declared.value.Kind.TheVariants as K;
 ghost use Rattle.rn_search.specs.Making.{makes};
-ghost use Rattle.rn_looking.specs.Branches.{IsLookedAt};
+ghost use Rattle.rn_looking.specs.link.Views.{IsNodeStuck, IsNodeView, NodeLooked};
 ghost use Rattle.rn_looking.specs.Calling.{IsCalledOn, IsMaker, IsTarget};
-ghost use Rattle.rn_looking.specs.Looks.{GoesOn, Looked};
 ghost use Rattle.rn_looking.specs.Things.{IsOnCall, IsOnCalls, IsToBeCalled};
 
 use crate::answers::{Left, answers_left};
 use crate::best::{better, goes_on, is_best, is_enough};
 use crate::look::Look;
 use crate::tested::{Remembered, TextChoice};
+use crate::views::NodeView;
 use rn_choices::Next;
 use rn_growing::{Decision, Growing, Head, transition_in};
 use rn_model::{Downlink, Expr, System, Transition};
-use rn_search::{Called, Point, Problem, what_may_be_cut};
+use rn_search::{Called, Point, what_may_be_cut};
 use rn_value::{InstRef, NoMemory, Path, Value, copy_inst};
 use std::alloc::Global;
 
@@ -133,64 +132,47 @@ fn counts_as(left: Left, depth: usize, decisions: usize) -> usize {
 // Looks at a call that wasn't answered yet.
 fn look_for_answer(
     alloc: Global,
-    problem: &Problem<'_>,
-    growing: &Growing<'_>,
-    node: usize,
-    head: &Head,
-    transition: &Transition,
+    at: NodeView<'_>,
     i: usize,
     kept: &Remembered,
 ) -> Result<Look, NoMemory>
-    requires at { IsLookedAt problem.now growing.now node head.now transition.now }
-    requires open { IsToBeCalled growing.now.decisions head.now transition.now i }
-    ensures { IfOk result (λ look. Looked problem.now growing.now.decisions
-        (IsOnCall head.now i) look) }
+    requires at { IsNodeView at }
+    requires open { IsToBeCalled at.growing.now.decisions at.head.now at.transition.now i }
+    ensures { IfOk result (NodeLooked at.entry (IsOnCall at.entry.head.now i)) }
 {
-    let downlink = downlink_at(transition, i);
-    let Some(value) = target_of(alloc, growing, head, i, &downlink.target)? else {
+    let downlink = downlink_at(at.transition, i);
+    let Some(value) = target_of(alloc, at.growing, at.head, i, &downlink.target)? else {
         return Ok(Look::Waits);
     };
     let Value::Inst(inst) = &value else {
         return Ok(Look::Goes(Next::Stuck, 0));
     };
-    if head.path.len() >= problem.depth() as usize {
+    if at.head.path.len() >= at.problem.depth() as usize {
         return Ok(Look::Goes(Next::Stuck, 0));
     }
-    let decisions = growing.decisions();
-    let Some(called) = called_on(problem.system(), decisions, inst) else {
+    let decisions = at.growing.decisions();
+    let Some(called) = called_on(at.problem.system(), decisions, inst) else {
         return Ok(Look::Goes(Next::Stuck, 0));
     };
-    let point = Point::Call(node, i, called);
-    let of = problem.alternatives(decisions, point);
-    let left = answers_left(
-        alloc, problem, growing, node, head, i, downlink, inst, called,
-    )?;
-    let count = counts_as(left, head.path.len(), decisions.len());
+    let point = Point::Call(at.node, i, called);
+    let of = at.problem.alternatives(decisions, point);
+    let left = answers_left(alloc, at, i, downlink, inst, called)?;
+    let count = counts_as(left, at.head.path.len(), decisions.len());
     let count = if count == usize::MAX {
         count
     } else {
-        kept.weighed(TextChoice::call(head, i), count)
+        kept.weighed(TextChoice::call(at.head, i), count)
     };
     Ok(Look::Goes(Next::Choose(point, of, left.first), count))
 }
 
 /// Whether a node's calls need more levels than are left. Then the decisions lead to no binding.
-pub(crate) fn lacks_levels(
-    problem: &Problem<'_>,
-    growing: &Growing<'_>,
-    node: usize,
-    head: &Head,
-    transition: &Transition,
-) -> bool
-    requires { IsLookedAt problem.now growing.now node head.now transition.now }
-    ensures { IsTrue result → GoesOn problem.now growing.now.decisions Stuck }
+pub(crate) fn lacks_levels(at: NodeView<'_>) -> bool
+    requires { IsNodeView at }
+    ensures { IsTrue result → IsNodeStuck at.entry }
 {
-    // Only clauses speak of these.
-    let _ = growing;
-    let _ = node;
-    let _ = transition;
     what_may_be_cut();
-    !problem.has_levels(head)
+    !at.problem.has_levels(at.head)
 }
 
 // The path of the child at a downlink.
@@ -207,24 +189,19 @@ fn child_path(alloc: Global, head: &Head, i: usize) -> Result<Path, NoMemory>
 // Looks at one of them.
 fn look_at_call(
     alloc: Global,
-    problem: &Problem<'_>,
-    growing: &Growing<'_>,
-    node: usize,
-    head: &Head,
-    transition: &Transition,
+    at: NodeView<'_>,
     i: usize,
     kept: &Remembered,
 ) -> Result<Look, NoMemory>
-    requires at { IsLookedAt problem.now growing.now node head.now transition.now }
-    requires within { i < length transition.now.downlinks }
-    ensures { IfOk result (λ look. Looked problem.now growing.now.decisions
-        (IsOnCall head.now i) look) }
+    requires at { IsNodeView at }
+    requires within { i < length at.transition.now.downlinks }
+    ensures { IfOk result (NodeLooked at.entry (IsOnCall at.entry.head.now i)) }
 {
-    let path = child_path(alloc, head, i)?;
-    if growing.was_entered(path.as_slice()) {
+    let path = child_path(alloc, at.head, i)?;
+    if at.growing.was_entered(path.as_slice()) {
         return Ok(Look::Done);
     }
-    look_for_answer(alloc, problem, growing, node, head, transition, i, kept)
+    look_for_answer(alloc, at, i, kept)
 }
 
 // From so many calls on a look begins with those beside the one that was found last.
@@ -237,18 +214,14 @@ const FURTHER: usize = 16;
 // better can come.
 fn look_near_call(
     alloc: Global,
-    problem: &Problem<'_>,
-    growing: &Growing<'_>,
-    node: usize,
-    head: &Head,
-    transition: &Transition,
+    at: NodeView<'_>,
     kept: &mut Remembered,
 ) -> Result<Option<Look>, NoMemory>
-    requires { IsLookedAt problem.now growing.now node head.now transition.now }
-    ensures { IfOk result (λ best. IfSome best (Looked problem.now growing.now.decisions
-        (IsOnCalls head.now (length transition.now.downlinks)))) }
+    requires { IsNodeView at }
+    ensures { IfOk result (λ best. IfSome best (NodeLooked at.entry
+        (IsOnCalls at.entry.head.now (length at.entry.transition.now.downlinks)))) }
 {
-    if node != kept.caller || transition.downlinks.len() < MANY {
+    if at.node != kept.caller || at.transition.downlinks.len() < MANY {
         return Ok(None);
     }
     let beside = [
@@ -258,8 +231,8 @@ fn look_near_call(
     ];
     for k in 0..3 {
         let i = beside[k];
-        if i < transition.downlinks.len() {
-            let look = look_at_call(alloc, problem, growing, node, head, transition, i, &*kept)?;
+        if i < at.transition.downlinks.len() {
+            let look = look_at_call(alloc, at, i, &*kept)?;
             if is_enough(look, kept.idle) {
                 kept.call = i;
                 return Ok(Some(look));
@@ -272,27 +245,23 @@ fn look_near_call(
 /// Looks at the calls of a node.
 pub(crate) fn look_at_calls(
     alloc: Global,
-    problem: &Problem<'_>,
-    growing: &Growing<'_>,
-    node: usize,
-    head: &Head,
-    transition: &Transition,
+    at: NodeView<'_>,
     kept: &mut Remembered,
 ) -> Result<Look, NoMemory>
-    requires { IsLookedAt problem.now growing.now node head.now transition.now }
-    ensures { IfOk result (λ look. Looked problem.now growing.now.decisions
-        (IsOnCalls head.now (length transition.now.downlinks)) look) }
+    requires { IsNodeView at }
+    ensures { IfOk result (NodeLooked at.entry
+        (IsOnCalls at.entry.head.now (length at.entry.transition.now.downlinks))) }
 {
-    if let Some(nearest) = look_near_call(alloc, problem, growing, node, head, transition, kept)? {
+    if let Some(nearest) = look_near_call(alloc, at, kept)? {
         return Ok(nearest);
     }
     let mut best = Look::Done;
     let mut further = 0usize;
-    for i in 0..transition.downlinks.len() {
-        let look = look_at_call(alloc, problem, growing, node, head, transition, i, &*kept)?;
+    for i in 0..at.transition.downlinks.len() {
+        let look = look_at_call(alloc, at, i, &*kept)?;
         best = better(best, look);
         if is_best(best) {
-            kept.caller = node;
+            kept.caller = at.node;
             kept.call = i;
             return Ok(best);
         }

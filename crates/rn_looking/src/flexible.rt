@@ -5,19 +5,15 @@
 ghost use Rattle.std.specs.Prelude.{◌≡◌, ◌<◌, ◌↔◌, IfOk, IsTrue, length};
 ghost use Rattle.rn_model.specs.Lists.{IsWithin};
 ghost use Rattle.rn_model.specs.Markings.{tokens};
-ghost use Rattle.rn_choices.specs.declared.next.Next.TheVariants.{Stuck};
 ghost use Rattle.rn_looking.specs.declared.told.Verdict.TheVariants.{Fails};
-ghost use Rattle.rn_looking.specs.Branches.{IsLookedAt};
-ghost use Rattle.rn_looking.specs.Looks.{GoesOn};
+ghost use Rattle.rn_looking.specs.link.Views.{IsNodeStuck, IsNodeView};
 
 use crate::arcs::{arc_at, known_value};
 use crate::parts::is_flexible;
 use crate::told::{Verdict, unless_waits};
+use crate::views::NodeView;
 use rn_arcs::{bag_at, elements_of};
-use rn_growing::{Growing, Head};
 use rn_items::Items;
-use rn_model::Transition;
-use rn_search::Problem;
 use rn_table::Table;
 use rn_value::{InstRef, NoMemory, Vals, sort};
 use std::alloc::Global;
@@ -39,30 +35,20 @@ fn holds_all(table: &Table, inst: &InstRef, place: u32, values: Vals) -> Result<
 
 // What is known of an arc: it fails where it is a flexible arc, its list is known, and its place
 // doesn't hold each element as often as the list has it.
-fn test_arc(
-    alloc: Global,
-    problem: &Problem<'_>,
-    growing: &Growing<'_>,
-    node: usize,
-    head: &Head,
-    transition: &Transition,
-    k: usize,
-) -> Result<Verdict, NoMemory>
-    requires at { IsLookedAt problem.now growing.now node head.now transition.now }
-    requires within { k < length transition.now.arcs }
-    ensures { IfOk result (λ told. told ≡ Fails → GoesOn problem.now growing.now.decisions Stuck) }
+fn test_arc(alloc: Global, at: NodeView<'_>, k: usize) -> Result<Verdict, NoMemory>
+    requires at { IsNodeView at }
+    requires within { k < length at.transition.now.arcs }
+    ensures { IfOk result (λ told. told ≡ Fails → IsNodeStuck at.entry) }
 {
-    // Only a clause speaks of it.
-    let _ = node;
-    let arc = arc_at(transition, k);
+    let arc = arc_at(at.transition, k);
     if !is_flexible(arc.kind) {
         return Ok(Verdict::Holds);
     }
-    let Some(list) = known_value(alloc, growing, head, &arc.inscription)? else {
+    let Some(list) = known_value(alloc, at.growing, at.head, &arc.inscription)? else {
         return Ok(Verdict::Waits);
     };
     let values = elements_of(alloc, list);
-    if holds_all(problem.table(), &head.inst, arc.place, values)? {
+    if holds_all(at.problem.table(), &at.head.inst, arc.place, values)? {
         Ok(Verdict::Holds)
     } else {
         Ok(Verdict::Fails)
@@ -72,20 +58,13 @@ fn test_arc(
 /// What is known of the flexible arcs of a node. One fails where its list is known, and its place
 /// doesn't hold each element of that as often. Then the decisions lead to no binding: each has the
 /// forced values, and so takes all elements of this list.
-pub(crate) fn test_lists(
-    alloc: Global,
-    problem: &Problem<'_>,
-    growing: &Growing<'_>,
-    node: usize,
-    head: &Head,
-    transition: &Transition,
-) -> Result<Verdict, NoMemory>
-    requires { IsLookedAt problem.now growing.now node head.now transition.now }
-    ensures { IfOk result (λ told. told ≡ Fails → GoesOn problem.now growing.now.decisions Stuck) }
+pub(crate) fn test_lists(alloc: Global, at: NodeView<'_>) -> Result<Verdict, NoMemory>
+    requires { IsNodeView at }
+    ensures { IfOk result (λ told. told ≡ Fails → IsNodeStuck at.entry) }
 {
     let mut waits = false;
-    for k in 0..transition.arcs.len() {
-        match test_arc(alloc, problem, growing, node, head, transition, k)? {
+    for k in 0..at.transition.arcs.len() {
+        match test_arc(alloc, at, k)? {
             Verdict::Fails => return Ok(Verdict::Fails),
             Verdict::Waits => waits = true,
             Verdict::Holds => {}

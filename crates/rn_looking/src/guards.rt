@@ -2,20 +2,18 @@
 //! values, so a guard that isn't true of them ends the branch at once. One that is true stays so
 //! with further decisions, and needn't be worked out again (`docs/SEARCH.md`, 'What it does next').
 ghost use Rattle.std.specs.Prelude.{◌≡◌, ◌⊎◌, IfOk};
-ghost use Rattle.rn_choices.specs.declared.next.Next.TheVariants.{Stuck};
 ghost use Rattle.rn_looking.specs.declared.told.Verdict.TheVariants.{Fails};
-ghost use Rattle.rn_looking.specs.Branches.{IsLookedAt};
+ghost use Rattle.rn_looking.specs.link.Views.{IsNodeStuck, IsNodeView};
 ghost use Rattle.rn_looking.specs.Guards.{IsKnownUntrue};
-ghost use Rattle.rn_looking.specs.Looks.{GoesOn};
 ghost use Rattle.rn_looking.specs.UntrueParts.{IsPartlyUntrue};
 
 use crate::guard_parts::is_partly_untrue;
 use crate::known::known_in_guard;
 use crate::told::{Verdict, fails_or_waits, unless_waits};
+use crate::views::NodeView;
 use rn_calc::is_true;
 use rn_growing::{Growing, Head};
-use rn_model::{Cond, Transition};
-use rn_search::Problem;
+use rn_model::Cond;
 use rn_value::NoMemory;
 use std::alloc::Global;
 
@@ -44,23 +42,13 @@ fn test_guard(
 
 /// What is known of the guards of a node. Where one of them fails, the decisions lead to no binding:
 /// each has the forced values, and a guard that isn't true.
-pub(crate) fn test_guards(
-    alloc: Global,
-    problem: &Problem<'_>,
-    growing: &Growing<'_>,
-    node: usize,
-    head: &Head,
-    transition: &Transition,
-) -> Result<Verdict, NoMemory>
-    requires { IsLookedAt problem.now growing.now node head.now transition.now }
-    ensures { IfOk result (λ told. told ≡ Fails → GoesOn problem.now growing.now.decisions Stuck) }
+pub(crate) fn test_guards(alloc: Global, at: NodeView<'_>) -> Result<Verdict, NoMemory>
+    requires { IsNodeView at }
+    ensures { IfOk result (λ told. told ≡ Fails → IsNodeStuck at.entry) }
 {
-    // Only clauses speak of these.
-    let _ = problem;
-    let _ = node;
     let mut waits = false;
-    for guard in transition.guards.as_slice() {
-        match test_guard(alloc, growing, head, guard)? {
+    for guard in at.transition.guards.as_slice() {
+        match test_guard(alloc, at.growing, at.head, guard)? {
             Verdict::Fails => return Ok(Verdict::Fails),
             Verdict::Waits => waits = true,
             Verdict::Holds => {}

@@ -24,6 +24,7 @@ mod parts;
 mod results;
 mod tested;
 mod told;
+mod views;
 
 pub use among::SHARES;
 pub use guard_vars::put_guard;

@@ -8,11 +8,12 @@ ghost use Rattle.rn_looking.specs.Looks.{IsNarrowed};
 use crate::guard_vars::put_guard;
 use crate::known::{Known, values_but};
 use crate::look::Look;
+use crate::views::NodeView;
 use rn_bag::Bag;
 use rn_calc::is_true;
 use rn_choices::Next;
 use rn_growing::{Growing, Head};
-use rn_model::{Cond, Expr, NetArc, Transition};
+use rn_model::{Cond, Expr, NetArc};
 use rn_search::{Point, Problem};
 use rn_value::{InstRef, NoMemory, Value, copy};
 use std::alloc::Global;
@@ -32,6 +33,16 @@ const SHARE: usize = 4;
 // No more tokens than so many are counted.
 const COUNTED: usize = 1024;
 
+/// A guard of a node of which all variables but one are forced: that one, and the values of the
+/// others.
+#[derive(Drop)]
+struct OpenGuard<'a> {
+    inst: &'a InstRef,
+    guard: &'a Cond,
+    var: u32,
+    others: Vec<(u32, Value)>,
+}
+
 // The values of the other variables of a guard, where it has this one, and they are forced.
 fn others_of(
     alloc: Global,
@@ -49,21 +60,14 @@ fn others_of(
 }
 
 // Whether a guard is true where its variable is a token.
-fn is_passed(
-    alloc: Global,
-    inst: &InstRef,
-    guard: &Cond,
-    var: u32,
-    token: &Value,
-    others: &mut Vec<(u32, Value)>,
-) -> Result<bool, NoMemory> {
+fn is_passed(alloc: Global, open: &mut OpenGuard<'_>, token: &Value) -> Result<bool, NoMemory> {
     let mut pairs = Vec::new(alloc);
-    std::mem::swap(&mut pairs, others);
-    pairs.push((var, copy(alloc, token)?))?;
-    let known = Known::of(inst, pairs);
-    let yes = is_true(alloc, guard, &known)?;
-    *others = known.into_pairs();
-    others.pop();
+    std::mem::swap(&mut pairs, &mut open.others);
+    pairs.push((open.var, copy(alloc, token)?))?;
+    let known = Known::of(open.inst, pairs);
+    let yes = is_true(alloc, open.guard, &known)?;
+    open.others = known.into_pairs();
+    open.others.pop();
     Ok(yes)
 }
 
@@ -79,12 +83,9 @@ fn about(count: usize, tried: usize, all: usize) -> usize {
 // many pass.
 fn count_passing(
     alloc: Global,
-    inst: &InstRef,
-    guard: &Cond,
-    var: u32,
+    open: &mut OpenGuard<'_>,
     bag: &Bag,
     most: usize,
-    others: &mut Vec<(u32, Value)>,
 ) -> Result<Option<Passing>, NoMemory> {
     let mut count = 0usize;
     let mut first = 0;
@@ -94,7 +95,7 @@ fn count_passing(
         let Some(token) = bag.get(a) else {
             return Ok(None);
         };
-        if !is_passed(alloc, inst, guard, var, token, others)? {
+        if !is_passed(alloc, open, token)? {
             continue;
         }
         if count == 0 {
@@ -126,21 +127,24 @@ fn tokens_at<'a>(problem: &'a Problem<'_>, head: &Head, arc: &NetArc) -> Option<
 // Which tokens pass the guard that the fewest pass, where those are fewer than a number.
 fn fewest_passing(
     alloc: Global,
-    growing: &Growing<'_>,
-    head: &Head,
-    transition: &Transition,
+    at: NodeView<'_>,
     var: u32,
     bag: &Bag,
     most: usize,
 ) -> Result<Option<Passing>, NoMemory> {
     let mut fewest = None;
     let mut most = most;
-    for guard in transition.guards.as_slice() {
-        let Some(mut others) = others_of(alloc, growing, head, guard, var)? else {
+    for guard in at.transition.guards.as_slice() {
+        let Some(others) = others_of(alloc, at.growing, at.head, guard, var)? else {
             continue;
         };
-        let passing = count_passing(alloc, &head.inst, guard, var, bag, most, &mut others)?;
-        if let Some(passing) = passing {
+        let mut open = OpenGuard {
+            inst: &at.head.inst,
+            guard,
+            var,
+            others,
+        };
+        if let Some(passing) = count_passing(alloc, &mut open, bag, most)? {
             if passing.count < most {
                 most = passing.count;
                 fewest = Some(passing);
@@ -166,10 +170,7 @@ fn counted(look: Look, passing: Passing) -> Look
 /// those are fewer than a number.
 pub(crate) fn narrowed(
     alloc: Global,
-    problem: &Problem<'_>,
-    growing: &Growing<'_>,
-    head: &Head,
-    transition: &Transition,
+    at: NodeView<'_>,
     arc: &NetArc,
     look: Look,
     most: usize,
@@ -182,10 +183,10 @@ pub(crate) fn narrowed(
     let Look::Goes(Next::Choose(Point::Token(_, _, 0), _, _), _) = look else {
         return Ok(look);
     };
-    let Some(bag) = tokens_at(problem, head, arc) else {
+    let Some(bag) = tokens_at(at.problem, at.head, arc) else {
         return Ok(look);
     };
-    match fewest_passing(alloc, growing, head, transition, *var, bag, most)? {
+    match fewest_passing(alloc, at, *var, bag, most)? {
         Some(passing) => Ok(counted(look, passing)),
         None => Ok(look),
     }

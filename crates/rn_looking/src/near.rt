@@ -5,17 +5,13 @@
 ghost use Rattle.std.specs.Prelude.{◌<◌, IfOk, IfSome, length};
 ghost use Rattle.rn_looking.specs.Applying.{AreAppliedIn};
 ghost use Rattle.rn_looking.specs.Branches.{IsBranchOf};
-ghost use Rattle.rn_looking.specs.Looks.{Looked};
-ghost use Rattle.rn_looking.specs.Things.{IsOfEntries};
+ghost use Rattle.rn_looking.specs.link.Views.{AllLooked};
 
 use crate::best::is_enough;
 use crate::look::Look;
 use crate::looking::look_at_node;
 use crate::tested::Remembered;
-use rn_binding::Application;
-use rn_growing::Growing;
-use rn_items::Items;
-use rn_search::Problem;
+use crate::views::BranchView;
 use rn_value::NoMemory;
 use std::alloc::Global;
 
@@ -25,20 +21,17 @@ const MANY: usize = 16;
 // Looks at what a decision asks. It counts where nothing better can come.
 fn look_at_best(
     alloc: Global,
-    problem: &Problem<'_>,
-    growing: &Growing<'_>,
-    applications: &[Items<Application<'_>>],
+    branch: BranchView<'_>,
     node: usize,
-    first: usize,
     kept: &mut Remembered,
 ) -> Result<Option<Look>, NoMemory>
-    requires branch { IsBranchOf problem.now growing.now }
-    requires applied { AreAppliedIn growing.now.system growing.now.decisions applications.now }
-    requires within { node < length growing.now.decisions }
-    ensures { IfOk result (λ best. IfSome best (λ look. Looked problem.now growing.now.decisions
-        (IsOfEntries growing.now.decisions (length growing.now.decisions)) look)) }
+    requires branch { IsBranchOf branch.problem.now branch.growing.now }
+    requires applied { AreAppliedIn branch.growing.now.system branch.growing.now.decisions
+        branch.applications.now }
+    requires within { node < length branch.growing.now.decisions }
+    ensures { IfOk result (λ best. IfSome best (AllLooked branch.entry)) }
 {
-    let look = look_at_node(alloc, problem, growing, applications, node, first, kept)?;
+    let look = look_at_node(alloc, branch, node, kept)?;
     if is_enough(look, kept.idle) {
         kept.near = node;
         return Ok(Some(look));
@@ -79,19 +72,16 @@ fn is_beside(node: usize, near: usize) -> bool {
 /// Looks there, and counts where nothing better can come.
 pub(crate) fn look_near(
     alloc: Global,
-    problem: &Problem<'_>,
-    growing: &Growing<'_>,
-    applications: &[Items<Application<'_>>],
-    first: usize,
+    branch: BranchView<'_>,
     from: usize,
     kept: &mut Remembered,
 ) -> Result<Option<Look>, NoMemory>
-    requires branch { IsBranchOf problem.now growing.now }
-    requires applied { AreAppliedIn growing.now.system growing.now.decisions applications.now }
-    ensures { IfOk result (λ best. IfSome best (λ look. Looked problem.now growing.now.decisions
-        (IsOfEntries growing.now.decisions (length growing.now.decisions)) look)) }
+    requires branch { IsBranchOf branch.problem.now branch.growing.now }
+    requires applied { AreAppliedIn branch.growing.now.system branch.growing.now.decisions
+        branch.applications.now }
+    ensures { IfOk result (λ best. IfSome best (AllLooked branch.entry)) }
 {
-    let end = growing.mark();
+    let end = branch.growing.mark();
     if end.saturating_sub(from) < MANY {
         return Ok(None);
     }
@@ -100,7 +90,7 @@ pub(crate) fn look_near(
     for k in 0..kept.begins().saturating_add(2 * wide + 2) {
         let node = place(&*kept, k, near, end);
         if from <= node && node < end {
-            let best = look_at_best(alloc, problem, growing, applications, node, first, kept)?;
+            let best = look_at_best(alloc, branch, node, kept)?;
             if best.is_some() {
                 kept.found_near(k, is_beside(node, near));
                 return Ok(best);

@@ -7,19 +7,18 @@ ghost use Rattle.rn_model.specs.Evaluation.{worth};
 ghost use Rattle.rn_looking.specs.Knowing.{known_env};
 ghost use Rattle.rn_search.specs.Points.{holes_of};
 ghost use Rattle.rn_binding.specs.link.Applications.{application_of};
-ghost use Rattle.rn_looking.specs.Branches.{IsLookedAt};
-ghost use Rattle.rn_looking.specs.Looks.{Looked};
+ghost use Rattle.rn_looking.specs.link.Views.{IsNodeView, NodeLooked};
 ghost use Rattle.rn_looking.specs.Things.{IsOnHole, IsOnHoles};
 
 use crate::best::{better, is_best};
 use crate::known::{Known, known_in};
 use crate::look::Look;
+use crate::views::NodeView;
 use rn_binding::Application;
 use rn_calc::evaluate;
 use rn_choices::Next;
-use rn_growing::{Growing, Head};
-use rn_model::{Expr, Transition};
-use rn_search::{Point, Problem};
+use rn_model::Expr;
+use rn_search::Point;
 use rn_value::{NoMemory, Value};
 use std::alloc::Global;
 
@@ -47,28 +46,25 @@ fn number_of(alloc: Global, form: &Expr, known: &Known<'_>) -> Result<Option<i64
 // Looks at one of them.
 fn look_at_result(
     alloc: Global,
-    problem: &Problem<'_>,
-    growing: &Growing<'_>,
-    node: usize,
-    head: &Head,
-    transition: &Transition,
+    at: NodeView<'_>,
     k: usize,
     application: &Application<'_>,
 ) -> Result<Look, NoMemory>
-    requires at { IsLookedAt problem.now growing.now node head.now transition.now }
-    requires is { slice_get (holes_of transition.now) k ≡ Some (application_of application.now) }
-    ensures { IfOk result (λ look. Looked problem.now growing.now.decisions
-        (IsOnHole transition.now head.now k) look) }
+    requires at { IsNodeView at }
+    requires is { slice_get (holes_of at.transition.now) k ≡ Some (application_of application.now) }
+    ensures { IfOk result (NodeLooked at.entry
+        (IsOnHole at.entry.transition.now at.entry.head.now k)) }
 {
+    let path = at.head.path.as_slice();
     let way = application.way.as_slice();
-    if growing.was_computed(head.path.as_slice(), application.site, way) {
+    if at.growing.was_computed(path, application.site, way) {
         return Ok(Look::Done);
     }
-    let Some(known) = known_in(alloc, growing, head, application.form)? else {
+    let Some(known) = known_in(alloc, at.growing, at.head, application.form)? else {
         return Ok(Look::Waits);
     };
     match number_of(alloc, application.form, &known)? {
-        Some(n) => Ok(Look::Goes(Next::Forced(Point::Result(node, k, n)), 1)),
+        Some(n) => Ok(Look::Goes(Next::Forced(Point::Result(at.node, k, n)), 1)),
         None => Ok(Look::Goes(Next::Stuck, 0)),
     }
 }
@@ -80,18 +76,15 @@ const MANY: usize = 8;
 // nothing better can come.
 fn look_near_result(
     alloc: Global,
-    problem: &Problem<'_>,
-    growing: &Growing<'_>,
-    node: usize,
-    head: &Head,
-    transition: &Transition,
+    at: NodeView<'_>,
     found: &[Application<'_>],
     near: &mut usize,
 ) -> Result<Option<Look>, NoMemory>
-    requires at { IsLookedAt problem.now growing.now node head.now transition.now }
-    requires are { map application_of found.now ≡ holes_of transition.now }
-    ensures { IfOk result (λ best. IfSome best (Looked problem.now growing.now.decisions
-        (IsOnHoles transition.now head.now (length (holes_of transition.now))))) }
+    requires at { IsNodeView at }
+    requires are { map application_of found.now ≡ holes_of at.transition.now }
+    ensures { IfOk result (λ best. IfSome best (NodeLooked at.entry
+        (IsOnHoles at.entry.transition.now at.entry.head.now
+        (length (holes_of at.entry.transition.now))))) }
 {
     if found.len() < MANY {
         return Ok(None);
@@ -100,9 +93,7 @@ fn look_near_result(
     for i in 0..2 {
         let k = beside[i];
         if k < found.len() {
-            let look = look_at_result(
-                alloc, problem, growing, node, head, transition, k, &found[k],
-            )?;
+            let look = look_at_result(alloc, at, k, &found[k])?;
             if is_best(look) {
                 *near = k;
                 return Ok(Some(look));
@@ -115,29 +106,22 @@ fn look_near_result(
 /// Looks at the operator applications of a node, which are these.
 pub(crate) fn look_at_results(
     alloc: Global,
-    problem: &Problem<'_>,
-    growing: &Growing<'_>,
-    node: usize,
-    head: &Head,
-    transition: &Transition,
+    at: NodeView<'_>,
     found: &[Application<'_>],
     near: &mut usize,
 ) -> Result<Look, NoMemory>
-    requires at { IsLookedAt problem.now growing.now node head.now transition.now }
-    requires are { map application_of found.now ≡ holes_of transition.now }
-    ensures { IfOk result (λ look. Looked problem.now growing.now.decisions
-        (IsOnHoles transition.now head.now (length (holes_of transition.now))) look) }
+    requires at { IsNodeView at }
+    requires are { map application_of found.now ≡ holes_of at.transition.now }
+    ensures { IfOk result (NodeLooked at.entry
+        (IsOnHoles at.entry.transition.now at.entry.head.now
+        (length (holes_of at.entry.transition.now)))) }
 {
-    if let Some(nearest) = look_near_result(
-        alloc, problem, growing, node, head, transition, found, near,
-    )? {
+    if let Some(nearest) = look_near_result(alloc, at, found, near)? {
         return Ok(nearest);
     }
     let mut best = Look::Done;
     for k in 0..found.len() {
-        let look = look_at_result(
-            alloc, problem, growing, node, head, transition, k, &found[k],
-        )?;
+        let look = look_at_result(alloc, at, k, &found[k])?;
         best = better(best, look);
         if is_best(best) {
             *near = k;

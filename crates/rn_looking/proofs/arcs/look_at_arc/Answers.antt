@@ -7,23 +7,25 @@ use Rattle.rn_looking.proofs.arcs.look_at_arc.Goals as goal
 
 pub returns-then-not-finds_values : goal.returns-then-not-finds_values
 returns-then-not-finds_values c =
-    asks_nothing c.args.problem.now c.args.growing.now c.args.node c.args.head.now
-    c.args.transition.now c.requires.at c.args.k c.arc_at-arc.result.now c.arc_at-arc.ensures
+    asks_nothing c.args.at.problem.now c.args.at.growing.now c.args.at.node c.args.at.head.now
+    c.args.at.transition.now c.requires.at c.args.k c.arc_at-arc.result.now c.arc_at-arc.ensures
     (sym c.finds_values.ensures ∙ c.if-not-finds_values.true)
 
 pub returns-then-was_found : goal.returns-then-was_found
 returns-then-was_found c =
-    was_found_before c.args.problem.now c.args.growing.now c.args.node c.args.head.now
-    c.args.transition.now c.requires.at c.args.k
-    (ap (λ p. list_any (finds p c.args.k) c.args.growing.now.decisions) (sym (c.as_slice.ensures ∙ c.deref.ensures))
+    was_found_before c.args.at.problem.now c.args.at.growing.now c.args.at.node c.args.at.head.now
+    c.args.at.transition.now c.requires.at c.args.k
+    (ap (λ p. list_any (finds p c.args.k) c.args.at.growing.now.decisions)
+    (sym (c.as_slice.ensures ∙ c.deref.ensures))
     ∙ sym c.was_found.ensures ∙ c.if-was_found.true)
 
 pub returns-then-not-finds_token : goal.returns-then-not-finds_token
 returns-then-not-finds_token c =
-    forces_list c.args.problem.now c.args.growing.now c.args.node c.args.head.now
-    c.args.transition.now c.requires.at c.args.k c.arc_at-arc.result.now c.arc_at-arc.ensures
+    forces_list c.args.at.problem.now c.args.at.growing.now c.args.at.node c.args.at.head.now
+    c.args.at.transition.now c.requires.at c.args.k c.arc_at-arc.result.now c.arc_at-arc.ensures
     (sym c.finds_values.ensures ∙ c.if-not-finds_values.false)
-    (ap (λ p. list_any (finds p c.args.k) c.args.growing.now.decisions) (sym (c.as_slice.ensures ∙ c.deref.ensures))
+    (ap (λ p. list_any (finds p c.args.k) c.args.at.growing.now.decisions)
+    (sym (c.as_slice.ensures ∙ c.deref.ensures))
     ∙ sym c.was_found.ensures ∙ c.if-was_found.false)
     (sym c.finds_token.ensures ∙ c.if-not-finds_token.true)
 
@@ -32,6 +34,6 @@ look_for_token-requires-clause-token c = record {
   arc = c.arc_at-arc.result.now;
   there = c.arc_at-arc.ensures;
   token = sym c.finds_token.ensures ∙ c.if-not-finds_token.false;
-  none = ap (λ p. list_any (finds p c.args.k) c.args.growing.now.decisions)
+  none = ap (λ p. list_any (finds p c.args.k) c.args.at.growing.now.decisions)
       (sym (c.as_slice.ensures ∙ c.deref.ensures)) ∙ sym c.was_found.ensures ∙ c.if-was_found.false;
 }

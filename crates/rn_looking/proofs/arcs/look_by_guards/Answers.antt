@@ -6,15 +6,15 @@ use Rattle.rn_looking.proofs.LookSteps.{looked_narrowed, looked_urged, still_urg
 use Rattle.rn_looking.proofs.arcs.look_by_guards.Goals as goal
 use Rattle.rn_looking.proofs.arcs.look_by_guards.Goals.{After-better-best}
 
-both : (c : After-better-best) → Looked c.args.problem.now c.args.growing.now.decisions
-    (IsOnArcs c.args.head.now (length c.args.transition.now.arcs)) c.better-best.result
+both : (c : After-better-best) → Looked c.args.at.problem.now c.args.at.growing.now.decisions
+    (IsOnArcs c.args.at.head.now (length c.args.at.transition.now.arcs)) c.better-best.result
 both c =
-    looked_urged c.args.problem.now c.args.growing.now.decisions
-    (IsOnArcs c.args.head.now (length c.args.transition.now.arcs))
-    (IsOnArc c.args.head.now c.loop-k.k) c.loop-k.best c.in_ok-look-2.look c.better-best.result
+    looked_urged c.args.at.problem.now c.args.at.growing.now.decisions
+    (IsOnArcs c.args.at.head.now (length c.args.at.transition.now.arcs))
+    (IsOnArc c.args.at.head.now c.loop-k.k) c.loop-k.best c.in_ok-look-2.look c.better-best.result
     c.loop-k.invariant.urges c.loop-k.invariant.looked
-    (looked_narrowed c.args.problem.now c.args.growing.now.decisions
-    (IsOnArc c.args.head.now c.loop-k.k) c.in_ok-look.look c.in_ok-look-2.look
+    (looked_narrowed c.args.at.problem.now c.args.at.growing.now.decisions
+    (IsOnArc c.args.at.head.now c.loop-k.k) c.in_ok-look.look c.in_ok-look-2.look
     c.in_ok-look.ensures c.in_ok-look-2.ensures) c.better-best.ensures
 
 pub loop-k-preserved : goal.loop-k-preserved

@@ -14,33 +14,33 @@ use Rattle.rn_looking.proofs.arcs.look_for_token.Goals as goal
 
 pub arc_at-arc-requires : goal.arc_at-arc-requires
 arc_at-arc-requires c =
-    slice_get_within c.args.transition.now.arcs c.args.k c.requires.token.arc
+    slice_get_within c.args.at.transition.now.arcs c.args.k c.requires.token.arc
     c.requires.token.there
 
 pub with_token-requires-clause-known : goal.with_token-requires-clause-known
 with_token-requires-clause-known c x at =
-    subst (λ (y : NetArc). IsTokenOf c.args.growing.now c.args.head.now c.args.transition.now
-    y.inscription c.in-Some.told)
+    subst (λ (y : NetArc). IsTokenOf c.args.at.growing.now c.args.at.head.now
+    c.args.at.transition.now y.inscription c.in-Some.told)
     (some_equal c.arc_at-arc.result.now x (sym c.arc_at-arc.ensures ∙ at))
-    (subst (λ o. IfSome o (λ w. IsTokenOf c.args.growing.now c.args.head.now
-    c.args.transition.now c.arc_at-arc.result.now.inscription w)) c.in-Some.is
+    (subst (λ o. IfSome o (λ w. IsTokenOf c.args.at.growing.now c.args.at.head.now
+    c.args.at.transition.now c.arc_at-arc.result.now.inscription w)) c.in-Some.is
     c.in_ok-told.ensures)
 
 pub with_first-requires-clause-known : goal.with_first-requires-clause-known
 with_first-requires-clause-known c x at =
-    subst (λ (y : NetArc). IsKnownFirst c.args.growing.now c.args.head.now y.inscription
+    subst (λ (y : NetArc). IsKnownFirst c.args.at.growing.now c.args.at.head.now y.inscription
     c.in-Some-2.part)
     (some_equal c.arc_at-arc.result.now x (sym c.arc_at-arc.ensures ∙ at))
-    (subst (λ o. IfSome o (λ v. IsKnownFirst c.args.growing.now c.args.head.now
+    (subst (λ o. IfSome o (λ v. IsKnownFirst c.args.at.growing.now c.args.at.head.now
     c.arc_at-arc.result.now.inscription v)) c.in-Some-2.is c.in_ok-part.ensures)
 
 pub returns : goal.returns
 returns c =
     let count = c.alternatives-of.ensures.count
-    ∙ ap (λ ds. alternatives c.args.problem.now ds (P.Token c.args.node c.args.k 0))
+    ∙ ap (λ ds. alternatives c.args.at.problem.now ds (P.Token c.args.at.node c.args.k 0))
     c.decisions.ensures in
-    goes_on_among c.args.problem.now c.args.growing.now.decisions
-    (P.Token c.args.node c.args.k 0) c.alternatives-of.result c.among.result
-    (λ first. chooses_token c.args.problem.now c.args.growing.now c.args.node c.args.head.now
-    c.args.transition.now c.requires.at c.args.k c.requires.token c.alternatives-of.result first
-    count) c.among.ensures
+    goes_on_among c.args.at.problem.now c.args.at.growing.now.decisions
+    (P.Token c.args.at.node c.args.k 0) c.alternatives-of.result c.among.result
+    (λ first. chooses_token c.args.at.problem.now c.args.at.growing.now c.args.at.node
+    c.args.at.head.now c.args.at.transition.now c.requires.at c.args.k c.requires.token
+    c.alternatives-of.result first count) c.among.ensures

@@ -8,27 +8,28 @@ use Rattle.rn_looking.proofs.arcs.with_token.Goals as goal
 
 pub returns-in-Some-only_token : goal.returns-in-Some-only_token
 returns-in-Some-only_token c =
-    forces_token c.args.problem.now c.args.growing.now c.args.node c.args.head.now
-    c.args.transition.now c.requires.at c.args.k c.requires.token c.in-Some.value
+    forces_token c.args.at.problem.now c.args.at.growing.now c.args.at.node c.args.at.head.now
+    c.args.at.transition.now c.requires.at c.args.k c.requires.token c.in-Some.value
     c.in-Some-only_token.from
-    (subst (IsKnownToken c.args.growing.now c.args.head.now c.args.transition.now c.args.k)
+    (subst (IsKnownToken c.args.at.growing.now c.args.at.head.now c.args.at.transition.now c.args.k)
     c.in-Some.is c.requires.known)
-    (subst (λ ds. first_token (tokens_of c.args.problem.now (node_of c.args.problem.now ds
-    c.args.node) c.args.k) c.in-Some-only_token.from ≡ Some c.in-Some.value)
-    c.decisions.ensures c.in-Some-only_token.ensures.first)
+    (subst (λ ds. first_token (tokens_of c.args.at.problem.now (node_of c.args.at.problem.now ds
+    c.args.at.node) c.args.k) c.in-Some-only_token.from ≡ Some c.in-Some.value)
+    c.decisions-decisions.ensures c.in-Some-only_token.ensures.first)
 
 pub returns-in-None : goal.returns-in-None
 returns-in-None c =
-    finds_no_token c.args.problem.now c.args.growing.now c.args.node c.args.head.now
-    c.args.transition.now c.requires.at c.args.k c.requires.token c.in-Some.value
-    (subst (IsKnownToken c.args.growing.now c.args.head.now c.args.transition.now c.args.k)
+    finds_no_token c.args.at.problem.now c.args.at.growing.now c.args.at.node c.args.at.head.now
+    c.args.at.transition.now c.requires.at c.args.k c.requires.token c.in-Some.value
+    (subst (IsKnownToken c.args.at.growing.now c.args.at.head.now c.args.at.transition.now c.args.k)
     c.in-Some.is c.requires.known)
-    (subst (λ ds. ¬ Contains (tokens_of c.args.problem.now (node_of c.args.problem.now ds
-    c.args.node) c.args.k) c.in-Some.value) c.decisions.ensures c.in-None.ensures.absent)
+    (subst (λ ds. ¬ Contains (tokens_of c.args.at.problem.now (node_of c.args.at.problem.now ds
+    c.args.at.node) c.args.k) c.in-Some.value) c.decisions-decisions.ensures
+    c.in-None.ensures.absent)
 
 pub returns-in_default : goal.returns-in_default
 returns-in_default c =
-    finds_nothing c.args.problem.now c.args.growing.now c.args.node c.args.head.now
-    c.args.transition.now c.requires.at c.args.k c.requires.token
-    (subst (IsKnownToken c.args.growing.now c.args.head.now c.args.transition.now c.args.k)
+    finds_nothing c.args.at.problem.now c.args.at.growing.now c.args.at.node c.args.at.head.now
+    c.args.at.transition.now c.requires.at c.args.k c.requires.token
+    (subst (IsKnownToken c.args.at.growing.now c.args.at.head.now c.args.at.transition.now c.args.k)
     c.in_default.is c.requires.known)

@@ -10,27 +10,28 @@ use Rattle.rn_looking.proofs.calls.look_at_call.Goals as goal
 
 pub child_path-requires : goal.child_path-requires
 child_path-requires c =
-    let few = (its_good c.args.problem.now c.args.growing.now c.args.node c.args.head.now
-    c.args.transition.now c.requires.at).many in
+    let few = (its_good c.args.at.problem.now c.args.at.growing.now c.args.at.node
+    c.args.at.head.now c.args.at.transition.now c.requires.at).many in
     omega (arith, few, c.requires.within)
 
 pub returns-then-was_entered : goal.returns-then-was_entered
 returns-then-was_entered c =
-    was_entered_before c.args.problem.now c.args.growing.now c.args.node c.args.head.now
-    c.args.transition.now c.requires.at c.args.i
-    (ap (λ p. list_any (enters p) c.args.growing.now.decisions)
+    was_entered_before c.args.at.problem.now c.args.at.growing.now c.args.at.node c.args.at.head.now
+    c.args.at.transition.now c.requires.at c.args.i
+    (ap (λ p. list_any (enters p) c.args.at.growing.now.decisions)
     (sym (c.as_slice.ensures ∙ c.in_ok-path.ensures))
     ∙ sym c.was_entered.ensures ∙ c.if-was_entered.true)
 
 pub look_for_answer-requires-clause-open : goal.look_for_answer-requires-clause-open
 look_for_answer-requires-clause-open c =
-    let links = c.args.transition.now.downlinks in
+    let links = c.args.at.transition.now.downlinks in
     elim (slice_get_cases links c.args.i).1 as
-    (λ _. IsToBeCalled c.args.growing.now.decisions c.args.head.now c.args.transition.now c.args.i) [
+    (λ _. IsToBeCalled c.args.at.growing.now.decisions c.args.at.head.now c.args.at.transition.now
+    c.args.i) [
       | inl there ↦ record {
         downlink = there.0;
         there = there.2;
-        none = ap (λ p. list_any (enters p) c.args.growing.now.decisions)
+        none = ap (λ p. list_any (enters p) c.args.at.growing.now.decisions)
             (sym (c.as_slice.ensures ∙ c.in_ok-path.ensures))
             ∙ sym c.was_entered.ensures ∙ c.if-was_entered.false;
       }

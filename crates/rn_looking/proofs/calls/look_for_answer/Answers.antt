@@ -11,47 +11,47 @@ use Rattle.rn_looking.proofs.calls.look_for_answer.Goals as goal
 
 pub downlink_at-downlink-requires : goal.downlink_at-downlink-requires
 downlink_at-downlink-requires c =
-    slice_get_within c.args.transition.now.downlinks c.args.i c.requires.open.downlink
+    slice_get_within c.args.at.transition.now.downlinks c.args.i c.requires.open.downlink
     c.requires.open.there
 
 pub target_of-requires : goal.target_of-requires
 target_of-requires c =
-    target_kind c.args.problem.now c.args.growing.now c.args.node c.args.head.now
-    c.args.transition.now c.requires.at c.args.i c.downlink_at-downlink.result.now
+    target_kind c.args.at.problem.now c.args.at.growing.now c.args.at.node c.args.at.head.now
+    c.args.at.transition.now c.requires.at c.args.i c.downlink_at-downlink.result.now
     c.downlink_at-downlink.ensures
 
 pub returns-in_default : goal.returns-in_default
 returns-in_default c =
-    waits_for_target c.args.problem.now c.args.growing.now c.args.node c.args.head.now
-    c.args.transition.now c.requires.at c.args.i c.requires.open _ c.in_default.not-Some
-    (target_known c.args.problem.now c.args.growing.now c.args.node c.args.head.now
-    c.args.transition.now c.requires.at c.args.i c.requires.open
+    waits_for_target c.args.at.problem.now c.args.at.growing.now c.args.at.node c.args.at.head.now
+    c.args.at.transition.now c.requires.at c.args.i c.requires.open _ c.in_default.not-Some
+    (target_known c.args.at.problem.now c.args.at.growing.now c.args.at.node c.args.at.head.now
+    c.args.at.transition.now c.requires.at c.args.i c.requires.open
     c.downlink_at-downlink.result.now _ c.downlink_at-downlink.ensures c.in_ok-value.ensures)
 
 pub returns-in_default-value : goal.returns-in_default-value
 returns-in_default-value c =
-    names_no_instance c.args.problem.now c.args.growing.now c.args.node c.args.head.now
-    c.args.transition.now c.requires.at c.args.i c.requires.open _ c.in-Some.value c.in-Some.is
-    (target_known c.args.problem.now c.args.growing.now c.args.node c.args.head.now
-    c.args.transition.now c.requires.at c.args.i c.requires.open
+    names_no_instance c.args.at.problem.now c.args.at.growing.now c.args.at.node c.args.at.head.now
+    c.args.at.transition.now c.requires.at c.args.i c.requires.open _ c.in-Some.value c.in-Some.is
+    (target_known c.args.at.problem.now c.args.at.growing.now c.args.at.node c.args.at.head.now
+    c.args.at.transition.now c.requires.at c.args.i c.requires.open
     c.downlink_at-downlink.result.now _ c.downlink_at-downlink.ensures c.in_ok-value.ensures)
     c.in_default-value.not-Inst
 
 pub returns-then-len-depth : goal.returns-then-len-depth
 returns-then-len-depth c =
     let long = ap length c.deref.ensures in
-    is_too_deep c.args.problem.now c.args.growing.now c.args.node c.args.head.now
-    c.args.transition.now c.requires.at c.args.i c.requires.open (omega (arith, long))
+    is_too_deep c.args.at.problem.now c.args.at.growing.now c.args.at.node c.args.at.head.now
+    c.args.at.transition.now c.requires.at c.args.i c.requires.open (omega (arith, long))
 
 pub returns-in_default-called_on : goal.returns-in_default-called_on
 returns-in_default-called_on c =
-    is_unmade c.args.problem.now c.args.growing.now c.args.node c.args.head.now
-    c.args.transition.now c.requires.at c.args.i c.requires.open _ c.in-Some.value
+    is_unmade c.args.at.problem.now c.args.at.growing.now c.args.at.node c.args.at.head.now
+    c.args.at.transition.now c.requires.at c.args.i c.requires.open _ c.in-Some.value
     c.in-Inst.inst c.in-Some.is c.in-Inst.is
-    (target_known c.args.problem.now c.args.growing.now c.args.node c.args.head.now
-    c.args.transition.now c.requires.at c.args.i c.requires.open
+    (target_known c.args.at.problem.now c.args.at.growing.now c.args.at.node c.args.at.head.now
+    c.args.at.transition.now c.requires.at c.args.i c.requires.open
     c.downlink_at-downlink.result.now _ c.downlink_at-downlink.ensures c.in_ok-value.ensures)
-    (subst (λ s. IsCalledOn s c.args.growing.now.decisions c.in-Inst.inst None)
+    (subst (λ s. IsCalledOn s c.args.at.growing.now.decisions c.in-Inst.inst None)
     c.system.ensures.same
     (subst (λ ds. IsCalledOn c.system.result.now ds c.in-Inst.inst None)
     c.decisions-decisions.ensures c.in_default-called_on.ensures))
@@ -59,18 +59,18 @@ returns-in_default-called_on c =
 pub returns : goal.returns
 returns c =
     let long = ap length c.deref.ensures in
-    chooses_call c.args.problem.now c.args.growing.now c.args.node c.args.head.now
-    c.args.transition.now c.requires.at c.args.i c.requires.open _ c.in-Some.value
+    chooses_call c.args.at.problem.now c.args.at.growing.now c.args.at.node c.args.at.head.now
+    c.args.at.transition.now c.requires.at c.args.i c.requires.open _ c.in-Some.value
     c.in-Inst.inst c.in-Some-called_on.called c.alternatives-of.result c.in-Some.is c.in-Inst.is
-    (target_known c.args.problem.now c.args.growing.now c.args.node c.args.head.now
-    c.args.transition.now c.requires.at c.args.i c.requires.open
+    (target_known c.args.at.problem.now c.args.at.growing.now c.args.at.node c.args.at.head.now
+    c.args.at.transition.now c.requires.at c.args.i c.requires.open
     c.downlink_at-downlink.result.now _ c.downlink_at-downlink.ensures c.in_ok-value.ensures)
-    (subst (λ s. IsCalledOn s c.args.growing.now.decisions c.in-Inst.inst
+    (subst (λ s. IsCalledOn s c.args.at.growing.now.decisions c.in-Inst.inst
     (Some c.in-Some-called_on.called)) c.system.ensures.same
     (subst (λ ds. IsCalledOn c.system.result.now ds c.in-Inst.inst
     (Some c.in-Some-called_on.called)) c.decisions-decisions.ensures
     c.in-Some-called_on.ensures))
     (omega (arith, long))
     (c.alternatives-of.ensures.count
-    ∙ ap (λ ds. alternatives c.args.problem.now ds (P.Call c.args.node c.args.i
+    ∙ ap (λ ds. alternatives c.args.at.problem.now ds (P.Call c.args.at.node c.args.i
     c.in-Some-called_on.called)) c.decisions-decisions.ensures)

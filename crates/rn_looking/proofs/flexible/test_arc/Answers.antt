@@ -12,14 +12,14 @@ use Rattle.rn_looking.proofs.flexible.test_arc.Goals as goal
 pub returns-else-branch : goal.returns-else-branch
 returns-else-branch c told =
     let x = c.arc_at-arc.result.now in
-    lacking_is_stuck c.args.problem.now c.args.growing.now c.args.node c.args.head.now
-    c.args.transition.now c.requires.at c.args.k x c.in-Some.list c.arc_at-arc.ensures
+    lacking_is_stuck c.args.at.problem.now c.args.at.growing.now c.args.at.node c.args.at.head.now
+    c.args.at.transition.now c.requires.at c.args.k x c.in-Some.list c.arc_at-arc.ensures
     (c.is_flexible.ensures.0 c.if-not-is_flexible.false)
-    (subst (λ o. IfSome o (λ v. IsKnownValue c.args.growing.now c.args.head.now x.inscription v))
-    c.in-Some.is c.in_ok-list.ensures)
+    (subst (λ o. IfSome o (λ v. IsKnownValue c.args.at.growing.now c.args.at.head.now x.inscription
+    v)) c.in-Some.is c.in_ok-list.ensures)
     (λ within.
     false≢true (sym c.if-branch.false ∙ c.in_ok-holds_all.ensures.1
-    (subst (λ vs. IsWithin vs (tokens c.table.result.now.marking c.args.head.now.inst x.place))
+    (subst (λ vs. IsWithin vs (tokens c.table.result.now.marking c.args.at.head.now.inst x.place))
     (sym c.elements_of-values.ensures)
-    (subst (λ m. IsWithin (elements c.in-Some.list) (tokens m c.args.head.now.inst x.place))
+    (subst (λ m. IsWithin (elements c.in-Some.list) (tokens m c.args.at.head.now.inst x.place))
     (sym c.table.ensures.same) within))))

@@ -1,8 +1,7 @@
 -- A guard that is known, or one of whose parts is, and isn't true.
 use Rattle.std.proofs.Common.{sym, subst, inl, inr}
 use Rattle.std.specs.Prelude.{Contains}
-use Rattle.rn_choices.specs.declared.next.Next.TheVariants.{Stuck}
-use Rattle.rn_looking.specs.Looks.{GoesOn}
+use Rattle.rn_looking.specs.link.Views.{IsNodeStuck}
 use Rattle.rn_looking.proofs.GuardLooks.{partly_untrue_is_stuck, untrue_is_stuck}
 use Rattle.rn_looking.proofs.guards.test_guards.Goals as goal
 
@@ -11,11 +10,11 @@ returns-in-Fails c told =
     let there = subst (λ gs. Contains gs c.guard-item.result) c.as_slice-guard-items.ensures
     (c.loop-guard.guard-index, c.loop-guard-test.true, sym c.guard-item.is) in
     elim (c.in_ok-test_guard.ensures c.in-Fails.is) as
-    (λ _. GoesOn c.args.problem.now c.args.growing.now.decisions Stuck) [
+    (λ _. IsNodeStuck c.args.at) [
       | inl all ↦
-          untrue_is_stuck c.args.problem.now c.args.growing.now c.args.node c.args.head.now
-          c.args.transition.now c.requires c.guard-item.result there all
+          untrue_is_stuck c.args.at.problem.now c.args.at.growing.now c.args.at.node
+          c.args.at.head.now c.args.at.transition.now c.requires c.guard-item.result there all
       | inr part ↦
-          partly_untrue_is_stuck c.args.problem.now c.args.growing.now c.args.node
-          c.args.head.now c.args.transition.now c.requires c.guard-item.result there part
+          partly_untrue_is_stuck c.args.at.problem.now c.args.at.growing.now c.args.at.node
+          c.args.at.head.now c.args.at.transition.now c.requires c.guard-item.result there part
     ]

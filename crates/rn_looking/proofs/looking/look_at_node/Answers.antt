@@ -17,19 +17,19 @@ use Rattle.rn_looking.proofs.looking.look_at_node.Goals as goal
 use Rattle.rn_looking.proofs.looking.look_at_node.Goals.{In-Entered}
 
 -- the node is entered
-at_node : (c : In-Entered) → slice_get c.args.growing.now.decisions c.args.node
+at_node : (c : In-Entered) → slice_get c.args.branch.growing.now.decisions c.args.node
     ≡ Some (Entered c.in-Entered.head c.in-Entered.field-1)
 at_node c =
-    entered_at c.args.growing.now.decisions c.decisions.result.now c.args.node
+    entered_at c.args.branch.growing.now.decisions c.decisions.result.now c.args.node
     c.index-decisions-node.result c.in-Entered.head c.in-Entered.field-1 c.decisions.ensures
     c.requires.within c.index-decisions-node.is c.in-Entered.is
 
-its_head : (c : In-Entered) → IsHead c.args.problem.now.system c.args.problem.now.depth
-    c.in-Entered.head
+its_head : (c : In-Entered) → IsHead c.args.branch.problem.now.system
+    c.args.branch.problem.now.depth c.in-Entered.head
 its_head c =
     let d = Entered c.in-Entered.head c.in-Entered.field-1 in
     c.requires.branch.sound.heads d
-    (at_in c.args.growing.now.decisions c.args.node d (at_node c))
+    (at_in c.args.branch.growing.now.decisions c.args.node d (at_node c))
 
 pub transition_in-transition-requires-clause-net : goal.transition_in-transition-requires-clause-net
 transition_in-transition-requires-clause-net c =
@@ -43,20 +43,20 @@ transition_in-transition-requires-clause-transition c =
     < length (net_at s c.in-Entered.head.net).transitions) (sym c.system.ensures.same)
     (its_head (goal.at.transition_in-transition-requires-clause-transition c).In-Entered).transition
 
-pub bounds-applications-node : goal.bounds-applications-node
-bounds-applications-node c =
-    applied_within c.args.growing.now.system c.args.growing.now.decisions
-    c.args.applications.now c.args.node c.in-Entered.head c.in-Entered.field-1
-    c.requires.applied (at_node (goal.at.bounds-applications-node c).In-Entered)
+pub bounds-branch-node : goal.bounds-branch-node
+bounds-branch-node c =
+    applied_within c.args.branch.growing.now.system c.args.branch.growing.now.decisions
+    c.args.branch.applications.now c.args.node c.in-Entered.head c.in-Entered.field-1
+    c.requires.applied (at_node (goal.at.bounds-branch-node c).In-Entered)
 
 pub look_within-requires-clause-are : goal.look_within-requires-clause-are
 look_within-requires-clause-are c =
     subst (λ found. map application_of found ≡ holes_of c.transition_in-transition.result.now)
-    (sym c.as_slice-found.ensures)
-    (applied_at c.args.growing.now.system c.args.growing.now.decisions c.args.applications.now
-    c.args.node c.in-Entered.head c.in-Entered.field-1 c.requires.applied
-    (at_node (goal.at.look_within-requires-clause-are c).In-Entered)
-    c.index-applications-node.result c.index-applications-node.is
+    (c.index-branch-node.is ∙ sym c.as_slice-found.ensures)
+    (applied_at c.args.branch.growing.now.system c.args.branch.growing.now.decisions
+    c.args.branch.applications.now c.args.node c.in-Entered.head c.in-Entered.field-1
+    c.requires.applied (at_node (goal.at.look_within-requires-clause-are c).In-Entered)
+    c.index-branch-node.result c.index-branch-node.is
     ∙ ap holes_of (ap (λ s. transition_in s c.in-Entered.head)
     (c.requires.branch.system ∙ sym c.system.ensures.same)
     ∙ sym c.transition_in-transition.ensures))
@@ -74,8 +74,8 @@ look_within-requires-clause-at c = record {
 
 pub returns : goal.returns
 returns c =
-    let ds = c.args.growing.now.decisions in
-    IfOk-weaker _ _ _ (λ look looked. looked_part c.args.problem.now ds
+    let ds = c.args.branch.growing.now.decisions in
+    IfOk-weaker _ _ _ (λ look looked. looked_part c.args.branch.problem.now ds
     (IsOfNode c.in-Entered.head) (IsOfEntry ds c.args.node)
     (of_its_node ds c.args.node c.in-Entered.head c.in-Entered.field-1
     (at_node (goal.at.returns c).In-Entered)) look looked) c.look_within.ensures

@@ -6,6 +6,6 @@ use Rattle.rn_looking.proofs.looking.look_for_tokens.Goals as goal
 
 pub returns : goal.returns
 returns c =
-    looked_narrowed c.args.problem.now c.args.growing.now.decisions
-    (IsOnArcs c.args.head.now (length c.args.transition.now.arcs)) c.in_ok-look.look
+    looked_narrowed c.args.at.problem.now c.args.at.growing.now.decisions
+    (IsOnArcs c.args.at.head.now (length c.args.at.transition.now.arcs)) c.in_ok-look.look
     c.weighed.result c.in_ok-look.ensures c.weighed.ensures

@@ -9,19 +9,20 @@ use Rattle.rn_looking.proofs.looking.look_within.Goals as goal
 
 pub returns-then-is_best : goal.returns-then-is_best
 returns-then-is_best c =
-    looked_best c.args.problem.now c.args.growing.now.decisions
-    (IsOnHoles c.args.transition.now c.args.head.now (length (holes_of c.args.transition.now)))
-    (IsOfNode c.args.head.now) c.in_ok-results.results c.in_ok-results.ensures
+    let t = c.args.at.transition.now in
+    let head = c.args.at.head.now in
+    looked_best c.args.at.problem.now c.args.at.growing.now.decisions
+    (IsOnHoles t head (length (holes_of t))) (IsOfNode head) c.in_ok-results.results c.in_ok-results.ensures
     (c.is_best.ensures c.if-is_best.true)
 
 pub returns-then-is_best-2 : goal.returns-then-is_best-2
 returns-then-is_best-2 c =
-    let t = c.args.transition.now in
-    let head = c.args.head.now in
-    looked_best c.args.problem.now c.args.growing.now.decisions (IsOfValues t head)
+    let t = c.args.at.transition.now in
+    let head = c.args.at.head.now in
+    looked_best c.args.at.problem.now c.args.at.growing.now.decisions (IsOfValues t head)
     (IsOfNode head) c.better-both.result
-    (looked_both c.args.problem.now c.args.growing.now.decisions
-    (some c.args.problem.now c.args.growing.now c.args.node head t c.requires.at)
+    (looked_both c.args.at.problem.now c.args.at.growing.now.decisions
+    (some c.args.at.problem.now c.args.at.growing.now c.args.at.node head t c.requires.at)
     (IsOnHoles t head (length (holes_of t))) (IsOnArcs head (length t.arcs)) (IsOfValues t head)
     (λ d of asked. of) c.in_ok-results.results c.in_ok-arcs.arcs c.better-both.result
     c.in_ok-results.ensures c.in_ok-arcs.ensures c.better-both.ensures)
@@ -29,15 +30,16 @@ returns-then-is_best-2 c =
 
 pub returns : goal.returns
 returns c =
-    let t = c.args.transition.now in
-    let head = c.args.head.now in
-    let ds = c.args.growing.now.decisions in
-    let any = some c.args.problem.now c.args.growing.now c.args.node head t c.requires.at in
-    looked_both c.args.problem.now ds any
+    let t = c.args.at.transition.now in
+    let head = c.args.at.head.now in
+    let ds = c.args.at.growing.now.decisions in
+    let any =
+    some c.args.at.problem.now c.args.at.growing.now c.args.at.node head t c.requires.at in
+    looked_both c.args.at.problem.now ds any
     (IsOfValues t head) (IsOnCalls head (length t.downlinks)) (IsOfNode head)
-    (node_is_covered c.args.problem.now.system ds head t c.requires.at.transition)
+    (node_is_covered c.args.at.problem.now.system ds head t c.requires.at.transition)
     c.better-both.result c.in_ok-calls.calls c.better.result
-    (looked_both c.args.problem.now ds any
+    (looked_both c.args.at.problem.now ds any
     (IsOnHoles t head (length (holes_of t))) (IsOnArcs head (length t.arcs)) (IsOfValues t head)
     (λ d of asked. of) c.in_ok-results.results c.in_ok-arcs.arcs c.better-both.result
     c.in_ok-results.ensures c.in_ok-arcs.ensures c.better-both.ensures)

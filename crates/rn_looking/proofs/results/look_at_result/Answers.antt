@@ -9,55 +9,55 @@ use Rattle.rn_looking.proofs.results.look_at_result.Goals as goal
 
 pub returns-then-was_computed : goal.returns-then-was_computed
 returns-then-was_computed c =
-    is_done c.args.problem.now c.args.growing.now c.args.node c.args.head.now
-    c.args.transition.now c.args.k c.args.application.now.site c.args.application.now.way
+    is_done c.args.at.problem.now c.args.at.growing.now c.args.at.node c.args.at.head.now
+    c.args.at.transition.now c.args.k c.args.application.now.site c.args.application.now.way
     c.args.application.now.form.now c.requires.at c.requires.is
-    (answers c.was_computed.result true c.args.growing.now.decisions c.as_slice.result.now
-    c.args.head.now.path c.as_slice-way.result.now c.args.application.now.way
-    c.args.application.now.site c.was_computed.ensures (c.as_slice.ensures ∙ c.deref.ensures)
+    (answers c.was_computed.result true c.args.at.growing.now.decisions c.as_slice-path.result.now
+    c.args.at.head.now.path c.as_slice-way.result.now c.args.application.now.way
+    c.args.application.now.site c.was_computed.ensures (c.as_slice-path.ensures ∙ c.deref.ensures)
     c.as_slice-way.ensures c.if-was_computed.true)
 
 pub returns-in_default : goal.returns-in_default
 returns-in_default c =
-    waits c.args.problem.now c.args.growing.now c.args.node c.args.head.now
-    c.args.transition.now c.args.k c.args.application.now.site c.args.application.now.way
+    waits c.args.at.problem.now c.args.at.growing.now c.args.at.node c.args.at.head.now
+    c.args.at.transition.now c.args.k c.args.application.now.site c.args.application.now.way
     c.args.application.now.form.now c.requires.at c.requires.is
-    (answers c.was_computed.result false c.args.growing.now.decisions c.as_slice.result.now
-    c.args.head.now.path c.as_slice-way.result.now c.args.application.now.way
-    c.args.application.now.site c.was_computed.ensures (c.as_slice.ensures ∙ c.deref.ensures)
+    (answers c.was_computed.result false c.args.at.growing.now.decisions c.as_slice-path.result.now
+    c.args.at.head.now.path c.as_slice-way.result.now c.args.application.now.way
+    c.args.application.now.site c.was_computed.ensures (c.as_slice-path.ensures ∙ c.deref.ensures)
     c.as_slice-way.ensures c.if-was_computed.false)
-    (subst (KnowsVars c.args.growing.now c.args.head.now c.args.application.now.form.now)
+    (subst (KnowsVars c.args.at.growing.now c.args.at.head.now c.args.application.now.form.now)
     c.in_default.is c.in_ok-known.ensures)
 
 pub returns-in-Some-2 : goal.returns-in-Some-2
 returns-in-Some-2 c =
     let fits : SFits w64 c.in-Some-2.n = search rules in
-    subst (λ n. GoesOn c.args.problem.now c.args.growing.now.decisions
-    (Forced (P.Result c.args.node c.args.k n)))
+    subst (λ n. GoesOn c.args.at.problem.now c.args.at.growing.now.decisions
+    (Forced (P.Result c.args.at.node c.args.k n)))
     (sym (to_z-of_z fits))
-    (goes c.args.problem.now c.args.growing.now c.args.node c.args.head.now
-    c.args.transition.now c.args.k c.args.application.now.site c.args.application.now.way
+    (goes c.args.at.problem.now c.args.at.growing.now c.args.at.node c.args.at.head.now
+    c.args.at.transition.now c.args.k c.args.application.now.site c.args.application.now.way
     c.args.application.now.form.now c.requires.at c.requires.is
-    (answers c.was_computed.result false c.args.growing.now.decisions c.as_slice.result.now
-    c.args.head.now.path c.as_slice-way.result.now c.args.application.now.way
-    c.args.application.now.site c.was_computed.ensures (c.as_slice.ensures ∙ c.deref.ensures)
+    (answers c.was_computed.result false c.args.at.growing.now.decisions c.as_slice-path.result.now
+    c.args.at.head.now.path c.as_slice-way.result.now c.args.application.now.way
+    c.args.application.now.site c.was_computed.ensures (c.as_slice-path.ensures ∙ c.deref.ensures)
     c.as_slice-way.ensures c.if-was_computed.false)
     (known_env c.in-Some.known)
-    (subst (KnowsVars c.args.growing.now c.args.head.now c.args.application.now.form.now)
+    (subst (KnowsVars c.args.at.growing.now c.args.at.head.now c.args.application.now.form.now)
     c.in-Some.is c.in_ok-known.ensures) c.in-Some-2.n
     ((c.in_ok-n.ensures c.in-Some-2.n).0 c.in-Some-2.is))
 
 pub returns : goal.returns
 returns c =
-    stuck c.args.problem.now c.args.growing.now c.args.node c.args.head.now
-    c.args.transition.now c.args.k c.args.application.now.site c.args.application.now.way
+    stuck c.args.at.problem.now c.args.at.growing.now c.args.at.node c.args.at.head.now
+    c.args.at.transition.now c.args.k c.args.application.now.site c.args.application.now.way
     c.args.application.now.form.now c.requires.at c.requires.is
-    (answers c.was_computed.result false c.args.growing.now.decisions c.as_slice.result.now
-    c.args.head.now.path c.as_slice-way.result.now c.args.application.now.way
-    c.args.application.now.site c.was_computed.ensures (c.as_slice.ensures ∙ c.deref.ensures)
+    (answers c.was_computed.result false c.args.at.growing.now.decisions c.as_slice-path.result.now
+    c.args.at.head.now.path c.as_slice-way.result.now c.args.application.now.way
+    c.args.application.now.site c.was_computed.ensures (c.as_slice-path.ensures ∙ c.deref.ensures)
     c.as_slice-way.ensures c.if-was_computed.false)
     (known_env c.in-Some.known)
-    (subst (KnowsVars c.args.growing.now c.args.head.now c.args.application.now.form.now)
+    (subst (KnowsVars c.args.at.growing.now c.args.at.head.now c.args.application.now.form.now)
     c.in-Some.is c.in_ok-known.ensures)
     (λ n value.
     let told = (c.in_ok-n.ensures n).1 value in
