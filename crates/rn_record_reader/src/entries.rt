@@ -8,8 +8,9 @@ ghost use Rattle.rn_record_reader.specs.link.RunsAhead.{EntryTells};
 use crate::ends::{EndRead, bad_line, read_end};
 use crate::firings::{FiringRead, read_firing};
 use crate::opening::{Opens, next_opening};
-use rn_lookup::{Directory, Refusal};
-use rn_model::{Entry, System};
+use crate::reader::{EndReader, Reader};
+use rn_lookup::Refusal;
+use rn_model::Entry;
 use rn_value::NoMemory;
 use std::alloc::Global;
 
@@ -30,39 +31,31 @@ pub(crate) enum EntryRead<'a> {
 /// makes are added.
 pub(crate) fn next_entry<'a>(
     alloc: Global,
-    system: &System,
-    directory: &Directory,
-    format: u32,
+    by: Reader<'_>,
     made: &mut Vec<u32>,
     step: u64,
     line: u32,
     bytes: &'a [u8],
 ) -> Result<EntryRead<'a>, NoMemory>
-    requires good { Good system.now }
-    requires directory { IsDirectoryOf system.now directory.now }
+    requires good { Good by.system.now }
+    requires directory { IsDirectoryOf by.system.now by.directory.now }
     requires few { line + length (lines_in bytes.now) < 2 ^ 32 }
-    ensures { IfOk result (λ read. EntryTells format system.now made.old.items step line
-        (lines_in bytes.now) made.new.items read) }
+    ensures { IfOk result (λ read. EntryTells by.entry.format by.entry.system.now made.old.items
+        step line (lines_in bytes.now) made.new.items read) }
 {
     let worker = match next_opening(alloc, bytes)? {
         Opens::Firing(worker) => worker,
         Opens::Ending(ending, rest) => {
-            let made = made.as_slice();
-            let end = read_end(
-                alloc,
-                system,
-                directory,
-                format,
-                made,
-                line + 1,
-                ending,
-                rest,
-            )?;
+            let by = EndReader {
+                reader: by,
+                made: made.as_slice(),
+            };
+            let end = read_end(alloc, by, line + 1, ending, rest)?;
             return Ok(EntryRead::Over(end));
         }
         Opens::Neither => return Ok(EntryRead::Over(EndRead::Bad(line, Refusal::Form))),
     };
-    match read_firing(alloc, system, directory, made, step, worker, bytes)? {
+    match read_firing(alloc, by, made, step, worker, bytes)? {
         FiringRead::Fired(entry, count, rest) => Ok(EntryRead::Fired(entry, count, rest)),
         FiringRead::Broken(bad) => Ok(EntryRead::Over(bad_line(line, bad))),
     }

@@ -12,10 +12,11 @@ use crate::bindings::told_binding;
 use crate::called::{BadLine, nodes_fault, push_made};
 use crate::nodes::{NodesEnd, NodesRead, PlacedNode, read_nodes};
 use crate::prints::{Firing, PrintsEnd, PrintsRead, read_prints};
+use crate::reader::Reader;
 use crate::role::Role;
 use rn_items::Items;
-use rn_lookup::{Directory, Refusal};
-use rn_model::{Entry, System};
+use rn_lookup::Refusal;
+use rn_model::Entry;
 use rn_value::NoMemory;
 use std::alloc::Global;
 
@@ -32,26 +33,25 @@ pub(crate) enum FiringRead<'a> {
 /// What is read of a firing whose nodes these are, made where there were so many instances.
 fn read_on<'a>(
     alloc: Global,
-    system: &System,
-    directory: &Directory,
+    by: Reader<'_>,
     count: usize,
     firing: Firing<'_>,
     nodes: &[PlacedNode<'_>],
     rest: &'a [u8],
 ) -> Result<FiringRead<'a>, NoMemory>
-    requires good { Good system.now }
-    requires directory { IsDirectoryOf system.now directory.now }
+    requires good { Good by.system.now }
+    requires directory { IsDirectoryOf by.system.now by.directory.now }
     requires few { length nodes.now + length (lines_in rest.now) < 2 ^ 32 }
     ensures { IfOk result (λ read. (made : List ℕ) → length made ≡ count →
-        ReadsFiring (with_prints system.now made firing.entry.made.now firing.entry.worker
-        (map placed nodes.now) (prints_from system.now firing.entry.made.now firing.entry.step
-        firing.entry.worker (lines_in rest.now))) firing.entry.made.now read) }
+        ReadsFiring (with_prints by.entry.system.now made firing.entry.made.now firing.entry.worker
+        (map placed nodes.now) (prints_from by.entry.system.now firing.entry.made.now
+        firing.entry.step firing.entry.worker (lines_in rest.now))) firing.entry.made.now read) }
 {
-    let PrintsRead { outs, end } = read_prints(alloc, system, directory, firing, rest)?;
+    let PrintsRead { outs, end } = read_prints(alloc, by.system, by.directory, firing, rest)?;
     let lines = nodes.len() + outs.len();
     match end {
         PrintsEnd::Over(rest) => {
-            let binding = told_binding(alloc, system, count, nodes)?;
+            let binding = told_binding(alloc, by.system, count, nodes)?;
             let entry = Entry::Fire {
                 worker: firing.worker,
                 binding,
@@ -74,30 +74,24 @@ fn read_on<'a>(
 /// firing makes are added. Where one of its lines is bad, those of the nodes before it are.
 pub(crate) fn read_firing<'a>(
     alloc: Global,
-    system: &System,
-    directory: &Directory,
+    by: Reader<'_>,
     made: &mut Vec<u32>,
     step: u64,
     worker: u32,
     bytes: &'a [u8],
 ) -> Result<FiringRead<'a>, NoMemory>
-    requires good { Good system.now }
-    requires directory { IsDirectoryOf system.now directory.now }
+    requires good { Good by.system.now }
+    requires directory { IsDirectoryOf by.system.now by.directory.now }
     requires few { length (lines_in bytes.now) < 2 ^ 32 }
     ensures { IfOk result (λ read. ReadsFiring
-        (firing_read system.now made.old.items step worker (lines_in bytes.now))
+        (firing_read by.entry.system.now made.old.items step worker (lines_in bytes.now))
         made.new.items read) }
 {
     let count = made.len();
-    let read = read_nodes(
-        alloc,
-        system,
-        directory,
-        Role::Firing { step, worker },
-        bytes,
-    )?;
-    push_made(system, read.nodes.as_slice(), made)?;
-    if let Some(bad) = nodes_fault(system, made.as_slice(), &read) {
+    let role = Role::Firing { step, worker };
+    let read = read_nodes(alloc, by.system, by.directory, role, bytes)?;
+    push_made(by.system, read.nodes.as_slice(), made)?;
+    if let Some(bad) = nodes_fault(by.system, made.as_slice(), &read) {
         return Ok(FiringRead::Broken(bad));
     }
     let NodesRead { nodes, end } = read;
@@ -112,13 +106,5 @@ pub(crate) fn read_firing<'a>(
         step,
         worker,
     };
-    read_on(
-        alloc,
-        system,
-        directory,
-        count,
-        firing,
-        nodes.as_slice(),
-        rest,
-    )
+    read_on(alloc, by, count, firing, nodes.as_slice(), rest)
 }

@@ -20,6 +20,7 @@ mod marks;
 mod nodes;
 mod opening;
 mod prints;
+mod reader;
 mod record;
 mod role;
 

@@ -7,9 +7,10 @@ ghost use Rattle.rn_record_reader.specs.link.MarksAhead.{mark, MarkJudged, MarkS
 
 use crate::items::{counted_after, fits_format, values_of};
 use crate::lines::{Next, next_line};
+use crate::reader::{EndReader, Reader};
 use rn_lines::{Line, ReadMark};
-use rn_lookup::{Directory, Refusal, find_mark, is_called, tokens_are_called};
-use rn_model::{MarkLine, System};
+use rn_lookup::{Refusal, find_mark, is_called, tokens_are_called};
+use rn_model::MarkLine;
 use rn_value::NoMemory;
 use std::alloc::Global;
 
@@ -35,18 +36,21 @@ pub(crate) struct MarksRead {
 /// What a mark is, where so many values were counted before it.
 fn judge_mark(
     alloc: Global,
-    system: &System,
-    directory: &Directory,
-    format: u32,
-    made: &[u32],
+    by: EndReader<'_>,
     held: u64,
     read: &ReadMark<'_>,
 ) -> Result<MarkNext, NoMemory>
-    requires directory { IsDirectoryOf system.now directory.now }
+    requires directory { IsDirectoryOf by.reader.system.now by.reader.directory.now }
     requires few { held ≤ most_told_values }
     ensures { IfOk result (λ next.
-        MarkJudged format system.now made.now held (mark read.now) next) }
+        MarkJudged by.entry.reader.format by.entry.reader.system.now by.entry.made.now held
+        (mark read.now) next) }
 {
+    let Reader {
+        system,
+        directory,
+        format,
+    } = by.reader;
     let items = read.items.as_slice();
     if !fits_format(format, items) {
         return Ok(MarkNext::Refused(Refusal::Form));
@@ -56,7 +60,7 @@ fn judge_mark(
         Err(Refusal::Memory(no_memory)) => return Err(no_memory),
         Err(refusal) => return Ok(MarkNext::Refused(refusal)),
     };
-    if !is_called(system, made, &read.inst) || !tokens_are_called(system, made, items) {
+    if !is_called(system, by.made, &read.inst) || !tokens_are_called(system, by.made, items) {
         return Ok(MarkNext::Refused(Refusal::Name));
     }
     let Some(counted) = counted_after(format, held, items) else {
@@ -73,23 +77,20 @@ fn judge_mark(
 
 fn next_mark<'a>(
     alloc: Global,
-    system: &System,
-    directory: &Directory,
-    format: u32,
-    made: &[u32],
+    by: EndReader<'_>,
     held: u64,
     bytes: &'a [u8],
 ) -> Result<(MarkNext, &'a [u8]), NoMemory>
-    requires directory { IsDirectoryOf system.now directory.now }
+    requires directory { IsDirectoryOf by.reader.system.now by.reader.directory.now }
     requires few { held ≤ most_told_values }
-    ensures steps { IfOk result (λ next. MarkSteps format system.now made.now held
-        (lines_in bytes.now) next.0 (lines_in next.1.now)) }
+    ensures steps { IfOk result (λ next. MarkSteps by.entry.reader.format by.entry.reader.system.now
+        by.entry.made.now held (lines_in bytes.now) next.0 (lines_in next.1.now)) }
     ensures less { IfOk result (λ next. LeavesLess next.0 next.1.now bytes.now) }
 {
     match next_line(alloc, bytes)? {
         Next::Line(line, rest) => match line {
             Line::Holds(read) => {
-                let next = judge_mark(alloc, system, directory, format, made, held, &read)?;
+                let next = judge_mark(alloc, by, held, &read)?;
                 Ok((next, rest))
             }
             _ => Ok((MarkNext::Refused(Refusal::Form), bytes)),
@@ -99,25 +100,23 @@ fn next_mark<'a>(
     }
 }
 
-/// The marks that the bytes are in this format, and why the line after them is refused, where there
-/// is one. `made` has the nets of the instances that firings made, from number 1 on.
+/// The marks that the bytes are in the format of the record, and why the line after them is
+/// refused, where there is one.
 pub(crate) fn read_marks(
     alloc: Global,
-    system: &System,
-    directory: &Directory,
-    format: u32,
-    made: &[u32],
+    by: EndReader<'_>,
     bytes: &[u8],
 ) -> Result<MarksRead, NoMemory>
-    requires { IsDirectoryOf system.now directory.now }
+    requires { IsDirectoryOf by.reader.system.now by.reader.directory.now }
     ensures { IfOk result (λ read. (read.marks.items, read.refusal)
-        ≡ marks_from format system.now made.now 0 (lines_in bytes.now)) }
+        ≡ marks_from by.entry.reader.format by.entry.reader.system.now by.entry.made.now 0
+        (lines_in bytes.now)) }
 {
     let mut marks = Vec::new(alloc);
     let mut held = 0u64;
     let mut rest = bytes;
     loop {
-        let (next, more) = next_mark(alloc, system, directory, format, made, held, rest)?;
+        let (next, more) = next_mark(alloc, by, held, rest)?;
         let refusal = match next {
             MarkNext::Marks(line, counted) => {
                 marks.push(line)?;

@@ -11,6 +11,7 @@ ghost use Rattle.rn_record_reader.specs.link.RunsAhead.{FaultTells, RecordTells,
 use crate::ends::EndRead;
 use crate::entries::{EntryRead, next_entry};
 use crate::fault::RecordFault;
+use crate::reader::Reader;
 use rn_items::Items;
 use rn_lookup::{Directory, Refusal};
 use rn_model::{Entry, System, Told};
@@ -84,6 +85,11 @@ fn read_lines(
         (Tells format system.now (first_made system.now) 1 first (lines_in bytes.now)) result }
 {
     let directory = Directory::new(alloc, system)?;
+    let by = Reader {
+        system,
+        directory: &directory,
+        format,
+    };
     let mut made = Vec::new(alloc);
     made.push(main_net(system))?;
     let mut entries = Vec::new(alloc);
@@ -91,9 +97,7 @@ fn read_lines(
     let mut line = first;
     let mut rest = bytes;
     loop {
-        match next_entry(
-            alloc, system, &directory, format, &mut made, step, line, rest,
-        )? {
+        match next_entry(alloc, by, &mut made, step, line, rest)? {
             EntryRead::Fired(entry, count, after) => {
                 entries.push(entry)?;
                 step += 1;

@@ -13,9 +13,9 @@ pub bad_line-requires : goal.bad_line-requires
 bad_line-requires c =
     let nodes = map placed c.in_ok-read.read.nodes.items in
     let end = stop c.in_ok-read.read.end in
-    let early = bad_early c.args.system.now c.as_slice-2.result.now (nodes, end) (bad_at c.in-Some.bad)
+    let early = bad_early c.args.by.reader.system.now c.as_slice-2.result.now (nodes, end) (bad_at c.in-Some.bad)
     (ap (option_map bad_at) (sym c.in-Some.is) ∙ c.nodes_fault.ensures) in
-    let few = nodes_few c.args.system.now Fault (lines_in c.args.bytes.now) nodes end c.in_ok-read.ensures in
+    let few = nodes_few c.args.by.reader.system.now Fault (lines_in c.args.bytes.now) nodes end c.in_ok-read.ensures in
     omega (arith, early, few, c.requires.few)
 
 pub fault_on-requires-clause-few : goal.fault_on-requires-clause-few
@@ -23,7 +23,7 @@ fault_on-requires-clause-few c =
     let nodes = c.in_ok-read.read.nodes.items in
     let lines = lines_in c.args.bytes.now in
     let rest = lines_in c.in-Whole.rest.now in
-    let all = nodes_few c.args.system.now Fault lines (map placed nodes) (stop c.in_ok-read.read.end) c.in_ok-read.ensures in
+    let all = nodes_few c.args.by.reader.system.now Fault lines (map placed nodes) (stop c.in_ok-read.read.end) c.in_ok-read.ensures in
     let here : length (map placed nodes) + length rest ≤ length lines
     = subst (λ s. length (map placed nodes) + left s ≤ length lines) (ap stop c.in-Whole.is) all in
     let size = length-map nodes placed in

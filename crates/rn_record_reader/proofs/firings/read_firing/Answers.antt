@@ -12,7 +12,7 @@ read_on-requires-clause-few c =
     let nodes = c.in_ok-read.read.nodes.items in
     let lines = lines_in c.args.bytes.now in
     let rest = lines_in c.in-Whole.rest.now in
-    let all = nodes_few c.args.system.now (Firing c.args.step c.args.worker) lines (map placed nodes) (stop c.in_ok-read.read.end) c.in_ok-read.ensures in
+    let all = nodes_few c.args.by.system.now (Firing c.args.step c.args.worker) lines (map placed nodes) (stop c.in_ok-read.read.end) c.in_ok-read.ensures in
     let here : length (map placed nodes) + length rest ≤ length lines
     = subst (λ s. length (map placed nodes) + left s ≤ length lines) (ap stop c.in-Whole.is) all in
     let size = length-map nodes placed in

@@ -10,8 +10,8 @@ pub values_of-requires : goal.values_of-requires
 values_of-requires c =
     let read = c.as_slice-items.result.now in
     let items = map item read in
-    let fits : fits_format c.args.format items ≡ true = search rules in
+    let fits : fits_format c.args.by.reader.format items ≡ true = search rules in
     let short : length read < 18446744073709551616 = search rules in
     let same = length-map read item in
-    few_values c.args.format c.args.held items fits (omega (arith, short, same))
-    (is_counted (counted_after c.args.format c.args.held items) c.in-Some.counted (search rules))
+    few_values c.args.by.reader.format c.args.held items fits (omega (arith, short, same))
+    (is_counted (counted_after c.args.by.reader.format c.args.held items) c.in-Some.counted (search rules))

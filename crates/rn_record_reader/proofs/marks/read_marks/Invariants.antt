@@ -7,8 +7,8 @@ use Rattle.rn_record_reader.proofs.marks.read_marks.Given as goal
 
 abbrev pub invariant-loop-marks : goal.invariant-loop-marks
 invariant-loop-marks l = record {
-  all : with_lines l.marks.items (marks_from l.format l.system l.made l.held (lines_in l.rest))
-      ≡ marks_from l.format l.system l.made 0 (lines_in l.bytes);
+  all : with_lines l.marks.items (marks_from l.by.reader.format l.by.reader.system.now l.by.made.now l.held (lines_in l.rest))
+      ≡ marks_from l.by.reader.format l.by.reader.system.now l.by.made.now 0 (lines_in l.bytes);
   few : l.held ≤ most_told_values;
 }
 
