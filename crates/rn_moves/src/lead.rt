@@ -5,6 +5,7 @@ ghost use Rattle.rn_moves.specs.MovesText.{place_text};
 
 use crate::naming::net_numbered;
 use crate::token::Token;
+use crate::writer::Writer;
 use rn_items::NoMemory;
 use rn_model::{System, write_instance};
 use rn_record::put_place_name;
@@ -37,20 +38,19 @@ fn put_place(
 /// How the lines of the place of this token begin.
 fn new_lead(
     alloc: Global,
-    system: &System,
-    nets: &[u32],
+    by: Writer<'_>,
     step: u64,
     sign: &[u8],
     token: &Token,
 ) -> Result<Lead, NoMemory>
     ensures inst { IfOk result (λ lead. lead.inst ≡ token.now.inst) }
     ensures place { IfOk result (λ lead. lead.place ≡ token.now.place) }
-    ensures text { IfOk result (IsLead system.now nets.now step sign.now) }
+    ensures text { IfOk result (IsLead by.entry.system.now by.entry.nets.now step sign.now) }
 {
     let mut text = Vec::new(alloc);
     write_numeral(alloc, step, &mut text)?;
     text.extend_from_slice(sign)?;
-    put_place(alloc, system, nets, token, &mut text)?;
+    put_place(alloc, by.system, by.nets, token, &mut text)?;
     text.extend_from_slice(b" ")?;
     Ok(Lead {
         inst: token.inst,
@@ -62,22 +62,21 @@ fn new_lead(
 /// The same, by the beginning at hand where the place is still that one.
 pub(crate) fn lead_at(
     alloc: Global,
-    system: &System,
-    nets: &[u32],
+    by: Writer<'_>,
     step: u64,
     sign: &[u8],
     token: &Token,
     lead: Option<Lead>,
 ) -> Result<Lead, NoMemory>
-    requires { IfSome lead (IsLead system.now nets.now step sign.now) }
+    requires { IfSome lead (IsLead by.system.now by.nets.now step sign.now) }
     ensures inst { IfOk result (λ lead. lead.inst ≡ token.now.inst) }
     ensures place { IfOk result (λ lead. lead.place ≡ token.now.place) }
-    ensures text { IfOk result (IsLead system.now nets.now step sign.now) }
+    ensures text { IfOk result (IsLead by.entry.system.now by.entry.nets.now step sign.now) }
 {
     if let Some(lead) = lead {
         if lead.inst == token.inst && lead.place == token.place {
             return Ok(lead);
         }
     }
-    new_lead(alloc, system, nets, step, sign, token)
+    new_lead(alloc, by, step, sign, token)
 }

@@ -9,6 +9,7 @@ mod moving;
 mod naming;
 mod order;
 mod token;
+mod writer;
 mod writing;
 
 pub use laws::{moves_add_up, moves_are_one, moves_take_what_is_there};

@@ -7,8 +7,8 @@ ghost use Rattle.rn_moves.specs.MovesText.{moves_lines, token_line};
 
 use crate::lead::lead_at;
 use crate::token::{Moves, Token};
+use crate::writer::Writer;
 use rn_items::NoMemory;
-use rn_model::System;
 use rn_value::{Names, Value, write_int, write_value};
 use std::alloc::Global;
 
@@ -43,22 +43,21 @@ fn put_line(
 
 fn put_tokens(
     alloc: Global,
-    system: &System,
-    nets: &[u32],
-    names: &Names,
+    by: Writer<'_>,
     step: u64,
     sign: &[u8],
     tokens: &[Token],
     out: &mut Vec<u8>,
 ) -> Result<(), NoMemory>
-    requires { AreWithin (length names.now) tokens.now }
+    requires { AreWithin (length by.names.now) tokens.now }
     ensures { OnOk result (out.new.items ≡ out.old.items
-        ++ flat_map (token_line system.now nets.now names.now step sign.now) tokens.now) }
+        ++ flat_map (token_line by.entry.system.now by.entry.nets.now by.entry.names.now step
+        sign.now) tokens.now) }
 {
     let mut lead = None;
     for token in tokens {
-        let here = lead_at(alloc, system, nets, step, sign, token, lead)?;
-        put_line(alloc, names, here.text.as_slice(), &token.value, out)?;
+        let here = lead_at(alloc, by, step, sign, token, lead)?;
+        put_line(alloc, by.names, here.text.as_slice(), &token.value, out)?;
         lead = Some(here);
     }
     Ok(())
@@ -67,20 +66,18 @@ fn put_tokens(
 /// Appends the lines of the firing with this number: of what leaves, and then of what comes.
 pub(crate) fn put_moves(
     alloc: Global,
-    system: &System,
-    nets: &[u32],
-    names: &Names,
+    by: Writer<'_>,
     step: u64,
     moves: &Moves,
     out: &mut Vec<u8>,
 ) -> Result<(), NoMemory>
-    requires taken { AreWithin (length names.now) moves.now.taken }
-    requires put { AreWithin (length names.now) moves.now.put }
+    requires taken { AreWithin (length by.names.now) moves.now.taken }
+    requires put { AreWithin (length by.names.now) moves.now.put }
     ensures { OnOk result (out.new.items ≡ out.old.items
-        ++ moves_lines system.now nets.now names.now step moves.now) }
+        ++ moves_lines by.entry.system.now by.entry.nets.now by.entry.names.now step moves.now) }
 {
     let taken = moves.taken.as_slice();
     let put = moves.put.as_slice();
-    put_tokens(alloc, system, nets, names, step, b" - ", taken, out)?;
-    put_tokens(alloc, system, nets, names, step, b" + ", put, out)
+    put_tokens(alloc, by, step, b" - ", taken, out)?;
+    put_tokens(alloc, by, step, b" + ", put, out)
 }

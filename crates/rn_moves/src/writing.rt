@@ -9,10 +9,10 @@ ghost use Rattle.rn_moves.specs.MovesText.{MovesText, nets_of};
 use crate::lines::put_moves;
 use crate::moving::{first_moves, first_net, moves_of};
 use crate::naming::{names_of, nets_of};
+use crate::writer::Writer;
 use rn_acts::nets_made;
 use rn_items::NoMemory;
 use rn_model::{Entry, System};
-use rn_value::Names;
 use std::alloc::Global;
 
 /// The number of the next firing, and the one that the next instance gets.
@@ -25,17 +25,17 @@ struct Numbers {
 /// Appends the lines of an entry. The answer is the numbers after it.
 fn put_entry(
     alloc: Global,
-    system: &System,
-    nets: &[u32],
-    names: &Names,
+    by: Writer<'_>,
     numbers: Numbers,
     entry: &Entry,
     out: &mut Vec<u8>,
 ) -> Result<Numbers, NoMemory>
-    requires good { Good system.now }
-    requires moves { HasEntryMoves system.now (length names.now) numbers.next numbers.step entry.now }
-    ensures { IfOk result (λ after. WritesEntry system.now nets.now names.now numbers.next numbers.step
-        entry.now after.next after.step out.old.items out.new.items) }
+    requires good { Good by.system.now }
+    requires moves { HasEntryMoves by.system.now (length by.names.now) numbers.next numbers.step
+        entry.now }
+    ensures { IfOk result (λ after. WritesEntry by.entry.system.now by.entry.nets.now
+        by.entry.names.now numbers.next numbers.step entry.now after.next after.step out.old.items
+        out.new.items) }
 {
     match entry {
         Entry::Fire {
@@ -44,9 +44,9 @@ fn put_entry(
             outs: _,
         } => {
             let Numbers { next, step } = numbers;
-            let moves = moves_of(alloc, system, binding, next, step)?;
-            put_moves(alloc, system, nets, names, step, &moves, out)?;
-            let made = nets_made(alloc, system, binding)?;
+            let moves = moves_of(alloc, by.system, binding, next, step)?;
+            put_moves(alloc, by, step, &moves, out)?;
+            let made = nets_made(alloc, by.system, binding)?;
             Ok(Numbers {
                 next: next + made.len() as u32,
                 step: step + 1,
@@ -60,19 +60,18 @@ fn put_entry(
 /// number 2.
 fn put_entries(
     alloc: Global,
-    system: &System,
-    nets: &[u32],
-    names: &Names,
+    by: Writer<'_>,
     entries: &[Entry],
     out: &mut Vec<u8>,
 ) -> Result<(), NoMemory>
-    requires good { Good system.now }
-    requires moves { HaveMoves system.now (length names.now) 2 1 entries.now }
-    ensures { OnOk result (WritesAll system.now nets.now names.now entries.now out.old.items out.new.items) }
+    requires good { Good by.system.now }
+    requires moves { HaveMoves by.system.now (length by.names.now) 2 1 entries.now }
+    ensures { OnOk result (WritesAll by.entry.system.now by.entry.nets.now by.entry.names.now
+        entries.now out.old.items out.new.items) }
 {
     let mut numbers = Numbers { next: 2, step: 1 };
     for entry in entries {
-        numbers = put_entry(alloc, system, nets, names, numbers, entry, out)?;
+        numbers = put_entry(alloc, by, numbers, entry, out)?;
     }
     Ok(())
 }
@@ -97,8 +96,13 @@ pub fn write_moves(alloc: Global, system: &System, entries: &[Entry]) -> Result<
     let names = names_of(alloc, system, nets.as_slice())?;
     let first = first_moves(alloc, system, main)?;
     let mut text = Vec::new(alloc);
-    put_moves(alloc, system, nets.as_slice(), &names, 0, &first, &mut text)?;
-    put_entries(alloc, system, nets.as_slice(), &names, entries, &mut text)?;
+    let by = Writer {
+        system,
+        nets: nets.as_slice(),
+        names: &names,
+    };
+    put_moves(alloc, by, 0, &first, &mut text)?;
+    put_entries(alloc, by, entries, &mut text)?;
     Ok(text)
 }
 

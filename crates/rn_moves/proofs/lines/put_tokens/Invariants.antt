@@ -9,6 +9,6 @@ abbrev pub invariant-loop-token : goal.invariant-loop-token
 invariant-loop-token l = record {
   lines : l.out.items
       ≡ l.initial.out.items
-      ++ flat_map (token_line l.system l.nets l.names l.step l.sign) (take l.token-index l.tokens);
-  lead : IfSome l.lead (IsLead l.system l.nets l.step l.sign);
+      ++ flat_map (token_line l.by.system.now l.by.nets.now l.by.names.now l.step l.sign) (take l.token-index l.tokens);
+  lead : IfSome l.lead (IsLead l.by.system.now l.by.nets.now l.step l.sign);
 }

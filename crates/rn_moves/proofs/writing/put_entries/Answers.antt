@@ -13,11 +13,11 @@ loop-entry-preserved c =
     let out = c.loop-entry.out.items in
     let after = c.put_entry.new.out.items in
     record {
-      goes = step_on c.args.system.now c.args.nets.now c.args.names.now entries c.args.out.now.items
+      goes = step_on c.args.by.system.now c.args.by.nets.now c.args.by.names.now entries c.args.out.now.items
           was.next was.step now.next now.step i c.entry-item.result out after within c.entry-item.is
           c.loop-entry.invariant.goes c.in_ok-numbers.ensures;
-      may = rest_told c.args.system.now c.args.nets.now c.args.names.now entries
-          c.args.out.now.items (length c.args.names.now) was.next was.step now.next now.step i
+      may = rest_told c.args.by.system.now c.args.by.nets.now c.args.by.names.now entries
+          c.args.out.now.items (length c.args.by.names.now) was.next was.step now.next now.step i
           c.entry-item.result out after within c.entry-item.is c.loop-entry.invariant.may
           c.in_ok-numbers.ensures;
     }
@@ -25,6 +25,6 @@ loop-entry-preserved c =
 pub returns : goal.returns
 returns c =
     let past : length c.args.entries.now ≤ c.loop-entry.entry-index = omega arith in
-    all_written c.args.system.now c.args.nets.now c.args.names.now c.args.entries.now
+    all_written c.args.by.system.now c.args.by.nets.now c.args.by.names.now c.args.entries.now
     c.args.out.now.items c.loop-entry.numbers.next c.loop-entry.numbers.step
     c.loop-entry.entry-index c.loop-entry.out.items past c.loop-entry.invariant.goes

@@ -33,15 +33,12 @@ returns c =
     let entries = c.args.entries.now in
     let names = c.in_ok-names.names in
     let first = c.in_ok-first.first in
-    let nets = c.as_slice-3.result.now in
-    let same : c.as_slice-2.result.now ≡ nets =
-    c.as_slice-2.ensures.value ∙ sym c.as_slice-3.ensures.value in
+    let nets = c.as_slice-2.result.now in
     let named : c.as_slice.result.now ≡ nets =
-    c.as_slice.ensures.value ∙ sym c.as_slice-3.ensures.value in
+    c.as_slice.ensures.value ∙ sym c.as_slice-2.ensures.value in
     all_told system entries first nets names c.put_moves.new.out.items c.put_entries.new.out.items
-    (c.as_slice-3.ensures.value ∙ c.in_ok-nets.ensures)
+    (c.as_slice-2.ensures.value ∙ c.in_ok-nets.ensures)
     (c.in_ok-names.ensures ∙ ap (names_of system) named) c.in_ok-first.ensures
     (c.in_ok-put_moves.ensures
-    ∙ ap (λ t. t ++ moves_lines system c.as_slice-2.result.now names 0 first) c.new-text.ensures.items
-    ∙ ap (λ ns. moves_lines system ns names 0 first) same)
+    ∙ ap (λ t. t ++ moves_lines system nets names 0 first) c.new-text.ensures.items)
     c.in_ok-put_entries.ensures
