@@ -22,6 +22,7 @@ use crate::room::BranchRoom;
 use crate::settling::Settling;
 use crate::takings::TakingCounts;
 use crate::testing::{Tests, forget_beyond};
+use crate::tried::{Tried, TriedResult};
 use crate::trying::is_vain;
 use crate::vain::{lacking_at, repeats_at};
 use rn_agree::{does_agree, has_shape};
@@ -137,25 +138,23 @@ fn result_among(
     problem: &Problem<'_>,
     decisions: &[Decision],
     found: &[Application<'_>],
-    node: usize,
-    k: usize,
-    n: i64,
-    a: usize,
+    tried: TriedResult,
 ) -> Result<Option<Decision>, NoMemory>
-    requires { map application_of found.now
-        ≡ holes_of (transition_in problem.now.system (node_of problem.now decisions.now node)) }
+    requires { map application_of found.now ≡ holes_of (transition_in problem.now.system
+        (node_of problem.now decisions.now tried.node)) }
     ensures { IfOk result
-        (λ d. d ≡ offered problem.now decisions.now (P.Result node k n) a) }
+        (λ d. d ≡ offered problem.now decisions.now (P.Result tried.node tried.k tried.n) tried.a) }
 {
-    if a > 0 {
+    if tried.a > 0 {
         return Ok(None);
     }
-    let Some(application) = found.get(k) else {
+    let Some(application) = found.get(tried.k) else {
         return Ok(None);
     };
     let way = Way::from_vec(Vec::from_slice(alloc, application.way.as_slice())?);
-    let head = copy_head(alloc, problem.node_of(decisions, node))?;
-    Ok(Some(Decision::Computed(head, application.site, way, Value::Int(n))))
+    let head = copy_head(alloc, problem.node_of(decisions, tried.node))?;
+    let value = Value::Int(tried.n);
+    Ok(Some(Decision::Computed(head, application.site, way, value)))
 }
 
 // Whether a decision enters a node.
@@ -172,23 +171,20 @@ fn result_at(
     problem: &Problem<'_>,
     decisions: &[Decision],
     applications: &[Items<Application<'_>>],
-    node: usize,
-    k: usize,
-    n: i64,
-    a: usize,
+    tried: TriedResult,
 ) -> Result<Option<Decision>, NoMemory>
-    requires head { IsHeadIn problem.now decisions.now node }
+    requires head { IsHeadIn problem.now decisions.now tried.node }
     requires applied { AreAppliedIn problem.now.system decisions.now applications.now }
     ensures { IfOk result
-        (λ d. d ≡ offered problem.now decisions.now (P.Result node k n) a) }
+        (λ d. d ≡ offered problem.now decisions.now (P.Result tried.node tried.k tried.n) tried.a) }
 {
-    if is_entry(decisions, node) {
-        let found = applications[node].as_slice();
-        return result_among(alloc, problem, decisions, found, node, k, n, a);
+    if is_entry(decisions, tried.node) {
+        let found = applications[tried.node].as_slice();
+        return result_among(alloc, problem, decisions, found, tried);
     }
-    let head = problem.node_of(decisions, node);
+    let head = problem.node_of(decisions, tried.node);
     let found = applications_of(alloc, transition_in(problem.system(), head))?;
-    result_among(alloc, problem, decisions, found.as_slice(), node, k, n, a)
+    result_among(alloc, problem, decisions, found.as_slice(), tried)
 }
 
 // The decision that an alternative means, where it is one.
@@ -209,7 +205,8 @@ fn decision_at(
         Point::Token(node, arc, from) => problem.token(alloc, decisions, node, arc, from, a),
         Point::List(node, arc) => problem.list(alloc, decisions, node, arc, a),
         Point::Result(node, k, n) => {
-            result_at(alloc, problem, decisions, applications, node, k, n, a)
+            let tried = TriedResult { node, k, n, a };
+            result_at(alloc, problem, decisions, applications, tried)
         }
         Point::Call(node, i, called) => problem.call(alloc, decisions, node, i, called, a),
     }
@@ -335,9 +332,11 @@ impl<'a> Grows for Branch<'a> {
             self.growing.growing(),
             &mut self.tests,
             &mut self.takings,
-            site,
-            alternative,
-            again,
+            Tried {
+                point: site,
+                a: alternative,
+                again,
+            },
         )? {
             return Ok(false);
         }

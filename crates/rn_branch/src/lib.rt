@@ -21,6 +21,7 @@ mod takings;
 mod testing;
 mod token_key;
 mod trial;
+mod tried;
 mod trying;
 mod vain;
 

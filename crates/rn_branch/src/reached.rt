@@ -73,14 +73,20 @@ impl Reached {
     }
 }
 
-// The transition of the node that a decision enters.
-fn transition_at<'a>(
+/// The nodes that decisions enter, as functions hand them on.
+#[derive(Clone, Copy)]
+struct EnteredNodes<'a> {
     system: &'a System,
-    decisions: &[Decision],
-    node: usize,
-) -> Option<&'a Transition> {
-    match decisions.get(node) {
-        Some(Decision::Entered(head, _)) => transition_in(system, head),
+    decisions: &'a [Decision],
+
+    /// By which they are found.
+    entries: &'a EnteredPaths,
+}
+
+// The transition of the node that a decision enters.
+fn transition_at<'a>(nodes: EnteredNodes<'a>, node: usize) -> Option<&'a Transition> {
+    match nodes.decisions.get(node) {
+        Some(Decision::Entered(head, _)) => transition_in(nodes.system, head),
         _ => None,
     }
 }
@@ -94,13 +100,8 @@ fn is_var(expr: &Expr, x: u32) -> bool {
 }
 
 // An argument of the uplink of a node.
-fn uplink_arg<'a>(
-    system: &'a System,
-    decisions: &[Decision],
-    node: usize,
-    j: usize,
-) -> Option<&'a Expr> {
-    let Some(transition) = transition_at(system, decisions, node) else {
+fn uplink_arg<'a>(nodes: EnteredNodes<'a>, node: usize, j: usize) -> Option<&'a Expr> {
+    let Some(transition) = transition_at(nodes, node) else {
         return None;
     };
     match &transition.uplink {
@@ -110,20 +111,17 @@ fn uplink_arg<'a>(
 }
 
 // The node that calls another, and an argument of that call.
-fn calling_arg<'a>(
-    system: &'a System,
-    decisions: &[Decision],
-    entries: &EnteredPaths,
-    node: usize,
-    j: usize,
-) -> Option<(usize, &'a Expr)> {
-    let Some(Decision::Entered(_, Some(caller))) = decisions.get(node) else {
+fn calling_arg<'a>(nodes: EnteredNodes<'a>, node: usize, j: usize) -> Option<(usize, &'a Expr)> {
+    let Some(Decision::Entered(_, Some(caller))) = nodes.decisions.get(node) else {
         return None;
     };
-    let Some(above) = entries.node_on(decisions, caller.head.path.as_slice()) else {
+    let Some(above) = nodes
+        .entries
+        .node_on(nodes.decisions, caller.head.path.as_slice())
+    else {
         return None;
     };
-    let Some(transition) = transition_at(system, decisions, above) else {
+    let Some(transition) = transition_at(nodes, above) else {
         return None;
     };
     let Some(downlink) = transition.downlinks.get(caller.downlink as usize) else {
@@ -136,37 +134,22 @@ fn calling_arg<'a>(
 }
 
 // A child that is called with a variable is reached, with the variable that stands for it there.
-fn reach_child(
-    system: &System,
-    decisions: &[Decision],
-    entries: &EnteredPaths,
-    path: &[u32],
-    i: usize,
-    j: usize,
-    reached: &mut Reached,
-) {
-    let Some(child) = entries.child_on(decisions, path, i) else {
+fn reach_child(nodes: EnteredNodes<'_>, path: &[u32], i: usize, j: usize, reached: &mut Reached) {
+    let Some(child) = nodes.entries.child_on(nodes.decisions, path, i) else {
         return;
     };
     reached.put_node(child);
-    if let Some(arg) = uplink_arg(system, decisions, child, j) {
+    if let Some(arg) = uplink_arg(nodes, child, j) {
         reached.put_expr(child, arg);
     }
 }
 
 // The children of a node that are called with a variable of it.
-fn reach_children(
-    system: &System,
-    decisions: &[Decision],
-    entries: &EnteredPaths,
-    node: usize,
-    x: u32,
-    reached: &mut Reached,
-) {
-    let Some(Decision::Entered(head, _)) = decisions.get(node) else {
+fn reach_children(nodes: EnteredNodes<'_>, node: usize, x: u32, reached: &mut Reached) {
+    let Some(Decision::Entered(head, _)) = nodes.decisions.get(node) else {
         return;
     };
-    let Some(transition) = transition_in(system, head) else {
+    let Some(transition) = transition_in(nodes.system, head) else {
         return;
     };
     let path = head.path.as_slice();
@@ -174,22 +157,15 @@ fn reach_children(
         let args = transition.downlinks.as_slice()[i].args.as_slice();
         for j in 0..args.len() {
             if is_var(&args[j], x) {
-                reach_child(system, decisions, entries, path, i, j, reached);
+                reach_child(nodes, path, i, j, reached);
             }
         }
     }
 }
 
 // The caller of a node that has a variable of it in its uplink.
-fn reach_caller(
-    system: &System,
-    decisions: &[Decision],
-    entries: &EnteredPaths,
-    node: usize,
-    x: u32,
-    reached: &mut Reached,
-) {
-    let Some(transition) = transition_at(system, decisions, node) else {
+fn reach_caller(nodes: EnteredNodes<'_>, node: usize, x: u32, reached: &mut Reached) {
+    let Some(transition) = transition_at(nodes, node) else {
         return;
     };
     let Some(uplink) = &transition.uplink else {
@@ -198,7 +174,7 @@ fn reach_caller(
     let args = uplink.args.as_slice();
     for j in 0..args.len() {
         if is_var(&args[j], x) {
-            if let Some((above, arg)) = calling_arg(system, decisions, entries, node, j) {
+            if let Some((above, arg)) = calling_arg(nodes, node, j) {
                 reached.put_expr(above, arg);
             }
         }
@@ -206,60 +182,44 @@ fn reach_caller(
 }
 
 // What the newest decision forces: variables of an inscription, of an equality or of an argument.
-fn put_newest(
-    system: &System,
-    decisions: &[Decision],
-    entries: &EnteredPaths,
-    reached: &mut Reached,
-) {
-    let Some(newest) = decisions.last() else {
+fn put_newest(nodes: EnteredNodes<'_>, reached: &mut Reached) {
+    let Some(newest) = nodes.decisions.last() else {
         return;
     };
     match newest {
-        Decision::Entered(_, _) => put_entered(system, decisions, entries, reached),
+        Decision::Entered(_, _) => put_entered(nodes, reached),
         Decision::Found(head, k, _) => {
-            if let Some(node) = entries.node_on(decisions, head.path.as_slice()) {
-                put_found(system, decisions, node, *k, reached);
+            if let Some(node) = nodes.entries.node_on(nodes.decisions, head.path.as_slice()) {
+                put_found(nodes, node, *k, reached);
             }
         }
         Decision::Computed(head, site, _, _) => {
-            if let Some(node) = entries.node_on(decisions, head.path.as_slice()) {
-                put_computed(system, decisions, entries, node, *site, reached);
+            if let Some(node) = nodes.entries.node_on(nodes.decisions, head.path.as_slice()) {
+                put_computed(nodes, node, *site, reached);
             }
         }
     }
 }
 
 // What a node that was entered may force: what its caller calls it with.
-fn put_entered(
-    system: &System,
-    decisions: &[Decision],
-    entries: &EnteredPaths,
-    reached: &mut Reached,
-) {
-    let node = decisions.len().saturating_sub(1);
-    let Some(transition) = transition_at(system, decisions, node) else {
+fn put_entered(nodes: EnteredNodes<'_>, reached: &mut Reached) {
+    let node = nodes.decisions.len().saturating_sub(1);
+    let Some(transition) = transition_at(nodes, node) else {
         return;
     };
     let Some(uplink) = &transition.uplink else {
         return;
     };
     for j in 0..uplink.args.len() {
-        if let Some((above, arg)) = calling_arg(system, decisions, entries, node, j) {
+        if let Some((above, arg)) = calling_arg(nodes, node, j) {
             reached.put_expr(above, arg);
         }
     }
 }
 
 // What an arc that found its value forces.
-fn put_found(
-    system: &System,
-    decisions: &[Decision],
-    node: usize,
-    k: usize,
-    reached: &mut Reached,
-) {
-    if let Some(transition) = transition_at(system, decisions, node) {
+fn put_found(nodes: EnteredNodes<'_>, node: usize, k: usize, reached: &mut Reached) {
+    if let Some(transition) = transition_at(nodes, node) {
         if let Some(arc) = transition.arcs.get(k) {
             reached.put_expr(node, &arc.inscription);
         }
@@ -267,15 +227,8 @@ fn put_found(
 }
 
 // What an operator application forces: both sides of an equality, and what stands for an argument.
-fn put_computed(
-    system: &System,
-    decisions: &[Decision],
-    entries: &EnteredPaths,
-    node: usize,
-    site: Site,
-    reached: &mut Reached,
-) {
-    let Some(transition) = transition_at(system, decisions, node) else {
+fn put_computed(nodes: EnteredNodes<'_>, node: usize, site: Site, reached: &mut Reached) {
+    let Some(transition) = transition_at(nodes, node) else {
         return;
     };
     match site {
@@ -286,14 +239,14 @@ fn put_computed(
             }
         }
         Site::UplinkArg(j) => {
-            if let Some((above, arg)) = calling_arg(system, decisions, entries, node, j) {
+            if let Some((above, arg)) = calling_arg(nodes, node, j) {
                 reached.put_expr(above, arg);
             }
         }
         Site::DownlinkArg(i, j) => {
-            if let Some(Decision::Entered(head, _)) = decisions.get(node) {
+            if let Some(Decision::Entered(head, _)) = nodes.decisions.get(node) {
                 let path = head.path.as_slice();
-                reach_child(system, decisions, entries, path, i, j, reached);
+                reach_child(nodes, path, i, j, reached);
             }
         }
         _ => (),
@@ -313,13 +266,18 @@ pub(crate) fn begin_near(
         return Ok(());
     }
     entries.catch_up(alloc, decisions)?;
+    let nodes = EnteredNodes {
+        system,
+        decisions,
+        entries: &*entries,
+    };
     let mut reached = Reached::none();
-    put_newest(system, decisions, &*entries, &mut reached);
+    put_newest(nodes, &mut reached);
     for k in 0..FEW {
         if k < reached.var_count {
             let (node, x) = reached.vars[k];
-            reach_children(system, decisions, &*entries, node, x, &mut reached);
-            reach_caller(system, decisions, &*entries, node, x, &mut reached);
+            reach_children(nodes, node, x, &mut reached);
+            reach_caller(nodes, node, x, &mut reached);
             reached.put_node(node);
         }
     }

@@ -92,20 +92,19 @@ fn are_of(tests: &Tests, count: usize, node: usize, var: u32) -> bool
     tests.count == count && tests.node == node && tests.var == var
 }
 
-/// Keeps the tests of a variable of a node, in place of those that were kept.
+/// Keeps the tests of a variable of the node of an offer, in place of those that were kept.
 pub(crate) fn keep_tests(
     alloc: Global,
     growing: &Growing<'_>,
     kept: &mut Option<Tests>,
     node: usize,
-    head: &Head,
-    transition: &Transition,
+    offer: &Offer<'_>,
     var: u32,
 ) -> Result<(), NoMemory>
     requires kept { AreKept growing.now kept.old }
     requires entered { (caller : Option Caller)
-        × (slice_get growing.now.decisions node ≡ Some (D.Entered head.now caller)) }
-    requires of { transition.now ≡ transition_in growing.now.system head.now }
+        × (slice_get growing.now.decisions node ≡ Some (D.Entered offer.now.head.now caller)) }
+    requires of { offer.now.transition.now ≡ transition_in growing.now.system offer.now.head.now }
     ensures { AreKept growing.now kept.new }
 {
     let count = growing.mark();
@@ -114,7 +113,7 @@ pub(crate) fn keep_tests(
             return Ok(());
         }
     }
-    let tests = tests_of(alloc, growing, head, transition, var)?;
+    let tests = tests_of(alloc, growing, offer.head, offer.transition, var)?;
     *kept = Some(Tests {
         count,
         node,

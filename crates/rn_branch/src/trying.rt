@@ -14,6 +14,7 @@ use crate::offer::offer_at;
 use crate::taken_up::is_taken_up;
 use crate::takings::TakingCounts;
 use crate::testing::{Tests, fails_kept, keep_tests};
+use crate::tried::{Tried, TriedToken};
 use rn_growing::Growing;
 use rn_model::Expr;
 use rn_search::{Point, Problem};
@@ -28,28 +29,26 @@ fn is_vain_token(
     growing: &Growing<'_>,
     kept: &mut Option<Tests>,
     takings: &mut TakingCounts,
-    node: usize,
-    k: usize,
-    from: usize,
-    a: usize,
-    again: bool,
+    tried: TriedToken,
 ) -> Result<bool, NoMemory>
     requires branch { IsBranchOf problem.now growing.now }
-    requires allows { Allows problem.now growing.now.decisions (P.Token node k from) a }
+    requires allows { Allows problem.now growing.now.decisions
+        (P.Token tried.node tried.k tried.from) tried.a }
     requires kept { AreKept growing.now kept.old }
     requires takings { AreTakings growing.now.system growing.now.decisions takings.old }
     ensures vain { IfOk result (λ yes. IsTrue yes
-        → NoneLeadBy problem.now growing.now.decisions (P.Token node k from) a) }
+        → NoneLeadBy problem.now growing.now.decisions (P.Token tried.node tried.k tried.from)
+        tried.a) }
     ensures kept { AreKept growing.now kept.new }
     ensures takings { AreTakings growing.now.system growing.now.decisions takings.new }
 {
     // For their clauses: the tokens of the table fit their places, and the system is good.
     let _ = problem.table();
     let _ = problem.system();
-    let Some(index) = from.checked_add(a) else {
+    let Some(index) = tried.from.checked_add(tried.a) else {
         return Ok(false);
     };
-    let Some(offer) = offer_at(problem, growing.decisions(), node, k, index) else {
+    let Some(offer) = offer_at(problem, growing.decisions(), tried.node, tried.k, index) else {
         return Ok(false);
     };
     if is_taken_up(alloc, problem, growing, takings, &offer)? {
@@ -58,46 +57,40 @@ fn is_vain_token(
     let Expr::Var(var) = &offer.arc.inscription else {
         return Ok(false);
     };
-    if again {
-        keep_tests(
-            alloc,
-            growing,
-            kept,
-            node,
-            offer.head,
-            offer.transition,
-            *var,
-        )?;
+    if tried.again {
+        keep_tests(alloc, growing, kept, tried.node, &offer, *var)?;
     }
-    fails_kept(alloc, growing, &*kept, node, &offer, *var)
+    fails_kept(alloc, growing, &*kept, tried.node, &offer, *var)
 }
 
 /// Whether an alternative is known to be one by which nothing goes on, before its decision is made.
-/// It was tried again where the last alternative was of the same point.
 pub(crate) fn is_vain(
     alloc: Global,
     problem: &Problem<'_>,
     growing: &Growing<'_>,
     kept: &mut Option<Tests>,
     takings: &mut TakingCounts,
-    site: Point,
-    a: usize,
-    again: bool,
+    tried: Tried,
 ) -> Result<bool, NoMemory>
     requires branch { IsBranchOf problem.now growing.now }
-    requires allows { Allows problem.now growing.now.decisions site a }
+    requires allows { Allows problem.now growing.now.decisions tried.point tried.a }
     requires kept { AreKept growing.now kept.old }
     requires takings { AreTakings growing.now.system growing.now.decisions takings.old }
     ensures vain { IfOk result (λ yes. IsTrue yes
-        → NoneLeadBy problem.now growing.now.decisions site a) }
+        → NoneLeadBy problem.now growing.now.decisions tried.point tried.a) }
     ensures kept { AreKept growing.now kept.new }
     ensures takings { AreTakings growing.now.system growing.now.decisions takings.new }
 {
-    match site {
+    match tried.point {
         Point::Token(node, k, from) => {
-            is_vain_token(
-                alloc, problem, growing, kept, takings, node, k, from, a, again,
-            )
+            let token = TriedToken {
+                node,
+                k,
+                from,
+                a: tried.a,
+                again: tried.again,
+            };
+            is_vain_token(alloc, problem, growing, kept, takings, token)
         }
         _ => Ok(false),
     }

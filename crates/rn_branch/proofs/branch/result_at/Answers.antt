@@ -12,34 +12,34 @@ use Rattle.rn_branch.proofs.branch.result_at.Goals as goal
 pub transition_in-requires-clause-net : goal.transition_in-requires-clause-net
 transition_in-requires-clause-net c =
     net_is_there c.args.problem.now.system c.system.result.now
-    (node_of c.args.problem.now c.args.decisions.now c.args.node) c.node_of-head.result.now
+    (node_of c.args.problem.now c.args.decisions.now c.args.tried.node) c.node_of-head.result.now
     c.args.problem.now.depth c.system.ensures.same c.node_of-head.ensures c.requires.head
 
 pub transition_in-requires-clause-transition : goal.transition_in-requires-clause-transition
 transition_in-requires-clause-transition c =
     transition_is_there c.args.problem.now.system c.system.result.now
-    (node_of c.args.problem.now c.args.decisions.now c.args.node) c.node_of-head.result.now
+    (node_of c.args.problem.now c.args.decisions.now c.args.tried.node) c.node_of-head.result.now
     c.args.problem.now.depth c.system.ensures.same c.node_of-head.ensures c.requires.head
 
-pub bounds-applications-node : goal.bounds-applications-node
-bounds-applications-node c =
+pub bounds-applications-tried : goal.bounds-applications-tried
+bounds-applications-tried c =
     let entry = c.is_entry.ensures c.if-is_entry.true in
     applied_within c.args.problem.now.system c.args.decisions.now c.args.applications.now
-    c.args.node entry.0 entry.1.0 c.requires.applied entry.1.1
+    c.args.tried.node entry.0 entry.1.0 c.requires.applied entry.1.1
 
 pub result_among-requires : goal.result_among-requires
 result_among-requires c =
     let t = transition_in c.args.problem.now.system
-    (node_of c.args.problem.now c.args.decisions.now c.args.node) in
+    (node_of c.args.problem.now c.args.decisions.now c.args.tried.node) in
     subst (λ found. map application_of found ≡ holes_of t) (sym c.as_slice-found.ensures)
-    (applied_on c.args.problem.now c.args.decisions.now c.args.applications.now c.args.node
+    (applied_on c.args.problem.now c.args.decisions.now c.args.applications.now c.args.tried.node
     c.requires.applied (c.is_entry.ensures c.if-is_entry.true)
-    c.index-applications-node.result c.index-applications-node.is)
+    c.index-applications-tried.result c.index-applications-tried.is)
 
 pub result_among-requires-2 : goal.result_among-requires-2
 result_among-requires-2 c =
     let t = transition_in c.args.problem.now.system
-    (node_of c.args.problem.now c.args.decisions.now c.args.node) in
+    (node_of c.args.problem.now c.args.decisions.now c.args.tried.node) in
     subst (λ found. map application_of found ≡ holes_of t) (sym c.as_slice.ensures.value)
     (c.in_ok-found.ensures
     ∙ ap holes_of (c.transition_in.ensures

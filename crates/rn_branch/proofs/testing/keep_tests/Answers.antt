@@ -9,5 +9,5 @@ returns c =
       node = c.args.node;
       var = c.args.var;
       tests = c.in_ok-tests.tests;
-    }) c.mark-count.ensures c.args.head.now c.requires.entered.0 c.requires.entered.1
+    }) c.mark-count.ensures c.args.offer.now.head.now c.requires.entered.0 c.requires.entered.1
     c.in_ok-tests.ensures

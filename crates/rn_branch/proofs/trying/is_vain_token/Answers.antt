@@ -12,14 +12,14 @@ pub returns-then-branch-clause-vain : goal.returns-then-branch-clause-vain
 returns-then-branch-clause-vain c told =
     let p = c.args.problem.now in
     let offer = c.in-Some-offer_at.offer in
-    let index : c.in-Some.index ≡ c.args.from + c.args.a = search rules in
-    let is : IsOffer p c.args.growing.now.decisions c.args.node c.args.k
-    (c.args.from + c.args.a) offer =
-    subst (λ i. IsOffer p c.args.growing.now.decisions c.args.node c.args.k i offer) index
-    (subst (λ ds. IsOffer p ds c.args.node c.args.k c.in-Some.index offer) c.decisions.ensures
+    let index : c.in-Some.index ≡ c.args.tried.from + c.args.tried.a = search rules in
+    let is : IsOffer p c.args.growing.now.decisions c.args.tried.node c.args.tried.k
+    (c.args.tried.from + c.args.tried.a) offer =
+    subst (λ i. IsOffer p c.args.growing.now.decisions c.args.tried.node c.args.tried.k i offer) index
+    (subst (λ ds. IsOffer p ds c.args.tried.node c.args.tried.k c.in-Some.index offer) c.decisions.ensures
     (rw c.in-Some-offer_at.is at c.offer_at.ensures)) in
-    taken_up_is_vain p c.args.growing.now c.requires.branch c.args.node c.args.k c.args.from
-    c.args.a offer is c.requires.allows
+    taken_up_is_vain p c.args.growing.now c.requires.branch c.args.tried.node c.args.tried.k c.args.tried.from
+    c.args.tried.a offer is c.requires.allows
     (c.in_ok-is_taken_up.ensures.up c.if-branch.true)
 
 pub returns-clause-vain : goal.returns-clause-vain
@@ -27,15 +27,15 @@ returns-clause-vain c =
     let p = c.args.problem.now in
     let g = c.args.growing.now in
     let offer = c.in-Some-offer_at.offer in
-    let index : c.in-Some.index ≡ c.args.from + c.args.a = search rules in
-    let is : IsOffer p g.decisions c.args.node c.args.k (c.args.from + c.args.a) offer =
-    subst (λ i. IsOffer p g.decisions c.args.node c.args.k i offer) index
-    (subst (λ ds. IsOffer p ds c.args.node c.args.k c.in-Some.index offer) c.decisions.ensures
+    let index : c.in-Some.index ≡ c.args.tried.from + c.args.tried.a = search rules in
+    let is : IsOffer p g.decisions c.args.tried.node c.args.tried.k (c.args.tried.from + c.args.tried.a) offer =
+    subst (λ i. IsOffer p g.decisions c.args.tried.node c.args.tried.k i offer) index
+    (subst (λ ds. IsOffer p ds c.args.tried.node c.args.tried.k c.in-Some.index offer) c.decisions.ensures
     (rw c.in-Some-offer_at.is at c.offer_at.ensures)) in
     IfOk-weaker c.fails_kept.result (λ answer. IsTrue answer → FailsGuard g offer c.in-Var.var)
     (λ answer. IsTrue answer → NoneLeadBy p g.decisions
-    (P.Token c.args.node c.args.k c.args.from) c.args.a)
+    (P.Token c.args.tried.node c.args.tried.k c.args.tried.from) c.args.tried.a)
     (λ answer fails told.
-    failing_is_vain p g c.requires.branch c.args.node c.args.k c.args.from c.args.a offer is
+    failing_is_vain p g c.requires.branch c.args.tried.node c.args.tried.k c.args.tried.from c.args.tried.a offer is
     c.requires.allows c.in-Var.var c.in-Var.is c.system.ensures.good c.table.ensures.tokens
     (fails told)) c.fails_kept.ensures
