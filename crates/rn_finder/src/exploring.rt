@@ -8,7 +8,7 @@ ghost use Rattle.rn_model.specs.Systems.{net_at};
 ghost use Rattle.rn_finder.specs.Starting.{IsKept, IsSearchable};
 
 use crate::finding::find_from;
-use crate::hint::Hint;
+use crate::hint::KeptStart;
 use crate::idle::Idle;
 use crate::marked::Marked;
 use crate::room::Room;
@@ -16,25 +16,23 @@ use crate::starts::transition_count;
 use crate::turns::Turns;
 use rn_binding::Candidate;
 use rn_choices::{Asked, Cut, Within};
-use rn_table::Inst;
 use std::alloc::Global;
 
-// A binding that starts with a transition of an instance, where that costs no more than so much; and
-// whether the search wasn't cut off.
+// A binding with this start, where that costs no more than so much; and whether the search wasn't cut
+// off.
 fn find_within<A: Asked>(
     alloc: Global,
     asked: &A,
     marked: Marked<'_>,
     room: &mut Room,
-    inst: &Inst,
-    transition: u32,
-    hint: Hint,
+    start: KeptStart<'_>,
     most: u64,
 ) -> Result<(Option<Candidate>, bool), A::Halt>
     requires searched { IsSearchable marked.system.now marked.uplinks.now
         marked.table.now }
-    requires kept { IsKept marked.table.now.marking inst.now }
-    requires there { transition < length (net_at marked.system.now inst.now.net).transitions }
+    requires kept { IsKept marked.table.now.marking start.inst.now }
+    requires there { start.transition
+        < length (net_at marked.system.now start.inst.now.net).transitions }
     ensures { IfOk result (λ found. IfSome found.0 (λ b. Enabled marked.entry.system.now
         marked.entry.table.now.marking b marked.entry.depth)) }
 {
@@ -42,7 +40,7 @@ fn find_within<A: Asked>(
         asked,
         most: room.choices.spent().saturating_add(most),
     };
-    match find_from(alloc, &within, marked, room, inst, transition, hint) {
+    match find_from(alloc, &within, marked, room, start) {
         Ok(found) => Ok((found, true)),
         Err(Cut::Spent) => Ok((None, false)),
         Err(Cut::Halt(halt)) => Err(halt),
@@ -56,24 +54,23 @@ fn explore_start<A: Asked>(
     marked: Marked<'_>,
     room: &mut Room,
     turns: &mut Turns,
-    inst: &Inst,
-    transition: u32,
+    start: KeptStart<'_>,
 ) -> Result<Option<Candidate>, A::Halt>
     requires searched { IsSearchable marked.system.now marked.uplinks.now
         marked.table.now }
-    requires kept { IsKept marked.table.now.marking inst.now }
-    requires there { transition < length (net_at marked.system.now inst.now.net).transitions }
+    requires kept { IsKept marked.table.now.marking start.inst.now }
+    requires there { start.transition
+        < length (net_at marked.system.now start.inst.now.net).transitions }
     ensures { IfOk result (λ found. IfSome found (λ b. Enabled marked.entry.system.now
         marked.entry.table.now.marking b marked.entry.depth)) }
 {
-    let hint = turns.explored(inst.number(), transition);
     let most = turns.most();
     let before = room.choices.spent();
-    let (found, is_whole) = find_within(alloc, asked, marked, room, inst, transition, hint, most)?;
+    let (found, is_whole) = find_within(alloc, asked, marked, room, start, most)?;
     let cost = room.choices.spent().wrapping_sub(before);
     turns.note(cost, is_whole, found.is_some());
     if found.is_some() {
-        turns.stay(hint, cost, room.choices.oldest());
+        turns.stay(start.hint, cost, room.choices.oldest());
     }
     Ok(found)
 }
@@ -103,7 +100,12 @@ fn explore_drawn<A: Asked>(
         return Ok(None);
     }
     let transition = turns.drawn_transition(count);
-    explore_start(alloc, asked, marked, room, turns, inst, transition)
+    let start = KeptStart {
+        inst,
+        transition,
+        hint: turns.explored(number, transition),
+    };
+    explore_start(alloc, asked, marked, room, turns, start)
 }
 
 // Goes on by one start in turn, which it explores or passes by, or behind instances that are known to
@@ -143,7 +145,12 @@ fn explore_next<A: Asked>(
         turns.explorer.pass(number, transition);
         return Ok(None);
     }
-    explore_start(alloc, asked, marked, room, turns, inst, transition)
+    let start = KeptStart {
+        inst,
+        transition,
+        hint: turns.explored(number, transition),
+    };
+    explore_start(alloc, asked, marked, room, turns, start)
 }
 
 // Goes on by one start, in turn or by what is drawn.
@@ -217,16 +224,12 @@ pub(crate) fn visit<A: Asked>(
         return Ok(None);
     }
     let before = room.choices.spent();
-    let (found, _) = find_within(
-        alloc,
-        asked,
-        marked,
-        room,
+    let start = KeptStart {
         inst,
-        hint.transition,
+        transition: hint.transition,
         hint,
-        guest.most,
-    )?;
+    };
+    let (found, _) = find_within(alloc, asked, marked, room, start, guest.most)?;
     let cost = room.choices.spent().wrapping_sub(before);
     if found.is_some() {
         turns.explorer.earn(cost);

@@ -15,7 +15,7 @@ ghost use Rattle.rn_finder.specs.Starting.{IsSearchable, start_of};
 
 use crate::drawing::Draws;
 use crate::exploring::{explore, visit};
-use crate::hint::{Hint, Start};
+use crate::hint::{Hint, KeptStart, Start};
 use crate::idle::Idle;
 use crate::marked::{Marked, problem_at};
 use crate::room::Room;
@@ -25,7 +25,7 @@ use rn_binding::Candidate;
 use rn_channel::Uplinks;
 use rn_choices::{Asked, Flag, Halt, ToTheEnd};
 use rn_model::System;
-use rn_table::{Inst, Table};
+use rn_table::Table;
 use rn_value::NoMemory;
 use std::alloc::Global;
 
@@ -36,32 +36,38 @@ pub struct Finding {
     turns: Turns,
 }
 
-/// A binding that starts with a transition of an instance, where a firing may start by it. The hint
-/// says with which tokens choices begin.
+/// Some numbers of instances: from one on, and below another.
+#[derive(Clone, Copy)]
+struct Numbers {
+    from: u32,
+    end: u32,
+}
+
+/// A binding with this start, where a firing may start by it. The hint says with which tokens choices
+/// begin.
 pub(crate) fn find_from<A: Asked>(
     alloc: Global,
     asked: &A,
     marked: Marked<'_>,
     room: &mut Room,
-    inst: &Inst,
-    transition: u32,
-    hint: Hint,
+    start: KeptStart<'_>,
 ) -> Result<Option<Candidate>, A::Halt>
     requires searched { IsSearchable marked.system.now marked.uplinks.now
         marked.table.now }
-    requires kept { IsKept marked.table.now.marking inst.now }
-    requires there { transition < length (net_at marked.system.now inst.now.net).transitions }
+    requires kept { IsKept marked.table.now.marking start.inst.now }
+    requires there { start.transition
+        < length (net_at marked.system.now start.inst.now.net).transitions }
     ensures found { IfOk result (λ found. IfSome found (λ b. Enabled marked.entry.system.now
         marked.entry.table.now.marking b marked.entry.depth)) }
     ensures none { IfOk result (λ found. IfNone found (IsNoStart marked.entry.system.now
         marked.entry.table.now.marking marked.entry.depth
-        (start_of inst.now.number inst.now.net transition))) }
+        (start_of start.entry.inst.now.number start.entry.inst.now.net start.entry.transition))) }
 {
-    if !may_start(marked.system, inst, transition) {
+    if !may_start(marked.system, start.inst, start.transition) {
         room.pass();
         return Ok(None);
     }
-    search_from(alloc, asked, marked, room, inst, transition, hint)
+    search_from(alloc, asked, marked, room, start)
 }
 
 // The same, where that is so. It stands alone since a search has much to lay out, which a start that
@@ -71,53 +77,58 @@ fn search_from<A: Asked>(
     asked: &A,
     marked: Marked<'_>,
     room: &mut Room,
-    inst: &Inst,
-    transition: u32,
-    hint: Hint,
+    start: KeptStart<'_>,
 ) -> Result<Option<Candidate>, A::Halt>
     requires searched { IsSearchable marked.system.now marked.uplinks.now
         marked.table.now }
-    requires kept { IsKept marked.table.now.marking inst.now }
-    requires there { transition < length (net_at marked.system.now inst.now.net).transitions }
-    requires uplink { (transition_at marked.system.now inst.now.net transition).uplink ≡ None }
+    requires kept { IsKept marked.table.now.marking start.inst.now }
+    requires there { start.transition
+        < length (net_at marked.system.now start.inst.now.net).transitions }
+    requires uplink { (transition_at marked.system.now start.inst.now.net start.transition).uplink
+        ≡ None }
     ensures found { IfOk result (λ found. IfSome found (λ b. Enabled marked.entry.system.now
         marked.entry.table.now.marking b marked.entry.depth)) }
     ensures none { IfOk result (λ found. IfNone found (IsNoStart marked.entry.system.now
         marked.entry.table.now.marking marked.entry.depth
-        (start_of inst.now.number inst.now.net transition))) }
+        (start_of start.entry.inst.now.number start.entry.inst.now.net start.entry.transition))) }
 {
-    room.choices.spend(cost_of(marked.system, inst, transition));
-    room.choices.set_lag(hint.lap);
-    let problem = problem_at(alloc, marked, inst.number(), inst.net(), transition)?;
-    let mut branch = room.open(alloc, marked.system, hint.token);
+    let inst = start.inst;
+    room.choices
+        .spend(cost_of(marked.system, inst, start.transition));
+    room.choices.set_lag(start.hint.lap);
+    let problem = problem_at(alloc, marked, inst.number(), inst.net(), start.transition)?;
+    let mut branch = room.open(alloc, marked.system, start.hint.token);
     let found = rn_choices::find_while(alloc, &problem, &mut branch, &mut room.choices, asked);
     room.branch = branch.into_room();
     found
 }
 
-// A binding that starts with one of some transitions of an instance.
+// A binding that starts with an instance, by a transition from that of this start on and before
+// another.
 fn find_among<A: Asked>(
     alloc: Global,
     asked: &A,
     marked: Marked<'_>,
     room: &mut Room,
-    inst: &Inst,
-    from: u32,
+    first: KeptStart<'_>,
     to: u32,
-    hint: Hint,
 ) -> Result<Option<(u32, Candidate)>, A::Halt>
     requires searched { IsSearchable marked.system.now marked.uplinks.now
         marked.table.now }
-    requires kept { IsKept marked.table.now.marking inst.now }
-    requires within { to ≤ length (net_at marked.system.now inst.now.net).transitions }
+    requires kept { IsKept marked.table.now.marking first.inst.now }
+    requires within { to ≤ length (net_at marked.system.now first.inst.now.net).transitions }
     ensures found { IfOk result (λ found. IfSome found (λ f. Enabled marked.entry.system.now
         marked.entry.table.now.marking f.1 marked.entry.depth)) }
-    ensures none { IfOk result (λ found. IfNone found ((t : ℕ) → from ≤ t → t < to →
+    ensures none { IfOk result (λ found. IfNone found ((t : ℕ) → first.entry.transition ≤ t → t < to →
         IsNoStart marked.entry.system.now marked.entry.table.now.marking marked.entry.depth
-        (start_of inst.now.number inst.now.net t))) }
+        (start_of first.entry.inst.now.number first.entry.inst.now.net t))) }
 {
-    for t in from..to {
-        if let Some(found) = find_from(alloc, asked, marked, room, inst, t, hint)? {
+    for t in first.transition..to {
+        let start = KeptStart {
+            transition: t,
+            ..first
+        };
+        if let Some(found) = find_from(alloc, asked, marked, room, start)? {
             return Ok(Some((t, found)));
         }
     }
@@ -151,10 +162,19 @@ fn find_at<A: Asked>(
         return Ok(None);
     }
     let first = hint.first_of(number).min(count);
-    if let Some(found) = find_among(alloc, asked, marked, room, inst, first, count, hint)? {
+    let from_first = KeptStart {
+        inst,
+        transition: first,
+        hint,
+    };
+    if let Some(found) = find_among(alloc, asked, marked, room, from_first, count)? {
         return Ok(Some(found));
     }
-    let found = find_among(alloc, asked, marked, room, inst, 0, first, hint)?;
+    let from_zero = KeptStart {
+        transition: 0,
+        ..from_first
+    };
+    let found = find_among(alloc, asked, marked, room, from_zero, first)?;
     Ok(found)
 }
 
@@ -240,16 +260,15 @@ impl Finding {
         self.turns.go_beside(start);
     }
 
-    // A binding that starts with an instance of a number below an end and not below another. Those that
-    // are known to be idle are passed over, and those that are looked at in vain become known.
+    // A binding that starts with an instance of one of these numbers. Those that are known to be idle are
+    // passed over, and those that are looked at in vain become known.
     fn find_between<A: Asked>(
         &mut self,
         alloc: Global,
         asked: &A,
         marked: Marked<'_>,
         idle: &mut Idle,
-        from: u32,
-        end: u32,
+        numbers: Numbers,
     ) -> Result<Option<Candidate>, A::Halt>
         requires searched { IsSearchable marked.system.now marked.uplinks.now
             marked.table.now }
@@ -257,13 +276,14 @@ impl Finding {
         ensures found { IfOk result (λ found. IfSome found (λ b. Enabled marked.entry.system.now
             marked.entry.table.now.marking b marked.entry.depth)) }
         ensures none { IfOk result (λ found. IfNone found (AreNoStartsBetween
-            marked.entry.system.now marked.entry.table.now marked.entry.depth from end)) }
+            marked.entry.system.now marked.entry.table.now marked.entry.depth
+            numbers.from numbers.end)) }
         ensures idle { AreIdle marked.entry.system.now marked.entry.table.now.marking
             marked.entry.depth idle.new }
     {
-        let mut next = from;
+        let mut next = numbers.from;
         while let Some(number) = next_start(marked, idle, next) {
-            if number >= end {
+            if number >= numbers.end {
                 return Ok(None);
             }
             let hint = self.turns.home;
@@ -298,12 +318,14 @@ impl Finding {
         ensures idle { AreIdle marked.entry.system.now marked.entry.table.now.marking
             marked.entry.depth idle.new }
     {
-        let from = self.turns.home.number;
+        let home = self.turns.home.number;
         let end = marked.table.next();
-        if let Some(found) = self.find_between(alloc, asked, marked, idle, from, end)? {
+        let from_home = Numbers { from: home, end };
+        if let Some(found) = self.find_between(alloc, asked, marked, idle, from_home)? {
             return Ok(Some(found));
         }
-        let found = self.find_between(alloc, asked, marked, idle, 0, from)?;
+        let before_home = Numbers { from: 0, end: home };
+        let found = self.find_between(alloc, asked, marked, idle, before_home)?;
         Ok(found)
     }
 

@@ -4,6 +4,7 @@
 use rn_branch::SHARES;
 use rn_choices::Choice;
 use rn_search::Point;
+use rn_table::Inst;
 
 /// Where a searcher is told to go on: at the instance of a number, with a transition of it and a
 /// token. Each may be any number.
@@ -24,6 +25,14 @@ pub(crate) struct Hint {
 
     /// How often the first choice has gone round. The choices behind it begin so far behind.
     pub lap: u64,
+}
+
+/// A start that is searched: a transition of an instance, and where the search begins.
+#[derive(Clone, Copy)]
+pub(crate) struct KeptStart<'a> {
+    pub inst: &'a Inst,
+    pub transition: u32,
+    pub hint: Hint,
 }
 
 impl Hint {

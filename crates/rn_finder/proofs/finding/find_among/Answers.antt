@@ -7,8 +7,8 @@ pub loop-t-preserved : goal.loop-t-preserved
 loop-t-preserved g c =
     one_more
     (λ k. IsNoStart c.args.marked.system.now c.args.marked.table.now.marking c.args.marked.depth
-    (start_of c.args.inst.now.number c.args.inst.now.net k))
-    c.args.from c.loop-t.t c.loop-t.invariant
+    (start_of c.args.first.inst.now.number c.args.first.inst.now.net k))
+    c.args.first.transition c.loop-t.t c.loop-t.invariant
     (rw c.in_default.is at c.in_ok-found.ensures.none)
 
 pub returns-clause-none : goal.returns-clause-none

@@ -4,6 +4,6 @@ use Rattle.rn_finder.proofs.finding.find_among.Given as goal
 
 -- the transitions before this one start nothing
 abbrev pub invariant-loop-t : goal.invariant-loop-t
-invariant-loop-t g l = (k : ℕ) → l.from ≤ k → k < l.t →
+invariant-loop-t g l = (k : ℕ) → l.first.transition ≤ k → k < l.t →
     IsNoStart l.marked.system.now l.marked.table.now.marking l.marked.depth
-    (start_of l.inst.number l.inst.net k)
+    (start_of l.first.inst.now.number l.first.inst.now.net k)

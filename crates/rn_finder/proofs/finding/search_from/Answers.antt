@@ -12,11 +12,11 @@ pub problem_at-requires-clause-starts : goal.problem_at-requires-clause-starts
 problem_at-requires-clause-starts g c =
     let system = c.args.marked.system.now in
     let m = c.args.marked.table.now.marking in
-    let i = c.args.inst.now in
-    subst (λ n. MayStart system m (start_of n c.net.result c.args.transition))
+    let i = c.args.start.inst.now in
+    subst (λ n. MayStart system m (start_of n c.net.result c.args.start.transition))
     (sym c.number.ensures)
-    (subst (λ n. MayStart system m (start_of i.number n c.args.transition)) (sym c.net.ensures)
-    (kept_may_start system m i c.args.transition c.requires.kept c.requires.there
+    (subst (λ n. MayStart system m (start_of i.number n c.args.start.transition)) (sym c.net.ensures)
+    (kept_may_start system m i c.args.start.transition c.requires.kept c.requires.there
     c.requires.uplink))
 
 pub find_while-found-requires : goal.find_while-found-requires
@@ -40,11 +40,11 @@ returns-clause-none g c =
     let ended = c.find_while-found.result in
     subst
     (λ n. IfOk ended (λ found. IfNone found
-    (IsNoStart system m depth (start_of n c.args.inst.now.net c.args.transition))))
+    (IsNoStart system m depth (start_of n c.args.start.inst.now.net c.args.start.transition))))
     c.number.ensures
     (subst
     (λ n. IfOk ended (λ found. IfNone found
-    (IsNoStart system m depth (start_of c.number.result n c.args.transition))))
+    (IsNoStart system m depth (start_of c.number.result n c.args.start.transition))))
     c.net.ensures
     (subst
     (λ (p : Sought). IfOk ended (λ found. IfNone found
