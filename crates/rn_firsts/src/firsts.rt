@@ -18,6 +18,7 @@ ghost use Rattle.rn_firsts.specs.Known.{ComesAfter, HasFewPlaces, IsKnown};
 
 use crate::following::{hold_changes, mark_all};
 use crate::looking::{first_again, first_from};
+use crate::marked::Marked;
 use crate::pace::{LookPace, weight_within};
 use rn_binding::Candidate;
 use rn_channel::Uplinks;
@@ -147,35 +148,30 @@ impl Firsts {
     }
 
     // The first of all bindings.
-    fn first(
-        &mut self,
-        alloc: Global,
-        system: &System,
-        uplinks: &Uplinks,
-        table: &Table,
-        depth: u32,
-    ) -> Result<Option<Candidate>, NoMemory>
-        requires good { Good system.now }
-        requires own { AreUplinksOf system.now uplinks.now }
-        requires table { IsTableOf system.now table.now }
-        requires tokens { HasFitTokens system.now table.now.marking }
-        requires known { IsKnown system.now table.now.marking depth self.old }
-        ensures first { IfOk result (IsFirstOf system.now table.now.marking depth (λ b. ⊤)) }
-        ensures known { IsKnown system.now table.now.marking depth self.new }
+    fn first(&mut self, alloc: Global, marked: Marked<'_>) -> Result<Option<Candidate>, NoMemory>
+        requires good { Good marked.system.now }
+        requires own { AreUplinksOf marked.system.now marked.uplinks.now }
+        requires table { IsTableOf marked.system.now marked.table.now }
+        requires tokens { HasFitTokens marked.system.now marked.table.now.marking }
+        requires known { IsKnown marked.system.now marked.table.now.marking marked.depth self.old }
+        ensures first { IfOk result (IsFirstOf marked.entry.system.now
+            marked.entry.table.now.marking marked.entry.depth (λ b. ⊤)) }
+        ensures known { IsKnown marked.entry.system.now marked.entry.table.now.marking
+            marked.entry.depth self.new }
     {
         // For its clauses: the numbers of the instances ascend, and are below the next one.
-        let _end = table.next();
+        let _end = marked.table.next();
         let until = self.until;
         let again = &mut self.again;
         let room = &mut self.room;
-        let found = first_again(alloc, system, uplinks, table, depth, until, again, room)?;
+        let found = first_again(alloc, marked, until, again, room)?;
         if let Some(first) = found {
             return Ok(Some(first));
         }
         let until = &mut self.until;
         let pace = &mut self.pace;
         let room = &mut self.room;
-        first_from(alloc, system, uplinks, table, depth, until, pace, room)
+        first_from(alloc, marked, until, pace, room)
     }
 
     /// The first of all bindings that are enabled at the table within the depth, by `compare_bindings`, or
@@ -208,7 +204,13 @@ impl Firsts {
             ↔ DeadAt system.now table.now.marking depth) }
         ensures known { IsKnown system.now table.now.marking depth self.new }
     {
+        let marked = Marked {
+            system,
+            uplinks,
+            table,
+            depth,
+        };
         self.turn_to(alloc, table, changed);
-        self.first(alloc, system, uplinks, table, depth)
+        self.first(alloc, marked)
     }
 }

@@ -15,6 +15,7 @@ ghost use Rattle.rn_firsts.specs.Known.{ComesAfter, HasFewPlaces};
 ghost use Rattle.rn_firsts.specs.Resting.{KnowsIdle};
 
 use crate::following::hold_changes;
+use crate::marked::Marked;
 use crate::pace::{Credit, FEW, LookPace, weight_within};
 use rn_binding::Candidate;
 use rn_channel::Uplinks;
@@ -167,24 +168,29 @@ impl KnownIdle {
         alloc: Global,
         asked: &A,
         finding: &mut Finding,
-        system: &System,
-        uplinks: &Uplinks,
-        table: &Table,
-        depth: u32,
+        marked: Marked<'_>,
     ) -> Result<Option<Candidate>, A::Halt>
-        requires good { Good system.now }
-        requires own { AreUplinksOf system.now uplinks.now }
-        requires table { IsTableOf system.now table.now }
-        requires tokens { HasFitTokens system.now table.now.marking }
-        requires known { KnowsIdle system.now table.now.marking depth self.old }
-        ensures found { IfOk result (λ found. IfSome found
-            (λ b. Enabled system.now table.now.marking b depth)) }
+        requires good { Good marked.system.now }
+        requires own { AreUplinksOf marked.system.now marked.uplinks.now }
+        requires table { IsTableOf marked.system.now marked.table.now }
+        requires tokens { HasFitTokens marked.system.now marked.table.now.marking }
+        requires known { KnowsIdle marked.system.now marked.table.now.marking marked.depth self.old }
+        ensures found { IfOk result (λ found. IfSome found (λ b. Enabled marked.entry.system.now
+            marked.entry.table.now.marking b marked.entry.depth)) }
         ensures none { IfOk result (λ found. IsNone found
-            ↔ DeadAt system.now table.now.marking depth) }
-        ensures known { KnowsIdle system.now table.now.marking depth self.new }
+            ↔ DeadAt marked.entry.system.now marked.entry.table.now.marking marked.entry.depth) }
+        ensures known { KnowsIdle marked.entry.system.now marked.entry.table.now.marking
+            marked.entry.depth self.new }
     {
-        let idle = &mut self.idle;
-        finding.find_beside(alloc, asked, system, uplinks, table, depth, idle)
+        finding.find_beside(
+            alloc,
+            asked,
+            marked.system,
+            marked.uplinks,
+            marked.table,
+            marked.depth,
+            &mut self.idle,
+        )
     }
 
     /// What a searcher finds at the table within the depth (`Finding::find_while`), which passes over the
@@ -217,7 +223,13 @@ impl KnownIdle {
             ↔ DeadAt system.now table.now.marking depth) }
         ensures known { KnowsIdle system.now table.now.marking depth self.new }
     {
+        let marked = Marked {
+            system,
+            uplinks,
+            table,
+            depth,
+        };
         self.turn_to(alloc, table, changed);
-        self.search(alloc, asked, finding, system, uplinks, table, depth)
+        self.search(alloc, asked, finding, marked)
     }
 }

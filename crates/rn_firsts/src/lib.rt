@@ -8,6 +8,7 @@ mod firsts;
 mod following;
 mod known_idle;
 mod looking;
+mod marked;
 mod pace;
 
 pub use firsts::Firsts;

@@ -7,13 +7,11 @@ ghost use Rattle.rn_finder.specs.First.{IsFirstOf};
 ghost use Rattle.rn_finder.specs.Starting.{IsSearchable};
 ghost use Rattle.rn_firsts.specs.Known.{IsLookedAt};
 
+use crate::marked::Marked;
 use crate::pace::LookPace;
 use rn_binding::Candidate;
-use rn_channel::Uplinks;
 use rn_finder::{Room, least_of};
 use rn_items::NoMemory;
-use rn_model::System;
-use rn_table::Table;
 use std::alloc::Global;
 use std::collections::BTreeSet;
 
@@ -21,23 +19,31 @@ use std::collections::BTreeSet;
 /// are looked at in order, and go where none starts.
 pub(crate) fn first_again(
     alloc: Global,
-    system: &System,
-    uplinks: &Uplinks,
-    table: &Table,
-    depth: u32,
+    marked: Marked<'_>,
     until: u32,
     again: &mut BTreeSet<u32>,
     room: &mut Room,
 ) -> Result<Option<Candidate>, NoMemory>
-    requires searched { IsSearchable system.now uplinks.now table.now }
-    requires looked { IsLookedAt system.now table.now.marking depth until again.old.keys }
+    requires searched { IsSearchable marked.system.now marked.uplinks.now marked.table.now }
+    requires looked { IsLookedAt marked.system.now marked.table.now.marking marked.depth until
+        again.old.keys }
     ensures first { IfOk result (λ found. MatchOption found (again.new.keys ≡ [])
-        (λ b. IsFirstOf system.now table.now.marking depth (λ b. ⊤) (Some b))) }
-    ensures looked { IsLookedAt system.now table.now.marking depth until again.new.keys }
+        (λ b. IsFirstOf marked.entry.system.now marked.entry.table.now.marking marked.entry.depth
+        (λ b. ⊤) (Some b))) }
+    ensures looked { IsLookedAt marked.entry.system.now marked.entry.table.now.marking
+        marked.entry.depth until again.new.keys }
 {
     while let Some(first) = again.first() {
         let number = *first;
-        let found = least_of(alloc, system, uplinks, table, depth, number, room)?;
+        let found = least_of(
+            alloc,
+            marked.system,
+            marked.uplinks,
+            marked.table,
+            marked.depth,
+            number,
+            room,
+        )?;
         if let Some(first) = found {
             return Ok(Some(first));
         }
@@ -50,23 +56,31 @@ pub(crate) fn first_again(
 /// at in order, and the number rises.
 pub(crate) fn first_from(
     alloc: Global,
-    system: &System,
-    uplinks: &Uplinks,
-    table: &Table,
-    depth: u32,
+    marked: Marked<'_>,
     until: &mut u32,
     pace: &mut LookPace,
     room: &mut Room,
 ) -> Result<Option<Candidate>, NoMemory>
-    requires searched { IsSearchable system.now uplinks.now table.now }
-    requires looked { IsLookedAt system.now table.now.marking depth until.old [] }
-    ensures first { IfOk result (IsFirstOf system.now table.now.marking depth (λ b. ⊤)) }
-    ensures looked { IsLookedAt system.now table.now.marking depth until.new [] }
+    requires searched { IsSearchable marked.system.now marked.uplinks.now marked.table.now }
+    requires looked { IsLookedAt marked.system.now marked.table.now.marking marked.depth
+        until.old [] }
+    ensures first { IfOk result (IsFirstOf marked.entry.system.now marked.entry.table.now.marking
+        marked.entry.depth (λ b. ⊤)) }
+    ensures looked { IsLookedAt marked.entry.system.now marked.entry.table.now.marking
+        marked.entry.depth until.new [] }
 {
     // For its clause: the next number is bounded, so `number + 1` doesn't overflow.
-    let _end = table.next();
-    while let Some(number) = table.first_starting(*until) {
-        let found = least_of(alloc, system, uplinks, table, depth, number, room)?;
+    let _end = marked.table.next();
+    while let Some(number) = marked.table.first_starting(*until) {
+        let found = least_of(
+            alloc,
+            marked.system,
+            marked.uplinks,
+            marked.table,
+            marked.depth,
+            number,
+            room,
+        )?;
         if let Some(first) = found {
             return Ok(Some(first));
         }

@@ -4,7 +4,7 @@ use Rattle.rn_firsts.proofs.looking.first_again.Given as goal
 
 abbrev pub invariant-loop-first : goal.invariant-loop-first
 invariant-loop-first l =
-    IsLookedAt l.system l.table.marking l.depth l.until l.again.keys
+    IsLookedAt l.marked.system.now l.marked.table.now.marking l.marked.depth l.until l.again.keys
 
 abbrev pub decreases-loop-first : goal.decreases-loop-first
 decreases-loop-first l = length l.again.keys
