@@ -12,9 +12,10 @@ ghost use Rattle.rn_worker.specs.Pacing.{dropped_by, kept_among};
 ghost use Rattle.rn_worker.specs.link.Plans.{AddsOwn, DropsNone, FitsIn, GrowsBy, HasNoneLive, Knows, WasFound, WasStopped};
 
 use crate::considering::Plan;
-use crate::looking::{View, view_below};
+use crate::looking::{Round, View, view_below};
 use crate::tally::Done;
-use rn_desk::{Desk, Kept, Pass};
+use crate::team::Team;
+use rn_desk::{Kept, Pass};
 use rn_finder::Halt;
 use rn_fire::{Commit, SimState};
 use rn_table::Table;
@@ -155,26 +156,24 @@ fn act_on(
 pub(crate) fn act<R: Wait>(
     rt: &R,
     alloc: Global,
-    desk: &Desk<SimState>,
+    team: Team<'_>,
     pass: &mut Pass<SimState>,
-    worker: u32,
-    looked: u64,
-    next: u32,
-    steps: u32,
+    round: Round,
     plan: &Result<Plan, Halt>,
 ) -> TurnOutcome
-    requires here { IsOf ⟦<SimState as Kept>⟧.fixed desk.now pass.old }
+    requires here { IsOf ⟦<SimState as Kept>⟧.fixed team.desk.now pass.old }
     requires free { HasNoTurn pass.old }
-    requires worker { (1 ≤ worker) × (worker ≤ most_workers) }
-    requires number { number pass.old ≡ worker }
+    requires worker { (1 ≤ round.worker) × (round.worker ≤ most_workers) }
+    requires number { number pass.old ≡ round.worker }
     requires going { IsUnended (seen pass.old) }
-    requires looked { looked ≡ length (seen pass.old) }
-    requires next { next ≡ (marking_after (fixed_of ⟦<SimState as Kept>⟧.fixed desk.now)
+    requires looked { round.looked ≡ length (seen pass.old) }
+    requires next { round.next ≡ (marking_after (fixed_of ⟦<SimState as Kept>⟧.fixed team.desk.now)
         (seen pass.old)).next }
-    requires knows { IfOk plan.now (Knows (fixed_of ⟦<SimState as Kept>⟧.fixed desk.now) (seen pass.old)) }
+    requires knows { IfOk plan.now (Knows (fixed_of ⟦<SimState as Kept>⟧.fixed team.desk.now)
+        (seen pass.old)) }
 
     // The pass.
-    ensures here { IsOf ⟦<SimState as Kept>⟧.fixed desk.now pass.new }
+    ensures here { IsOf ⟦<SimState as Kept>⟧.fixed team.entry.desk.now pass.new }
     ensures free { HasNoTurn pass.new }
     ensures number { number pass.new ≡ number pass.old }
     ensures later { length (seen pass.old) ≤ length (seen pass.new) }
@@ -188,18 +187,19 @@ pub(crate) fn act<R: Wait>(
     ensures entries { StartsWith (seen pass.new) (seen pass.old) }
 
     // What it saw then.
-    ensures some { IfSome result.view (ShowsView (fixed_of ⟦<SimState as Kept>⟧.fixed desk.now)
-        (seen pass.new)) }
-    ensures below { IfSome result.view (λ v. v.sight.seen < steps) }
+    ensures some { IfSome result.view (ShowsView
+        (fixed_of ⟦<SimState as Kept>⟧.fixed team.entry.desk.now) (seen pass.new)) }
+    ensures below { IfSome result.view (λ v. v.sight.seen < team.entry.task.options.now.steps) }
     ensures changed { IfSome result.view (ChangedBetween
-        (fixed_of ⟦<SimState as Kept>⟧.fixed desk.now) (seen pass.old) (seen pass.new)) }
+        (fixed_of ⟦<SimState as Kept>⟧.fixed team.entry.desk.now) (seen pass.old) (seen pass.new)) }
 {
-    let mut turn = desk.take(rt, pass);
+    let mut turn = team.desk.take(rt, pass);
     let state = turn.state();
     // For its clause: it is a state of a run (`IsState`).
     let _length = state.length();
-    let done = act_on(alloc, state, worker, looked, plan);
-    let view = view_below(alloc, state, steps, looked, next);
-    desk.give(pass, turn);
+    let done = act_on(alloc, state, round.worker, round.looked, plan);
+    let steps = team.task.options.steps;
+    let view = view_below(alloc, state, steps, round.looked, round.next);
+    team.desk.give(pass, turn);
     TurnOutcome { done, view }
 }

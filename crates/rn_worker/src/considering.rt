@@ -8,12 +8,12 @@ ghost use Rattle.rn_firsts.specs.Resting.{KnowsIdle};
 ghost use Rattle.rn_worker.specs.link.Plans.{AreDeadAt, DropsNone, IsPlanAt, IsToSearch, WasStopped};
 ghost use Rattle.rn_worker.specs.link.Views.{FollowsIn};
 
-use crate::looking::View;
+use crate::looking::{Round, View};
 use crate::pacing::Pace;
 use crate::standby::Watch;
 use crate::tally::{Done, Tally};
+use crate::team::Task;
 use rn_binding::Candidate;
-use rn_channel::Uplinks;
 use rn_choices::ToTheEnd;
 use rn_finder::{Finding, Halt, Start};
 use rn_firsts::KnownIdle;
@@ -73,6 +73,13 @@ pub(crate) struct Searcher {
     pub idle: KnownIdle,
 }
 
+/// Where a search ends early: where the watch says, unless it is to be made whole.
+#[derive(Clone, Copy)]
+pub(crate) struct SearchEnd<'a> {
+    pub watch: &'a Watch<'a>,
+    pub whole: bool,
+}
+
 /// The searcher of a worker, one of so many. With a seed it draws where it looks.
 pub(crate) fn searcher_of(alloc: Global, worker: u32, workers: u32, seed: Seed) -> Searcher {
     let finding = match seed.number {
@@ -117,34 +124,37 @@ pub fn listed_at(
     Ok((dead, Some(live)))
 }
 
-// Searches the table of a view, where the instances that are known to be idle are passed over. Unless it
-// is to be searched whole, the search ends where the watch says.
+// Searches the table of a view, where the instances that are known to be idle are passed over.
 fn find_at(
     alloc: Global,
-    system: &System,
-    uplinks: &Uplinks,
-    depth: u32,
+    task: Task<'_>,
     searcher: &mut Searcher,
     view: &View,
-    watch: &Watch<'_>,
-    whole: bool,
+    end: SearchEnd<'_>,
 ) -> Result<Option<Candidate>, Halt>
-    requires table { IsToSearch system.now uplinks.now view.now.sight.table }
-    requires follows { FollowsIn system.now depth searcher.old.idle view.now }
-    ensures found { IfOk result (λ found. IfSome found
-        (λ b. Enabled system.now view.now.sight.table.marking b depth)) }
+    requires table { IsToSearch task.system.now task.uplinks.now view.now.sight.table }
+    requires follows { FollowsIn task.system.now task.options.now.depth searcher.old.idle view.now }
+    ensures found { IfOk result (λ found. IfSome found (λ b. Enabled task.entry.system.now
+        view.now.sight.table.marking b task.entry.options.now.depth)) }
     ensures none { IfOk result (λ found. IsNone found
-        ↔ DeadAt system.now view.now.sight.table.marking depth) }
-    ensures known { KnowsIdle system.now view.now.sight.table.marking depth searcher.new.idle }
-    ensures whole { whole ≡ true → ¬ WasStopped result }
+        ↔ DeadAt task.entry.system.now view.now.sight.table.marking task.entry.options.now.depth) }
+    ensures known { KnowsIdle task.entry.system.now view.now.sight.table.marking
+        task.entry.options.now.depth searcher.new.idle }
+    ensures whole { end.entry.whole ≡ true → ¬ WasStopped result }
 {
+    let Task {
+        system,
+        uplinks,
+        options,
+    } = task;
+    let depth = options.depth;
     let changed = changed_in(view);
     let table = &view.sight.table;
     let finding = &mut searcher.finding;
     let idle = &mut searcher.idle;
-    if !whole {
+    if !end.whole {
         return idle.find_while(
-            alloc, watch, finding, system, uplinks, table, depth, changed,
+            alloc, end.watch, finding, system, uplinks, table, depth, changed,
         );
     }
     match idle.find_while(
@@ -155,34 +165,34 @@ fn find_at(
     }
 }
 
-/// Searches a snapshot, and lists what isn't live there where that is due by the pace. Unless the
-/// snapshot is to be searched whole, the search ends where the watch says.
+/// Searches a snapshot, and lists what isn't live there where that is due by the pace.
 pub(crate) fn plan_at(
     alloc: Global,
-    system: &System,
-    uplinks: &Uplinks,
-    depth: u32,
+    task: Task<'_>,
     searcher: &mut Searcher,
     view: View,
     pace: Pace,
-    every: u32,
-    watch: &Watch<'_>,
-    whole: bool,
+    end: SearchEnd<'_>,
 ) -> Result<Plan, Halt>
-    requires table { IsToSearch system.now uplinks.now view.sight.table }
-    requires follows { FollowsIn system.now depth searcher.old.idle view }
-    ensures plan { IfOk result (IsPlanAt system.now depth view.sight.table) }
-    ensures due { IsDue every view.sight.table.marking.next pace → IfOk result (λ p.
-        AreAllDead system.now view.sight.table.marking p.dead.items × (is_some p.live ≡ true)) }
-    ensures not_due { ¬ IsDue every view.sight.table.marking.next pace → IfOk result (λ p.
-        (p.dead.items ≡ []) × (is_some p.live ≡ false)) }
-    ensures none { every ≡ 0 → DropsNone result }
-    ensures whole { whole ≡ true → ¬ WasStopped result }
-    ensures known { KnowsIdle system.now view.sight.table.marking depth searcher.new.idle }
+    requires table { IsToSearch task.system.now task.uplinks.now view.sight.table }
+    requires follows { FollowsIn task.system.now task.options.now.depth searcher.old.idle view }
+    ensures plan { IfOk result (IsPlanAt task.entry.system.now task.entry.options.now.depth
+        view.sight.table) }
+    ensures due { IsDue task.entry.options.now.sweep_every
+        view.sight.table.marking.next pace
+        → IfOk result (λ p. AreAllDead task.entry.system.now view.sight.table.marking p.dead.items
+        × (is_some p.live ≡ true)) }
+    ensures not_due { ¬ IsDue task.entry.options.now.sweep_every
+        view.sight.table.marking.next pace
+        → IfOk result (λ p. (p.dead.items ≡ []) × (is_some p.live ≡ false)) }
+    ensures none { task.entry.options.now.sweep_every ≡ 0 → DropsNone result }
+    ensures whole { end.entry.whole ≡ true → ¬ WasStopped result }
+    ensures known { KnowsIdle task.entry.system.now view.sight.table.marking
+        task.entry.options.now.depth searcher.new.idle }
 {
-    let due = pace.is_due(every, view.sight.table.next());
-    let found = find_at(alloc, system, uplinks, depth, searcher, &view, watch, whole)?;
-    let (dead, live) = listed_at(alloc, system, &view.sight.table, due)?;
+    let due = pace.is_due(task.options.sweep_every, view.sight.table.next());
+    let found = find_at(alloc, task, searcher, &view, end)?;
+    let (dead, live) = listed_at(alloc, task.system, &view.sight.table, due)?;
     Ok(Plan { found, dead, live })
 }
 
@@ -239,13 +249,7 @@ fn beside(number: u32, next: u32, drawn: u32) -> u32 {
 /// Where a worker goes on that found something and came too late: with the same transition at other
 /// tokens, and at another instance where several were made. After each second time in a row with the
 /// next transition, since perhaps there is one token that all want.
-pub(crate) fn start_beside(
-    worker: u32,
-    seen: u64,
-    late: u64,
-    next: u32,
-    plan: &Result<Plan, Halt>,
-) -> Option<Start> {
+pub(crate) fn start_beside(round: Round, late: u64, plan: &Result<Plan, Halt>) -> Option<Start> {
     let Ok(plan) = plan else {
         return None;
     };
@@ -256,9 +260,9 @@ pub(crate) fn start_beside(
     let InstRef::Old(number) = node.inst else {
         return None;
     };
-    let drawn = mixed(worker, seen);
+    let drawn = mixed(round.worker, round.looked);
     Some(Start {
-        number: beside(number, next, drawn),
+        number: beside(number, round.next, drawn),
         transition: node.transition.wrapping_add((late / 2 % 16777216) as u32),
         token: drawn as usize,
     })

@@ -6,7 +6,8 @@ ghost use Rattle.rn_firsts.specs.Resting.{Resting};
 ghost use Rattle.rn_worker.specs.link.Seen.{HasEnded, IsSightOf, StaysOrEnds};
 ghost use Rattle.rn_worker.specs.link.Views.{ChangedSince, FollowsIdle, ShowsView, next_after};
 
-use crate::standby::{Standby, WorkerRole};
+use crate::standby::WorkerRole;
+use crate::team::Team;
 use rn_desk::{Desk, Kept, Pass};
 use rn_fire::SimState;
 use rn_table::Table;
@@ -25,6 +26,15 @@ const FEW: u32 = 16;
 pub struct Sight {
     pub table: Table,
     pub seen: u64,
+}
+
+/// A round of a worker, by its number: how many entries its snapshot shows, and which number the
+/// next instance was to get there.
+#[derive(Clone, Copy)]
+pub struct Round {
+    pub worker: u32,
+    pub looked: u64,
+    pub next: u32,
 }
 
 /// A snapshot, and the instances that may have changed since the one before, where that is known.
@@ -154,37 +164,36 @@ pub(crate) fn look<R: Wait>(
 /// the log has then ended.
 pub(crate) fn look_on<R: Wait>(
     rt: &R,
-    desk: &Desk<SimState>,
+    team: Team<'_>,
     pass: &mut Pass<SimState>,
     left: Option<View>,
-    standby: &Standby,
     role: WorkerRole,
     rests: bool,
 ) -> Option<View>
-    requires here { IsOf ⟦<SimState as Kept>⟧.fixed desk.now pass.old }
+    requires here { IsOf ⟦<SimState as Kept>⟧.fixed team.desk.now pass.old }
     requires free { HasNoTurn pass.old }
     requires numbered { 1 ≤ number pass.old }
-    requires left { IfSome left (ShowsView (fixed_of ⟦<SimState as Kept>⟧.fixed desk.now)
+    requires left { IfSome left (ShowsView (fixed_of ⟦<SimState as Kept>⟧.fixed team.desk.now)
         (seen pass.old)) }
-    ensures here { IsOf ⟦<SimState as Kept>⟧.fixed desk.now pass.new }
+    ensures here { IsOf ⟦<SimState as Kept>⟧.fixed team.entry.desk.now pass.new }
     ensures free { HasNoTurn pass.new }
     ensures number { number pass.new ≡ number pass.old }
     ensures mine { mine pass.new ≡ mine pass.old }
     ensures entries { StartsWith (seen pass.new) (seen pass.old) }
-    ensures some { IfSome result (ShowsView (fixed_of ⟦<SimState as Kept>⟧.fixed desk.now)
-        (seen pass.new)) }
+    ensures some { IfSome result (ShowsView
+        (fixed_of ⟦<SimState as Kept>⟧.fixed team.entry.desk.now) (seen pass.new)) }
     ensures none { IfNone result (HasEnded (seen pass.new)) }
     ensures follows { (k : Resting) →
-        IfSome left (FollowsIdle (fixed_of ⟦<SimState as Kept>⟧.fixed desk.now) k) →
-        IfSome result (FollowsIdle (fixed_of ⟦<SimState as Kept>⟧.fixed desk.now) k) }
+        IfSome left (FollowsIdle (fixed_of ⟦<SimState as Kept>⟧.fixed team.entry.desk.now) k) →
+        IfSome result (FollowsIdle (fixed_of ⟦<SimState as Kept>⟧.fixed team.entry.desk.now) k) }
 {
     if rests {
         drop(left);
-        standby.sleep(rt, role);
-        return look(rt, desk, pass);
+        team.standby.sleep(rt, role);
+        return look(rt, team.desk, pass);
     }
     match left {
         Some(view) => Some(view),
-        None => look(rt, desk, pass),
+        None => look(rt, team.desk, pass),
     }
 }

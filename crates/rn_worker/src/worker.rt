@@ -7,14 +7,15 @@ ghost use Rattle.rn_worker.specs.link.Seen.{HasEnded};
 
 use crate::acting::{TurnOutcome, act};
 use crate::considering::{
-    Seed, count_round, go_beside, go_on_after, late_after, plan_at, searcher_of, start_beside,
-    was_stopped,
+    SearchEnd, Seed, count_round, go_beside, go_on_after, late_after, plan_at, searcher_of,
+    start_beside, was_stopped,
 };
 use crate::gate::Gate;
-use crate::looking::{look, look_on};
+use crate::looking::{Round, look, look_on};
 use crate::pacing::Pace;
 use crate::standby::{Standby, Watch};
 use crate::tally::Tally;
+use crate::team::{Task, Team};
 use rn_channel::Uplinks;
 use rn_desk::{Desk, Kept, Pass};
 use rn_fire::SimState;
@@ -61,9 +62,18 @@ pub fn work<R: Wait, G: Gate + Sync>(
 {
     let standby = Standby::new(options.workers);
     let seed = Seed { number: None };
-    work_while(
-        rt, alloc, desk, pass, system, uplinks, gate, options, seed, &standby, tally,
-    )
+    let task = Task {
+        system,
+        uplinks,
+        options,
+    };
+    let team = Team {
+        desk,
+        task,
+        seed,
+        standby: &standby,
+    };
+    work_while(rt, alloc, team, pass, gate, tally)
 }
 
 /// The same, with a seed or none, and beside others: a worker that isn't needed stands by, and who has
@@ -74,27 +84,22 @@ pub fn work<R: Wait, G: Gate + Sync>(
 pub(crate) fn work_while<R: Wait, G: Gate + Sync>(
     rt: &R,
     alloc: Global,
-    desk: &Desk<SimState>,
+    team: Team<'_>,
     pass: &mut Pass<SimState>,
-    system: &System,
-    uplinks: &Uplinks,
     gate: &G,
-    options: &Options,
-    seed: Seed,
-    standby: &Standby,
     tally: &mut Tally,
 )
-    requires here { IsOf ⟦<SimState as Kept>⟧.fixed desk.now pass.old }
+    requires here { IsOf ⟦<SimState as Kept>⟧.fixed team.desk.now pass.old }
     requires free { HasNoTurn pass.old }
     requires worker { number pass.old ≡ tally.old.worker }
     requires numbered { (1 ≤ number pass.old) × (number pass.old ≤ most_workers) }
     requires new { (mine pass.old ≡ []) × (tally.old.fired ≡ 0) × (tally.old.swept ≡ 0) }
-    requires fixed { fixed_of ⟦<SimState as Kept>⟧.fixed desk.now
-        ≡ record { system = system.now; options = options.now } }
-    requires own { AreUplinksOf system.now uplinks.now }
+    requires fixed { fixed_of ⟦<SimState as Kept>⟧.fixed team.desk.now
+        ≡ record { system = team.task.system.now; options = team.task.options.now } }
+    requires own { AreUplinksOf team.task.system.now team.task.uplinks.now }
 
     // The pass.
-    ensures here { IsOf ⟦<SimState as Kept>⟧.fixed desk.now pass.new }
+    ensures here { IsOf ⟦<SimState as Kept>⟧.fixed team.entry.desk.now pass.new }
     ensures free { HasNoTurn pass.new }
     ensures number { number pass.new ≡ number pass.old }
     ensures ended { HasEnded (seen pass.new) }
@@ -102,11 +107,17 @@ pub(crate) fn work_while<R: Wait, G: Gate + Sync>(
     // The tally.
     ensures worker { tally.new.worker ≡ tally.old.worker }
     ensures fired { tally.new.fired ≡ length (mine pass.new) }
-    ensures swept { options.now.sweep_every ≡ 0 → tally.new.swept ≡ 0 }
+    ensures swept { team.entry.task.options.now.sweep_every ≡ 0 → tally.new.swept ≡ 0 }
 {
+    let Team {
+        desk,
+        task,
+        seed,
+        standby,
+    } = team;
     let worker = tally.worker;
     let role = standby.role_of(worker);
-    let mut searcher = searcher_of(alloc, worker, options.workers, seed);
+    let mut searcher = searcher_of(alloc, worker, task.options.workers, seed);
     let mut pace = Pace::new();
     let mut late = 0;
     let mut rests = false;
@@ -115,42 +126,28 @@ pub(crate) fn work_while<R: Wait, G: Gate + Sync>(
     standby.begin(role);
     let mut view = look(rt, desk, pass);
     while let Some(now) = view {
-        let seen = now.sight.seen;
-        let next = now.sight.table.next();
-        go_on_after(&mut searcher.finding, rests, worker, next);
-        watch.begin(&searcher.finding);
-        let plan = plan_at(
-            alloc,
-            system,
-            uplinks,
-            options.depth,
-            &mut searcher,
-            now,
-            pace,
-            options.sweep_every,
-            &watch,
-            stopped,
-        );
-        let beside = start_beside(worker, seen, late, next, &plan);
-        gate.between(worker, seen);
-        let TurnOutcome { done, view: left } = act(
-            rt,
-            alloc,
-            desk,
-            pass,
+        let round = Round {
             worker,
-            seen,
-            next,
-            options.steps,
-            &plan,
-        );
+            looked: now.sight.seen,
+            next: now.sight.table.next(),
+        };
+        go_on_after(&mut searcher.finding, rests, worker, round.next);
+        watch.begin(&searcher.finding);
+        let end = SearchEnd {
+            watch: &watch,
+            whole: stopped,
+        };
+        let plan = plan_at(alloc, task, &mut searcher, now, pace, end);
+        let beside = start_beside(round, late, &plan);
+        gate.between(worker, round.looked);
+        let TurnOutcome { done, view: left } = act(rt, alloc, team, pass, round, &plan);
         count_round(tally, &mut pace, &plan, done);
         go_beside(&mut searcher.finding, done.fired, beside);
         late = late_after(late, done.fired);
         stopped = was_stopped(&plan);
         watch.note_round(&searcher.finding, stopped, done.fired);
         rests = left.is_some() && watch.stands_by();
-        view = look_on(rt, desk, pass, left, standby, role, rests);
+        view = look_on(rt, team, pass, left, role, rests);
     }
     standby.end();
 }

@@ -13,9 +13,10 @@ use crate::gate::Gate;
 use crate::posts::{Post, parted, posts_of};
 use crate::standby::Standby;
 use crate::tally::Tallies;
+use crate::team::{Task, Team};
 use crate::worker::work_while;
 use rn_channel::Uplinks;
-use rn_desk::{Closed, Desk, close, open_desk};
+use rn_desk::{Closed, close, open_desk};
 use rn_fire::{SimState, open_state};
 use rn_items::{Items, NoMemory};
 use rn_model::{Options, System};
@@ -35,20 +36,16 @@ pub struct Finished {
 fn all_work<R: Threads + Wait + Sync, G: Gate + Sync>(
     rt: &R,
     alloc: Global,
-    desk: &Desk<SimState>,
-    system: &System,
-    uplinks: &Uplinks,
+    team: Team<'_>,
     gate: &G,
-    options: &Options,
-    seed: Seed,
-    standby: &Standby,
     posts: &mut [Post],
 )
     requires count { (0 < length posts.old) × (length posts.old ≤ most_workers) }
-    requires back { EachAt (IsAtWork desk.now) posts.old }
-    requires fixed { IsOfSetup desk.now system.now options.now }
-    requires own { AreUplinksOf system.now uplinks.now }
-    ensures { EachAt (IsDone desk.now options.now.sweep_every) posts.new }
+    requires back { EachAt (IsAtWork team.desk.now) posts.old }
+    requires fixed { IsOfSetup team.desk.now team.task.system.now team.task.options.now }
+    requires own { AreUplinksOf team.task.system.now team.task.uplinks.now }
+    ensures { EachAt (IsDone team.entry.desk.now team.entry.task.options.now.sweep_every)
+        posts.new }
 {
     let threads = posts.len();
     thread::for_each_mut(
@@ -57,25 +54,12 @@ fn all_work<R: Threads + Wait + Sync, G: Gate + Sync>(
         threads,
         &|i: usize, post: &mut Post|
             requires number { i < most_workers }
-            requires back { IsAtWork desk.now (i + 1) post.old }
-            requires fixed { IsOfSetup desk.now system.now options.now }
-            requires own { AreUplinksOf system.now uplinks.now }
-            ensures { IsDone desk.entry.now options.entry.now.sweep_every (i + 1) post.new }
-        {
-            work_while(
-                rt,
-                alloc,
-                desk,
-                &mut post.pass,
-                system,
-                uplinks,
-                gate,
-                options,
-                seed,
-                standby,
-                &mut post.tally,
-            )
-        },
+            requires back { IsAtWork team.desk.now (i + 1) post.old }
+            requires fixed { IsOfSetup team.desk.now team.task.system.now team.task.options.now }
+            requires own { AreUplinksOf team.task.system.now team.task.uplinks.now }
+            ensures { IsDone team.entry.desk.now team.entry.task.options.now.sweep_every (i + 1)
+                post.new }
+        { work_while(rt, alloc, team, &mut post.pass, gate, &mut post.tally) },
     );
 }
 
@@ -117,18 +101,18 @@ fn run_by<R: Threads + Wait + Sync, G: Gate + Sync>(
     let (desk, passes) = open_desk(alloc, state, options.workers)?;
     let mut posts = posts_of(alloc, &desk, passes)?;
     let standby = Standby::new(processors(rt, options.workers));
-    all_work(
-        rt,
-        alloc,
-        &desk,
-        &system,
-        &uplinks,
-        gate,
-        &options,
-        Seed { number: seed },
-        &standby,
-        posts.as_mut_slice(),
-    );
+    let task = Task {
+        system: &system,
+        uplinks: &uplinks,
+        options: &options,
+    };
+    let team = Team {
+        desk: &desk,
+        task,
+        seed: Seed { number: seed },
+        standby: &standby,
+    };
+    all_work(rt, alloc, team, gate, posts.as_mut_slice());
     let (passes, tallies) = parted(alloc, posts)?;
     let Closed { mut state } = close(desk, passes);
     // For its clause: it is a state of a run (`IsState`).

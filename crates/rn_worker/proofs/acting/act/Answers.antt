@@ -12,19 +12,19 @@ pub act_on-done-requires-clause-plan : goal.act_on-done-requires-clause-plan
 act_on-done-requires-clause-plan g c =
     let t : State = c.state-state.result.now in
     let es = seen c.args.pass.now in
-    let setup : Setup = fixed_of (λ s. s.setup) c.args.desk.now in
+    let setup : Setup = fixed_of (λ s. s.setup) c.args.team.desk.now in
     let begins : StartsWith (logged t) es = subst (λ s. StartsWith (logged s) es) (sym c.state-state.ensures.value) c.take-turn.ensures.entries in
     let same : t.setup ≡ setup = ap (λ s. s.setup) c.state-state.ensures.value ∙ c.take-turn.ensures.fixed in
     let is : IsState t = c.length-length.ensures.state in
-    fits t is es begins c.requires.going setup same c.args.looked c.requires.looked c.args.plan.now c.requires.knows
+    fits t is es begins c.requires.going setup same c.args.round.looked c.requires.looked c.args.plan.now c.requires.knows
 
 pub returns-clause-some : goal.returns-clause-some
 returns-clause-some g c =
     let t : State = c.state-state.result.now in
     let after : State = c.act_on-done.new.state in
-    let setup : Setup = fixed_of (λ s. s.setup) c.args.desk.now in
+    let setup : Setup = fixed_of (λ s. s.setup) c.args.team.desk.now in
     let began : t.setup ≡ setup = ap (λ s. s.setup) c.state-state.ensures.value ∙ c.take-turn.ensures.fixed in
-    let same : after.setup ≡ setup = kept_setup c.args.worker c.act_on-done.result.fired t after c.act_on-done.ensures.added ∙ began in
+    let same : after.setup ≡ setup = kept_setup c.args.round.worker c.act_on-done.result.fired t after c.act_on-done.ensures.added ∙ began in
     show_views c.view_below-view.result after setup (seen c.give.new.pass)
     c.view_below-view.ensures.some same c.give.ensures.seen
 
@@ -32,31 +32,31 @@ pub view_below-view-requires-clause-looked : goal.view_below-view-requires-claus
 view_below-view-requires-clause-looked g c =
     let t : State = c.state-state.result.now in
     let es = seen c.args.pass.now in
-    let setup : Setup = fixed_of (λ s. s.setup) c.args.desk.now in
+    let setup : Setup = fixed_of (λ s. s.setup) c.args.team.desk.now in
     let begins : StartsWith (logged t) es = subst (λ s. StartsWith (logged s) es) (sym c.state-state.ensures.value) c.take-turn.ensures.entries in
     let same : t.setup ≡ setup = ap (λ s. s.setup) c.state-state.ensures.value ∙ c.take-turn.ensures.fixed in
-    few_after t c.act_on-done.new.state c.args.worker c.act_on-done.result.fired setup es begins
-    c.requires.going same c.act_on-done.ensures.added c.args.looked c.requires.looked
+    few_after t c.act_on-done.new.state c.args.round.worker c.act_on-done.result.fired setup es begins
+    c.requires.going same c.act_on-done.ensures.added c.args.round.looked c.requires.looked
 
 pub view_below-view-requires-clause-next : goal.view_below-view-requires-clause-next
 view_below-view-requires-clause-next g c =
     let t : State = c.state-state.result.now in
     let es = seen c.args.pass.now in
-    let setup : Setup = fixed_of (λ s. s.setup) c.args.desk.now in
+    let setup : Setup = fixed_of (λ s. s.setup) c.args.team.desk.now in
     let begins : StartsWith (logged t) es = subst (λ s. StartsWith (logged s) es) (sym c.state-state.ensures.value) c.take-turn.ensures.entries in
     let same : t.setup ≡ setup = ap (λ s. s.setup) c.state-state.ensures.value ∙ c.take-turn.ensures.fixed in
-    next_is t c.act_on-done.new.state c.args.worker c.act_on-done.result.fired setup es begins
-    c.requires.going same c.act_on-done.ensures.added c.args.looked c.requires.looked c.args.next
+    next_is t c.act_on-done.new.state c.args.round.worker c.act_on-done.result.fired setup es begins
+    c.requires.going same c.act_on-done.ensures.added c.args.round.looked c.requires.looked c.args.round.next
     c.requires.next
 
 pub returns-clause-changed : goal.returns-clause-changed
 returns-clause-changed g c =
     let t : State = c.state-state.result.now in
     let es = seen c.args.pass.now in
-    let setup : Setup = fixed_of (λ s. s.setup) c.args.desk.now in
+    let setup : Setup = fixed_of (λ s. s.setup) c.args.team.desk.now in
     let begins : StartsWith (logged t) es = subst (λ s. StartsWith (logged s) es) (sym c.state-state.ensures.value) c.take-turn.ensures.entries in
     let same : t.setup ≡ setup = ap (λ s. s.setup) c.state-state.ensures.value ∙ c.take-turn.ensures.fixed in
-    changed_between t c.act_on-done.new.state c.args.worker c.act_on-done.result.fired setup es
-    begins c.requires.going same c.act_on-done.ensures.added c.args.looked c.requires.looked
+    changed_between t c.act_on-done.new.state c.args.round.worker c.act_on-done.result.fired setup es
+    begins c.requires.going same c.act_on-done.ensures.added c.args.round.looked c.requires.looked
     (seen c.give.new.pass) c.give.ensures.seen c.view_below-view.result
     c.view_below-view.ensures.changed
