@@ -1,2 +1,3 @@
 pub mod LeastSeen
+pub mod OwnEntries
 pub mod ThreadSafety

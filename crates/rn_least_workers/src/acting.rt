@@ -11,10 +11,11 @@ ghost use Rattle.rn_least_workers.specs.link.LeastPlans.{DropsNone, FitsIn, Know
 ghost use Rattle.rn_worker.specs.link.Views.{ChangedBetween, ShowsView};
 
 use crate::considering::LeastPlan;
-use rn_desk::{Desk, Kept, Pass};
+use crate::team::LeastTeam;
+use rn_desk::{Kept, Pass};
 use rn_items::NoMemory;
 use rn_least_state::{CommitAt, LeastState};
-use rn_worker::{Done, View, count_kept, view_below};
+use rn_worker::{Done, Round, View, count_kept, view_below};
 use std::alloc::Global;
 use std::sync::Wait;
 
@@ -110,27 +111,24 @@ fn act_on(
 pub(crate) fn act<R: Wait>(
     rt: &R,
     alloc: Global,
-    desk: &Desk<LeastState>,
+    team: LeastTeam<'_>,
     pass: &mut Pass<LeastState>,
-    worker: u32,
-    looked: u64,
-    next: u32,
-    steps: u32,
+    round: Round,
     plan: &Result<LeastPlan, NoMemory>,
 ) -> TurnOutcome
-    requires here { IsOf ⟦<LeastState as Kept>⟧.fixed desk.now pass.old }
+    requires here { IsOf ⟦<LeastState as Kept>⟧.fixed team.desk.now pass.old }
     requires free { HasNoTurn pass.old }
-    requires worker { (1 ≤ worker) × (worker ≤ most_workers) }
-    requires number { number pass.old ≡ worker }
+    requires worker { (1 ≤ round.worker) × (round.worker ≤ most_workers) }
+    requires number { number pass.old ≡ round.worker }
     requires going { IsUnended (seen pass.old) }
-    requires looked { looked ≡ length (seen pass.old) }
-    requires next { next ≡ (marking_after (fixed_of ⟦<LeastState as Kept>⟧.fixed desk.now)
-        (seen pass.old)).next }
-    requires knows { IfOk plan.now (Knows (fixed_of ⟦<LeastState as Kept>⟧.fixed desk.now)
+    requires looked { round.looked ≡ length (seen pass.old) }
+    requires next { round.next ≡ (marking_after
+        (fixed_of ⟦<LeastState as Kept>⟧.fixed team.desk.now) (seen pass.old)).next }
+    requires knows { IfOk plan.now (Knows (fixed_of ⟦<LeastState as Kept>⟧.fixed team.desk.now)
         (seen pass.old)) }
 
     // The pass.
-    ensures here { IsOf ⟦<LeastState as Kept>⟧.fixed desk.now pass.new }
+    ensures here { IsOf ⟦<LeastState as Kept>⟧.fixed team.entry.desk.now pass.new }
     ensures free { HasNoTurn pass.new }
     ensures number { number pass.new ≡ number pass.old }
     ensures more { length (seen pass.old) < length (seen pass.new) }
@@ -142,17 +140,19 @@ pub(crate) fn act<R: Wait>(
     ensures entries { StartsWith (seen pass.new) (seen pass.old) }
 
     // What it saw then.
-    ensures some { IfSome result.view (ShowsView (fixed_of ⟦<LeastState as Kept>⟧.fixed desk.now)
-        (seen pass.new)) }
+    ensures some { IfSome result.view (ShowsView
+        (fixed_of ⟦<LeastState as Kept>⟧.fixed team.entry.desk.now) (seen pass.new)) }
     ensures changed { IfSome result.view (ChangedBetween
-        (fixed_of ⟦<LeastState as Kept>⟧.fixed desk.now) (seen pass.old) (seen pass.new)) }
+        (fixed_of ⟦<LeastState as Kept>⟧.fixed team.entry.desk.now) (seen pass.old)
+        (seen pass.new)) }
 {
-    let mut turn = desk.take(rt, pass);
+    let mut turn = team.desk.take(rt, pass);
     let state = turn.state();
     // For its clause: it is a state of a run (`IsState`).
     let _length = state.base().length();
-    let done = act_on(alloc, state, worker, looked, plan);
-    let view = view_below(alloc, state.base(), steps, looked, next);
-    desk.give(pass, turn);
+    let done = act_on(alloc, state, round.worker, round.looked, plan);
+    let steps = team.task.options.steps;
+    let view = view_below(alloc, state.base(), steps, round.looked, round.next);
+    team.desk.give(pass, turn);
     TurnOutcome { done, view }
 }

@@ -7,11 +7,9 @@ ghost use Rattle.rn_least_workers.specs.link.Following.{FollowsIn};
 ghost use Rattle.rn_least_workers.specs.link.LeastPlans.{DropsNone, IsLeastAt, IsPlanAt};
 
 use rn_binding::Candidate;
-use rn_channel::Uplinks;
 use rn_firsts::Firsts;
 use rn_items::NoMemory;
-use rn_model::System;
-use rn_worker::{View, listed_at};
+use rn_worker::{Task, View, listed_at};
 use std::alloc::Global;
 
 /// What a worker found: the first binding that was enabled, or `None` where none was; instances that
@@ -26,17 +24,23 @@ pub(crate) struct LeastPlan {
 // The first binding of a snapshot.
 fn find_at(
     alloc: Global,
-    system: &System,
-    uplinks: &Uplinks,
-    depth: u32,
+    task: Task<'_>,
     firsts: &mut Firsts,
     view: &View,
 ) -> Result<Option<Candidate>, NoMemory>
-    requires table { IsToSearch system.now uplinks.now view.now.sight.table }
-    requires follows { FollowsIn system.now depth firsts.old view.now }
-    ensures least { IfOk result (IsLeastAt system.now depth view.now.sight.table.marking) }
-    ensures known { IsKnown system.now view.now.sight.table.marking depth firsts.new }
+    requires table { IsToSearch task.system.now task.uplinks.now view.now.sight.table }
+    requires follows { FollowsIn task.system.now task.options.now.depth firsts.old view.now }
+    ensures least { IfOk result (IsLeastAt task.entry.system.now task.entry.options.now.depth
+        view.now.sight.table.marking) }
+    ensures known { IsKnown task.entry.system.now view.now.sight.table.marking
+        task.entry.options.now.depth firsts.new }
 {
+    let Task {
+        system,
+        uplinks,
+        options,
+    } = task;
+    let depth = options.depth;
     let table = &view.sight.table;
     match &view.changed {
         Some(numbers) => {
@@ -50,21 +54,21 @@ fn find_at(
 /// Searches a snapshot, and lists what isn't live there where that is due.
 pub(crate) fn plan_at(
     alloc: Global,
-    system: &System,
-    uplinks: &Uplinks,
-    depth: u32,
+    task: Task<'_>,
     firsts: &mut Firsts,
     view: View,
     due: bool,
 ) -> Result<LeastPlan, NoMemory>
-    requires table { IsToSearch system.now uplinks.now view.sight.table }
-    requires follows { FollowsIn system.now depth firsts.old view }
-    ensures plan { IfOk result (IsPlanAt system.now depth view.sight.table) }
+    requires table { IsToSearch task.system.now task.uplinks.now view.sight.table }
+    requires follows { FollowsIn task.system.now task.options.now.depth firsts.old view }
+    ensures plan { IfOk result (IsPlanAt task.entry.system.now task.entry.options.now.depth
+        view.sight.table) }
     ensures none { due ≡ false → DropsNone result }
-    ensures known { IsKnown system.now view.sight.table.marking depth firsts.new }
+    ensures known { IsKnown task.entry.system.now view.sight.table.marking
+        task.entry.options.now.depth firsts.new }
 {
-    let found = find_at(alloc, system, uplinks, depth, firsts, &view)?;
-    let (dead, live) = listed_at(alloc, system, &view.sight.table, due)?;
+    let found = find_at(alloc, task, firsts, &view)?;
+    let (dead, live) = listed_at(alloc, task.system, &view.sight.table, due)?;
     Ok(LeastPlan { found, dead, live })
 }
 

@@ -5,6 +5,7 @@ mod acting;
 mod considering;
 mod looking;
 mod posts;
+mod team;
 mod worker;
 mod workers;
 

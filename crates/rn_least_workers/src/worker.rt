@@ -8,12 +8,11 @@ ghost use Rattle.rn_worker.specs.link.Seen.{HasEnded};
 use crate::acting::{TurnOutcome, act};
 use crate::considering::{live_then, plan_at};
 use crate::looking::{look, look_on};
-use rn_channel::Uplinks;
-use rn_desk::{Desk, Kept, Pass};
+use crate::team::LeastTeam;
+use rn_desk::{Kept, Pass};
 use rn_firsts::Firsts;
 use rn_least_state::LeastState;
-use rn_model::{Options, System};
-use rn_worker::{Gate, Pace, Tally};
+use rn_worker::{Gate, Pace, Round, Tally};
 use std::alloc::Global;
 use std::sync::Wait;
 
@@ -26,25 +25,22 @@ use std::sync::Wait;
 pub(crate) fn work_least<R: Wait, G: Gate + Sync>(
     rt: &R,
     alloc: Global,
-    desk: &Desk<LeastState>,
+    team: LeastTeam<'_>,
     pass: &mut Pass<LeastState>,
-    system: &System,
-    uplinks: &Uplinks,
     gate: &G,
-    options: &Options,
     tally: &mut Tally,
 )
-    requires here { IsOf ⟦<LeastState as Kept>⟧.fixed desk.now pass.old }
+    requires here { IsOf ⟦<LeastState as Kept>⟧.fixed team.desk.now pass.old }
     requires free { HasNoTurn pass.old }
     requires worker { number pass.old ≡ tally.old.worker }
     requires numbered { (1 ≤ number pass.old) × (number pass.old ≤ most_workers) }
     requires new { (mine pass.old ≡ []) × (tally.old.fired ≡ 0) × (tally.old.swept ≡ 0) }
-    requires fixed { fixed_of ⟦<LeastState as Kept>⟧.fixed desk.now
-        ≡ record { system = system.now; options = options.now } }
-    requires own { AreUplinksOf system.now uplinks.now }
+    requires fixed { fixed_of ⟦<LeastState as Kept>⟧.fixed team.desk.now
+        ≡ record { system = team.task.system.now; options = team.task.options.now } }
+    requires own { AreUplinksOf team.task.system.now team.task.uplinks.now }
 
     // The pass.
-    ensures here { IsOf ⟦<LeastState as Kept>⟧.fixed desk.now pass.new }
+    ensures here { IsOf ⟦<LeastState as Kept>⟧.fixed team.entry.desk.now pass.new }
     ensures free { HasNoTurn pass.new }
     ensures number { number pass.new ≡ number pass.old }
     ensures ended { HasEnded (seen pass.new) }
@@ -52,29 +48,23 @@ pub(crate) fn work_least<R: Wait, G: Gate + Sync>(
     // The tally.
     ensures worker { tally.new.worker ≡ tally.old.worker }
     ensures fired { tally.new.fired ≡ length (mine pass.new) }
-    ensures swept { options.now.sweep_every ≡ 0 → tally.new.swept ≡ 0 }
+    ensures swept { team.entry.task.options.now.sweep_every ≡ 0 → tally.new.swept ≡ 0 }
 {
+    let LeastTeam { desk, task } = team;
     let worker = tally.worker;
     let mut pace = Pace::new();
     let mut firsts = Firsts::new(alloc);
     let mut view = look(rt, desk, pass);
     while let Some(now) = view {
-        let seen = now.sight.seen;
-        let next = now.sight.table.next();
-        let due = pace.is_due(options.sweep_every, next);
-        let plan = plan_at(alloc, system, uplinks, options.depth, &mut firsts, now, due);
-        gate.between(worker, seen);
-        let TurnOutcome { done, view: left } = act(
-            rt,
-            alloc,
-            desk,
-            pass,
+        let round = Round {
             worker,
-            seen,
-            next,
-            options.steps,
-            &plan,
-        );
+            looked: now.sight.seen,
+            next: now.sight.table.next(),
+        };
+        let due = pace.is_due(task.options.sweep_every, round.next);
+        let plan = plan_at(alloc, task, &mut firsts, now, due);
+        gate.between(worker, round.looked);
+        let TurnOutcome { done, view: left } = act(rt, alloc, team, pass, round, &plan);
         tally.count(done);
         pace = pace.after(live_then(&plan), done.fired);
         view = look_on(rt, desk, pass, left);

@@ -10,13 +10,14 @@ ghost use Rattle.rn_least_state.specs.LeastStates.{HasLeastLog};
 ghost use Rattle.rn_least_workers.specs.link.LeastPosts.{IsAtWork, IsDone};
 
 use crate::posts::{LeastPost, parted, posts_of};
+use crate::team::LeastTeam;
 use crate::worker::work_least;
 use rn_channel::Uplinks;
-use rn_desk::{Closed, Desk, close, open_desk};
+use rn_desk::{Closed, close, open_desk};
 use rn_items::{Items, NoMemory};
 use rn_least_state::{LeastState, open_least};
 use rn_model::{Options, System};
-use rn_worker::{Finished, Gate, drop_dead};
+use rn_worker::{Finished, Gate, Task, drop_dead};
 use std::alloc::Global;
 use std::sync::{Arc, Wait};
 use std::thread;
@@ -26,18 +27,16 @@ use std::thread::Threads;
 fn all_work<R: Threads + Wait + Sync, G: Gate + Sync>(
     rt: &R,
     alloc: Global,
-    desk: &Desk<LeastState>,
-    system: &System,
-    uplinks: &Uplinks,
+    team: LeastTeam<'_>,
     gate: &G,
-    options: &Options,
     posts: &mut [LeastPost],
 )
     requires count { (0 < length posts.old) × (length posts.old ≤ most_workers) }
-    requires back { EachAt (IsAtWork desk.now) posts.old }
-    requires fixed { IsOfSetup desk.now system.now options.now }
-    requires own { AreUplinksOf system.now uplinks.now }
-    ensures { EachAt (IsDone desk.now options.now.sweep_every) posts.new }
+    requires back { EachAt (IsAtWork team.desk.now) posts.old }
+    requires fixed { IsOfSetup team.desk.now team.task.system.now team.task.options.now }
+    requires own { AreUplinksOf team.task.system.now team.task.uplinks.now }
+    ensures { EachAt (IsDone team.entry.desk.now team.entry.task.options.now.sweep_every)
+        posts.new }
 {
     let threads = posts.len();
     thread::for_each_mut(
@@ -46,23 +45,12 @@ fn all_work<R: Threads + Wait + Sync, G: Gate + Sync>(
         threads,
         &|i: usize, post: &mut LeastPost|
             requires number { i < most_workers }
-            requires back { IsAtWork desk.now (i + 1) post.old }
-            requires fixed { IsOfSetup desk.now system.now options.now }
-            requires own { AreUplinksOf system.now uplinks.now }
-            ensures { IsDone desk.entry.now options.entry.now.sweep_every (i + 1) post.new }
-        {
-            work_least(
-                rt,
-                alloc,
-                desk,
-                &mut post.pass,
-                system,
-                uplinks,
-                gate,
-                options,
-                &mut post.tally,
-            )
-        },
+            requires back { IsAtWork team.desk.now (i + 1) post.old }
+            requires fixed { IsOfSetup team.desk.now team.task.system.now team.task.options.now }
+            requires own { AreUplinksOf team.task.system.now team.task.uplinks.now }
+            ensures { IsDone team.entry.desk.now team.entry.task.options.now.sweep_every (i + 1)
+                post.new }
+        { work_least(rt, alloc, team, &mut post.pass, gate, &mut post.tally) },
     );
 }
 
@@ -91,16 +79,13 @@ pub fn run_least<R: Threads + Wait + Sync, G: Gate + Sync>(
     let state = open_least(alloc, Arc::try_clone(&system)?, options)?;
     let (desk, passes) = open_desk(alloc, state, options.workers)?;
     let mut posts = posts_of(alloc, &desk, passes)?;
-    all_work(
-        rt,
-        alloc,
-        &desk,
-        &system,
-        &uplinks,
-        gate,
-        &options,
-        posts.as_mut_slice(),
-    );
+    let task = Task {
+        system: &system,
+        uplinks: &uplinks,
+        options: &options,
+    };
+    let team = LeastTeam { desk: &desk, task };
+    all_work(rt, alloc, team, gate, posts.as_mut_slice());
     let (passes, tallies) = parted(alloc, posts)?;
     let Closed { state: closed } = close(desk, passes);
     let mut state = closed.into_state();

@@ -30,23 +30,23 @@ counted_with false own more old new grows is counted = counted ∙ is ∙ ap len
 
 pub plan_at-plan-requires-clause-table : goal.plan_at-plan-requires-clause-table
 plan_at-plan-requires-clause-table g c =
-    let setup : Setup = fixed_of (λ s. s.setup) c.args.desk.now in
+    let setup : Setup = fixed_of (λ s. s.setup) c.args.team.desk.now in
     let es = seen c.loop-view.pass in
     let shown : Shows setup es c.in-Some.now.sight = subst (λ o. IfSome o (ShowsView setup es)) c.in-Some.is c.loop-view.invariant.some in
-    searched_by setup c.args.system.now c.args.options.now c.requires.fixed es c.in-Some.now.sight shown
-    c.args.uplinks.now c.requires.own
+    searched_by setup c.args.team.task.system.now c.args.team.task.options.now c.requires.fixed es c.in-Some.now.sight shown
+    c.args.team.task.uplinks.now c.requires.own
 
 pub act-left-requires-clause-knows : goal.act-left-requires-clause-knows
 act-left-requires-clause-knows g c =
-    let setup : Setup = fixed_of (λ s. s.setup) c.args.desk.now in
+    let setup : Setup = fixed_of (λ s. s.setup) c.args.team.desk.now in
     let es = seen c.loop-view.pass in
     let shown : Shows setup es c.in-Some.now.sight = subst (λ o. IfSome o (ShowsView setup es)) c.in-Some.is c.loop-view.invariant.some in
-    known_by setup c.args.system.now c.args.options.now c.requires.fixed es c.in-Some.now.sight shown
+    known_by setup c.args.team.task.system.now c.args.team.task.options.now c.requires.fixed es c.in-Some.now.sight shown
     c.plan_at-plan.result c.plan_at-plan.ensures.plan
 
 pub count-requires : goal.count-requires
 count-requires g c =
-    let setup : Setup = fixed_of (λ s. s.setup) c.args.desk.now in
+    let setup : Setup = fixed_of (λ s. s.setup) c.args.team.desk.now in
     let es = seen c.loop-view.pass in
     let shown : Shows setup es c.in-Some.now.sight = subst (λ o. IfSome o (ShowsView setup es)) c.in-Some.is c.loop-view.invariant.some in
     let few = never_many setup es c.in-Some.now.sight shown in
@@ -56,27 +56,27 @@ count-requires g c =
 
 pub loop-view-smaller : goal.loop-view-smaller
 loop-view-smaller g c =
-    let setup : Setup = fixed_of (λ s. s.setup) c.args.desk.now in
+    let setup : Setup = fixed_of (λ s. s.setup) c.args.team.desk.now in
     let es = seen c.loop-view.pass in
     let shown : Shows setup es c.in-Some.now.sight = subst (λ o. IfSome o (ShowsView setup es)) c.in-Some.is c.loop-view.invariant.some in
     let did = c.act-left.ensures in
-    rounds_end c.args.options.now.steps (length es) (length (seen c.act-left.new.pass)) (length (seen c.look_on-view.new.pass))
-    (few_by setup c.args.system.now c.args.options.now c.requires.fixed es c.in-Some.now.sight shown)
+    rounds_end c.args.team.task.options.now.steps (length es) (length (seen c.act-left.new.pass)) (length (seen c.look_on-view.new.pass))
+    (few_by setup c.args.team.task.system.now c.args.team.task.options.now c.requires.fixed es c.in-Some.now.sight shown)
     did.more (never_fewer (seen c.look_on-view.new.pass) (seen c.act-left.new.pass) c.look_on-view.ensures.entries)
 
 pub plan_at-plan-requires-clause-follows : goal.plan_at-plan-requires-clause-follows
 plan_at-plan-requires-clause-follows g c =
-    let setup : Setup = fixed_of (λ s. s.setup) c.args.desk.now in
+    let setup : Setup = fixed_of (λ s. s.setup) c.args.team.desk.now in
     let k = c.loop-view.firsts in
     subst (λ (s : Setup). FollowsIn s.system s.options.depth k c.in-Some.now) c.requires.fixed
     (subst (λ o. IfSome o (FollowsKnown setup k)) c.in-Some.is c.loop-view.invariant.follows)
 
 pub act-left-requires-clause-next : goal.act-left-requires-clause-next
 act-left-requires-clause-next g c =
-    let setup : Setup = fixed_of (λ s. s.setup) c.args.desk.now in
+    let setup : Setup = fixed_of (λ s. s.setup) c.args.team.desk.now in
     let es = seen c.loop-view.pass in
     let shown : Shows setup es c.in-Some.now.sight = subst (λ o. IfSome o (ShowsView setup es)) c.in-Some.is c.loop-view.invariant.some in
-    c.next-next.ensures.number ∙ shown.stands.next
+    c.next.ensures.number ∙ shown.stands.next
 
 pub loop-view-init : goal.loop-view-init
 loop-view-init g c = record {
@@ -94,7 +94,7 @@ loop-view-init g c = record {
 
 pub loop-view-preserved : goal.loop-view-preserved
 loop-view-preserved g c =
-    let setup : Setup = fixed_of (λ s. s.setup) c.args.desk.now in
+    let setup : Setup = fixed_of (λ s. s.setup) c.args.team.desk.now in
     let es = seen c.loop-view.pass in
     let shown : Shows setup es c.in-Some.now.sight = subst (λ o. IfSome o (ShowsView setup es)) c.in-Some.is c.loop-view.invariant.some in
     let k = c.plan_at-plan.new.firsts in
@@ -127,7 +127,7 @@ loop-view-preserved g c =
 
 pub loop-view-preserved-in-Some : goal.loop-view-preserved-in-Some
 loop-view-preserved-in-Some g c =
-    let setup : Setup = fixed_of (λ s. s.setup) c.args.desk.now in
+    let setup : Setup = fixed_of (λ s. s.setup) c.args.team.desk.now in
     let es = seen c.loop-view.pass in
     let shown : Shows setup es c.in-Some.now.sight = subst (λ o. IfSome o (ShowsView setup es)) c.in-Some.is c.loop-view.invariant.some in
     let k = c.plan_at-plan.new.firsts in
