@@ -179,15 +179,17 @@ impl Chunks {
         Ok(())
     }
 
-    /// The value comes after those of the chunk of an index, which are all tokens, in place where no
-    /// copy shares them. Where one does, the answer is the value.
+    /// The value comes after those of the chunk of an index, which are all tokens, in place where
+    /// no copy shares them. Where one does, the answer is the value.
     pub(crate) fn push(&mut self, index: usize, value: Value) -> Result<Option<Value>, NoMemory>
         requires inside { index < length self.old }
         requires tokens { (x : Slots) → x ≡ get_or self.old index x → tokens_in_chunk x ≡ x.values }
         requires room { (x : Slots) → x ≡ get_or self.old index x → length x.values < ROOM }
-        ensures pushed { IfOk result (λ left. IfNone left ((x : Slots) → x ≡ get_or self.old index x →
-            (y : Slots) × IsFull (x.values ++ value ∷ []) y × (self.new ≡ set self.old index y))) }
-        ensures left { IfOk result (λ left. IfSome left (λ v. (v ≡ value) × (self.new ≡ self.old))) }
+        ensures pushed { IfOk result (λ left. IfNone left ((x : Slots) →
+            x ≡ get_or self.old index x → (y : Slots) × IsFull (x.values ++ value ∷ []) y
+            × (self.new ≡ set self.old index y))) }
+        ensures left { IfOk result (λ left.
+            IfSome left (λ v. (v ≡ value) × (self.new ≡ self.old))) }
         ensures err { OnErr result (self.new ≡ self.old) }
     {
         let tag = self.tags[index];

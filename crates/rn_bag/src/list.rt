@@ -57,7 +57,8 @@ impl SharedList {
     /// answer is the value.
     pub(crate) fn push(&mut self, value: Value) -> Result<Option<Value>, NoMemory>
         ensures pushed { IfOk result (λ left. IfNone left (self.new ≡ self.old ++ value ∷ [])) }
-        ensures left { IfOk result (λ left. IfSome left (λ v. (v ≡ value) × (self.new ≡ self.old))) }
+        ensures left { IfOk result (λ left.
+            IfSome left (λ v. (v ≡ value) × (self.new ≡ self.old))) }
         ensures err { OnErr result (self.new ≡ self.old) }
     {
         let Some(own) = Arc::get_mut(&mut self.owner) else {

@@ -144,8 +144,10 @@ impl Pool {
         value: Value,
     ) -> Result<Option<Value>, NoMemory>
         requires { at < length self.old }
-        ensures pushed { IfOk result (λ left. IfNone left (IsPushed self.old at len value self.new)) }
-        ensures left { IfOk result (λ left. IfSome left (λ v. (v ≡ value) × (self.new ≡ self.old))) }
+        ensures pushed { IfOk result (λ left.
+            IfNone left (IsPushed self.old at len value self.new)) }
+        ensures left { IfOk result (λ left.
+            IfSome left (λ v. (v ≡ value) × (self.new ≡ self.old))) }
         ensures err { OnErr result (self.new ≡ self.old) }
     {
         let shared = match &self.base {

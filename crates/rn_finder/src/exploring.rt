@@ -18,8 +18,8 @@ use rn_binding::Candidate;
 use rn_choices::{Asked, Cut, Within};
 use std::alloc::Global;
 
-// A binding with this start, where that costs no more than so much; and whether the search wasn't cut
-// off.
+// A binding with this start, where that costs no more than so much; and whether the search wasn't
+// cut off.
 fn find_within<A: Asked>(
     alloc: Global,
     asked: &A,

@@ -43,8 +43,8 @@ struct Numbers {
     end: u32,
 }
 
-/// A binding with this start, where a firing may start by it. The hint says with which tokens choices
-/// begin.
+/// A binding with this start, where a firing may start by it. The hint says with which tokens
+/// choices begin.
 pub(crate) fn find_from<A: Asked>(
     alloc: Global,
     asked: &A,
@@ -119,7 +119,8 @@ fn find_among<A: Asked>(
     requires within { to ≤ length (net_at marked.system.now first.inst.now.net).transitions }
     ensures found { IfOk result (λ found. IfSome found (λ f. Enabled marked.entry.system.now
         marked.entry.table.now.marking f.1 marked.entry.depth)) }
-    ensures none { IfOk result (λ found. IfNone found ((t : ℕ) → first.entry.transition ≤ t → t < to →
+    ensures none { IfOk result (λ found. IfNone found ((t : ℕ) →
+        first.entry.transition ≤ t → t < to →
         IsNoStart marked.entry.system.now marked.entry.table.now.marking marked.entry.depth
         (start_of first.entry.inst.now.number first.entry.inst.now.net t))) }
 {
@@ -260,8 +261,8 @@ impl Finding {
         self.turns.go_beside(start);
     }
 
-    // A binding that starts with an instance of one of these numbers. Those that are known to be idle are
-    // passed over, and those that are looked at in vain become known.
+    // A binding that starts with an instance of one of these numbers. Those that are known to be
+    // idle are passed over, and those that are looked at in vain become known.
     fn find_between<A: Asked>(
         &mut self,
         alloc: Global,

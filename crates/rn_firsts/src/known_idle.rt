@@ -174,7 +174,8 @@ impl KnownIdle {
         requires own { AreUplinksOf marked.system.now marked.uplinks.now }
         requires table { IsTableOf marked.system.now marked.table.now }
         requires tokens { HasFitTokens marked.system.now marked.table.now.marking }
-        requires known { KnowsIdle marked.system.now marked.table.now.marking marked.depth self.old }
+        requires known { KnowsIdle marked.system.now marked.table.now.marking marked.depth
+            self.old }
         ensures found { IfOk result (λ found. IfSome found (λ b. Enabled marked.entry.system.now
             marked.entry.table.now.marking b marked.entry.depth)) }
         ensures none { IfOk result (λ found. IsNone found

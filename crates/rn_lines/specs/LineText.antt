@@ -29,8 +29,8 @@ pub record Token : Type 0 where
 
 -- The step of a firing is a numeral. Its worker, from 1 to 64, stands behind ` w`, before a space.
 pub data IsLead : LeadSaid → List ℕ → Type 0 where
-  lead : {n worker : ℕ} {step digits : List ℕ} → IsNumeral n step → 1 ≤ worker → worker ≤ greatest_worker →
-      IsNumeral worker digits →
+  lead : {n worker : ℕ} {step digits : List ℕ} → IsNumeral n step → 1 ≤ worker →
+      worker ≤ greatest_worker → IsNumeral worker digits →
       IsLead (record { step = step; worker = worker }) (step ++ (32 ∷ 119 ∷ (digits ++ 32 ∷ [])))
 
 -- a value in a mark, and the digits of the count behind it, none where no count is written; a count

@@ -14,8 +14,8 @@ pub struct Task<'a> {
     pub options: &'a Options,
 }
 
-/// What the workers of a run share: the desk with its state, their task, the seed of the run, and who
-/// is needed.
+/// What the workers of a run share: the desk with its state, their task, the seed of the run, and
+/// who is needed.
 #[derive(Clone, Copy)]
 pub(crate) struct Team<'a> {
     pub desk: &'a Desk<SimState>,

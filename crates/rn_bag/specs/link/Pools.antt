@@ -8,6 +8,7 @@ lists_in None own = own
 lists_in (Some base) own = base ++ own
 
 -- a value came after those of the list at a position, which had so many
-pub record IsPushed (old : List (List Value)) (at len : ℕ) (value : Value) (new : List (List Value)) : Type 0 where
+pub record IsPushed (old : List (List Value)) (at len : ℕ) (value : Value)
+    (new : List (List Value)) : Type 0 where
   pub size : len ≡ length (slice_index_or old at [])
   pub lists : new ≡ set old at (slice_index_or old at [] ++ value ∷ [])
