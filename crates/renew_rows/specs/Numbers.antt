@@ -1,5 +1,5 @@
 -- Numbers in decimal digits.
-use Rattle.std.specs.Prelude.{ℕ, ◌≡◌, ◌≢◌, ◌+◌, ◌-◌, ◌*◌, List, [], ◌∷◌, IsTrue}
+use Rattle.std.specs.Prelude.{ℕ, ◌≡◌, ◌≢◌, ◌-◌, List, [], IsTrue}
 use Rattle.std.specs.List.{list_all}
 use Rattle.rn_value.specs.Characters.{is_digit, number_after}
 

@@ -6,7 +6,7 @@ use Rattle.rn_value.specs.declared.value.Value.{Value}
 use Rattle.rn_bag.specs.declared.tag.Tag.{Tag}
 use Rattle.rn_bag.specs.Slots.{there_from}
 use Rattle.rn_bag.specs.Words.{has_bit}
-use Rattle.rn_bag.specs.link.Chunks.{Slots, HasRoom, IsChunk, tokens_in_chunk}
+use Rattle.rn_bag.specs.link.Chunks.{Slots, IsChunk}
 use Rattle.rn_bag.specs.link.Pools.{lists_in, IsPushed}
 use Rattle.rn_bag.specs.link.Tags.{values_at, slots_at, chunks_of, IsTag, AreTags, IsFull, IsKept}
 use Rattle.rn_bag.proofs.SlotLemmas.{all_joined, all_prefix, all_suffix}

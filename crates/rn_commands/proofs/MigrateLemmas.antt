@@ -1,5 +1,5 @@
 -- What `migrate` comes to.
-use Rattle.std.proofs.Common.{◌≡◌, ◌≢◌, ◌∙◌, ◌<◌, ◌+◌, ◌∷◌, ◌++◌, ◌⊎◌, ℕ, List, [], codes, length, drop, inl, inr, refl, sym, ap, subst, arith}
+use Rattle.std.proofs.Common.{◌≡◌, ◌≢◌, ◌∙◌, ◌<◌, ◌+◌, ◌∷◌, ◌++◌, ◌⊎◌, ℕ, List, [], codes, length, inl, inr, refl, sym, ap, subst, arith}
 use Rattle.std.specs.Prelude.{IsTrue, false, nat_eq}
 use Rattle.std.proofs.lemmas.Bool.{false≢true}
 use borrow.Author.Tests.{eq-eqb}

@@ -3,7 +3,7 @@
 use Rattle.std.proofs.Common.{◌≡◌, ◌<◌, ◌+◌, ℕ, zero, suc, List, [], ◌∷◌, length}
 use Rattle.std.proofs.Common.{subst, sym, refl, ap, ◌∙◌, arith, ⊎_elim, get_or}
 use Rattle.std.specs.Prelude.{Option, Some, None, Contains, ◌↔◌, ◌⊎◌, nat_eq, zip}
-use Rattle.std.specs.Prelude.{if◌then◌else◌, IfNone, IfSome, drop, slice_get}
+use Rattle.std.specs.Prelude.{IfNone, IfSome, drop, slice_get}
 use Rattle.std.specs.Ordering.{ordering_then, ordering_reverse}
 use Rattle.std.specs.Cmp.Lexicographic.{slice_cmp}
 use Rattle.std.specs.declared.cmp.Ordering.{Ordering}

@@ -1,5 +1,5 @@
 -- Values of options.
-use Rattle.std.specs.Prelude.{ℕ, ◌+◌, ◌*◌, ◌-◌, List, [], ◌∷◌, Bool, ◌&&◌, Option, Some, None, length}
+use Rattle.std.specs.Prelude.{ℕ, ◌-◌, List, Bool, ◌&&◌, Option, Some, None, length}
 use Rattle.std.specs.Prelude.{nat_le, option_map, if◌then◌else◌}
 use Rattle.std.specs.List.{list_all}
 use Rattle.rn_value.specs.Characters.{is_digit, number_after}

@@ -1,4 +1,4 @@
-use Rattle.std.proofs.Common.{◌≡◌, [], length, sym, ap, ◌∙◌}
+use Rattle.std.proofs.Common.{[], length, sym, ap, ◌∙◌}
 use Rattle.std.proofs.lemmas.List.{append-nil}
 use Rattle.rn_bag.specs.link.Pools.{lists_in}
 use Rattle.rn_bag.proofs.TagLemmas.{pushed_in, if_pushed}
