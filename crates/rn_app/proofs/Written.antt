@@ -49,16 +49,6 @@ pub record IsWritten {E : Type 0} (k : Call E) (a : Answer) : Type 0 where
       ⊎ ((a.status ≢ NO_MEMORY) × Appends k.out a.text k.out_after × (k.out_faults_after ≡ k.out_faults) × AppendsPrefix k.err a.line k.err_after × (k.err_faults_after ≡ risen k.err_faults))
   pub same : k.sink_after ≡ k.sink → k.err_faults_after ≡ k.err_faults
 
--- what writing an answer returns, and leaves of its sinks
-pub record Took {O E : Type 0} (out_held : O → Option (List ℕ)) (out_faults : O → ℕ) (err_held : E → Option (List ℕ)) (err_faults : E → ℕ) (a : Answer) (result : ℕ) (out_after : O) (err_after : E) (out : O) (err : E) : Type 0 where
-  pub written : result ≢ WRITE_FAULT → (result ≡ a.status) × Appends (out_held out) a.text (out_held out_after) × (out_faults out_after ≡ out_faults out)
-  pub told : result ≢ WRITE_FAULT → result ≢ NO_MEMORY → Appends (err_held err) a.line (err_held err_after) × (err_faults err_after ≡ err_faults err)
-  pub memory : result ≡ NO_MEMORY → TakesLine (err_held err) (err_held err_after) (err_faults err) (err_faults err_after) a.line
-  pub nothing : a.line ≡ [] → err_after ≡ err
-  pub failed : result ≡ WRITE_FAULT → a.status ≢ WRITE_FAULT →
-      (AppendsPrefix (out_held out) a.text (out_held out_after) × (out_faults out_after ≡ risen (out_faults out)) × (err_after ≡ err))
-      ⊎ ((a.status ≢ NO_MEMORY) × Appends (out_held out) a.text (out_held out_after) × (out_faults out_after ≡ out_faults out) × AppendsPrefix (err_held err) a.line (err_held err_after) × (err_faults err_after ≡ risen (err_faults err)))
-
 -- a number is another, or isn't
 pub same_or_other : (n m : ℕ) → (n ≡ m) ⊎ (n ≢ m)
 same_or_other n m = grind arith

@@ -25,8 +25,8 @@ ghost use Rattle.rn_app.specs.TopCall.{IsNoInput, IsNoRecord, IsUnread, IsFine, 
 
 use crate::beginning::{Begun, begin};
 use crate::laws::input_laws;
-use rn_answering::{NO_MEMORY, READ_FAULT, write_answer, write_line};
-use rn_commands::{answer_laws, parts_laws, run_job};
+use rn_answering::{NO_MEMORY, READ_FAULT, write_line};
+use rn_commands::{answer_laws, parts_laws, run_to};
 use rn_outside::{Sink, Source};
 use rn_words::words_laws;
 use rn_worker::Gate;
@@ -175,9 +175,9 @@ pub fn renew_top<R: Threads + Wait + Sync, I: Source, O: Sink, E: Sink, G: Gate 
     answer_laws();
     match begin(alloc, words, input, out, err) {
         Begun::Done(status) => status,
-        Begun::Working(job) => match run_job(rt, alloc, job, gate) {
-            Ok(answer) => write_answer(out, err, &answer),
-            Err(_) => write_line(err, b"memory\n", NO_MEMORY),
+        Begun::Working(job) => match run_to(rt, alloc, job, gate, out, err) {
+            Ok(Some(status)) => status,
+            Ok(None) | Err(_) => write_line(err, b"memory\n", NO_MEMORY),
         },
     }
 }

@@ -4,12 +4,15 @@ pub mod EndedRuns
 pub mod FirstBindings
 pub mod JobLemmas
 pub mod LastReasons
-pub mod MigrateLemmas
-pub mod MovesLemmas
 pub mod LeastEnds
 pub mod LeastTexts
+pub mod MigrateLemmas
+pub mod MovesLemmas
 pub mod OneAnswer
 pub mod PartLemmas
 pub mod ReplayLemmas
 pub mod SessionLemmas
+pub mod ShortLines
+pub mod ToldRuns
 pub mod Translations
+pub mod WrittenInTurn

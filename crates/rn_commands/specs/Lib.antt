@@ -15,3 +15,4 @@ pub mod Runs
 pub mod Stepping
 pub mod Translating
 pub mod Workloads
+pub mod Written

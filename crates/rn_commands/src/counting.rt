@@ -7,8 +7,8 @@ ghost use Rattle.rn_answering.specs.Refusing.{Concludes};
 ghost use Rattle.rn_commands.specs.Counting.{count_line, count_lines, CountsTo};
 ghost use Rattle.rn_commands.specs.link.Counting.{AreLinesOf, IsCountedBy};
 
+use crate::ends::end_line;
 use crate::runs::closed_by;
-use crate::workload::end_line;
 use rn_answering::{Answer, Stopped, system_of};
 use rn_fire::SimState;
 use rn_incr::{Counted, run_counts};

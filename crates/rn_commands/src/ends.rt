@@ -1,12 +1,12 @@
 //! The end of a log.
-ghost use Rattle.std.specs.Prelude.{◌≡◌, ◌≢◌, None, Some, length};
+ghost use Rattle.std.specs.Prelude.{◌≡◌, ◌≢◌, None, Some, IfSome, length};
 ghost use Rattle.rn_model.specs.declared.log.Entry.TheVariants as EntryIs;
 ghost use Rattle.rn_fire.specs.States.{IsState};
 ghost use Rattle.rn_replay.specs.link.Parts.{IsEnd};
-ghost use Rattle.rn_commands.specs.Ends.{end_word};
+ghost use Rattle.rn_commands.specs.Ends.{end_line, end_word};
 
 use rn_fire::SimState;
-use rn_model::{Entry, Reason};
+use rn_model::{Entry, FaultKind, Reason};
 
 // The reason of an entry that is an end.
 fn reason_of(entry: &Entry) -> &Reason
@@ -52,5 +52,18 @@ pub(crate) fn end_word(reason: &Reason) -> &'static [u8]
         Reason::Steps => b"steps",
         Reason::Fault(_, _) => b"fault",
         Reason::Memory => b"memory",
+    }
+}
+
+/// The first line of the end of a log.
+pub(crate) fn end_line(state: &SimState) -> &'static [u8]
+    ensures { IfSome state.now.ended (λ reason. result.now ≡ end_line reason) }
+{
+    match state.entries().last() {
+        Some(Entry::End(Reason::Steps)) => b"end steps\n",
+        Some(Entry::End(Reason::Memory)) => b"end memory\n",
+        Some(Entry::End(Reason::Fault(FaultKind::Action, _))) => b"end fault action\n",
+        Some(Entry::End(Reason::Fault(FaultKind::Instances, _))) => b"end fault instances\n",
+        _ => b"end dead\n",
     }
 }

@@ -3,6 +3,7 @@
 #![tactic(auto)]
 
 mod bindings;
+mod closing;
 mod counting;
 mod ends;
 mod jobs;
@@ -10,16 +11,19 @@ mod laws;
 mod least_runs;
 mod migrating;
 mod moving;
+mod readying;
 mod replays;
 mod running;
 mod runs;
 mod stepping;
+mod tallying;
+mod telling;
 mod translating;
 mod workload;
 
 pub use bindings::enabled;
 pub use counting::counts;
-pub use jobs::{Job, Pick, Telling, net_job, run_job, workload_job};
+pub use jobs::{Job, Pick, Telling, net_job, run_job, run_to, workload_job};
 pub use laws::{answer_laws, gen_laws, moves_laws, parts_laws};
 pub use least_runs::{least_run_laws, run_least};
 pub use migrating::migrate;

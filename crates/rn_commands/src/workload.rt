@@ -1,80 +1,37 @@
 //! The command `gen`: a run of the workload text, reported in four lines.
-ghost use Rattle.std.specs.Prelude.{◌≡◌, ◌≢◌, ◌≤◌, ◌++◌, None, IfOk, IfSome, OnOk};
+ghost use Rattle.std.specs.Prelude.{◌≡◌, ◌≢◌, ◌≤◌, None, IfOk};
 ghost use Rattle.rn_items.specs.Memory.{no_memory};
 ghost use Rattle.rn_model.specs.Good.{Good, IsInLimits};
 ghost use Rattle.rn_gen.specs.Workload.{workload, most_copies};
-ghost use Rattle.rn_commands.specs.Ends.{end_line};
 ghost use Rattle.rn_answering.specs.NetTexts.{Accepted};
 ghost use Rattle.rn_answering.specs.Refusing.{Concludes};
 ghost use Rattle.rn_answering.specs.declared.stopped.Stopped.TheVariants.{NoMemory as Memory};
-ghost use Rattle.rn_commands.specs.Workloads.{counted_line, GensTo};
-ghost use Rattle.rn_commands.specs.link.Workloads.{IsTallyOf, IsTalliedBy};
+ghost use Rattle.rn_commands.specs.Workloads.{GensTo};
+ghost use Rattle.rn_commands.specs.link.Workloads.{IsTalliedBy};
 
-use crate::ends::fired_count;
 use crate::jobs::{Pick, run_job, workload_job};
 use crate::runs::closed_by;
+use crate::tallying::tally_of;
 use rn_answering::{Answer, Stopped, system_of};
 use rn_fire::SimState;
 use rn_gen::{gen_text, workload_laws};
 use rn_items::{Items, NoMemory};
-use rn_live::live;
-use rn_model::{Entry, FaultKind, Options, Reason, System};
+use rn_model::{Options, System};
+use rn_window::fill;
 use rn_worker::Gate;
 use std::alloc::Global;
 use std::sync::Wait;
 use std::thread::Threads;
 
-// Appends a word and a number, as `steps 10`.
-fn put_counted(alloc: Global, word: &[u8], count: u64, text: &mut Vec<u8>) -> Result<(), NoMemory>
-    ensures { OnOk result (text.new.items ≡ text.old.items ++ counted_line word.now count) }
-{
-    let number = count.to_string(alloc)?;
-    text.extend_from_slice(word)?;
-    text.push(b' ')?;
-    text.extend_from_slice(number.as_bytes())?;
-    text.push(b'\n')?;
-    Ok(())
-}
-
-/// The first line of the end of a log.
-pub(crate) fn end_line(state: &SimState) -> &'static [u8]
-    ensures { IfSome state.now.ended (λ reason. result.now ≡ end_line reason) }
-{
-    match state.entries().last() {
-        Some(Entry::End(Reason::Steps)) => b"end steps\n",
-        Some(Entry::End(Reason::Memory)) => b"end memory\n",
-        Some(Entry::End(Reason::Fault(FaultKind::Action, _))) => b"end fault action\n",
-        Some(Entry::End(Reason::Fault(FaultKind::Instances, _))) => b"end fault instances\n",
-        _ => b"end dead\n",
-    }
-}
-
-// What a run did: its firings, the instances ever made, those that are live, and the end.
-fn tally_text(alloc: Global, state: &SimState) -> Result<Vec<u8>, NoMemory>
-    requires { state.now.ended ≢ None }
-    ensures { IfOk result (λ text. IsTallyOf state.now text.items) }
-{
-    let live = live(alloc, state.system(), state.table())?;
-    let mut text = Vec::new(alloc);
-    put_counted(alloc, b"steps", fired_count(state), &mut text)?;
-    put_counted(
-        alloc,
-        b"made",
-        state.table().next().saturating_sub(1) as u64,
-        &mut text,
-    )?;
-    put_counted(alloc, b"live", live.len() as u64, &mut text)?;
-    text.extend_from_slice(end_line(state))?;
-    Ok(text)
-}
-
 /// What the tally of a state whose log has ended comes to.
-pub(crate) fn tallied(alloc: Global, state: &SimState) -> Result<Answer, NoMemory>
-    requires { state.now.ended ≢ None }
-    ensures { IfOk result (λ a. IsTalliedBy state.now a) }
+pub(crate) fn tallied(alloc: Global, state: SimState) -> Result<Answer, NoMemory>
+    requires { state.ended ≢ None }
+    ensures { IfOk result (λ a. IsTalliedBy state a) }
 {
-    let text = tally_text(alloc, state)?;
-    let (status, line) = closed_by(alloc, state)?;
+    let (status, line) = closed_by(alloc, &state)?;
+    let tally = tally_of(state);
+    let mut text = Vec::new(alloc);
+    fill(alloc, &tally, &mut text)?;
     Ok(Answer {
         status,
         text: Items::from_vec(text),

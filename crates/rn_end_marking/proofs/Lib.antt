@@ -1,1 +1,4 @@
 pub mod LinesInOrder
+pub mod PouredLines
+pub mod ShortLines
+pub mod TokenTexts

@@ -28,7 +28,7 @@ use Rattle.rn_fire.specs.declared.setup.Setup.{Setup}
 use Rattle.rn_fire.specs.Commits.{HasFired}
 use Rattle.rn_fire.specs.link.Outcomes.{FiresBy}
 use Rattle.rn_fire.specs.States.{State}
-use Rattle.rn_fire.specs.link.States.{KeepsState, state_of, firings_in, end_in}
+use Rattle.rn_fire.specs.link.States.{KeepsRun, state_of, firings_in, end_in}
 use Rattle.rn_fire.proofs.EntryLemmas.{fired_more}
 use Rattle.rn_fire.proofs.StateLemmas.{are_firings, keeps, state_with}
 
@@ -39,7 +39,7 @@ alike_defined f (Ok g) alike = (g, refl, alike)
 alike_defined f (Err cause) alike = absurd alike
 
 module _ (setup : Setup) (entries : List Entry) (room : ℕ) (table : Kept)
-    (k : KeepsState setup entries room table) (going : end_in entries ≡ None)
+    (k : KeepsRun setup entries room table) (going : end_in entries ≡ None)
     (worker : ℕ) (b : Binding) (outs : List Value) (change : Change)
     (enabled : Enabled setup.system (end_of setup.system (firings_in entries)) b setup.options.depth)
     (by : FiresBy setup.system b table.marking.next (suc (length (firings_in entries))) outs change)
@@ -113,7 +113,7 @@ module _ (setup : Setup) (entries : List Entry) (room : ℕ) (table : Kept)
           ∙ ap (λ es. es ++ Fire worker b outs ∷ []) (are_firings setup entries room table k going)
           ∙ fired_more fs firing
 
-      pub keeps_fired : KeepsState setup more room after
+      pub keeps_fired : KeepsRun setup more room after
       keeps_fired =
           keeps setup more room after (fs ++ firing ∷ []) None entries_are
           (record {

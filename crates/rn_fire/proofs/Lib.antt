@@ -2,6 +2,7 @@ pub mod ChangedLemmas
 pub mod DroppingLemmas
 pub mod EntryLemmas
 pub mod FiringLemmas
+pub mod NetLemmas
 pub mod OutcomeLemmas
 pub mod RewindingLemmas
 pub mod StateLemmas

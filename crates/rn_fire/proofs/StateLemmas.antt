@@ -11,7 +11,7 @@ use Rattle.rn_model.proofs.RunLemmas.{dead_runs_stop}
 use Rattle.rn_table.specs.Tables.{Kept}
 use Rattle.rn_fire.specs.declared.setup.Setup.{Setup}
 use Rattle.rn_fire.specs.States.{State, IsState, end_marking}
-use Rattle.rn_fire.specs.link.States.{KeepsState, state_of, firings_in, end_in}
+use Rattle.rn_fire.specs.link.States.{KeepsRun, state_of, firings_in, end_in}
 use Rattle.rn_fire.specs.Ends.{MayEndBy, WasDead, with_end}
 use Rattle.rn_fire.proofs.EntryLemmas.{firings_of, end_of_entries, ended_more, count_going}
 
@@ -27,7 +27,7 @@ state_with setup fs ended table =
 pub keeps : (setup : Setup) (entries : List Entry) (room : ℕ) (table : Kept) (fs : List Firing) (ended : Option Reason) →
     entries ≡ entries_of fs ended →
     IsState (record { setup = setup; fired = fs; ended = ended; table = table }) →
-    setup.options.steps + 1 ≤ room → KeepsState setup entries room table
+    setup.options.steps + 1 ≤ room → KeepsRun setup entries room table
 keeps setup entries room table fs ended are is enough = record {
   state = subst (λ es. IsState (state_of setup es table)) (sym are)
       (subst IsState (sym (state_with setup fs ended table)) is);
@@ -38,7 +38,7 @@ keeps setup entries room table fs ended are is enough = record {
 
 -- Of a state whose log hasn't ended.
 module _ (setup : Setup) (entries : List Entry) (room : ℕ) (table : Kept)
-    (k : KeepsState setup entries room table) (going : end_in entries ≡ None) where
+    (k : KeepsRun setup entries room table) (going : end_in entries ≡ None) where
   abbrev fs : List Firing
   fs = firings_in entries
 
@@ -62,7 +62,7 @@ module _ (setup : Setup) (entries : List Entry) (room : ℕ) (table : Kept)
       ∙ state_with setup fs (Some reason) table
 
   pub keeps_ended : (reason : Reason) (after : List Entry) → after ≡ entries ++ End reason ∷ [] →
-      MayEndBy (state_of setup entries table) reason → KeepsState setup after room table
+      MayEndBy (state_of setup entries table) reason → KeepsRun setup after room table
   keeps_ended reason after is true_end =
       keeps setup after room table fs (Some reason)
       (is ∙ ap (λ es. es ++ End reason ∷ []) are_firings ∙ ended_more fs reason)

@@ -1,4 +1,6 @@
 pub mod link
 pub mod Commits
 pub mod Ends
+pub mod Nets
+pub mod Parts
 pub mod States

@@ -1,17 +1,18 @@
 //! Committing a candidate.
 ghost use Rattle.std.specs.Prelude.{◌≡◌, ◌<◌, ◌≤◌, ◌↔◌, ◌+◌, suc, None, IfOk, OnOk, OnErr, IsTrue, length};
-ghost use Rattle.rn_model.specs.Limits.{most_workers};
+ghost use Rattle.rn_model.specs.Limits.{greatest_instance, most_workers};
 ghost use Rattle.rn_binding.specs.Soundness.{IsSound};
 ghost use Rattle.rn_fire.specs.Commits.{Commits, FiresOrFaults, HasFired, IsEnabledNow, WasEnabled};
 ghost use Rattle.rn_fire.specs.Ends.{MayGoOn};
 ghost use Rattle.rn_fire.specs.link.Outcomes.{FiresBy};
 
+use crate::nets::add_nets;
 use crate::outcome::{Outcome, outcome_of};
 use crate::state::SimState;
 use rn_arcs::fits;
 use rn_binding::Candidate;
 use rn_items::NoMemory;
-use rn_model::{Binding, Entry, Reason, copy_binding};
+use rn_model::{Binding, Entry, copy_binding};
 use rn_table::Change;
 use rn_value::Vals;
 use std::alloc::Global;
@@ -104,7 +105,7 @@ impl SimState {
         let copied = copy_binding(alloc, binding)?;
         match outcome_of(alloc, self.system(), binding, self.table().next(), step)? {
             Outcome::Undefined(cause) => {
-                self.end(Reason::Fault(cause, copied));
+                self.end_by_fault(alloc, cause, copied)?;
                 Ok(None)
             }
             Outcome::Defined(outs, change) => {
@@ -132,7 +133,11 @@ impl SimState {
             (record { worker = worker; binding = binding; outs = outs }) self.new) }
         ensures err { OnErr result (self.new ≡ self.old) }
     {
+        let next = next_after(self.table.next(), change.made.len());
+        self.nets.reserve(change.made.len())?;
+        self.live.reserve(next)?;
         self.table.apply(&self.system, change)?;
+        add_nets(&mut self.nets, change.made.as_slice());
         self.entries.push_reserved(Entry::Fire {
             worker,
             binding,
@@ -140,4 +145,12 @@ impl SimState {
         });
         Ok(())
     }
+}
+
+// The next number after so many new instances.
+fn next_after(next: u32, made: usize) -> u32
+    requires { next + made ≤ greatest_instance + 1 }
+    ensures { result ≡ next + made }
+{
+    next + made as u32
 }

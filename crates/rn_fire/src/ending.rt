@@ -1,11 +1,17 @@
-//! The ends of a log other than by an undefined firing. None of these calls takes memory.
-ghost use Rattle.std.specs.Prelude.{◌≡◌, None};
+//! The ends of a log. Only one by an undefined firing takes memory.
+ghost use Rattle.std.specs.Prelude.{◌≡◌, [], All, None, OnErr, OnOk};
+ghost use Rattle.rn_model.specs.declared.log.Entry.TheVariants as Entry;
 ghost use Rattle.rn_model.specs.declared.log.Reason.TheVariants as End;
+ghost use Rattle.rn_model.specs.Bindings.{IsNodeOf};
+ghost use Rattle.rn_spell.specs.Made.{made_in};
 ghost use Rattle.rn_fire.specs.Ends.{EndsAtLimit, EndsDead, MayEndBy, MayGoOn, WasDead, with_end};
 
+use crate::nets::add_nets;
 use crate::state::SimState;
+use rn_acts::nets_made;
 use rn_items::NoMemory;
-use rn_model::{Entry, Reason};
+use rn_model::{Binding, Entry, FaultKind, Reason};
+use std::alloc::Global;
 
 /// What a worker that finds nothing enabled is told.
 #[derive(Clone, Copy, Debug, PartialEq, Eq)]
@@ -18,13 +24,36 @@ pub enum NoneCommit {
 }
 
 impl SimState {
-    /// Ends a log that hasn't ended. There is room for the end.
-    pub(crate) fn end(&mut self, reason: Reason)
+    /// Ends a log that hasn't ended, by a reason that has no binding. There is room for the end.
+    fn end(&mut self, reason: Reason)
         requires going { self.old.ended ≡ None }
         requires true_end { MayEndBy self.old reason }
+        requires none { made_in self.old.setup.system (Entry.End reason) ≡ [] }
         ensures { self.new ≡ with_end reason self.old }
     {
         self.entries.push_reserved(Entry::End(reason));
+    }
+
+    /// Ends a log that hasn't ended with the fault of a binding. There is room for the end, and the
+    /// nets that the binding names come with it.
+    pub(crate) fn end_by_fault(
+        &mut self,
+        alloc: Global,
+        cause: FaultKind,
+        binding: Binding,
+    ) -> Result<(), NoMemory>
+        requires going { self.old.ended ≡ None }
+        requires true_end { MayEndBy self.old (End.Fault cause binding) }
+        requires nodes { All (IsNodeOf self.old.setup.system) binding.nodes }
+        ensures ok { OnOk result (self.new ≡ with_end (End.Fault cause binding) self.old) }
+        ensures err { OnErr result (self.new ≡ self.old) }
+    {
+        let made = nets_made(alloc, &self.system, &binding)?;
+        self.nets.reserve(made.len())?;
+        add_nets(&mut self.nets, made.as_slice());
+        self.entries
+            .push_reserved(Entry::End(Reason::Fault(cause, binding)));
+        Ok(())
     }
 
     /// Ends the log as dead, unless it has ended. Nothing was enabled after the first `seen`

@@ -6,7 +6,9 @@ mod committing;
 mod dropping;
 mod ending;
 mod kept;
+mod nets;
 mod outcome;
+mod parts;
 mod rewinding;
 mod setup;
 mod sharing;
@@ -14,5 +16,6 @@ mod state;
 
 pub use committing::Commit;
 pub use ending::NoneCommit;
+pub use parts::Parts;
 pub use setup::Setup;
 pub use state::{SimState, open_state};

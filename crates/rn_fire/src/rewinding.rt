@@ -22,6 +22,9 @@ impl SimState {
           table = table;
         } }
     {
+        // Instances get the numbers from 1 one after another, so this tells how many there were.
+        let made = table.next() as usize - 1;
+        self.nets.truncate(made);
         self.entries.truncate(count as usize);
         self.table = table;
     }

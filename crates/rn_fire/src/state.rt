@@ -8,7 +8,10 @@ ghost use Rattle.rn_model.specs.Runs.{Log};
 ghost use Rattle.rn_table.specs.Tables.{IsTableOf};
 ghost use Rattle.rn_fire.specs.States.{IsState, end_marking, logged};
 
+use crate::nets::first_nets;
+use crate::parts::first_room;
 use rn_items::NoMemory;
+use rn_live::LiveRoom;
 use rn_model::{Entry, Options, System};
 use rn_table::Table;
 use std::alloc::Global;
@@ -17,13 +20,16 @@ use std::sync::Arc;
 
 /// A system with its options, the log of its run so far, and the table at the log's end.
 ///
-/// The table may have dropped instances that aren't live.
+/// The table may have dropped instances that aren't live. The net of each instance that was made is
+/// kept, and there is room in which the live ones are marked.
 #[derive(Drop)]
 pub struct SimState {
     pub(crate) system: Arc<System>,
     pub(crate) options: Options,
     pub(crate) entries: Vec<Entry>,
     pub(crate) table: Table,
+    pub(crate) nets: Vec<u32>,
+    pub(crate) live: LiveRoom,
 }
 
 impl Model for SimState {
@@ -52,7 +58,7 @@ impl Model for SimState {
         s.entries.items s.table };
 
     ghost invariant = { λ s. KeepsState (record { system = s.system.value; options = s.options })
-        s.entries.items (vec_capacity s.entries) s.table };
+        s.entries.items (vec_capacity s.entries) s.table s.nets.items s.live };
 }
 
 /// The state in which a run starts: an empty log and the initial table. It takes room for the
@@ -74,11 +80,15 @@ pub fn open_state(
 {
     let entries = Vec::with_capacity(alloc, options.steps as usize + 1)?;
     let table = Table::new(alloc, &system)?;
+    let nets = first_nets(alloc, &system)?;
+    let live = first_room(alloc, &system, table.next())?;
     Ok(SimState {
         system,
         options,
         entries,
         table,
+        nets,
+        live,
     })
 }
 

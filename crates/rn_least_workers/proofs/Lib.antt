@@ -1,3 +1,2 @@
 pub mod LeastSeen
-pub mod OwnEntries
 pub mod ThreadSafety

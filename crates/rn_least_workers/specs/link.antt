@@ -1,3 +1,4 @@
 pub mod Following
 pub mod LeastPlans
 pub mod LeastPosts
+pub mod LeastReady

@@ -5,8 +5,10 @@ mod acting;
 mod considering;
 mod looking;
 mod posts;
+mod ready;
 mod team;
 mod worker;
 mod workers;
 
+pub use ready::{LeastReady, get_least_ready};
 pub use workers::run_least;

@@ -6,7 +6,8 @@ use Rattle.rn_model.specs.Liveness.{IsLive}
 use Rattle.rn_model.specs.Markings.{Marking, IsThere, instance_at}
 use Rattle.rn_model.proofs.EnablingLemmas.{not_in_nil}
 use Rattle.rn_model.proofs.LiveBindings.{live_is_there}
-use Rattle.rn_live.specs.link.Marks.{Marked, is_marked, is_unmarked}
+use Rattle.rn_live.specs.Rooms.{is_marked}
+use Rattle.rn_live.specs.link.Marks.{Marked, is_unmarked}
 use Rattle.rn_live.proofs.HolderLemmas.{numbered, there_numbered}
 use Rattle.rn_live.proofs.LiveMarks.{net_there}
 
@@ -15,10 +16,10 @@ pub if_ok : {A E : Type 0} (P Q : A → Type 0) (r : Result A E) → ((a : A) �
 if_ok P Q (Ok a) pass h = pass a h
 if_ok P Q (Err e) pass h = h
 
-later : (x : ℕ) (xs : List ℕ) (n : ℕ) → Contains xs n → Contains (x ∷ xs) n
+pub later : (x : ℕ) (xs : List ℕ) (n : ℕ) → Contains xs n → Contains (x ∷ xs) n
 later x xs n there = (suc there.0, omega (arith, there.1), there.2)
 
-first_or_later : (x : ℕ) (xs : List ℕ) (n : ℕ) → Contains (x ∷ xs) n → (x ≡ n) ⊎ Contains xs n
+pub first_or_later : (x : ℕ) (xs : List ℕ) (n : ℕ) → Contains (x ∷ xs) n → (x ≡ n) ⊎ Contains xs n
 first_or_later x xs n (zero, h, is) = inl is
 first_or_later x xs n (suc k, h, is) = inr (k, omega (arith, h), is)
 

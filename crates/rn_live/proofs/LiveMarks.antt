@@ -1,24 +1,18 @@
 -- What holds of the marks while found instances wait, and that all live ones are marked where none
 -- waits.
-use Rattle.std.proofs.Common.{◌≡◌, ℕ, zero, suc, ◌<◌, Bool, true, false, List, [], ◌∷◌, ◌++◌, length, replicate, refl, sym, subst, inl, inr, arith}
+use Rattle.std.proofs.Common.{◌≡◌, ℕ, ◌<◌, ◌≤◌, Bool, true, false, List, [], ◌∷◌, ◌++◌, length, refl, sym, subst, inl, inr, arith}
 use Rattle.std.specs.Prelude.{◌⊎◌, Option, Some, None, IsTrue, All, Contains, option_map, ◌↔◌}
 use Rattle.std.proofs.lemmas.List.Elements.{Contains-push, Contains-append_left, Contains-push_cases}
-use Rattle.std.specs.List.{list_any}
-use Rattle.std.proofs.lemmas.List.{length-replicate}
 use Rattle.rn_model.specs.declared.system.System.{System}
 use Rattle.rn_model.specs.Systems.{may_start}
 use Rattle.rn_model.specs.Liveness.{IsLive, starts, held}
 use Rattle.rn_model.specs.Markings.{Marking, Instance, IsThere, instance_at, net_of}
 use Rattle.rn_model.proofs.EnablingLemmas.{not_in_nil}
 use Rattle.rn_model.proofs.AfterFiring.{found_number}
-use Rattle.rn_live.specs.link.Marks.{Marked, Finds, holds, is_start}
-use Rattle.rn_live.proofs.HolderLemmas.{held_by, holds_mentioned, numbered, of_each}
-use Rattle.rn_live.proofs.StartLemmas.{starting, numbers, is_starting, starting_live, live_starting}
-
-none_marked : (end n : ℕ) → Marked (replicate end false) n → ⊥
-none_marked zero n e = let no : ⊥ = cc in no
-none_marked (suc end) zero e = let no : ⊥ = cc in no
-none_marked (suc end) (suc n) e = none_marked end n e
+use Rattle.rn_live.specs.Rooms.{is_marked, starts_of}
+use Rattle.rn_live.specs.link.Marks.{Marked, Finds, holds, is_start_below}
+use Rattle.rn_live.proofs.HolderLemmas.{held_by, holds_mentioned, of_each}
+use Rattle.rn_live.proofs.StartLemmas.{is_starting, starting_live, live_starting}
 
 pub net_there : (o : Option Instance) (net : ℕ) → option_map (λ i. i.net) o ≡ Some net → (i : Instance) × (o ≡ Some i)
 net_there None net e = absurd (let no : ⊥ = cc in no)
@@ -44,43 +38,42 @@ module _ (system : System) (m : Marking) where
       let number : there.0.number ≡ n = found_number m.instances n there.0 there.1 in
       subst (λ k. k < end) number (of_each P m n there.0 all there.1).1
 
-  pub first_found : (end : ℕ) (marks : List Bool) (waiting : List ℕ) → All (λ i. (0 < i.number) × (i.number < end)) m.instances → Finds m (is_starting system m) (replicate end false) marks [] waiting → IsUnderWay marks waiting
-  first_found end marks waiting all found =
-      let within : (n : ℕ) → IsThere m n → n < length (replicate end false) = λ n there. subst (λ k. n < k) (sym (length-replicate end false)) (all_below end all n there) in
+  -- where no number was marked and those that start were found below an end that all are below
+  pub first_found : (end room left : ℕ) (old marks : List Bool) (none waiting : List ℕ) → ((n : ℕ) → is_marked old n ≡ false) → none ≡ [] → end ≤ length old → All (λ i. (0 < i.number) × (i.number < end)) m.instances → Finds m (is_starting system m end) old marks none waiting room left → IsUnderWay marks waiting
+  first_found end room left old marks none waiting unmarked none_waits most all found =
+      let within : (n : ℕ) → IsThere m n → n < length old = λ n there. let less = all_below end all n there in omega (arith, less, most) in
+      let not_yet : (n : ℕ) → Marked old n → ⊥ = λ n marked. let is = unmarked n in let no : ⊥ = cc in no in
       record {
         below = λ n there. subst (λ k. n < k) (sym found.size) (within n there);
         live = λ n marked. elim (found.came n marked) as (λ _. IsLive system m n) [
-          | inl before ↦ absurd (none_marked end n before)
-          | inr now ↦ starting_live system m n now.1.0
+          | inl before ↦ absurd (not_yet n before)
+          | inr now ↦ starting_live system m end n now.1.0
         ];
         due = λ n waits. elim (found.due n waits) as (λ _. IsLive system m n) [
-          | inl before ↦ absurd (not_in_nil n before)
-          | inr now ↦ starting_live system m n now.0
+          | inl before ↦ absurd (not_in_nil n (subst (λ ns. Contains ns n) none_waits before))
+          | inr now ↦ starting_live system m end n now.0
         ];
         starts = λ n net is may.
             let there = net_there (instance_at m n) net is in
-            found.all n (live_starting system m n net is may (numbered m.instances n there.0 there.1)) there (within n there);
+            found.all n (live_starting system m end n net is may (all_below end all n there)) there (within n there);
         gone = λ n marked. elim (found.came n marked) as (λ _. Contains waiting n ⊎ IsGoneThrough marks n) [
-          | inl before ↦ absurd (none_marked end n before)
+          | inl before ↦ absurd (not_yet n before)
           | inr now ↦ inl now.0
         ];
       }
 
-  pub starts_found : (end : ℕ) (tests : List Bool) (kept : List ℕ) (old marks : List Bool) (none waiting : List ℕ) → tests ≡ starting system m → kept ≡ numbers system m → old ≡ replicate end false → none ≡ [] → All (λ i. (0 < i.number) × (i.number < end)) m.instances → Finds m (λ n. list_any (λ k. is_start m tests k n) kept) old marks none waiting → IsUnderWay marks waiting
-  starts_found end tests kept old marks none waiting tests_are kept_are old_are none_are all found =
-      first_found end marks waiting all
-      (subst (λ ss. Finds m (λ n. list_any (λ k. is_start m ss k n) (numbers system m)) (replicate end false) marks [] waiting) tests_are
-      (subst (λ ks. Finds m (λ n. list_any (λ k. is_start m tests k n) ks) (replicate end false) marks [] waiting) kept_are
-      (subst (λ ms. Finds m (λ n. list_any (λ k. is_start m tests k n) kept) ms marks [] waiting) old_are
-      (subst (λ ws. Finds m (λ n. list_any (λ k. is_start m tests k n) kept) old marks ws waiting) none_are found))))
+  pub starts_found : (tests : List Bool) (end room left : ℕ) (old marks : List Bool) (none waiting : List ℕ) → tests ≡ starts_of system → ((n : ℕ) → is_marked old n ≡ false) → none ≡ [] → end ≤ length old → All (λ i. (0 < i.number) × (i.number < end)) m.instances → Finds m (is_start_below m tests end) old marks none waiting room left → IsUnderWay marks waiting
+  starts_found tests end room left old marks none waiting tests_are unmarked none_waits most all found =
+      first_found end room left old marks none waiting unmarked none_waits most all
+      (subst (λ ss. Finds m (is_start_below m ss end) old marks none waiting room left) tests_are found)
 
   -- what a live instance holds is live
   held_live : (h n : ℕ) → IsLive system m h → holds m h n ≡ true → IsThere m n → IsLive system m n
   held_live h n live e there =
       let by = held_by m h n e in held {holder = h} {token = by.1} by.0 live by.2 by.3 there
 
-  pub one_gone : (k : ℕ) (marks new : List Bool) (rest longer : List ℕ) → IsUnderWay marks (rest ++ k ∷ []) → Finds m (holds m k) marks new rest longer → IsUnderWay new longer
-  one_gone k marks new rest longer so found =
+  pub one_gone : (k room left : ℕ) (marks new : List Bool) (rest longer : List ℕ) → IsUnderWay marks (rest ++ k ∷ []) → Finds m (holds m k) marks new rest longer room left → IsUnderWay new longer
+  one_gone k room left marks new rest longer so found =
       let live : IsLive system m k = so.due k (Contains-push rest k) in
       record {
         below = λ n there. subst (λ j. n < j) (sym found.size) (so.below n there);

@@ -1,2 +1,3 @@
 pub mod link
 pub mod Laws
+pub mod Rooms

@@ -1,8 +1,8 @@
 //! The instances that were found so far.
-ghost use Rattle.std.specs.Prelude.{◌≡◌, [], nat_eq, replicate, false, IfOk, OnOk};
-ghost use Rattle.rn_live.specs.link.Marks.{Finds};
+ghost use Rattle.std.specs.Prelude.{◌≡◌, ℕ, [], false, length, nat_eq, vec_capacity};
+ghost use Rattle.rn_live.specs.Rooms.{is_marked};
+ghost use Rattle.rn_live.specs.link.Marks.{FindsIn, HasRoom};
 
-use rn_items::NoMemory;
 use rn_table::Table;
 use std::alloc::Global;
 
@@ -14,31 +14,40 @@ pub(crate) struct Found {
 }
 
 impl Found {
-    /// No number is marked.
-    pub(crate) fn none(alloc: Global, end: usize) -> Result<Found, NoMemory>
-        ensures marks { IfOk result (λ found. found.marks.items ≡ replicate end false) }
-        ensures waiting { IfOk result (λ found. found.waiting.items ≡ []) }
+    /// No number is marked, and there is no mark.
+    pub(crate) fn none(alloc: Global) -> Found
+        ensures marks { result.marks.items ≡ [] }
+        ensures waiting { result.waiting.items ≡ [] }
     {
-        let marks = vec![in alloc; false; end]?;
-        Ok(Found {
-            marks,
+        Found {
+            marks: Vec::new(alloc),
             waiting: Vec::new(alloc),
-        })
+        }
     }
 
     /// One instance more, where it is kept and isn't marked yet.
-    pub(crate) fn add(&mut self, table: &Table, number: u32) -> Result<(), NoMemory>
-        ensures { OnOk result (Finds table.now.marking (nat_eq number) self.old.marks.items self.new.marks.items self.old.waiting.items self.new.waiting.items) }
+    pub(crate) fn add(&mut self, table: &Table, number: u32)
+        requires { HasRoom self.old }
+        ensures { FindsIn table.now.marking (nat_eq number) self.old self.new }
     {
         let at = number as usize;
         if at >= self.marks.len() {
-            return Ok(());
+            return;
         }
         if self.marks[at] || table.net_of(number).is_none() {
-            return Ok(());
+            return;
         }
-        self.waiting.push(number)?;
+        self.waiting.push_reserved(number);
         self.marks[at] = true;
-        Ok(())
+    }
+}
+
+/// No number is marked any more.
+pub(crate) fn unmark(marks: &mut Vec<bool>)
+    ensures size { length marks.new.items ≡ length marks.old.items }
+    ensures none { (n : ℕ) → is_marked marks.new.items n ≡ false }
+{
+    for at in 0..marks.len() {
+        marks[at] = false;
     }
 }

@@ -1,11 +1,12 @@
 //! The lists of the instances that are live and of those that aren't.
-ghost use Rattle.std.specs.Prelude.{◌≡◌, ◌<◌, ◌^◌, ◌↔◌, ℕ, Some, Contains, length, filter, IfOk};
+ghost use Rattle.std.specs.Prelude.{◌≡◌, ◌<◌, ◌^◌, ◌↔◌, ℕ, Some, Contains, length, filter, map, IfOk};
 ghost use Rattle.std.specs.List.Sorted.{IsStrictlyIncreasing};
 ghost use Rattle.rn_model.specs.Markings.{Instance, IsThere, instance_at};
 ghost use Rattle.rn_model.specs.Liveness.{IsLive};
-ghost use Rattle.rn_live.specs.link.Marks.{is_marked, is_unmarked};
+ghost use Rattle.rn_live.specs.Rooms.{is_marked};
+ghost use Rattle.rn_live.specs.link.Marks.{Marked, is_unmarked};
 
-use crate::marking::live_marks;
+use crate::room::LiveRoom;
 use rn_items::NoMemory;
 use rn_model::System;
 use rn_table::Table;
@@ -21,8 +22,8 @@ pub fn live(alloc: Global, system: &System, table: &Table) -> Result<Vec<u32>, N
         Contains numbers.items n ↔ IsLive system.now table.now.marking n) }
 {
     let numbers = table.instances()?;
-    let marks = live_marks(alloc, system, table, numbers.as_slice())?;
-    those_marked(alloc, numbers.as_slice(), marks.as_slice())
+    let room = live_room(alloc, system, table)?;
+    those_marked(alloc, numbers.as_slice(), &room)
 }
 
 /// The kept instances that aren't live, ascending: just these may be dropped. Each instance
@@ -36,27 +37,33 @@ pub fn garbage(alloc: Global, system: &System, table: &Table) -> Result<Vec<u32>
         (IsThere table.now.marking n × ¬ IsLive system.now table.now.marking n)) }
 {
     let numbers = table.instances()?;
-    let marks = live_marks(alloc, system, table, numbers.as_slice())?;
-    those_unmarked(alloc, numbers.as_slice(), marks.as_slice())
+    let room = live_room(alloc, system, table)?;
+    those_unmarked(alloc, numbers.as_slice(), &room)
 }
 
-/// Whether a number is marked.
-fn has_mark(marks: &[bool], number: u32) -> bool
-    ensures { result ≡ is_marked marks.now number }
+/// Room in which the live instances are marked.
+fn live_room(alloc: Global, system: &System, table: &Table) -> Result<LiveRoom, NoMemory>
+    requires { (n : ℕ) (i : Instance) →
+        instance_at table.now.marking n ≡ Some i → length i.places < 2 ^ 32 }
+    ensures ascending { IfOk result (λ room.
+        IsStrictlyIncreasing (map (λ i. i.number) table.now.marking.instances)) }
+    ensures marks { IfOk result (λ room. (n : ℕ) →
+        Marked room.marks n ↔ IsLive system.now table.now.marking n) }
 {
-    match marks.get(number as usize) {
-        Some(mark) => *mark,
-        None => false,
-    }
+    let mut room = LiveRoom::new(alloc, system)?;
+    room.reserve(table.next())?;
+    room.mark(system, table);
+    Ok(room)
 }
 
 /// Those of the numbers that are marked.
-fn those_marked(alloc: Global, numbers: &[u32], marks: &[bool]) -> Result<Vec<u32>, NoMemory>
-    ensures { IfOk result (λ those. those.items ≡ filter (is_marked marks.now) numbers.now) }
+fn those_marked(alloc: Global, numbers: &[u32], room: &LiveRoom) -> Result<Vec<u32>, NoMemory>
+    ensures { IfOk result (λ those.
+        those.items ≡ filter (is_marked room.now.marks) numbers.now) }
 {
     let mut those = Vec::new(alloc);
     for number in numbers {
-        if has_mark(marks, *number) {
+        if room.is_live(*number) {
             those.push(*number)?;
         }
     }
@@ -64,12 +71,13 @@ fn those_marked(alloc: Global, numbers: &[u32], marks: &[bool]) -> Result<Vec<u3
 }
 
 /// Those of the numbers that aren't marked.
-fn those_unmarked(alloc: Global, numbers: &[u32], marks: &[bool]) -> Result<Vec<u32>, NoMemory>
-    ensures { IfOk result (λ those. those.items ≡ filter (is_unmarked marks.now) numbers.now) }
+fn those_unmarked(alloc: Global, numbers: &[u32], room: &LiveRoom) -> Result<Vec<u32>, NoMemory>
+    ensures { IfOk result (λ those.
+        those.items ≡ filter (is_unmarked room.now.marks) numbers.now) }
 {
     let mut those = Vec::new(alloc);
     for number in numbers {
-        if !has_mark(marks, *number) {
+        if !room.is_live(*number) {
             those.push(*number)?;
         }
     }

@@ -1,7 +1,7 @@
 //! The instances that are live by their net.
-ghost use Rattle.std.specs.Prelude.{◌≡◌, map, is_none, IfOk, OnOk};
-ghost use Rattle.std.specs.List.{list_any};
-ghost use Rattle.rn_live.specs.link.Marks.{Finds, is_start};
+ghost use Rattle.std.specs.Prelude.{◌≡◌, IfOk};
+ghost use Rattle.rn_live.specs.Rooms.{starts_of};
+ghost use Rattle.rn_live.specs.link.Marks.{FindsIn, HasRoom, is_start, is_start_below};
 
 use crate::found::Found;
 use rn_items::NoMemory;
@@ -11,7 +11,7 @@ use std::alloc::Global;
 
 /// For each net whether one of its transitions has no uplink.
 pub(crate) fn starting_nets(alloc: Global, system: &System) -> Result<Vec<bool>, NoMemory>
-    ensures { IfOk result (λ starting. starting.items ≡ map (λ net. list_any (λ t. is_none t.uplink) net.transitions) system.now.nets) }
+    ensures { IfOk result (λ starting. starting.items ≡ starts_of system.now) }
 {
     let mut starting = Vec::with_capacity(alloc, system.nets.len())?;
     for net in system.nets.as_slice() {
@@ -21,34 +21,27 @@ pub(crate) fn starting_nets(alloc: Global, system: &System) -> Result<Vec<bool>,
 }
 
 /// Finds an instance where its net has such a transition.
-fn visit_start(
-    number: u32,
-    starting: &[bool],
-    table: &Table,
-    found: &mut Found,
-) -> Result<(), NoMemory>
-    ensures { OnOk result (Finds table.now.marking (is_start table.now.marking starting.now number) found.old.marks.items found.new.marks.items found.old.waiting.items found.new.waiting.items) }
+fn visit_start(number: u32, starting: &[bool], table: &Table, found: &mut Found)
+    requires { HasRoom found.old }
+    ensures { FindsIn table.now.marking
+        (is_start table.now.marking starting.now number) found.old found.new }
 {
     let Some(net) = table.net_of(number) else {
-        return Ok(());
+        return;
     };
-    match starting.get(net as usize) {
-        Some(true) => found.add(table, number),
-        _ => Ok(()),
+    if let Some(true) = starting.get(net as usize) {
+        found.add(table, number);
     }
 }
 
-/// Finds the instances of these numbers whose net has such a transition.
-pub(crate) fn visit_starts(
-    numbers: &[u32],
-    starting: &[bool],
-    table: &Table,
-    found: &mut Found,
-) -> Result<(), NoMemory>
-    ensures { OnOk result (Finds table.now.marking (λ n. list_any (λ k. is_start table.now.marking starting.now k n) numbers.now) found.old.marks.items found.new.marks.items found.old.waiting.items found.new.waiting.items) }
+/// Finds the instances below this number whose net has such a transition.
+#[tactic(auto, using(crate::proofs::FindLemmas::still_room))]
+pub(crate) fn visit_starts(next: u32, starting: &[bool], table: &Table, found: &mut Found)
+    requires { HasRoom found.old }
+    ensures { FindsIn table.now.marking
+        (is_start_below table.now.marking starting.now next) found.old found.new }
 {
-    for number in numbers {
-        visit_start(*number, starting, table, found)?;
+    for number in 0..next {
+        visit_start(number, starting, table, found);
     }
-    Ok(())
 }

@@ -28,6 +28,7 @@ pub fn write_all<O: Sink>(sink: &mut O, bytes: &[u8]) -> Result<(), WriteFault>
 
     // Each call but one that fails takes a byte at least, and none is for no bytes.
     ensures calls { O.writes sink.new ≤ O.writes sink.old + (length bytes.now + 1) }
+    ensures calls_ok { OnOk result (O.writes sink.new ≤ O.writes sink.old + length bytes.now) }
     ensures seldom { IsCalledSeldom (O.held sink.old) (O.held sink.new)
         (O.writes sink.old) (O.writes sink.new) }
     ensures none_empty { O.empty_writes sink.new ≡ O.empty_writes sink.old }

@@ -1,2 +1,5 @@
 pub mod RecordText
 pub mod Writable
+pub mod Named
+pub mod Nets
+pub mod Parts

@@ -42,14 +42,10 @@ pub fn write_told(
 }
 
 /// The first line of a record.
-fn header(alloc: Global, format: u32) -> Result<Vec<u8>, NoMemory>
-    ensures { IfOk result (λ text. text.items ≡ header_text format) }
+pub(crate) fn header(format: u32) -> &'static [u8]
+    ensures { result.now ≡ header_text format }
 {
-    let mut text = Vec::new(alloc);
-    if format != 1 {
-        text.extend_from_slice(b"run 2\n")?;
-    }
-    Ok(text)
+    if format == 1 { b"" } else { b"run 2\n" }
 }
 
 /// The text of the run of these entries and marks, as `write_told` gives it.
@@ -66,7 +62,7 @@ pub fn write_run(
         ≡ record_text format system.now (record { entries = entries.now; marks = marks.now })) }
 {
     let mut names = first_names(alloc)?;
-    let mut text = header(alloc, format)?;
+    let mut text = Vec::from_slice(alloc, header(format))?;
     put_entries(alloc, system, entries, &mut names, &mut text)?;
     put_marks(alloc, system, format, marks, &names, &mut text)?;
     Ok(text)

@@ -8,6 +8,7 @@ mod GroupedRuns
 mod HeldValues
 mod LineLemmas
 mod MakerLemmas
+mod NamedRepeats
 mod NodeLemmas
 mod NumberedAgain
 mod PathsApart

@@ -38,7 +38,7 @@ use Rattle.rn_lookup.specs.Faults.{has_place, mark_fault, tokens_fault}
 use Rattle.rn_lookup.specs.Found.{are_called, is_called, name_nets, names_net, net_of_made, net_said, place_named, place_said, tokens_are_called, tokens_held}
 use Rattle.rn_model.specs.NodeText.{instance_text}
 use Rattle.rn_record.specs.RecordText.{count_text, item_text, mark_text, place_name, token_text, tokens_text}
-use Rattle.rn_record.proofs.NamedRepeats.{all_repeats}
+use Rattle.rn_record_reader.proofs.NamedRepeats.{all_repeats}
 use Rattle.rn_record_reader.specs.Lines.{lines_in}
 use Rattle.rn_record_reader.specs.Laws.{HoldsFew}
 use Rattle.rn_record_reader.specs.Marks.{Marked, are_parted, are_single, count_fault, counted_after, fault_of_mark, first_reason, fits_format, mark_then, marks_from, most_told_values, parted_from, size_of, told_mark, uncalled_mark, values_told}

@@ -2,3 +2,4 @@ pub mod NumberedInstances
 pub mod NamesOfRuns
 pub mod TextsOfLogs
 pub mod WrittenStates
+pub mod PouredStates

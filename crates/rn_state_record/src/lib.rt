@@ -2,7 +2,9 @@
 #![tactic(auto)]
 
 mod laws;
+mod pouring;
 mod writing;
 
 pub use laws::logs_have_text;
+pub use pouring::{PourFault, pour_record};
 pub use writing::write_record;

@@ -2,6 +2,7 @@ pub mod DroppingFirst
 pub mod Elements
 pub mod KeptTables
 pub mod LaterViews
+pub mod OwnEntries
 pub mod SeenEntries
 pub mod SeenStates
 pub mod Tallying

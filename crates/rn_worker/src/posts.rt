@@ -1,5 +1,5 @@
 //! A worker's pass together with its tally.
-ghost use Rattle.std.specs.Prelude.{◌≡◌, ◌^◌, ◌<◌, IfOk, map, vec_len};
+ghost use Rattle.std.specs.Prelude.{◌≡◌, ◌^◌, ◌<◌, ◌≤◌, [], IfOk, map, vec_len, vec_capacity};
 ghost use Rattle.rn_desk.specs.Numbered.{EachAt};
 ghost use Rattle.rn_desk.specs.Passes.{IsFresh};
 ghost use Rattle.rn_worker.specs.link.Posts.{IsAtWork};
@@ -44,21 +44,22 @@ pub(crate) fn posts_of(
     Ok(posts)
 }
 
-/// The passes and the tallies, each in order.
+/// The passes and the tallies, each in order, moved into the room that was taken for them.
 pub(crate) fn parted(
-    alloc: Global,
     posts: Vec<Post>,
-) -> Result<(Vec<Pass<SimState>>, Vec<Tally>), NoMemory>
-    ensures passes { IfOk result (λ r. r.0.items ≡ map (λ p. p.pass) posts.items) }
-    ensures tallies { IfOk result (λ r. r.1.items ≡ map (λ p. p.tally) posts.items) }
+    mut passes: Vec<Pass<SimState>>,
+    mut tallies: Vec<Tally>,
+) -> (Vec<Pass<SimState>>, Vec<Tally>)
+    requires empty { (passes.items ≡ []) × (tallies.items ≡ []) }
+    requires room { (vec_len posts ≤ vec_capacity passes) × (vec_len posts ≤ vec_capacity tallies) }
+    ensures passes { result.0.items ≡ map (λ p. p.pass) posts.items }
+    ensures tallies { result.1.items ≡ map (λ p. p.tally) posts.items }
 {
-    let mut passes = Vec::with_capacity(alloc, posts.len())?;
-    let mut tallies = Vec::with_capacity(alloc, posts.len())?;
     let mut rest = posts;
     while rest.len() > 0 {
         let Post { pass, tally } = rest.remove(0);
         passes.push_reserved(pass);
         tallies.push_reserved(tally);
     }
-    Ok((passes, tallies))
+    (passes, tallies)
 }

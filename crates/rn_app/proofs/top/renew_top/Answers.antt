@@ -1,16 +1,16 @@
 -- All is done, or the run that is due is done and written.
-use Rattle.std.proofs.Common.{◌≡◌, ◌∙◌, inl, inr, map, string_bytes, codes, ap, refl, sym, subst, arith}
+use Rattle.std.proofs.Common.{◌≡◌, ◌∙◌, ℕ, Option, Some, Result, Ok, inl, inr, map, string_bytes, codes, ap, refl, subst, rules}
+use Rattle.std.specs.Prelude.{IfOk, IfSome}
 use Rattle.rn_words.specs.declared.command.Command.TheVariants as command
-use Rattle.rn_answering.specs.declared.status.TheConstants.{DONE, FAULTED, NET_REFUSED, NO_MEMORY, READ_FAULT, RECORD_REFUSED, WRITE_FAULT}
+use Rattle.rn_answering.specs.declared.status.TheConstants.{DONE, FAULTED}
 use Rattle.rn_answering.specs.Writing.{TakesLine}
-use Rattle.rn_outside.specs.Bytes.{IsCalledSeldom}
-use Rattle.rn_outside.proofs.ByteLemmas.{IsCalledSeldom-never}
+use Rattle.rn_pour.specs.Flows.{Standing}
+use Rattle.rn_commands.specs.Written.{WritesAnswer}
 use Rattle.rn_app.specs.declared.beginning.Begun.TheVariants.{Done}
-use Rattle.rn_app.specs.TopCall.{IsNoInput, IsNoRecord, IsUnread}
 use Rattle.rn_app.proofs.Causes.{Laws}
-use Rattle.rn_app.proofs.Written.{Call, IsWritten, Took, err_faults_clause, faulted_clause, few_faults_clause, least_clause, least_faulted_clause, line_faults, memory_clause, never_read}
+use Rattle.rn_app.proofs.Written.{Call, IsWritten, err_faults_clause, faulted_clause, few_faults_clause, least_clause, least_faulted_clause, memory_clause, never_read}
 use Rattle.rn_app.proofs.Written.{only_clause, quiet_clause, run_clause, seeded_clause, seeded_faulted_clause, write_fault_clause, writes_clause}
-use Rattle.rn_app.proofs.Answering.{complete_clause, in_place, input_clause, migrate_clause, moves_clause, never_done, record_clause, run_is_undone, status_is, words_clause}
+use Rattle.rn_app.proofs.Answering.{complete_clause, input_clause, migrate_clause, moves_clause, never_done, record_clause, run_is_undone, status_is, words_clause}
 use Rattle.rn_app.proofs.DueRuns.{due_comes}
 use Rattle.rn_app.proofs.top.renew_top.Goals as goal
 
@@ -50,41 +50,46 @@ returns-in-Done g c =
       none_empty = begun.none_empty;
     }
 
-pub returns-in-Ok : goal.returns-in-Ok
-returns-in-Ok g c =
+-- a status that a run came to is told
+told_of : {N : Type 0} (T : ℕ → Type 0) (result : Result (Option ℕ) N) (status : ℕ) → result ≡ Ok (Some status) → IfOk result (λ told. IfSome told T) → T status
+told_of T result status is told = subst (λ r. IfOk r (λ o. IfSome o T)) is told
+
+pub returns-in-Ok-Some : goal.returns-in-Ok-Some
+returns-in-Ok-Some g c =
     let begun = c.in-Working.ensures in
-    let same_out = begun.unwritten.0 in
-    let same_err = begun.unwritten.1 in
-    let a = c.in-Ok.answer in
+    let status = c.in-Ok-Some.status in
+    let out = c.run_to.new.out in
+    let err = c.run_to.new.err in
+    let told = told_of _ c.run_to.result status (c.in-Ok-Some.is ∙ ap Ok c.in-Ok-Some.field-0-is) c.run_to.ensures.told in
+    let a = told.0 in
+    let out_stands : g.row.O.Denot → Standing = λ o. record { held = g.O.Sink.held o; faults = g.O.Sink.faults o; writes = g.O.Sink.writes o; empty_writes = g.O.Sink.empty_writes o } in
+    let err_stands : g.row.E.Denot → Standing = λ e. record { held = g.E.Sink.held e; faults = g.E.Sink.faults e; writes = g.E.Sink.writes e; empty_writes = g.E.Sink.empty_writes e } in
+    let wrote : WritesAnswer a status (out_stands c.args.out.now) (out_stands out) (err_stands c.args.err.now) (err_stands err) c.args.err.now err =
+    subst (λ e. WritesAnswer a status (out_stands c.args.out.now) (out_stands out) (err_stands e) (err_stands err) e err) begun.unwritten.1
+    (subst (λ o. WritesAnswer a status (out_stands o) (out_stands out) (err_stands c.begin.new.err) (err_stands err) c.begin.new.err err) begun.unwritten.0 told.2) in
     let k : Call g.row.E.Denot = record {
       words = map string_bytes c.args.words.now;
       left = g.I.Source.left c.args.input.now;
       left_after = g.I.Source.left c.begin.new.input;
-      result = c.write_answer.result;
+      result = status;
       out = g.O.Sink.held c.args.out.now;
-      out_after = g.O.Sink.held c.write_answer.new.out;
+      out_after = g.O.Sink.held out;
       out_faults = g.O.Sink.faults c.args.out.now;
-      out_faults_after = g.O.Sink.faults c.write_answer.new.out;
+      out_faults_after = g.O.Sink.faults out;
       sink = c.args.err.now;
-      sink_after = c.write_answer.new.err;
+      sink_after = err;
       err = g.E.Sink.held c.args.err.now;
-      err_after = g.E.Sink.held c.write_answer.new.err;
+      err_after = g.E.Sink.held err;
       err_faults = g.E.Sink.faults c.args.err.now;
-      err_faults_after = g.E.Sink.faults c.write_answer.new.err;
+      err_faults_after = g.E.Sink.faults err;
     } in
-    let wrote = c.write_answer.ensures in
-    let took_then : Took (λ o. g.O.Sink.held o) (λ o. g.O.Sink.faults o) (λ e. g.E.Sink.held e) (λ e. g.E.Sink.faults e) a c.write_answer.result c.write_answer.new.out c.write_answer.new.err c.begin.new.out c.begin.new.err =
-    record { written = wrote.written; told = wrote.told; memory = wrote.memory; nothing = wrote.nothing; failed = wrote.failed } in
-    let took : Took (λ o. g.O.Sink.held o) (λ o. g.O.Sink.faults o) (λ e. g.E.Sink.held e) (λ e. g.E.Sink.faults e) a c.write_answer.result c.write_answer.new.out c.write_answer.new.err c.args.out.now c.args.err.now =
-    subst (λ e. Took (λ o. g.O.Sink.held o) (λ o. g.O.Sink.faults o) (λ x. g.E.Sink.held x) (λ x. g.E.Sink.faults x) a c.write_answer.result c.write_answer.new.out c.write_answer.new.err c.args.out.now e) same_err
-    (subst (λ o. Took (λ x. g.O.Sink.held x) (λ x. g.O.Sink.faults x) (λ e. g.E.Sink.held e) (λ e. g.E.Sink.faults e) a c.write_answer.result c.write_answer.new.out c.write_answer.new.err o c.begin.new.err) same_out took_then) in
     let w : IsWritten k a = record {
-      comes = due_comes (map string_bytes c.args.words.now) (g.I.Source.left c.args.input.now) (g.I.Source.left c.begin.new.input) c.in-Working.job a begun.working c.in-Ok.ensures;
-      written = took.written;
-      told = took.told;
-      memory = took.memory;
-      nothing = took.nothing;
-      failed = took.failed;
+      comes = due_comes (map string_bytes c.args.words.now) (g.I.Source.left c.args.input.now) (g.I.Source.left c.begin.new.input) c.in-Working.job a begun.working told.1;
+      written = wrote.written;
+      told = wrote.told;
+      memory = wrote.memory;
+      nothing = wrote.nothing;
+      failed = wrote.failed;
       same = ap (λ sink. g.E.Sink.faults sink);
     } in
     let laws : Laws = record {
@@ -128,55 +133,11 @@ returns-in-Ok g c =
       out_faults = λ other. (w.written other).2;
       err_faults = err_faults_clause k a w;
       few_faults = few_faults_clause k a w;
-      seldom = (
-        subst (λ o. IsCalledSeldom (g.O.Sink.held o) (g.O.Sink.held c.write_answer.new.out) (g.O.Sink.writes o) (g.O.Sink.writes c.write_answer.new.out)) same_out wrote.seldom.0,
-        subst (λ e. IsCalledSeldom (g.E.Sink.held e) (g.E.Sink.held c.write_answer.new.err) (g.E.Sink.writes e) (g.E.Sink.writes c.write_answer.new.err)) same_err wrote.seldom.1,
-      );
-      none_empty = (
-        wrote.none_empty.0 ∙ ap (λ o. g.O.Sink.empty_writes o) same_out,
-        wrote.none_empty.1 ∙ ap (λ e. g.E.Sink.empty_writes e) same_err,
-      );
+      seldom = wrote.seldom;
+      none_empty = wrote.none_empty;
     }
 
-pub returns-in-Err : goal.returns-in-Err
-returns-in-Err g c =
-    let begun = c.in-Working.ensures in
-    let same_out = begun.unwritten.0 in
-    let same_err = begun.unwritten.1 in
-    let status = c.write_line.ensures.status in
-    let line = subst (λ e. TakesLine (g.E.Sink.held e) (g.E.Sink.held c.write_line.new.err) (g.E.Sink.faults e) (g.E.Sink.faults c.write_line.new.err) (codes "memory\n")) same_err c.write_line.ensures.line in
-    record {
-      run = λ is. absurd (let no : NO_MEMORY ≡ DONE = sym status ∙ is in cc);
-      faulted = λ is. absurd (let no : NO_MEMORY ≡ FAULTED = sym status ∙ is in cc);
-      seeded = λ is. absurd (let no : NO_MEMORY ≡ DONE = sym status ∙ is in cc);
-      seeded_faulted = λ is. absurd (let no : NO_MEMORY ≡ FAULTED = sym status ∙ is in cc);
-      least = λ is. absurd (let no : NO_MEMORY ≡ DONE = sym status ∙ is in cc);
-      least_faulted = λ is. absurd (let no : NO_MEMORY ≡ FAULTED = sym status ∙ is in cc);
-      writes = λ mine. absurd (mine.3 status);
-      quiet = λ is. absurd (let no : NO_MEMORY ≡ DONE = sym status ∙ is in cc);
-      only = omega (arith, status);
-      read_fault = λ is. absurd (let no : NO_MEMORY ≡ READ_FAULT = sym status ∙ is in cc);
-      write_fault = λ is. absurd (let no : NO_MEMORY ≡ WRITE_FAULT = sym status ∙ is in cc);
-      memory = λ is. (line, inl same_out);
-      refuses_words = λ fault faulty. (inr (inr status), (c.begin.ensures.refuses_words fault faulty).1);
-      refuses_input = λ command accepted. in_place (g.I.Source.left c.args.input.now) (IsNoInput command) NET_REFUSED c.write_line.result (inr (inr status));
-      refuses_record = λ options accepted. in_place (g.I.Source.left c.args.input.now) (IsNoRecord options) RECORD_REFUSED c.write_line.result (inr (inr status));
-      refuses_moved = λ options accepted. in_place (g.I.Source.left c.args.input.now) (IsNoRecord options) RECORD_REFUSED c.write_line.result (inr (inr status));
-      refuses_migrated = λ accepted. in_place (g.I.Source.left c.args.input.now) IsUnread RECORD_REFUSED c.write_line.result (inr (inr status));
-      complete = λ command accepted fine reads outs errs. inr (inl status);
-      taken = c.begin.ensures.taken;
-      reads = c.begin.ensures.reads;
-      each_gives = c.begin.ensures.each_gives;
-      inputless = c.begin.ensures.inputless;
-      limited = c.begin.ensures.limited;
-      input_faults = λ other. begun.input_faults never_done;
-      one_read_fault = λ is. absurd (let no : NO_MEMORY ≡ READ_FAULT = sym status ∙ is in cc);
-      out_faults = λ other. ap (λ o. g.O.Sink.faults o) same_out;
-      err_faults = λ mine. absurd (mine.3 status);
-      few_faults = (inl (ap (λ o. g.O.Sink.faults o) same_out), line_faults (g.E.Sink.held c.args.err.now) (g.E.Sink.held c.write_line.new.err) (g.E.Sink.faults c.args.err.now) (g.E.Sink.faults c.write_line.new.err) _ line);
-      seldom = (
-        subst (λ o. IsCalledSeldom (g.O.Sink.held c.args.out.now) (g.O.Sink.held o) (g.O.Sink.writes c.args.out.now) (g.O.Sink.writes o)) (sym same_out) (IsCalledSeldom-never (g.O.Sink.held c.args.out.now) (g.O.Sink.writes c.args.out.now)),
-        subst (λ e. IsCalledSeldom (g.E.Sink.held e) (g.E.Sink.held c.write_line.new.err) (g.E.Sink.writes e) (g.E.Sink.writes c.write_line.new.err)) same_err c.write_line.ensures.seldom,
-      );
-      none_empty = (ap (λ o. g.O.Sink.empty_writes o) same_out, c.write_line.ensures.none_empty ∙ ap (λ e. g.E.Sink.empty_writes e) same_err);
-    }
+pub returns-in-Ok-None-clause-memory : goal.returns-in-Ok-None-clause-memory
+returns-in-Ok-None-clause-memory g c =
+    let same : (c.run_to.new.out ≡ c.args.out.now) × (c.run_to.new.err ≡ c.args.err.now) = search rules in
+    λ is. (subst (λ e. TakesLine (g.E.Sink.held e) (g.E.Sink.held c.write_line.new.err) (g.E.Sink.faults e) (g.E.Sink.faults c.write_line.new.err) (codes "memory\n")) same.1 c.write_line.ensures.line, inl same.0)

@@ -1,5 +1,5 @@
 -- What is reported of the state in which the workers leave a run.
-use Rattle.rn_commands.proofs.JobLemmas.{job_recorded, job_tallied}
+use Rattle.rn_commands.proofs.JobLemmas.{job_recorded}
 use Rattle.rn_commands.proofs.jobs.run_job.Goals as goal
 
 pub returns-in-Record : goal.returns-in-Record
@@ -7,9 +7,3 @@ returns-in-Record g c =
     let state = c.in_ok-state.ensures in
     job_recorded c.args.job c.in_ok-state.state state.setup state.workers c.in-Record.is state.least
     c.written.result c.written.ensures
-
-pub returns : goal.returns
-returns g c =
-    let state = c.in_ok-state.ensures in
-    job_tallied c.args.job c.in_ok-state.state state.setup state.workers c.in-Tally.is
-    c.tallied.result c.tallied.ensures

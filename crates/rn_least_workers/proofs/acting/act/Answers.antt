@@ -11,7 +11,8 @@ use Rattle.rn_worker.proofs.SeenStates.{kept_setup}
 use Rattle.rn_worker.proofs.LaterViews.{changed_between, few_after, next_is, show_views}
 use Rattle.rn_desk.proofs.Histories.{StartsWith-append}
 use Rattle.rn_least_workers.proofs.LeastSeen.{fits}
-use Rattle.rn_least_workers.proofs.OwnEntries.{begins_by, mine_by}
+use Rattle.rn_worker.proofs.OwnEntries.{adds_by, begins_by, mine_by}
+use Rattle.rn_worker.proofs.SeenEntries.{had_seen}
 use Rattle.rn_least_workers.proofs.acting.act.Goals as goal
 
 pub act_on-done-requires-clause-plan : goal.act_on-done-requires-clause-plan
@@ -90,3 +91,17 @@ returns-clause-entries g c =
     let more = begins_by c.args.round.worker t c.act_on-done.new.state c.act_on-done.result.fired c.act_on-done.ensures.added in
     subst (λ xs. StartsWith xs es) (sym (c.give.ensures.seen ∙ more.1))
     (StartsWith-append (logged t) es more.0 begins)
+
+pub give-requires-clause-entries : goal.give-requires-clause-entries
+give-requires-clause-entries g c =
+    let t : State = c.state-state.result.now in
+    adds_by c.args.round.worker t c.act_on-done.new.state c.act_on-done.result.fired
+    c.act_on-done.ensures.added _ (c.take-turn.ensures.number ∙ c.requires.number) _
+    (c.take-turn.ensures.seen ∙ ap logged (sym c.state-state.ensures.value))
+
+pub act_on-done-requires-clause-seen : goal.act_on-done-requires-clause-seen
+act_on-done-requires-clause-seen g c =
+    let t : State = c.state-state.result.now in
+    let es = seen c.args.pass.now in
+    let begins : StartsWith (logged t) es = subst (λ s. StartsWith (logged s) es) (sym c.state-state.ensures.value) c.take-turn.ensures.entries in
+    subst (λ n. n ≤ length t.fired) (sym c.requires.looked) (had_seen t es begins c.requires.going)

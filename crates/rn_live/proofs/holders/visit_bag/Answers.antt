@@ -20,7 +20,7 @@ loop-token-preserved c =
       within = c.next_other-index.ensures.bound;
       finds = then m (λ n. list_any (λ token. mentions token n) (take i tokens)) (mentions token) (λ n. list_any (λ token. mentions token n) (take j tokens))
           (λ n. same_run (λ token. mentions token n) tokens token i j (c.next_other-index.ensures.later (got tokens i token first).0) first c.next_other-index.ensures.equal)
-          c.loop-token.invariant.finds c.in_ok-visit.ensures;
+          c.loop-token.invariant.finds c.visit.ensures;
     }
 
 pub returns : goal.returns

@@ -1,13 +1,13 @@
 use Rattle.std.proofs.Common.{◌≤◌, ◌-◌, take, length}
 use Rattle.std.specs.List.{list_any}
 use Rattle.rn_model.specs.Liveness.{mentions}
-use Rattle.rn_live.specs.link.Marks.{Finds}
+use Rattle.rn_live.specs.link.Marks.{FindsIn}
 use Rattle.rn_live.proofs.holders.visit_bag.Given as goal
 
 abbrev pub invariant-loop-token : goal.invariant-loop-token
 invariant-loop-token l = record {
   within : l.index ≤ length l.bag;
-  finds : Finds l.table.marking (λ n. list_any (λ token. mentions token n) (take l.index l.bag)) l.initial.found.marks.items l.found.marks.items l.initial.found.waiting.items l.found.waiting.items;
+  finds : FindsIn l.table.marking (λ n. list_any (λ token. mentions token n) (take l.index l.bag)) l.initial.found l.found;
 }
 
 abbrev pub decreases-loop-token : goal.decreases-loop-token

@@ -18,8 +18,8 @@ loop-place-preserved c =
     let is : option_and_then (λ j. slice_get j.places i) (instance_at m c.args.number) ≡ Some tokens = search rules in
     then m (λ n. list_any (any_mentions n) (take i places)) (λ n. any_mentions n tokens) (λ n. list_any (any_mentions n) (take (i + 1) places))
     (λ n. one_got (any_mentions n) places tokens i (place_at m c.args.number i ∙ is))
-    c.loop-place.invariant c.in_ok-visit_bag.ensures
+    c.loop-place.invariant c.visit_bag.ensures
 
 pub returns : goal.returns
 returns c =
-    through c.args.table.now.marking (λ (places : List (List Value)) (n : ℕ). list_any (any_mentions n) places) (places_of c.args.table.now.marking c.args.number) c.loop-place.place (omega (arith, c.loop-place-test.false, c.requires)) c.loop-place.invariant
+    through c.args.table.now.marking (λ (places : List (List Value)) (n : ℕ). list_any (any_mentions n) places) (places_of c.args.table.now.marking c.args.number) c.loop-place.place (omega (arith, c.loop-place-test.false, c.requires.places)) c.loop-place.invariant

@@ -4,15 +4,15 @@ use Rattle.std.specs.List.Sorted.{IsStrictlyIncreasing}
 use Rattle.std.proofs.lemmas.List.Kept.{IsStrictlyIncreasing-filter}
 use Rattle.rn_model.specs.Liveness.{IsLive}
 use Rattle.rn_model.specs.Markings.{IsThere}
-use Rattle.rn_live.specs.link.Marks.{Marked, is_unmarked}
+use Rattle.rn_live.specs.link.Marks.{is_unmarked}
 use Rattle.rn_live.proofs.ListingLemmas.{if_ok, dead_listed}
 use Rattle.rn_live.proofs.listing.garbage.Goals as goal
 
 pub returns-clause-ascending : goal.returns-clause-ascending
 returns-clause-ascending c =
-    let kept = c.as_slice-2.result.now in
-    let marks = c.as_slice-3.result.now in
-    let ascends : IsStrictlyIncreasing kept = subst IsStrictlyIncreasing (c.as_slice.ensures.value ∙ sym c.as_slice-2.ensures.value) c.in_ok-marks.ensures.ascending in
+    let kept = c.as_slice.result.now in
+    let marks = c.in_ok-room.room.marks in
+    let ascends : IsStrictlyIncreasing kept = subst IsStrictlyIncreasing (sym (c.as_slice.ensures.value ∙ c.in_ok-numbers.ensures)) c.in_ok-room.ensures.ascending in
     if_ok (λ those. those.items ≡ filter (is_unmarked marks) kept) (λ those. IsStrictlyIncreasing those.items) c.those_unmarked.result
     (λ those is. subst IsStrictlyIncreasing (sym is) (IsStrictlyIncreasing-filter (is_unmarked marks) kept ascends)) c.those_unmarked.ensures
 
@@ -20,9 +20,8 @@ pub returns-clause-dead : goal.returns-clause-dead
 returns-clause-dead c =
     let system = c.args.system.now in
     let m = c.args.table.now.marking in
-    let kept = c.as_slice-2.result.now in
-    let marks = c.as_slice-3.result.now in
-    let listed = dead_listed system m marks kept (c.as_slice-2.ensures.value ∙ c.in_ok-numbers.ensures)
-    (subst (λ ms. (n : ℕ) → Marked ms n ↔ IsLive system m n) (sym c.as_slice-3.ensures.value) c.in_ok-marks.ensures.marks) in
+    let kept = c.as_slice.result.now in
+    let marks = c.in_ok-room.room.marks in
+    let listed = dead_listed system m marks kept (c.as_slice.ensures.value ∙ c.in_ok-numbers.ensures) c.in_ok-room.ensures.marks in
     if_ok (λ those. those.items ≡ filter (is_unmarked marks) kept) (λ those. (n : ℕ) → Contains those.items n ↔ (IsThere m n × ¬ IsLive system m n)) c.those_unmarked.result
     (λ those is. subst (λ ns. (n : ℕ) → Contains ns n ↔ (IsThere m n × ¬ IsLive system m n)) (sym is) listed) c.those_unmarked.ensures

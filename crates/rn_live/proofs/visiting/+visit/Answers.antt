@@ -13,7 +13,7 @@ visit_all-loop-value-preserved t c =
     let i = c.loop-value.value-index in
     let value = c.value-item.result in
     then m (λ n. list_any (λ test. test n) (map mentions (take i values))) (mentions value) (λ n. list_any (λ test. test n) (map mentions (take (i + 1) values)))
-    (one_more_mapped mentions values i value c.loop-value-test.true c.value-item.is) c.loop-value.invariant c.in_ok-visit.ensures
+    (one_more_mapped mentions values i value c.loop-value-test.true c.value-item.is) c.loop-value.invariant c.visit.ensures
 
 pub visit_all-returns : goal.visit_all-returns
 visit_all-returns t c =

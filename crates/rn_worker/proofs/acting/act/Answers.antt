@@ -1,9 +1,11 @@
 -- What was found after the entries that were seen fits the state, and what is seen then is shown.
 use Rattle.std.proofs.Common.{◌≡◌, ap, sym, ◌∙◌, subst}
 use Rattle.rn_desk.specs.Entries.{StartsWith}
+use Rattle.rn_desk.proofs.Histories.{StartsWith-append}
 use Rattle.rn_desk.specs.Passes.{fixed_of, seen}
 use Rattle.rn_fire.specs.declared.setup.Setup.{Setup}
 use Rattle.rn_fire.specs.States.{State, IsState, logged}
+use Rattle.rn_worker.proofs.OwnEntries.{adds_by, begins_by}
 use Rattle.rn_worker.proofs.LaterViews.{changed_between, few_after, next_is, show_views}
 use Rattle.rn_worker.proofs.SeenStates.{fits, kept_setup}
 use Rattle.rn_worker.proofs.acting.act.Goals as goal
@@ -60,3 +62,19 @@ returns-clause-changed g c =
     begins c.requires.going same c.act_on-done.ensures.added c.args.round.looked c.requires.looked
     (seen c.give.new.pass) c.give.ensures.seen c.view_below-view.result
     c.view_below-view.ensures.changed
+
+pub give-requires-clause-entries : goal.give-requires-clause-entries
+give-requires-clause-entries g c =
+    let t : State = c.state-state.result.now in
+    adds_by c.args.round.worker t c.act_on-done.new.state c.act_on-done.result.fired
+    c.act_on-done.ensures.added _ (c.take-turn.ensures.number ∙ c.requires.number) _
+    (c.take-turn.ensures.seen ∙ ap logged (sym c.state-state.ensures.value))
+
+pub returns-clause-entries : goal.returns-clause-entries
+returns-clause-entries g c =
+    let t : State = c.state-state.result.now in
+    let es = seen c.args.pass.now in
+    let begins : StartsWith (logged t) es = subst (λ s. StartsWith (logged s) es) (sym c.state-state.ensures.value) c.take-turn.ensures.entries in
+    let more = begins_by c.args.round.worker t c.act_on-done.new.state c.act_on-done.result.fired c.act_on-done.ensures.added in
+    subst (λ xs. StartsWith xs es) (sym (c.give.ensures.seen ∙ more.1))
+    (StartsWith-append (logged t) es more.0 begins)

@@ -15,8 +15,8 @@ outcome_of-requires-clause-numbers c =
     (subst (λ x. Shape x c.args.binding.now s.setup.options.depth) (sym c.system.ensures.system) c.requires.enabled.shape)
     c.next.ensures.most
 
-pub end-requires-clause-true_end : goal.end-requires-clause-true_end
-end-requires-clause-true_end c =
+pub end_by_fault-requires-clause-true_end : goal.end_by_fault-requires-clause-true_end
+end_by_fault-requires-clause-true_end c =
     let s = c.args.self.now in
     let next = c.next.ensures.number ∙ ap (λ t. t.marking.next) c.table.ensures.table in
     let outcome = outcome_now s c.system.result.now c.args.binding.now c.in_ok-copied.copied c.next.result c.length-step.result c.in_ok-cause.field-0 _
@@ -33,13 +33,13 @@ add-requires-clause-fires c =
     outcome_now s c.system.result.now c.args.binding.now c.in_ok-copied.copied c.next.result c.length-step.result c.in_ok-cause.field-0 _
     c.requires.going c.system.ensures.system next c.length-step.ensures.length c.in_ok-copied.ensures c.in-Defined.is c.in_ok-cause.ensures
 
-pub returns-in-Undefined : goal.returns-in-Undefined
-returns-in-Undefined c =
+pub returns-in_ok-end_by_fault-in-Undefined : goal.returns-in_ok-end_by_fault-in-Undefined
+returns-in_ok-end_by_fault-in-Undefined c =
     let s = c.args.self.now in
     let next = c.next.ensures.number ∙ ap (λ t. t.marking.next) c.table.ensures.table in
     let outcome = outcome_now s c.system.result.now c.args.binding.now c.args.binding.now c.next.result c.length-step.result c.in_ok-cause.field-0 _
     c.requires.going c.system.ensures.system next c.length-step.ensures.length refl c.in-Undefined.is c.in_ok-cause.ensures in (
       c.in-Undefined.cause,
       outcome (end_marking s) (sym c.table.ensures.stands.next ∙ ap (λ t. t.marking.next) c.table.ensures.table),
-      c.end.ensures ∙ ap (λ b. with_end (Fault c.in-Undefined.cause b) s) c.in_ok-copied.ensures,
+      c.in_ok-end_by_fault-in-Undefined.ensures.ok ∙ ap (λ b. with_end (Fault c.in-Undefined.cause b) s) c.in_ok-copied.ensures,
     )

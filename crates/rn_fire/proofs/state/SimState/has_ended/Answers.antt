@@ -11,8 +11,8 @@ pub returns-in-Some-End : goal.returns-in-Some-End
 returns-in-Some-End c =
     let entries = c.self.inside.entries.items in
     let last = sym c.last.ensures.value ∙ ap option_copied c.in-Some-End.is ∙ ap Some c.in-Some-End.field-0-is in
-    let ended = last_tells c.deref.result.now (firings_in entries) (end_in entries) c.in-Some-End.field-0-0 _ (c.deref.ensures.value ∙ c.self.invariant.whole) last in
+    let ended = last_tells c.deref.result.now (firings_in entries) (end_in entries) c.in-Some-End.field-0-0 _ (c.deref.ensures.value ∙ c.self.invariant.run.whole) last in
     record {
       ended = (λ yes none. ended (ap (λ s. s.ended) c.self.view_is ∙ none), λ some. refl);
-      state = subst IsState c.self.view_is c.self.invariant.state;
+      state = subst IsState c.self.view_is c.self.invariant.run.state;
     }

@@ -1,0 +1,14 @@
+use Rattle.rn_model.specs.declared.repeats.Repeat.{Repeat}
+use Rattle.std.specs.Prelude.{ℕ, List}
+use Rattle.rn_model.specs.Repeats.{times}
+use Rattle.rn_record.specs.RecordText.{token_text}
+use Rattle.std.proofs.Common.{◌≡◌, drop}
+use Rattle.std.specs.List.{flat_map}
+use Rattle.rn_window.specs.Windows.{after}
+use Rattle.rn_record.proofs.mark_text.put_all.Given as goal
+
+-- what is written so far and what is to come are all
+abbrev pub invariant-loop-repeat : goal.invariant-loop-repeat
+invariant-loop-repeat g l =
+    let text : Repeat → List ℕ = λ r. flat_map (token_text (g.N.Naming.names l.names)) (times r) in
+    after l.window (flat_map text (drop l.repeat-index l.repeats)) ≡ after l.initial.window (flat_map text l.repeats)
