@@ -1,5 +1,5 @@
 -- Runs that are due.
-use Rattle.std.proofs.Common.{◌≡◌, ℕ, List, Option, Ok, Result, inr, refl, sym, subst}
+use Rattle.std.proofs.Common.{◌≡◌, ℕ, List, Option, Ok, Err, Result, inr, refl, sym, subst}
 use Rattle.rn_model.specs.declared.log.Options.{Options}
 use Rattle.rn_model.specs.Good.{Good, IsInLimits}
 use Rattle.rn_record.specs.RecordText.{IsFormat}
@@ -9,6 +9,7 @@ use Rattle.rn_words.specs.Commands.{WordsOk}
 use Rattle.rn_words.specs.Laws.{ReadsWhatIsAccepted}
 use Rattle.rn_answering.specs.declared.answer.Answer.{Answer}
 use Rattle.rn_answering.specs.declared.stopped.Stopped.{Stopped}
+use Rattle.rn_answering.specs.declared.stopped.Stopped.TheVariants.{NoMemory, ReadFault, Refused}
 use Rattle.rn_answering.specs.Input.{longest_input}
 use Rattle.rn_commands.specs.declared.jobs.Job.{Job}
 use Rattle.rn_commands.specs.Jobs.{JobComesTo}
@@ -16,9 +17,9 @@ use Rattle.rn_commands.specs.LeastRuns.{RunsLeastTo}
 use Rattle.rn_commands.specs.Runs.{RunsTo}
 use Rattle.rn_commands.specs.Workloads.{GensTo}
 use Rattle.rn_app.specs.declared.preparing.Prepared.{Prepared}
-use Rattle.rn_app.specs.declared.preparing.Prepared.TheVariants.{Due}
-use Rattle.rn_app.specs.Begun.{AsksFor, IsDue, NeedsThreads}
-use Rattle.rn_app.specs.link.Begun.{PreparesOrStops}
+use Rattle.rn_app.specs.declared.preparing.Prepared.TheVariants.{Answered, Due}
+use Rattle.rn_app.specs.Begun.{AsksFor, CanRun, IsDue, NeedsThreads}
+use Rattle.rn_app.specs.link.Begun.{IsPrepared, IsReadied, PreparesOrStops}
 use Rattle.rn_app.specs.Commands.{ComesTo}
 use Rattle.rn_app.specs.TopCall.{Comes}
 use Rattle.rn_app.proofs.WordsAndInput.{done_on, one_command}
@@ -33,6 +34,14 @@ run_due k c bytes job options is asked good same limits format = (
   subst (λ x. AsksFor x bytes job) (sym is) asked,
   (good, subst IsInLimits (sym same) limits, format),
 )
+
+-- and once its memory is taken the command comes to it
+pub readied : (c : Command) (bytes : List ℕ) (job : Job) (r : Result Prepared Stopped) → AsksFor c bytes job × CanRun job → IsReadied job r → IsPrepared c bytes r
+readied c bytes job (Ok (Answered a)) can ready = absurd ready
+readied c bytes job (Ok (Due found)) can same = subst (λ x. AsksFor c bytes x × CanRun x) (sym same) can
+readied c bytes job (Err (Refused a)) can ready = absurd ready
+readied c bytes job (Err ReadFault) can ready = absurd ready
+readied c bytes job (Err (NoMemory _)) can ready = tt
 
 -- where a run is due the words and the input ask for it
 pub was_due : (words : List (List ℕ)) (left left_after : Option (List ℕ)) (faults faults_after : ℕ) (r : Result Prepared Stopped) (job : Job) → r ≡ Ok (Due job) → PreparesOrStops words left left_after faults faults_after r → IsDue words left left_after job

@@ -22,23 +22,24 @@ ghost use Rattle.rn_app.specs.TopCall.{IsNoInput, IsNoRecord, IsUnread, IsFine, 
 use crate::laws::input_laws;
 use crate::preparing::{Prepared, prepare};
 use rn_answering::{NO_MEMORY, READ_FAULT, Stopped, write_answer, write_line};
-use rn_commands::{Job, answer_laws, parts_laws};
+use rn_commands::{ReadyJob, answer_laws, parts_laws};
 use rn_outside::{Sink, Source};
 use rn_words::words_laws;
 use std::alloc::Global;
 
 /// How far the top call comes without threads.
-#[derive(Debug, Drop)]
+#[derive(Drop)]
 pub enum Begun {
     /// All is done, with this status.
     Done(u8),
-    /// This run is due. Nothing is written yet.
-    Working(Job),
+    /// This run is due, and its memory is taken. Nothing is written yet.
+    Working(ReadyJob),
 }
 
 /// Does all that the top call does without threads: it accepts the words and reads the input, refuses
 /// them or does the command, and writes what that comes to. Of a command that needs threads it leaves
-/// the run. It doesn't wait, so it returns.
+/// the run, with the memory that this needs to begin and to be written: `finish` does it. It doesn't
+/// wait, so it returns.
 pub fn begin<I: Source, O: Sink, E: Sink>(
     alloc: Global,
     words: &[String],
@@ -153,7 +154,7 @@ pub fn begin<I: Source, O: Sink, E: Sink>(
     answer_laws();
     match prepare(alloc, words, input) {
         Ok(Prepared::Answered(answer)) => Begun::Done(write_answer(out, err, &answer)),
-        Ok(Prepared::Due(job)) => Begun::Working(job),
+        Ok(Prepared::Due(ready)) => Begun::Working(ready),
         Err(Stopped::Refused(answer)) => Begun::Done(write_answer(out, err, &answer)),
         Err(Stopped::ReadFault) => Begun::Done(write_line(err, b"read fault\n", READ_FAULT)),
         Err(Stopped::NoMemory(_)) => Begun::Done(write_line(err, b"memory\n", NO_MEMORY)),

@@ -10,12 +10,13 @@ ghost use Rattle.rn_words.specs.Commands.{WordsOk};
 ghost use Rattle.rn_words.specs.Reading.{reading};
 ghost use Rattle.rn_answering.specs.declared.status.TheConstants.{NET_REFUSED};
 ghost use Rattle.rn_answering.specs.Input.{longest_input};
-ghost use Rattle.rn_app.specs.Begun.{NeedsThreads};
-ghost use Rattle.rn_app.specs.link.Begun.{IfAnswered, IsPrepared, PreparesOrStops};
+ghost use Rattle.rn_app.specs.Begun.{CanRun, NeedsThreads};
+ghost use Rattle.rn_app.specs.link.Begun.{IfAnswered, IsPrepared, IsReadied, PreparesOrStops};
 
 use rn_answering::{Answer, Stopped, check, command_of, input_of, print};
 use rn_commands::{
-    Job, Pick, counts, enabled, migrate, moves, net_job, pt, replay, session, workload_job,
+    Job, Pick, ReadyJob, counts, enabled, migrate, moves, net_job, pt, ready_job, replay, session,
+    workload_job,
 };
 use rn_outside::Source;
 use rn_words::{Command, words_laws};
@@ -26,8 +27,16 @@ use std::alloc::Global;
 pub(crate) enum Prepared {
     /// This is written, and then all is done.
     Answered(Answer),
-    /// This run is due.
-    Due(Job),
+    /// This run is due, and its memory is taken.
+    Due(ReadyJob),
+}
+
+// The run that a command asks for, with its memory.
+fn due(alloc: Global, job: Job) -> Result<Prepared, Stopped>
+    requires { CanRun job }
+    ensures { IsReadied job result }
+{
+    Ok(Prepared::Due(ready_job(alloc, job)?))
 }
 
 // What a command comes to on its input, or the run that it asks for.
@@ -38,18 +47,19 @@ fn work(alloc: Global, command: Command, bytes: &[u8]) -> Result<Prepared, Stopp
 {
     words_laws();
     match command {
-        Command::Run(options) => Ok(Prepared::Due(net_job(alloc, options, Pick::Any, bytes)?)),
-        Command::RunLeast(options) => {
-            Ok(Prepared::Due(net_job(alloc, options, Pick::Least, bytes)?))
-        }
+        Command::Run(options) => due(alloc, net_job(alloc, options, Pick::Any, bytes)?),
+        Command::RunLeast(options) => due(alloc, net_job(alloc, options, Pick::Least, bytes)?),
         Command::RunSeeded(options, seed) => {
-            Ok(Prepared::Due(net_job(alloc, options, Pick::Seeded(seed), bytes)?))
+            due(alloc, net_job(alloc, options, Pick::Seeded(seed), bytes)?)
         }
         Command::Gen(copies, options) => {
-            Ok(Prepared::Due(workload_job(alloc, copies, options, Pick::Any)?))
+            due(alloc, workload_job(alloc, copies, options, Pick::Any)?)
         }
         Command::GenSeeded(copies, options, seed) => {
-            Ok(Prepared::Due(workload_job(alloc, copies, options, Pick::Seeded(seed))?))
+            due(
+                alloc,
+                workload_job(alloc, copies, options, Pick::Seeded(seed))?,
+            )
         }
         Command::Check => Ok(Prepared::Answered(check(alloc, bytes)?)),
         Command::Print => Ok(Prepared::Answered(print(alloc, bytes)?)),

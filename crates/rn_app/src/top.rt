@@ -24,9 +24,10 @@ ghost use Rattle.rn_app.specs.TopCall.{FailsToWrite, FailsToTell};
 ghost use Rattle.rn_app.specs.TopCall.{IsNoInput, IsNoRecord, IsUnread, IsFine, MayFault, RoseOnceAtMost};
 
 use crate::beginning::{Begun, begin};
+use crate::finishing::finish;
 use crate::laws::input_laws;
-use rn_answering::{NO_MEMORY, READ_FAULT, write_line};
-use rn_commands::{answer_laws, parts_laws, run_to};
+use rn_answering::{NO_MEMORY, READ_FAULT};
+use rn_commands::{answer_laws, parts_laws};
 use rn_outside::{Sink, Source};
 use rn_words::words_laws;
 use rn_worker::Gate;
@@ -37,7 +38,7 @@ use std::thread::Threads;
 /// Does all that the program does: it accepts the words, reads the input, does the command, and
 /// writes what it comes to. `words` are those after the program's name. The workers of a run call
 /// `gate` between a search and its commit. It returns one of the statuses of the crate. `begin` does
-/// all that needs no threads, and returns; only a run that it leaves may wait.
+/// all that needs no threads, and returns; only a run that it leaves may wait, which `finish` does.
 pub fn renew_top<R: Threads + Wait + Sync, I: Source, O: Sink, E: Sink, G: Gate + Sync>(
     rt: &R,
     alloc: Global,
@@ -175,9 +176,6 @@ pub fn renew_top<R: Threads + Wait + Sync, I: Source, O: Sink, E: Sink, G: Gate 
     answer_laws();
     match begin(alloc, words, input, out, err) {
         Begun::Done(status) => status,
-        Begun::Working(job) => match run_to(rt, alloc, job, gate, out, err) {
-            Ok(Some(status)) => status,
-            Ok(None) | Err(_) => write_line(err, b"memory\n", NO_MEMORY),
-        },
+        Begun::Working(ready) => finish(rt, alloc, ready, gate, out, err),
     }
 }

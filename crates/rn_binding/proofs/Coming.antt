@@ -16,6 +16,14 @@ use Rattle.rn_growing.proofs.Growth.{turns_more, contains_last}
 use Rattle.rn_growing.proofs.Followers.{equations, decision_in, follows_on}
 use Rattle.rn_binding.specs.link.Passing.{IsGiven, IsFollowed, BringsItem}
 
+-- The decision may come and is new, and where it was tried the item is in or out, and the binding
+-- follows.
+abbrev pub Comes : System → Binding → Grown → Decision → Item → Type 0
+Comes system b g d item =
+    MayCome g.system g.decisions d × IsNew g.decisions d
+    × ((now : Grown) (yes : Bool) → Tries g d now yes →
+    BringsItem system b g item now yes × IsFollowed system b now)
+
 module _ (system : System) (b : Binding) (given : IsGiven system b) (g : Grown)
     (same : g.system ≡ system) (items : List Item) (on : AreOn system b g.decisions items)
     (turns : AreInTurn system g.decisions) (d : Decision) (item : Item)

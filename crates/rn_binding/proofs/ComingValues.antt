@@ -22,7 +22,7 @@ use Rattle.rn_growing.specs.declared.decision.Decision.{Decision}
 use Rattle.rn_growing.specs.declared.decision.Decision.TheVariants.{Entered, Found, Computed}
 use Rattle.rn_growing.specs.Decisions.{site_of, head_of, IsOn, AreOn}
 use Rattle.rn_growing.specs.Equations.{IsForced}
-use Rattle.rn_growing.specs.Grown.{Grown, IsNew, Tries}
+use Rattle.rn_growing.specs.Grown.{Grown, IsNew}
 use Rattle.rn_growing.specs.link.Layouts.{same_site}
 use Rattle.rn_growing.specs.Turns.{MayCome, IsEntered, IsVarForced}
 use Rattle.rn_growing.proofs.SameUnknowns.{site_itself, as_site, site_of-is}
@@ -30,7 +30,7 @@ use Rattle.rn_growing.proofs.SoundItems.{items_sound}
 use Rattle.rn_growing.proofs.Followers.{decision_in, forced_over, entered_by, each_is_decided}
 use Rattle.rn_growing.specs.Decided.{enters, finds, computes}
 use Rattle.rn_binding.specs.link.Passing.{IsGiven, IsFollowed, BringsItem, IsVarForcedOn}
-use Rattle.rn_binding.proofs.Coming.{tried}
+use Rattle.rn_binding.proofs.Coming.{Comes, tried}
 use Rattle.rn_binding.proofs.Deciding.{entered_is_in, not_entered, found_is_in, not_found}
 use Rattle.rn_binding.proofs.Deciding.{computed_is_in, not_computed, in_is_decided}
 use Rattle.rn_growing.proofs.NewThings.{none_passes, both_are, alike}
@@ -123,13 +123,9 @@ module _ (system : System) (b : Binding) (given : IsGiven system b) (g : Grown)
     pub found_comes : (head : Head) (v : Value) → head ≡ head_of node →
         worth x.inscription (env_of system node) ≡ Some v →
         list_any (finds node.path k) ds ≡ false → list_any (enters node.path) ds ≡ true →
-        MayCome g.system ds (Found head k v) × IsNew ds (Found head k v)
-        × ((now : Grown) (yes : Bool) → Tries g (Found head k v) now yes →
-        BringsItem system b g (found node k x) now yes × IsFollowed system b now)
+        Comes system b g (Found head k v) (found node k x)
     found_comes head v at is fresh entered =
-        subst (λ h. MayCome g.system ds (Found h k v) × IsNew ds (Found h k v)
-        × ((now : Grown) (yes : Bool) → Tries g (Found h k v) now yes →
-        BringsItem system b g (found node k x) now yes × IsFollowed system b now)) (sym at) (
+        subst (λ h. Comes system b g (Found h k v) (found node k x)) (sym at) (
           subst (λ s. MayCome s ds (Found (head_of node) k v)) (sym followed.same)
               (found_may v entered),
           found_is_new v fresh,
@@ -221,17 +217,10 @@ module _ (system : System) (b : Binding) (given : IsGiven system b) (g : Grown)
         list_any (computes node.path site hole.way) ds ≡ false →
         list_any (enters node.path) ds ≡ true →
         All (IsVarForcedOn g node.path) (vars_in hole.form) →
-        MayCome g.system ds (Computed head site way v) × IsNew ds (Computed head site way v)
-        × ((now : Grown) (yes : Bool) → Tries g (Computed head site way v) now yes →
-        BringsItem system b g item now yes × IsFollowed system b now)
+        Comes system b g (Computed head site way v) item
     computed_comes head way v at along is fresh entered forced =
-        subst (λ h. MayCome g.system ds (Computed h site way v) × IsNew ds (Computed h site way v)
-        × ((now : Grown) (yes : Bool) → Tries g (Computed h site way v) now yes →
-        BringsItem system b g item now yes × IsFollowed system b now)) (sym at)
-        (subst (λ w. MayCome g.system ds (Computed (head_of node) site w v)
-        × IsNew ds (Computed (head_of node) site w v)
-        × ((now : Grown) (yes : Bool) → Tries g (Computed (head_of node) site w v) now yes →
-        BringsItem system b g item now yes × IsFollowed system b now)) (sym along) (
+        subst (λ h. Comes system b g (Computed h site way v) item) (sym at)
+        (subst (λ w. Comes system b g (Computed (head_of node) site w v) item) (sym along) (
           subst (λ s. MayCome s ds (Computed (head_of node) site hole.way v)) (sym followed.same)
               (computed_may v entered forced),
           computed_is_new v fresh,

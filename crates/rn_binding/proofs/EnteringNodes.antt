@@ -24,7 +24,7 @@ use Rattle.rn_growing.specs.Grown.{Grown, IsNew, Tries}
 use Rattle.rn_growing.specs.Turns.{MayCome, AreInTurn}
 use Rattle.rn_growing.specs.Decided.{enters}
 use Rattle.rn_binding.specs.link.Passing.{IsGiven, IsFollowed, IsOut, BringsItem}
-use Rattle.rn_binding.proofs.Coming.{tried}
+use Rattle.rn_binding.proofs.Coming.{Comes, tried}
 use Rattle.rn_binding.proofs.Deciding.{entered_is_in}
 use Rattle.rn_binding.proofs.ComingCalls.{unforced_out, may_be_called, is_new}
 use Rattle.rn_binding.proofs.ComingValues.{already}
@@ -74,11 +74,7 @@ module _ (system : System) (b : Binding) (given : IsGiven system b) (g : Grown)
     pub entry_comes : (head : Head) (inst : InstRef) → head ≡ head_of node →
         Contains b.nodes caller → list_any (enters front) g.decisions ≡ true →
         IsTold g from i downlink inst →
-        MayCome g.system g.decisions (Entered head (Some (record { head = from; downlink = i })))
-        × IsNew g.decisions (Entered head (Some (record { head = from; downlink = i })))
-        × ((now : Grown) (yes : Bool) →
-        Tries g (Entered head (Some (record { head = from; downlink = i }))) now yes →
-        BringsItem system b g (entry node) now yes × IsFollowed system b now)
+        Comes system b g (Entered head (Some (record { head = from; downlink = i }))) (entry node)
     entry_comes head inst head_is in_b entered told =
         let by : Caller = record { head = head_of caller; downlink = i } in
         let forced = subst (λ s. IsForcedTo s g.decisions
@@ -90,15 +86,8 @@ module _ (system : System) (b : Binding) (given : IsGiven system b) (g : Grown)
         caller at followed.follows.0 followed.follows.1 (entry_is_item system b caller in_b)
         entered (on_path b front caller at) downlink link inst forced in
         let new = is_new system b given g.decisions followed.turns node fresh (Some by) in
-        subst (λ h. MayCome g.system g.decisions (Entered head (Some (record { head = h; downlink = i })))
-        × IsNew g.decisions (Entered head (Some (record { head = h; downlink = i })))
-        × ((now : Grown) (yes : Bool) →
-        Tries g (Entered head (Some (record { head = h; downlink = i }))) now yes →
-        BringsItem system b g (entry node) now yes × IsFollowed system b now)) (sym from_is)
-        (subst (λ h. MayCome g.system g.decisions (Entered h (Some by))
-        × IsNew g.decisions (Entered h (Some by))
-        × ((now : Grown) (yes : Bool) → Tries g (Entered h (Some by)) now yes →
-        BringsItem system b g (entry node) now yes × IsFollowed system b now)) (sym head_is) (
+        subst (λ h. Comes system b g (Entered head (Some (record { head = h; downlink = i }))) (entry node)) (sym from_is)
+        (subst (λ h. Comes system b g (Entered h (Some by)) (entry node)) (sym head_is) (
           subst (λ s. MayCome s g.decisions (Entered (head_of node) (Some by))) (sym followed.same) may,
           new,
           tried system b given g followed.same followed.follows.0 followed.follows.1 followed.turns

@@ -6,14 +6,14 @@ use Rattle.rn_outside.specs.Faults.{risen}
 use Rattle.rn_outside.proofs.ByteLemmas.{IsCalledSeldom-never}
 use Rattle.rn_pour.specs.Flows.{Standing}
 use Rattle.rn_fire.specs.States.{State}
-use Rattle.rn_state_record.specs.Poured.{BreaksRecord, TakesRecord}
+use Rattle.rn_state_record.specs.Poured.{BreaksRecord, HasEndlessRecord, TakesRecord}
 use Rattle.rn_answering.specs.declared.answer.Answer.{Answer}
 use Rattle.rn_answering.specs.declared.status.TheConstants.{WRITE_FAULT}
 use Rattle.rn_commands.specs.declared.closing.Closing.{Closing}
 use Rattle.rn_commands.specs.link.Closings.{TellsEnd, closing_line, closing_status}
 use Rattle.rn_commands.specs.link.Ends.{IsClosedBy, IsWrittenBy}
 use Rattle.rn_commands.specs.link.Workloads.{IsTallyOf, IsTalliedBy}
-use Rattle.rn_commands.specs.Written.{Tells, WritesAnswer}
+use Rattle.rn_commands.specs.Written.{HasEndless, Tells, WritesAnswer}
 
 -- the answer of an end, with this text
 abbrev answer_of : Closing → List ℕ → Answer
@@ -102,6 +102,11 @@ module _ {E : Type 0} (s : State) (closing : Closing)
     broken closing text out out_after err sink prefix faults calls none_empty,
   )
 
+-- where its record has no end, so has an answer of it
+pub endless_record : (s : State) (closing : Closing) → IsClosedBy s (closing_status closing) (closing_line closing) →
+    (format : ℕ) → HasEndlessRecord format s → HasEndless (IsWrittenBy format s)
+endless_record s closing closed format long = (answer_of closing long.bytes, (long.is_record, closed), long.endless)
+
 -- Of answers that are also those of another kind.
 module _ {E : Type 0} (Is Also : Answer → Type 0) (also : (a : Answer) → Is a → Also a)
     (out out_after err err_after : Standing) (sink sink_after : E) where
@@ -115,3 +120,7 @@ module _ {E : Type 0} (Is Also : Answer → Type 0) (also : (a : Answer) → Is 
       IfSome told (λ status. Tells Also status out out_after err err_after sink sink_after)
   told_also None tells = tt
   told_also (Some status) tells = tells_also status tells
+
+-- where one of them has no end
+pub endless_also : (Is Also : Answer → Type 0) → ((a : Answer) → Is a → Also a) → HasEndless Is → HasEndless Also
+endless_also Is Also also (a, is, long) = (a, also a is, long)

@@ -1,11 +1,14 @@
 -- What is written of a run.
-use Rattle.std.specs.Prelude.{ℕ, ◌≡◌, ◌≢◌, ◌⊎◌, []}
+use Rattle.std.specs.Prelude.{ℕ, ◌≡◌, ◌≢◌, ◌≤◌, ◌⊎◌, [], length}
 use Rattle.rn_outside.specs.Bytes.{Appends, AppendsPrefix, IsCalledSeldom}
 use Rattle.rn_outside.specs.Faults.{risen}
+use Rattle.rn_window.specs.Windows.{top}
 use Rattle.rn_pour.specs.Flows.{Standing}
 use Rattle.rn_answering.specs.declared.answer.Answer.{Answer}
 use Rattle.rn_answering.specs.declared.status.TheConstants.{NO_MEMORY, WRITE_FAULT}
 use Rattle.rn_answering.specs.Writing.{TakesLine}
+use Rattle.rn_commands.specs.declared.jobs.Job.{Job}
+use Rattle.rn_commands.specs.Jobs.{JobComesTo}
 
 -- An answer is written, its text and then its line, and this status is returned: its own, unless a
 -- write failed. Memory that ran out stays reported where the line fails. Each sink is called at
@@ -35,3 +38,11 @@ abbrev pub Tells : {E : Type 0} → (Answer → Type 0) → ℕ →
     Standing → Standing → Standing → Standing → E → E → Type 0
 Tells Is status out out_after err err_after sink sink_after =
     (a : Answer) × Is a × WritesAnswer a status out out_after err err_after sink sink_after
+
+-- one of these answers has a text of 2^64 - 1 bytes or more, which no memory holds
+abbrev pub HasEndless : (Answer → Type 0) → Type 0
+HasEndless Is = (a : Answer) × Is a × (top ≤ length a.text)
+
+-- a run comes to an answer of 2^64 - 1 bytes or more
+abbrev pub IsEndless : Job → Type 0
+IsEndless job = HasEndless (JobComesTo job)

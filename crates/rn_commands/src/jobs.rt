@@ -1,31 +1,22 @@
 //! Runs that are due: all is done for them but what needs threads.
-ghost use Rattle.std.specs.Prelude.{◌≡◌, ◌≤◌, Ok, None, IfOk, IfErr, IfSome, OnErr};
+ghost use Rattle.std.specs.Prelude.{◌≤◌, IfOk, IfErr};
 ghost use Rattle.rn_model.specs.Good.{Good, IsInLimits};
 ghost use Rattle.rn_gen.specs.Workload.{workload, most_copies};
 ghost use Rattle.rn_record.specs.RecordText.{IsFormat};
 ghost use Rattle.rn_answering.specs.NetTexts.{Accepted, AcceptedIn, RefusesNet};
 ghost use Rattle.rn_answering.specs.Refusing.{Stops};
 ghost use Rattle.rn_commands.specs.Jobs.{IsAskedBy, JobComesTo};
-ghost use Rattle.rn_commands.specs.Written.{Tells};
 
-use crate::readying::{ready_run, run_ready};
 use crate::running::run_system;
 use crate::runs::written;
-use crate::telling::{write_recorded, write_tallied};
 use crate::workload::{tallied, workload_system};
 use rn_answering::{Answer, Stopped, net_of};
 use rn_items::NoMemory;
 use rn_model::{Options, System};
-use rn_outside::Sink;
-use rn_window::Window;
 use rn_worker::Gate;
 use std::alloc::Global;
 use std::sync::Wait;
 use std::thread::Threads;
-
-// How many bytes of a record are written at once. A firing with more is written several times, for
-// each piece of it once.
-const PIECE: usize = 4_194_304;
 
 /// Which of the enabled bindings fire in a run.
 #[derive(Clone, Copy, Debug, PartialEq, Eq)]
@@ -123,65 +114,5 @@ pub fn run_job<R: Threads + Wait + Sync, G: Gate + Sync>(
     match telling {
         Telling::Record => written(alloc, &state, format),
         Telling::Tally => tallied(alloc, state),
-    }
-}
-
-/// Does a run that is due, and writes what is reported of it: its record or its tally, in pieces,
-/// and the line of its end. Memory is taken before the first firing; once it is there, a run for
-/// which more is refused ends so, and is written as far as it came. `None` where a line of the
-/// record has 2^64 - 1 bytes or more, so that it isn't written. This may wait, as `run_job`.
-pub fn run_to<R: Threads + Wait + Sync, G: Gate + Sync, O: Sink, E: Sink>(
-    rt: &R,
-    alloc: Global,
-    job: Job,
-    gate: &G,
-    out: &mut O,
-    err: &mut E,
-) -> Result<Option<u8>, NoMemory>
-    requires good { Good job.system }
-    requires limits { IsInLimits job.options }
-    requires format { IsFormat job.format }
-    ensures told { IfOk result (λ told. IfSome told (λ status. Tells (JobComesTo job) status
-        (record {
-          held = O.held out.old;
-          faults = O.faults out.old;
-          writes = O.writes out.old;
-          empty_writes = O.empty_writes out.old;
-        })
-        (record {
-          held = O.held out.new;
-          faults = O.faults out.new;
-          writes = O.writes out.new;
-          empty_writes = O.empty_writes out.new;
-        })
-        (record {
-          held = E.held err.old;
-          faults = E.faults err.old;
-          writes = E.writes err.old;
-          empty_writes = E.empty_writes err.old;
-        })
-        (record {
-          held = E.held err.new;
-          faults = E.faults err.new;
-          writes = E.writes err.new;
-          empty_writes = E.empty_writes err.new;
-        })
-        err.old err.new)) }
-    ensures none { result ≡ Ok None → (out.new ≡ out.old) × (err.new ≡ err.old) }
-    ensures refused { OnErr result ((out.new ≡ out.old) × (err.new ≡ err.old)) }
-{
-    let Job {
-        system,
-        format,
-        options,
-        pick,
-        telling,
-    } = job;
-    let mut window = Window::new(alloc, PIECE)?;
-    let ready = ready_run(alloc, system, options, pick)?;
-    let state = run_ready(rt, alloc, ready, gate);
-    match telling {
-        Telling::Record => Ok(write_recorded(state, format, &mut window, out, err)),
-        Telling::Tally => Ok(Some(write_tallied(state, &mut window, out, err))),
     }
 }

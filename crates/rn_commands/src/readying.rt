@@ -3,7 +3,7 @@ ghost use Rattle.std.specs.Prelude.{◌≡◌, ◌≢◌, None, IfOk, All};
 ghost use Rattle.rn_model.specs.Good.{Good, IsInLimits};
 ghost use Rattle.rn_least_state.specs.LeastStates.{HasLeastLog};
 ghost use Rattle.rn_commands.specs.Runs.{IsOfWorkers};
-ghost use Rattle.rn_commands.specs.link.Readying.{setup_of, IsLeast};
+ghost use Rattle.rn_commands.specs.link.Readying.{pick_of, setup_of};
 
 use crate::jobs::Pick;
 use rn_fire::SimState;
@@ -35,7 +35,7 @@ pub(crate) fn ready_run(
     requires limits { IsInLimits options }
     ensures setup { IfOk result (λ r.
         setup_of r ≡ record { system = system; options = options }) }
-    ensures least { pick ≡ Pick.Least → IfOk result IsLeast }
+    ensures pick { IfOk result (λ r. pick_of r ≡ pick) }
 {
     let system = Arc::new(alloc, system)?;
     match pick {
@@ -55,7 +55,7 @@ pub(crate) fn run_ready<R: Threads + Wait + Sync, G: Gate + Sync>(
     ensures setup { result.setup ≡ setup_of ready }
     ensures ended { result.ended ≢ None }
     ensures workers { All (IsOfWorkers (setup_of ready).options.workers) result.fired }
-    ensures least { IsLeast ready → HasLeastLog result }
+    ensures least { pick_of ready ≡ Pick.Least → HasLeastLog result }
 {
     match ready {
         ReadyRun::Any(ready, seed) => ready.run(rt, alloc, seed, gate).state,

@@ -1,7 +1,7 @@
 //! Writing what is reported of a run.
 ghost use Rattle.std.specs.Prelude.{◌≡◌, ◌≢◌, ◌<◌, None, IfSome};
 ghost use Rattle.rn_record.specs.RecordText.{IsFormat};
-ghost use Rattle.rn_commands.specs.Written.{Tells};
+ghost use Rattle.rn_commands.specs.Written.{Tells, HasEndless};
 ghost use Rattle.rn_commands.specs.link.Closings.{TellsEnd};
 ghost use Rattle.rn_commands.specs.link.Ends.{IsWrittenBy};
 ghost use Rattle.rn_commands.specs.link.Workloads.{IsTalliedBy};
@@ -86,6 +86,7 @@ pub(crate) fn write_recorded<O: Sink, E: Sink>(
         })
         err.old err.new) }
     ensures none { result ≡ None → (out.new ≡ out.old) × (err.new ≡ err.old) }
+    ensures endless { result ≡ None → HasEndless (IsWrittenBy format state) }
 {
     let closing = Closing::of(&state);
     match pour_record(state, format, window, out) {

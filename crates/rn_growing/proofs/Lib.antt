@@ -6,6 +6,7 @@ pub mod ForcedInstances
 pub mod GoodSystems
 pub mod Growth
 pub mod KeySteps
+pub mod KindsOfForced
 pub mod LaidSteps
 pub mod MoreDecisions
 pub mod NewThings

@@ -4,4 +4,5 @@ pub mod Decisions
 pub mod Equations
 pub mod Following
 pub mod Grown
+pub mod Kinded
 pub mod Turns

@@ -5,6 +5,7 @@ ghost use Rattle.rn_growing.specs.Following.{FollowersAreDecided, ClosedDecision
 ghost use Rattle.rn_growing.specs.Following.{FollowsOn, EachIsDecided, GoodHaveFewCreations};
 ghost use Rattle.rn_growing.specs.Following.{NewAfterOne, EnteredByMore, ForcedByMore};
 ghost use Rattle.rn_growing.specs.Following.{MayComeByMore, NewEntries, NewFinds, NewValues};
+ghost use Rattle.rn_growing.specs.Kinded.{KindedForceKinds};
 
 /// What decisions in turn say of each binding that follows them; and where no further one may come
 /// in, it is derived exactly where they decide all of its items and force its variables.
@@ -34,4 +35,10 @@ pub fn new_is_undecided()
 /// A binding may be opened for each good system.
 pub fn good_systems_open()
     ensures { GoodHaveFewCreations }
+{}
+
+/// Where decisions bring in what has its kind, and some assignment satisfies them, what they force
+/// has its kind.
+pub fn kinded_decisions_force_kinds()
+    ensures { KindedForceKinds }
 {}

@@ -19,5 +19,8 @@ mod thing;
 pub use bringing::transition_in;
 pub use decision::{Caller, Decision, Decisions, Head, Site, Way, copy_head};
 pub use growing::Growing;
-pub use laws::{followers_are_decided, good_systems_open, more_decisions, new_is_undecided};
+pub use laws::{
+    followers_are_decided, good_systems_open, kinded_decisions_force_kinds, more_decisions,
+    new_is_undecided,
+};
 pub use room::GrowingRoom;

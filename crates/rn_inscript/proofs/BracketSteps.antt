@@ -5,10 +5,12 @@ use Rattle.rn_notation.specs.declared.token.Token.{Token}
 use Rattle.rn_notation.specs.declared.token.TokenKind.{TokenKind}
 use Rattle.rn_notation.specs.declared.token.TokenKind.TheVariants.{Sign}
 use Rattle.rn_inscript.specs.declared.cursor.Seen.{Seen}
-use Rattle.rn_inscript.specs.declared.fault.InscriptFault.{InscriptFault}
-use Rattle.rn_inscript.specs.declared.fault.InscriptFault.TheVariants as Fault
+use Rattle.rn_reading.specs.declared.fault.ReadFault.{ReadFault}
+use Rattle.rn_reading.specs.declared.fault.ReadFault.TheVariants as Fault
 use Rattle.rn_inscript.specs.Levels.{Level, bracket, Count, without_minuses, levels_at, goes_too_far, after_token}
-use Rattle.rn_inscript.specs.link.Stages.{Phrases, Then, Done, Takes, Ends, Stage, CanEnd, Fails, IsSoFar, ReadsFrom, IsNext, IsNextSign, strength, ready, ended}
+use Rattle.rn_reading.specs.Phrases.{Phrases, Then, Done}
+use Rattle.rn_reading.specs.link.Stages.{CanEnd, IsNext}
+use Rattle.rn_inscript.specs.link.Stages.{Takes, Ends, Stage, Fails, IsSoFar, ReadsFrom, IsNextSign, strength, ready, ended}
 use Rattle.rn_inscript.proofs.StageLemmas.{change, inner, inner_fails}
 use Rattle.rn_inscript.proofs.CountSteps.{le-false, le-true}
 use Rattle.rn_inscript.proofs.Passing.{pass, far_next}
@@ -36,7 +38,7 @@ pub done_follow : {A : Type 0} {a : A} (n : ℕ) (ts : List Token) (e : A) (rest
 done_follow n ts e rest ends d = subst (Ends n) d.1 ends
 
 -- a reader that is another's whole answer
-pub whole_reads : {A : Type 0} {n : ℕ} {X Z : Phrases A} (tokens : List Token) (before : Seen) (first : Count) (around : List Level) (r : Result (A × Seen) InscriptFault) →
+pub whole_reads : {A : Type 0} {n : ℕ} {X Z : Phrases A} (tokens : List Token) (before : Seen) (first : Count) (around : List Level) (r : Result (A × Seen) ReadFault) →
     Stage n Z (drop before.at tokens) first (Then X Done) (drop before.at tokens) first →
     ReadsFrom n X tokens before first around r → ReadsFrom n Z tokens before first around r
 whole_reads {n = n} tokens before first around (Ok (a, after)) s p = record { open_now = p.open_now; closed = p.closed; stage = inner Done s p.stage (λ b. done_follow n) }
@@ -73,7 +75,7 @@ opening_passed {k = k} {now = now} {around = around} tokens at opening s next is
 pub opening_far : {A : Type 0} {n k : ℕ} {X Y : Phrases A} {start : List Token} {first now : Count} {around : List Level} {levels : ℕ} (tokens : List Token) (at : ℕ) {t : Token} →
     IsOpening k → Stage n X start first Y (drop at tokens) now → IsNext tokens at t → t.kind ≡ Sign k →
     levels_at now (Sign k) ≡ around → levels + length around ≡ 64 → levels ≡ 0 → CanEnd (λ ts. Y (t ∷ ts)) →
-    Fails n X start first (length tokens) (Fault.P5 at)
+    Fails n X start first (length tokens) (Fault.TooFar at)
 opening_far {k = k} {now = now} {around = around} tokens at opening s next is here fits none end =
     far_next tokens at (Sign k) s next is end
     ((opening now).0 ∙ ap (λ ls. nat_le 64 (length ls)) here ∙ le-true 64 (length around) (omega (arith, fits, none)))
@@ -123,7 +125,7 @@ close_first {k = k} tokens before seen {around = around} closing s next = record
 }
 
 -- what is in brackets fails, or is read
-pub inside_fails : {A B : Type 0} {n m k : ℕ} {X : Phrases A} {Z : Phrases B} {f : A → B} {start mid : List Token} {first now : Count} (total : ℕ) (e : InscriptFault) →
+pub inside_fails : {A B : Type 0} {n m k : ℕ} {X : Phrases A} {Z : Phrases B} {f : A → B} {start mid : List Token} {first now : Count} (total : ℕ) (e : ReadFault) →
     IsClosing k → 0 < m → Stage n Z start first (Then X (λ a. Takes (Sign k) (f a))) mid now → Fails m X mid now total e → Fails n Z start first total e
 inside_fails {m = m} {k = k} {f = f} total e closing some s p =
     inner_fails total e s (λ b ts e rest ends y. takes_follow m (subst (λ x. x < m) (sym closing.weak) some) ts e rest y) (λ b. can_end_takes (Sign k) (f b)) p

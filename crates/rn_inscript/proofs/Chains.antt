@@ -6,12 +6,15 @@ use Rattle.rn_notation.specs.declared.token.Token.{Token}
 use Rattle.rn_notation.specs.declared.token.TokenKind.{TokenKind}
 use Rattle.rn_inscript.specs.Levels.{Level, Count, without_minuses, goes_too_far, after_token}
 use Rattle.rn_inscript.specs.declared.cursor.Seen.{Seen}
-use Rattle.rn_inscript.specs.declared.fault.InscriptFault.{InscriptFault}
-use Rattle.rn_inscript.specs.declared.fault.InscriptFault.TheVariants as Fault
-use Rattle.rn_inscript.specs.link.Stages.{Phrases, Then, Done, BeginAlike, Ends, Stage, CanEnd, Fails, IsSoFar, IsNextOf, IsNoneOf, strength, ready, ended}
+use Rattle.rn_reading.specs.declared.fault.ReadFault.{ReadFault}
+use Rattle.rn_reading.specs.declared.fault.ReadFault.TheVariants as Fault
+use Rattle.rn_reading.specs.Phrases.{Phrases, Then, Done}
+use Rattle.rn_reading.specs.link.Stages.{BeginAlike, CanEnd, IsNextOne, IsNotNext}
+use Rattle.rn_inscript.specs.link.Stages.{Ends, Stage, Fails, IsSoFar, strength, ready, ended}
 use Rattle.rn_inscript.proofs.StageLemmas.{begin, change, inner, inner_fails}
 use Rattle.rn_inscript.proofs.CountSteps.{IsBinary, binary-small, binary-after, binary-far}
-use Rattle.rn_inscript.proofs.Passing.{alike-cons, pass, far_next}
+use Rattle.rn_reading.proofs.Steps.{alike-cons}
+use Rattle.rn_inscript.proofs.Passing.{pass, far_next}
 
 -- what goes on with a sign of the sort
 abbrev pub Goes : {A B S : Type 0} → (Item : Phrases B) (sort : TokenKind → Option S) (add : S → A → B → A) (Tail : A → Phrases A) → A → Phrases A
@@ -84,7 +87,7 @@ joined_begins {n = n} {X = X} {Item = Item} {Tail = Tail} {one = one} j start fi
     (λ ts e rest y. j.join y.2 y.3) (λ ts e rest alike ends x. j.part x)
 
 pub first_fails : {A B S : Type 0} {n : ℕ} {X : Phrases A} {Item : Phrases B} {sort : TokenKind → Option S} {add : S → A → B → A} {Tail : A → Phrases A} {one : B → A} →
-    Joined n X Item sort add Tail one → (start : List Token) (first : Count) (total : ℕ) (e : InscriptFault) →
+    Joined n X Item sort add Tail one → (start : List Token) (first : Count) (total : ℕ) (e : ReadFault) →
     Fails (n + 1) Item start first total e → Fails n X start first total e
 first_fails j start first total e f = inner_fails total e (joined_begins j start first) (λ b. chain_follow j.chain _) (λ b. chain_can_end j.chain _) f
 
@@ -104,7 +107,7 @@ Separates {S = S} sort around operators after = (kind : TokenKind) (sign : S) (l
 
 pub sign_taken : {A B S : Type 0} {n : ℕ} {X : Phrases A} {Item : Phrases B} {sort : TokenKind → Option S} {add : S → A → B → A} {Tail : A → Phrases A} {one : B → A} →
     Joined n X Item sort add Tail one → {tokens : List Token} {before now : Seen} {first : Count} {around : List Level} {a : A} {sign : S} (after : ℕ) (then : Seen) →
-    IsSoFar n X tokens before first around (Tail a) now → without_minuses around ≡ around → IsNextOf sort tokens now.at sign → Separates sort around now.operators after →
+    IsSoFar n X tokens before first around (Tail a) now → without_minuses around ≡ around → IsNextOne (λ t. sort t.kind) tokens now.at sign → Separates sort around now.operators after →
     then ≡ record { at = now.at + 1; operators = after } →
     Stage n X (drop before.at tokens) first (Then Item (λ b. Tail (add sign a b))) (drop then.at tokens) (ready around then.operators)
 sign_taken {n = n} {X = X} {Item = Item} {add = add} {Tail = Tail} j {tokens = tokens} {before = before} {now = now} {first = first} {around = around} {a = a} {sign = sign} after then s base next separates is =
@@ -117,14 +120,14 @@ operator_separates {operators = operators} binary few = λ kind sign levels is h
 
 pub sign_far : {A B S : Type 0} {n : ℕ} {X : Phrases A} {Item : Phrases B} {sort : TokenKind → Option S} {add : S → A → B → A} {Tail : A → Phrases A} {one : B → A} →
     Joined n X Item sort add Tail one → {tokens : List Token} {before now : Seen} {first : Count} {around : List Level} {a : A} {sign : S} →
-    IsSoFar n X tokens before first around (Tail a) now → IsNextOf sort tokens now.at sign →
+    IsSoFar n X tokens before first around (Tail a) now → IsNextOne (λ t. sort t.kind) tokens now.at sign →
     ((kind : TokenKind) (sign : S) → sort kind ≡ Some sign → IsBinary kind) → 256 ≤ now.operators →
-    Fails n X (drop before.at tokens) first (length tokens) (Fault.P5 now.at)
+    Fails n X (drop before.at tokens) first (length tokens) (Fault.TooFar now.at)
 sign_far j {tokens = tokens} {now = now} {a = a} {sign = sign} s next binary far =
     far_next tokens now.at next.0.kind s.stage next.1 refl (chain_on_can_end j.chain j.item next.2 a) (binary-far s.open_now now.operators (binary next.0.kind sign next.2) far)
 
 pub item_fails : {A B S : Type 0} {n : ℕ} {X : Phrases A} {Item : Phrases B} {sort : TokenKind → Option S} {add : S → A → B → A} {Tail : A → Phrases A} {one : B → A} →
-    Joined n X Item sort add Tail one → {start mid : List Token} {first now : Count} {a : A} {sign : S} (total : ℕ) (e : InscriptFault) →
+    Joined n X Item sort add Tail one → {start mid : List Token} {first now : Count} {a : A} {sign : S} (total : ℕ) (e : ReadFault) →
     Stage n X start first (Then Item (λ b. Tail (add sign a b))) mid now →
     Fails (n + 1) Item mid now total e → Fails n X start first total e
 item_fails j total e s f = inner_fails total e s (λ b. chain_follow j.chain _) (λ b. chain_can_end j.chain _) f
@@ -142,5 +145,5 @@ item_read {add = add} {Tail = Tail} j {a = a} {sign = sign} s p = record {
 
 pub all_read : {A B S : Type 0} {n : ℕ} {X : Phrases A} {Item : Phrases B} {sort : TokenKind → Option S} {add : S → A → B → A} {Tail : A → Phrases A} {one : B → A} →
     Joined n X Item sort add Tail one → {tokens : List Token} {before now : Seen} {first : Count} {around : List Level} {a : A} →
-    IsSoFar n X tokens before first around (Tail a) now → IsNoneOf sort tokens now.at → IsSoFar n X tokens before first around (Done a) now
+    IsSoFar n X tokens before first around (Tail a) now → IsNotNext (λ t. sort t.kind) tokens now.at → IsSoFar n X tokens before first around (Done a) now
 all_read j s none = record { open_now = s.open_now; closed = s.closed; stage = chain_done j.chain none s.stage }

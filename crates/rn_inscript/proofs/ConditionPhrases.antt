@@ -8,8 +8,8 @@ use Rattle.rn_notation.specs.declared.token.TokenKind.{TokenKind}
 use Rattle.rn_notation.specs.declared.token.TokenKind.TheVariants.{Name, Word, Number, Text, Sign}
 use Rattle.rn_model.specs.declared.expr.CompareKind.{CompareKind}
 use Rattle.rn_inscript.specs.declared.cursor.Seen.{Seen}
-use Rattle.rn_inscript.specs.declared.fault.InscriptFault.{InscriptFault}
-use Rattle.rn_inscript.specs.declared.fault.InscriptFault.TheVariants as Fault
+use Rattle.rn_reading.specs.declared.fault.ReadFault.{ReadFault}
+use Rattle.rn_reading.specs.declared.fault.ReadFault.TheVariants as Fault
 use Rattle.rn_inscript.specs.declared.exprs.PExpr.{PExpr}
 use Rattle.rn_inscript.specs.declared.conds.PCond.{PCond}
 use Rattle.rn_inscript.specs.declared.conds.PSimple.{PSimple}
@@ -18,11 +18,14 @@ use Rattle.rn_inscript.specs.Signs.{not_sign, compare_of}
 use Rattle.rn_inscript.specs.Expressions.{IsExpr}
 use Rattle.rn_inscript.specs.Conditions.{IsCond, IsAlternatives, IsMoreAlternatives, IsBoth, IsMoreBoth, IsSimple, any_of}
 use Rattle.rn_inscript.specs.Levels.{Level, Count, without_minuses}
-use Rattle.rn_inscript.specs.link.Stages.{Phrases, Then, Done, BeginAlike, Ends, Stage, CanEnd, Fails, IsSoFar, Reads, IsNextOf, IsNoneOf, IsNotNextSign, strength, ready, past_operator}
+use Rattle.rn_reading.specs.Phrases.{Phrases, Then, Done}
+use Rattle.rn_reading.specs.link.Stages.{BeginAlike, CanEnd, IsNextOne, IsNotNext}
+use Rattle.rn_inscript.specs.link.Stages.{Ends, Stage, Fails, IsSoFar, Reads, IsNotNextSign, strength, ready, past_operator}
 use Rattle.rn_inscript.proofs.StageLemmas.{begin, change, inner, inner_fails}
 use Rattle.rn_inscript.proofs.CountSteps.{IsBinary, binary-sign, binary-small, binary-after, binary-far}
-use Rattle.rn_inscript.proofs.Passing.{alike-cons, pass, far_next}
-use Rattle.rn_inscript.proofs.BracketSteps.{any, can_end_then, can_end_done, can_end_by, done_follow}
+use Rattle.rn_reading.proofs.Steps.{alike-cons}
+use Rattle.rn_inscript.proofs.Passing.{pass, far_next}
+use Rattle.rn_inscript.proofs.BracketSteps.{can_end_then, can_end_done, can_end_by, done_follow}
 use Rattle.rn_inscript.proofs.Chains.{Joined}
 use Rattle.rn_inscript.proofs.OneSign.{sign_of, sign-is, sign-some}
 use Rattle.rn_inscript.proofs.ExpressionPhrases.{zero-expr}
@@ -107,7 +110,7 @@ cond_stage start first = change (Then IsAlternatives (λ all. Done (any_of all))
     (λ ts e rest y. subst (λ c. IsCond ts c rest) (sym y.3.0) (IsCond.any (subst (λ us. IsAlternatives ts y.0 us) (sym y.3.1) y.2)))
     (λ ts e rest alike ends x. cond-part x)
 
-pub cond_fails : (tokens : List Token) (seen : Seen) (around : List Level) (e : InscriptFault) → Reads 1 IsAlternatives tokens seen around (Err e) → Reads 1 IsCond tokens seen around (Err e)
+pub cond_fails : (tokens : List Token) (seen : Seen) (around : List Level) (e : ReadFault) → Reads 1 IsAlternatives tokens seen around (Err e) → Reads 1 IsCond tokens seen around (Err e)
 cond_fails tokens seen around e f = inner_fails (length tokens) e (cond_stage (drop seen.at tokens) (ready around seen.operators)) (λ all. done_follow 1) (λ all. can_end_done (any_of all)) f
 
 pub cond_read : (tokens : List Token) (seen after : Seen) (around : List Level) (all : List (List PSimple)) →
@@ -152,7 +155,7 @@ end-follow a ts e rest ends x = elim x [
 end-ends : (a : PExpr) → CanEnd (SimpleEnd a)
 end-ends a = ([], S.Bare a, λ rest. inl (refl, refl))
 
-pub left_fails : (tokens : List Token) (seen : Seen) (around : List Level) (e : InscriptFault) → IsNotNextSign tokens seen.at 23 → Fails 4 IsExpr (drop seen.at tokens) (ready around seen.operators) (length tokens) e →
+pub left_fails : (tokens : List Token) (seen : Seen) (around : List Level) (e : ReadFault) → IsNotNextSign tokens seen.at 23 → Fails 4 IsExpr (drop seen.at tokens) (ready around seen.operators) (length tokens) e →
     Reads 3 IsSimple tokens seen around (Err e)
 left_fails tokens seen around e other f = inner_fails (length tokens) e (simple_stage tokens seen (ready around seen.operators) other) end-follow end-ends f
 
@@ -165,7 +168,7 @@ left_read tokens seen after around a other p = record {
   stage = inner SimpleEnd (simple_stage tokens seen (ready around seen.operators) other) p.stage end-follow;
 }
 
-pub bare_read : (tokens : List Token) (seen after : Seen) (around : List Level) (a : PExpr) → IsSoFar 3 IsSimple tokens seen (ready around seen.operators) around (SimpleEnd a) after → IsNoneOf compare_of tokens after.at →
+pub bare_read : (tokens : List Token) (seen after : Seen) (around : List Level) (a : PExpr) → IsSoFar 3 IsSimple tokens seen (ready around seen.operators) around (SimpleEnd a) after → IsNotNext (λ t. compare_of t.kind) tokens after.at →
     IsSoFar 3 IsSimple tokens seen (ready around seen.operators) around (Done (S.Bare a)) after
 bare_read tokens seen after around a p none = record {
   open_now = p.open_now;
@@ -179,15 +182,15 @@ bare_read tokens seen after around a p none = record {
 compare-on : {t : Token} (a : PExpr) (kind : CompareKind) → compare_of t.kind ≡ Some kind → (ts : List Token) (e : PSimple) (rest : List Token) → Then IsExpr (λ b. Done (S.Compare kind a b)) ts e rest → SimpleEnd a (t ∷ ts) e rest
 compare-on {t = t} a kind is ts e rest y = inr (t, ts, kind, refl, is, y)
 
-pub compare_far : (tokens : List Token) (seen after : Seen) (around : List Level) (a : PExpr) (kind : CompareKind) → IsSoFar 3 IsSimple tokens seen (ready around seen.operators) around (SimpleEnd a) after → IsNextOf compare_of tokens after.at kind →
-    256 ≤ after.operators → Reads 3 IsSimple tokens seen around (Err (Fault.P5 after.at))
+pub compare_far : (tokens : List Token) (seen after : Seen) (around : List Level) (a : PExpr) (kind : CompareKind) → IsSoFar 3 IsSimple tokens seen (ready around seen.operators) around (SimpleEnd a) after → IsNextOne (λ t. compare_of t.kind) tokens after.at kind →
+    256 ≤ after.operators → Reads 3 IsSimple tokens seen around (Err (Fault.TooFar after.at))
 compare_far tokens seen after around a kind p next far =
     far_next tokens after.at next.0.kind p.stage next.1 refl
     (can_end_by (Then IsExpr (λ b. Done (S.Compare kind a b))) (λ ts. SimpleEnd a (next.0 ∷ ts)) (can_end_then IsExpr (λ b. Done (S.Compare kind a b)) zero-expr (λ b. can_end_done (S.Compare kind a b))) (compare-on a kind next.2))
     (binary-far p.open_now after.operators (compare-binary next.0.kind kind next.2) far)
 
 compare_stage : (tokens : List Token) (seen after then : Seen) (around : List Level) (a : PExpr) (kind : CompareKind) → IsSoFar 3 IsSimple tokens seen (ready around seen.operators) around (SimpleEnd a) after → without_minuses around ≡ around →
-    IsNextOf compare_of tokens after.at kind → after.operators < 256 → then ≡ past_operator after →
+    IsNextOne (λ t. compare_of t.kind) tokens after.at kind → after.operators < 256 → then ≡ past_operator after →
     Stage 3 IsSimple (drop seen.at tokens) (ready around seen.operators) (Then IsExpr (λ b. Done (S.Compare kind a b))) (drop then.at tokens) (ready around then.operators)
 compare_stage tokens seen after then around a kind p base next few is =
     subst (λ s. Stage 3 IsSimple (drop seen.at tokens) (ready around seen.operators) (Then IsExpr (λ b. Done (S.Compare kind a b))) (drop s.at tokens) (ready around s.operators)) (sym is)
@@ -201,8 +204,8 @@ compare_stage tokens seen after then around a kind p base next few is =
           (subst (λ k. Then IsExpr (λ b. Done (S.Compare k a b)) z.1 e rest) (let h : z.2 ≡ kind = let d = z.3 in let f = z.4 in let g = next.2 in cc in h) z.5)
     ]))
 
-pub right_fails : (tokens : List Token) (seen after then : Seen) (around : List Level) (a : PExpr) (kind : CompareKind) (e : InscriptFault) → IsSoFar 3 IsSimple tokens seen (ready around seen.operators) around (SimpleEnd a) after → without_minuses around ≡ around →
-    IsNextOf compare_of tokens after.at kind → after.operators < 256 → then ≡ past_operator after → Reads 4 IsExpr tokens then around (Err e) → Reads 3 IsSimple tokens seen around (Err e)
+pub right_fails : (tokens : List Token) (seen after then : Seen) (around : List Level) (a : PExpr) (kind : CompareKind) (e : ReadFault) → IsSoFar 3 IsSimple tokens seen (ready around seen.operators) around (SimpleEnd a) after → without_minuses around ≡ around →
+    IsNextOne (λ t. compare_of t.kind) tokens after.at kind → after.operators < 256 → then ≡ past_operator after → Reads 4 IsExpr tokens then around (Err e) → Reads 3 IsSimple tokens seen around (Err e)
 right_fails tokens seen after then around a kind e p base next few is f =
     inner_fails (length tokens) e (compare_stage tokens seen after then around a kind p base next few is) (λ b ts e rest ends d. wider ts (done_follow 3 ts e rest ends d)) (λ b. can_end_done (S.Compare kind a b)) f
   where
@@ -211,7 +214,7 @@ right_fails tokens seen after then around a kind e p base next few is f =
     wider (u ∷ us) h = omega (arith, h)
 
 pub right_read : (tokens : List Token) (seen after then end : Seen) (around : List Level) (a b : PExpr) (kind : CompareKind) → IsSoFar 3 IsSimple tokens seen (ready around seen.operators) around (SimpleEnd a) after → without_minuses around ≡ around →
-    IsNextOf compare_of tokens after.at kind → after.operators < 256 → then ≡ past_operator after → IsSoFar 4 IsExpr tokens then (ready around then.operators) around (Done b) end →
+    IsNextOne (λ t. compare_of t.kind) tokens after.at kind → after.operators < 256 → then ≡ past_operator after → IsSoFar 4 IsExpr tokens then (ready around then.operators) around (Done b) end →
     IsSoFar 3 IsSimple tokens seen (ready around seen.operators) around (Done (S.Compare kind a b)) end
 right_read tokens seen after then end around a b kind p base next few is q = record {
   open_now = q.open_now;

@@ -1,5 +1,5 @@
 -- What the productions of expressions say of a next token.
-use Rattle.std.proofs.Common.{◌≡◌, ◌+◌, ◌⊎◌, inl, inr, List, [], ◌∷◌, ◌++◌, refl, ap, pos}
+use Rattle.std.proofs.Common.{◌≡◌, ◌⊎◌, inl, inr, List, [], ◌∷◌, ◌++◌, refl, ap, pos}
 use Rattle.std.specs.Prelude.{Some, ⊤}
 use Rattle.rn_notation.specs.declared.token.Token.{Token}
 use Rattle.rn_notation.specs.declared.token.TokenKind.TheVariants.{Number}
@@ -7,7 +7,9 @@ use Rattle.rn_model.specs.declared.expr.OpKind.{OpKind}
 use Rattle.rn_inscript.specs.declared.exprs.PExpr.{PExpr}
 use Rattle.rn_inscript.specs.Signs.{plus_of, times_of}
 use Rattle.rn_inscript.specs.Expressions.{IsExpr, IsTerms, IsProduct, IsFactors, IsUnary, IsPrimary, IsExprs, IsMoreExprs, joined}
-use Rattle.rn_inscript.specs.link.Stages.{Then, CanEnd, strength}
+use Rattle.rn_reading.specs.Phrases.{Then}
+use Rattle.rn_reading.specs.link.Stages.{CanEnd}
+use Rattle.rn_inscript.specs.link.Stages.{strength}
 use Rattle.rn_inscript.proofs.CountSteps.{times-strength, plus-strength}
 use Rattle.rn_inscript.proofs.Chains.{Joined}
 use Rattle.rn_inscript.proofs.BracketSteps.{any}

@@ -8,8 +8,8 @@ use Rattle.rn_notation.specs.declared.token.TokenKind.{TokenKind}
 use Rattle.rn_notation.specs.declared.token.TokenKind.TheVariants.{Name, Word, Number, Text, Sign}
 use Rattle.rn_model.specs.declared.system.ArcKind.{ArcKind}
 use Rattle.rn_inscript.specs.declared.cursor.Seen.{Seen}
-use Rattle.rn_inscript.specs.declared.fault.InscriptFault.{InscriptFault}
-use Rattle.rn_inscript.specs.declared.fault.InscriptFault.TheVariants as Fault
+use Rattle.rn_reading.specs.declared.fault.ReadFault.{ReadFault}
+use Rattle.rn_reading.specs.declared.fault.ReadFault.TheVariants as Fault
 use Rattle.rn_inscript.specs.declared.exprs.PExpr.{PExpr}
 use Rattle.rn_inscript.specs.declared.conds.PCond.{PCond}
 use Rattle.rn_inscript.specs.declared.inscriptions.PName.{PName}
@@ -20,10 +20,13 @@ use Rattle.rn_inscript.specs.Expressions.{IsExpr}
 use Rattle.rn_inscript.specs.Conditions.{IsCond}
 use Rattle.rn_inscript.specs.Inscriptions.{IsInscribed, absent}
 use Rattle.rn_inscript.specs.Levels.{Count, goes_too_far, after_token}
-use Rattle.rn_inscript.specs.link.Stages.{Phrases, Then, Done, BeginAlike, Ends, Stage, CanEnd, IsSoFar, Reads, IsNext, IsNextKind, ready, ended, past}
+use Rattle.rn_reading.specs.Phrases.{Phrases, Then, Done}
+use Rattle.rn_reading.specs.link.Stages.{BeginAlike, CanEnd, IsNext}
+use Rattle.rn_inscript.specs.link.Stages.{Ends, Stage, IsSoFar, Reads, IsNextKind, ready, ended, past}
 use Rattle.rn_inscript.specs.link.NextNames.{IsNotNextKind, IsNextName, IsNoName}
 use Rattle.rn_inscript.proofs.StageLemmas.{begin, change}
-use Rattle.rn_inscript.proofs.Passing.{alike-cons, pass}
+use Rattle.rn_reading.proofs.Steps.{alike-cons}
+use Rattle.rn_inscript.proofs.Passing.{pass}
 use Rattle.rn_inscript.proofs.BracketSteps.{can_end_then, can_end_done}
 use Rattle.rn_inscript.proofs.ExpressionPhrases.{zero-expr}
 use Rattle.rn_inscript.proofs.WithTokens.{WithName, with_kind_ends, with_kind_read, with_kind_stuck, with_name_read, with_name_fails, last_fails, last_read}
@@ -60,7 +63,7 @@ arc_word : (tokens : List Token) (seen : Seen) (a : ArcKind) {t : Token} → IsN
 arc_word tokens seen a {t = t} next is = change (WithName (ArcEnd a)) (pass tokens seen.at t.kind (ready [] seen.operators) (begins tokens seen) next refl (arc-small t.kind a seen.operators is) (arc-after t.kind a seen.operators is))
     (arc-on a is) (λ ts e rest alike ends x. arc-only a is x)
 
-pub arc_place_fails : (tokens : List Token) (seen : Seen) (a : ArcKind) {t : Token} (e : InscriptFault) → IsNext tokens seen.at t → arc_of t.kind ≡ Some a → IsNoName tokens (seen.at + 1) e → Reads 0 IsInscribed tokens seen [] (Err e)
+pub arc_place_fails : (tokens : List Token) (seen : Seen) (a : ArcKind) {t : Token} (e : ReadFault) → IsNext tokens seen.at t → arc_of t.kind ≡ Some a → IsNoName tokens (seen.at + 1) e → Reads 0 IsInscribed tokens seen [] (Err e)
 arc_place_fails tokens seen a e next is bad = with_name_fails (ArcEnd a) tokens (seen.at + 1) e (arc_word tokens seen a next is) (omega (arith, next.1)) (arc-end-ends a) bad
 
 -- the place was read
@@ -79,7 +82,7 @@ arc_colon tokens seen after then a p s next there = subst (λ s. starts tokens s
       | inr y ↦ subst (λ us. Then IsExpr (λ x. Done (I.Arc a p (Some x))) us e rest) (let h : y.1 ≡ ts = let d = y.2 in cc in h) y.4
     ]))
 
-pub arc_fails : (tokens : List Token) (seen after then : Seen) (a : ArcKind) (p : PName) (e : InscriptFault) → starts tokens seen (ArcEnd a p) (drop after.at tokens) (ended [] after.operators) → IsNextKind tokens after.at colon → then ≡ past after →
+pub arc_fails : (tokens : List Token) (seen after then : Seen) (a : ArcKind) (p : PName) (e : ReadFault) → starts tokens seen (ArcEnd a p) (drop after.at tokens) (ended [] after.operators) → IsNextKind tokens after.at colon → then ≡ past after →
     Reads 4 IsExpr tokens then [] (Err e) → Reads 0 IsInscribed tokens seen [] (Err e)
 arc_fails tokens seen after then a p e s next there f = last_fails (λ x. I.Arc a p (Some x)) 4 (length tokens) e (arc_colon tokens seen after then a p s next there) f
 
@@ -105,7 +108,7 @@ guard_word_read tokens seen then next is there = subst (λ s. starts tokens seen
     (change (Then IsCond (λ c. Done (I.Guard c))) (pass tokens seen.at guard_word (ready [] seen.operators) (begins tokens seen) next is refl refl)
     (guard-on is) (λ ts e rest alike ends x. guard-only is x))
 
-pub guard_fails : (tokens : List Token) (seen then : Seen) {t : Token} (e : InscriptFault) → IsNext tokens seen.at t → t.kind ≡ guard_word → then ≡ past seen → Reads 1 IsCond tokens then [] (Err e) → Reads 0 IsInscribed tokens seen [] (Err e)
+pub guard_fails : (tokens : List Token) (seen then : Seen) {t : Token} (e : ReadFault) → IsNext tokens seen.at t → t.kind ≡ guard_word → then ≡ past seen → Reads 1 IsCond tokens then [] (Err e) → Reads 0 IsInscribed tokens seen [] (Err e)
 guard_fails tokens seen then e next is there f = last_fails (λ c. I.Guard c) 1 (length tokens) e (guard_word_read tokens seen then next is there) f
 
 pub guard_read : (tokens : List Token) (seen then end : Seen) {t : Token} (c : PCond) → IsNext tokens seen.at t → t.kind ≡ guard_word → then ≡ past seen →
@@ -131,7 +134,7 @@ print_word_read tokens seen then next is print there = subst (λ s. starts token
     no-name : {u : Token} {p : List ℕ} → ((others : List Token) × (drop (seen.at + 1) tokens ≡ u ∷ others)) → u.kind ≡ Name p → ⊥
     no-name {u = u} follows k = let a = print.1.0 in let b = print.2 in let c = follows.1 in let d : u ≡ print.0 = cc in let e : u.kind ≡ print_word = ap (λ v. v.kind) d ∙ b in cc
 
-pub print_fails : (tokens : List Token) (seen then : Seen) {t : Token} (e : InscriptFault) → IsNext tokens seen.at t → t.kind ≡ action_word → IsNextKind tokens (seen.at + 1) print_word → then ≡ past (past seen) →
+pub print_fails : (tokens : List Token) (seen then : Seen) {t : Token} (e : ReadFault) → IsNext tokens seen.at t → t.kind ≡ action_word → IsNextKind tokens (seen.at + 1) print_word → then ≡ past (past seen) →
     Reads 4 IsExpr tokens then [] (Err e) → Reads 0 IsInscribed tokens seen [] (Err e)
 print_fails tokens seen then e next is print there f = last_fails (λ x. I.Print x) 4 (length tokens) e (print_word_read tokens seen then next is print there) f
 
@@ -150,7 +153,7 @@ set_stage tokens seen next is other = change (WithName SetEnd) (action_word_read
 set-end-ends : (p : PName) → CanEnd (SetEnd p)
 set-end-ends p = with_kind_ends equals (Then IsExpr (λ x. Done (I.Set p x))) (can_end_then IsExpr (λ x. Done (I.Set p x)) zero-expr (λ x. can_end_done (I.Set p x)))
 
-pub set_var_fails : (tokens : List Token) (seen : Seen) {t : Token} (e : InscriptFault) → IsNext tokens seen.at t → t.kind ≡ action_word → IsNotNextKind tokens (seen.at + 1) print_word → IsNoName tokens (seen.at + 1) e → Reads 0 IsInscribed tokens seen [] (Err e)
+pub set_var_fails : (tokens : List Token) (seen : Seen) {t : Token} (e : ReadFault) → IsNext tokens seen.at t → t.kind ≡ action_word → IsNotNextKind tokens (seen.at + 1) print_word → IsNoName tokens (seen.at + 1) e → Reads 0 IsInscribed tokens seen [] (Err e)
 set_var_fails tokens seen e next is other bad = with_name_fails SetEnd tokens (seen.at + 1) e (set_stage tokens seen next is other) (omega (arith, next.1)) set-end-ends bad
 
 pub set_var : (tokens : List Token) (seen after : Seen) {t : Token} (p : PName) → IsNext tokens seen.at t → t.kind ≡ action_word → IsNotNextKind tokens (seen.at + 1) print_word → IsNextName tokens (seen.at + 1) p → after ≡ past (past seen) →
@@ -159,14 +162,14 @@ set_var tokens seen after p next is other name there = subst (λ s. starts token
     (with_name_read SetEnd tokens (seen.at + 1) [] seen.operators p (set_stage tokens seen next is other) name)
 
 pub set_stuck : (tokens : List Token) (seen after : Seen) (p : PName) → starts tokens seen (SetEnd p) (drop after.at tokens) (ended [] after.operators) → after.at ≤ length tokens → IsNotNextKind tokens after.at equals →
-    Reads 0 IsInscribed tokens seen [] (Err (Fault.P2 after.at))
+    Reads 0 IsInscribed tokens seen [] (Err (Fault.Stopped after.at))
 set_stuck tokens seen after p s inside other = with_kind_stuck (Then IsExpr (λ x. Done (I.Set p x))) tokens after.at s inside (can_end_then IsExpr (λ x. Done (I.Set p x)) zero-expr (λ x. can_end_done (I.Set p x))) other
 
 set_equals : (tokens : List Token) (seen after then : Seen) (p : PName) → starts tokens seen (SetEnd p) (drop after.at tokens) (ended [] after.operators) → IsNextKind tokens after.at equals → then ≡ past after →
     starts tokens seen (Then IsExpr (λ x. Done (I.Set p x))) (drop then.at tokens) (ready [] then.operators)
 set_equals tokens seen after then p s next there = subst (λ s. starts tokens seen (Then IsExpr (λ x. Done (I.Set p x))) (drop s.at tokens) (ready [] s.operators)) (sym there) (with_kind_read tokens after.at (ready [] after.operators) s next refl refl)
 
-pub set_fails : (tokens : List Token) (seen after then : Seen) (p : PName) (e : InscriptFault) → starts tokens seen (SetEnd p) (drop after.at tokens) (ended [] after.operators) → IsNextKind tokens after.at equals → then ≡ past after →
+pub set_fails : (tokens : List Token) (seen after then : Seen) (p : PName) (e : ReadFault) → starts tokens seen (SetEnd p) (drop after.at tokens) (ended [] after.operators) → IsNextKind tokens after.at equals → then ≡ past after →
     Reads 4 IsExpr tokens then [] (Err e) → Reads 0 IsInscribed tokens seen [] (Err e)
 set_fails tokens seen after then p e s next there f = last_fails (λ x. I.Set p x) 4 (length tokens) e (set_equals tokens seen after then p s next there) f
 

@@ -17,7 +17,7 @@ use Rattle.rn_inscript.specs.Signs.{colon, equals, open_paren, close_paren, guar
 use Rattle.rn_inscript.specs.Expressions.{IsExpr, IsListed, at_spot}
 use Rattle.rn_inscript.specs.Conditions.{IsCond}
 use Rattle.rn_inscript.specs.Inscriptions.{IsInscribed, IsCall, name_at, absent}
-use Rattle.rn_inscript.specs.link.Stages.{Phrases, Then, Done}
+use Rattle.rn_reading.specs.Phrases.{Phrases, Then, Done}
 use Rattle.rn_inscript.specs.link.NextNames.{IsEquality}
 use Rattle.rn_inscript.proofs.OperandPhrases.{begins_expr, expr-begins, expr-some}
 use Rattle.rn_inscript.proofs.WithTokens.{WithKind, WithName}

@@ -20,4 +20,3 @@ mod InscriptionFacts
 mod OneExpression
 mod OneInscription
 mod LongestLaws
-pub mod NextToken

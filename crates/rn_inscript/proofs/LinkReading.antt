@@ -7,8 +7,8 @@ use Rattle.rn_notation.specs.declared.token.Token.{Token}
 use Rattle.rn_notation.specs.declared.token.TokenKind.{TokenKind}
 use Rattle.rn_notation.specs.declared.token.TokenKind.TheVariants.{Name, Word, Number, Text, Sign}
 use Rattle.rn_inscript.specs.declared.cursor.Seen.{Seen}
-use Rattle.rn_inscript.specs.declared.fault.InscriptFault.{InscriptFault}
-use Rattle.rn_inscript.specs.declared.fault.InscriptFault.TheVariants as Fault
+use Rattle.rn_reading.specs.declared.fault.ReadFault.{ReadFault}
+use Rattle.rn_reading.specs.declared.fault.ReadFault.TheVariants as Fault
 use Rattle.rn_inscript.specs.declared.exprs.PExpr.{PExpr}
 use Rattle.rn_inscript.specs.declared.exprs.PForm.{PForm}
 use Rattle.rn_inscript.specs.declared.inscriptions.PName.{PName}
@@ -18,10 +18,13 @@ use Rattle.rn_inscript.specs.Signs.{colon, equals, open_paren, close_paren, new_
 use Rattle.rn_inscript.specs.Expressions.{IsExpr, IsListed, at_spot}
 use Rattle.rn_inscript.specs.Inscriptions.{IsInscribed, IsCall, name_at}
 use Rattle.rn_inscript.specs.Levels.{bracket, Count, goes_too_far, after_token}
-use Rattle.rn_inscript.specs.link.Stages.{Phrases, Then, Done, BeginAlike, Ends, Stage, CanEnd, IsSoFar, Reads, ReadsFrom, IsNext, IsNextKind, HasNoNext, strength, ready, ended, past}
+use Rattle.rn_reading.specs.Phrases.{Phrases, Then, Done}
+use Rattle.rn_reading.specs.link.Stages.{BeginAlike, CanEnd, IsNext, HasNoNext}
+use Rattle.rn_inscript.specs.link.Stages.{Ends, Stage, IsSoFar, Reads, ReadsFrom, IsNextKind, strength, ready, ended, past}
 use Rattle.rn_inscript.specs.link.NextNames.{IsNotNextKind, IsNextName, IsNoName, IsEquality, IsNoCreation}
-use Rattle.rn_inscript.proofs.StageLemmas.{alike-append, begin, change, inner, inner_fails}
-use Rattle.rn_inscript.proofs.Passing.{alike-cons, pass, stuck_next}
+use Rattle.rn_reading.proofs.Steps.{alike-append, alike-cons}
+use Rattle.rn_inscript.proofs.StageLemmas.{begin, change, inner, inner_fails}
+use Rattle.rn_inscript.proofs.Passing.{pass, stuck_next}
 use Rattle.rn_inscript.proofs.BracketSteps.{any, can_end_then, can_end_done, can_end_by, done_follow}
 use Rattle.rn_inscript.proofs.ExpressionPhrases.{zero-expr}
 use Rattle.rn_inscript.specs.Expressions.{IsPrimary, IsUnary, IsProduct, IsFactors, IsTerms}
@@ -77,7 +80,7 @@ listed-empty = (any close_paren ∷ [], [], λ rest. IsListed.nothing refl)
 call-end-ends : (p : PName) → CanEnd (CallEnd p)
 call-end-ends p = with_kind_ends open_paren (Then (IsListed close_paren) (λ es. Done (p, es))) (can_end_then (IsListed close_paren) (λ es. Done (p, es)) listed-empty (λ es. can_end_done (p, es)))
 
-pub channel_fails : (tokens : List Token) (seen : Seen) (e : InscriptFault) → seen.at ≤ length tokens → IsNoName tokens seen.at e → Reads 1 IsCall tokens seen [] (Err e)
+pub channel_fails : (tokens : List Token) (seen : Seen) (e : ReadFault) → seen.at ≤ length tokens → IsNoName tokens seen.at e → Reads 1 IsCall tokens seen [] (Err e)
 channel_fails tokens seen e inside bad = with_name_fails CallEnd tokens seen.at e (call_begins (drop seen.at tokens) (ready [] seen.operators)) inside call-end-ends bad
 
 -- the channel's name was read
@@ -87,7 +90,7 @@ channel_read tokens seen after p name there = subst (λ s. Stage 1 IsCall (drop 
     (with_name_read CallEnd tokens seen.at [] seen.operators p (call_begins (drop seen.at tokens) (ready [] seen.operators)) name)
 
 pub call_stuck : (tokens : List Token) (seen after : Seen) (p : PName) → Stage 1 IsCall (drop seen.at tokens) (ready [] seen.operators) (CallEnd p) (drop after.at tokens) (ended [] after.operators) → after.at ≤ length tokens →
-    IsNotNextKind tokens after.at open_paren → Reads 1 IsCall tokens seen [] (Err (Fault.P2 after.at))
+    IsNotNextKind tokens after.at open_paren → Reads 1 IsCall tokens seen [] (Err (Fault.Stopped after.at))
 call_stuck tokens seen after p s inside other = with_kind_stuck (Then (IsListed close_paren) (λ es. Done (p, es))) tokens after.at s inside (can_end_then (IsListed close_paren) (λ es. Done (p, es)) listed-empty (λ es. can_end_done (p, es))) other
 
 args_stage : (tokens : List Token) (seen after then : Seen) (p : PName) → Stage 1 IsCall (drop seen.at tokens) (ready [] seen.operators) (CallEnd p) (drop after.at tokens) (ended [] after.operators) → IsNextKind tokens after.at open_paren → then ≡ past after →
@@ -99,7 +102,7 @@ wider : (us : List Token) → Ends 1 us → Ends 6 us
 wider [] h = tt
 wider (u ∷ us) h = omega (arith, h)
 
-pub args_fail : (tokens : List Token) (seen after then : Seen) (p : PName) (e : InscriptFault) → Stage 1 IsCall (drop seen.at tokens) (ready [] seen.operators) (CallEnd p) (drop after.at tokens) (ended [] after.operators) → IsNextKind tokens after.at open_paren → then ≡ past after →
+pub args_fail : (tokens : List Token) (seen after then : Seen) (p : PName) (e : ReadFault) → Stage 1 IsCall (drop seen.at tokens) (ready [] seen.operators) (CallEnd p) (drop after.at tokens) (ended [] after.operators) → IsNextKind tokens after.at open_paren → then ≡ past after →
     ReadsFrom 6 (IsListed close_paren) tokens then (ready (bracket ∷ []) then.operators) [] (Err e) → Reads 1 IsCall tokens seen [] (Err e)
 args_fail tokens seen after then p e s next there f = inner_fails (length tokens) e (args_stage tokens seen after then p s next there) (λ es ts e rest ends d. wider ts (done_follow 1 ts e rest ends d)) (λ es. can_end_done (p, es)) f
 
@@ -118,7 +121,7 @@ uplink_stage tokens seen then next is there = subst (λ s. starts tokens seen (T
     (change (Then IsCall (λ c. Done (I.Uplink c.0 c.1))) (pass tokens seen.at colon (ready [] seen.operators) (begins tokens seen) next is refl refl)
     (uplink-on is) (λ ts e rest alike ends x. uplink-only is x))
 
-pub uplink_fails : (tokens : List Token) (seen then : Seen) {t : Token} (e : InscriptFault) → IsNext tokens seen.at t → t.kind ≡ colon → then ≡ past seen → Reads 1 IsCall tokens then [] (Err e) → Reads 0 IsInscribed tokens seen [] (Err e)
+pub uplink_fails : (tokens : List Token) (seen then : Seen) {t : Token} (e : ReadFault) → IsNext tokens seen.at t → t.kind ≡ colon → then ≡ past seen → Reads 1 IsCall tokens then [] (Err e) → Reads 0 IsInscribed tokens seen [] (Err e)
 uplink_fails tokens seen then e next is there f = last_fails (λ c. I.Uplink c.0 c.1) 1 (length tokens) e (uplink_stage tokens seen then next is there) f
 
 pub uplink_read : (tokens : List Token) (seen then end : Seen) {t : Token} (p : PName) (es : List PExpr) → IsNext tokens seen.at t → t.kind ≡ colon → then ≡ past seen →
@@ -169,7 +172,7 @@ new-stage tokens seen {t = t} x next is follows new =
     no-call : {ts rest : List Token} {c : PName × List PExpr} → IsCall ts c rest → BeginAlike (drop (seen.at + 1 + 1) tokens) ts → ⊥
     no-call (IsCall.call {t = u} {u = v} {ts = us} h p y) alike = let a = subst (λ vs. BeginAlike vs (u ∷ v ∷ us)) new.1.0 alike in let b = h in let c = new.2 in let d : u.kind ≡ new_word = ap (λ w. w.kind) (sym a) ∙ c in cc
 
-pub new_fails : (tokens : List Token) (seen : Seen) {t : Token} (x : List ℕ) (e : InscriptFault) → IsNext tokens seen.at t → t.kind ≡ Name x → IsNextKind tokens (seen.at + 1) colon → IsNextKind tokens (seen.at + 1 + 1) new_word →
+pub new_fails : (tokens : List Token) (seen : Seen) {t : Token} (x : List ℕ) (e : ReadFault) → IsNext tokens seen.at t → t.kind ≡ Name x → IsNextKind tokens (seen.at + 1) colon → IsNextKind tokens (seen.at + 1 + 1) new_word →
     IsNoName tokens (seen.at + 1 + 1 + 1) e → Reads 0 IsInscribed tokens seen [] (Err e)
 new_fails tokens seen {t = t} x e next is follows new bad = with_name_fails (λ net. Done (I.New (name_at t.spot x) net)) tokens (seen.at + 1 + 1 + 1) e (new-stage tokens seen x next is follows new) (omega (arith, new.1.1)) (λ p. can_end_done (I.New (name_at t.spot x) p)) bad
 
@@ -190,7 +193,7 @@ down-stage tokens seen then {t = t} form next is follows other there = subst (λ
       | inr z ↦ z
     ]))
 
-pub down_fails : (tokens : List Token) (seen then : Seen) {t : Token} (form : PForm) (e : InscriptFault) → IsNext tokens seen.at t → target_of t.kind ≡ Some form → IsNextKind tokens (seen.at + 1) colon → IsNoCreation tokens (seen.at + 1 + 1) t → then ≡ past (past seen) →
+pub down_fails : (tokens : List Token) (seen then : Seen) {t : Token} (form : PForm) (e : ReadFault) → IsNext tokens seen.at t → target_of t.kind ≡ Some form → IsNextKind tokens (seen.at + 1) colon → IsNoCreation tokens (seen.at + 1 + 1) t → then ≡ past (past seen) →
     Reads 1 IsCall tokens then [] (Err e) → Reads 0 IsInscribed tokens seen [] (Err e)
 down_fails tokens seen then {t = t} form e next is follows other there f = last_fails (λ c. I.Downlink (at_spot t.spot form) c.0 c.1) 1 (length tokens) e (down-stage tokens seen then form next is follows other there) f
 
@@ -216,7 +219,7 @@ equals-end-ends a = with_kind_ends equals (Then IsExpr (λ b. Done (I.Equality a
 equals-follow : (a : PExpr) (ts : List Token) (e : PInscribed) (rest : List Token) → Ends 0 rest → EqualsEnd a ts e rest → Ends 4 ts
 equals-follow a ts e rest ends z = subst (Ends 4) (sym z.2) (subst (λ k. strength k < 4) (sym z.3) (omega arith))
 
-pub left_side_fails : (tokens : List Token) (seen : Seen) (e : InscriptFault) → Reads 4 IsExpr tokens seen [] (Err e) → Reads 0 IsEquality tokens seen [] (Err e)
+pub left_side_fails : (tokens : List Token) (seen : Seen) (e : ReadFault) → Reads 4 IsExpr tokens seen [] (Err e) → Reads 0 IsEquality tokens seen [] (Err e)
 left_side_fails tokens seen e f = inner_fails (length tokens) e (equality_begins (drop seen.at tokens) (ready [] seen.operators)) equals-follow equals-end-ends f
 
 pub left_side : (tokens : List Token) (seen after : Seen) (a : PExpr) → IsSoFar 4 IsExpr tokens seen (ready [] seen.operators) [] (Done a) after → IsSoFar 0 IsEquality tokens seen (ready [] seen.operators) [] (EqualsEnd a) after
@@ -227,7 +230,7 @@ left_side tokens seen after a p = record {
 }
 
 pub equals_stuck : (tokens : List Token) (seen after : Seen) (a : PExpr) → IsSoFar 0 IsEquality tokens seen (ready [] seen.operators) [] (EqualsEnd a) after → after.at ≤ length tokens → IsNotNextKind tokens after.at equals →
-    Reads 0 IsEquality tokens seen [] (Err (Fault.P2 after.at))
+    Reads 0 IsEquality tokens seen [] (Err (Fault.Stopped after.at))
 equals_stuck tokens seen after a p inside other = with_kind_stuck (Then IsExpr (λ b. Done (I.Equality a b))) tokens after.at p.stage inside (can_end_then IsExpr (λ b. Done (I.Equality a b)) zero-expr (λ b. can_end_done (I.Equality a b))) other
 
 equals_read : (tokens : List Token) (seen after then : Seen) (a : PExpr) → IsSoFar 0 IsEquality tokens seen (ready [] seen.operators) [] (EqualsEnd a) after → IsNextKind tokens after.at equals → then ≡ past after →
@@ -235,7 +238,7 @@ equals_read : (tokens : List Token) (seen after then : Seen) (a : PExpr) → IsS
 equals_read tokens seen after then a p next there = subst (λ s. Stage 0 IsEquality (drop seen.at tokens) (ready [] seen.operators) (Then IsExpr (λ b. Done (I.Equality a b))) (drop s.at tokens) (ready [] s.operators)) (sym there)
     (with_kind_read tokens after.at (ready [] after.operators) p.stage next refl (ap (λ ls. ready ls after.operators) p.closed))
 
-pub right_side_fails : (tokens : List Token) (seen after then : Seen) (a : PExpr) (e : InscriptFault) → IsSoFar 0 IsEquality tokens seen (ready [] seen.operators) [] (EqualsEnd a) after → IsNextKind tokens after.at equals → then ≡ past after →
+pub right_side_fails : (tokens : List Token) (seen after then : Seen) (a : PExpr) (e : ReadFault) → IsSoFar 0 IsEquality tokens seen (ready [] seen.operators) [] (EqualsEnd a) after → IsNextKind tokens after.at equals → then ≡ past after →
     Reads 4 IsExpr tokens then [] (Err e) → Reads 0 IsEquality tokens seen [] (Err e)
 right_side_fails tokens seen after then a e p next there f = last_fails (λ b. I.Equality a b) 4 (length tokens) e (equals_read tokens seen after then a p next there) f
 
@@ -250,7 +253,7 @@ zero-equality = can_end_by (Then IsExpr EqualsEnd) IsEquality (can_end_then IsEx
 zero-inscribed : CanEnd IsInscribed
 zero-inscribed = can_end_by IsEquality IsInscribed zero-equality equality-on
 
-pub other_reads : (tokens : List Token) (seen : Seen) {t : Token} (r : Result (PInscribed × Seen) InscriptFault) → IsNext tokens seen.at t → leads t.kind ≡ false → Reads 0 IsEquality tokens seen [] r → Reads 0 IsInscribed tokens seen [] r
+pub other_reads : (tokens : List Token) (seen : Seen) {t : Token} (r : Result (PInscribed × Seen) ReadFault) → IsNext tokens seen.at t → leads t.kind ≡ false → Reads 0 IsEquality tokens seen [] r → Reads 0 IsInscribed tokens seen [] r
 other_reads tokens seen {t = t} r next none p = whole_reads tokens seen (ready [] seen.operators) [] r
     (change (Then IsEquality Done) (begins tokens seen)
     (λ ts e rest y. equality-on ts e rest (subst (λ b. IsEquality ts b rest) (sym y.3.0) (subst (λ us. IsEquality ts y.0 us) (sym y.3.1) y.2)))
@@ -261,15 +264,15 @@ other_reads tokens seen {t = t} r next none p = whole_reads tokens seen (ready [
     only (u ∷ us) alike x = other-only (ap (λ v. leads v.kind) (sym alike) ∙ none) x
 
 -- no inscription begins with a word
-pub no_word : (tokens : List Token) (seen : Seen) {t : Token} (k : ℕ) → IsNext tokens seen.at t → t.kind ≡ Word k → leads (Word k) ≡ false → Reads 0 IsInscribed tokens seen [] (Err (Fault.P2 seen.at))
-no_word tokens seen {t = t} k next is none = stuck_next tokens seen.at (begins tokens seen) (omega (arith, next.1)) zero-inscribed (λ ts e rest alike ends x. only ts (subst (λ us. BeginAlike us ts) next.0 alike) x)
+pub no_word : (tokens : List Token) (seen : Seen) {t : Token} (k : ℕ) → IsNext tokens seen.at t → t.kind ≡ Word k → leads (Word k) ≡ false → Reads 0 IsInscribed tokens seen [] (Err (Fault.Stopped seen.at))
+no_word tokens seen {t = t} k next is none = stuck_next tokens seen.at (begins tokens seen) (omega (arith, next.1)) zero-inscribed (λ ts e rest alike x. only ts (subst (λ us. BeginAlike us ts) next.0 alike) x)
   where
     only : (ts : List Token) {e : PInscribed} {rest : List Token} → BeginAlike (t ∷ drop (seen.at + 1) tokens) ts → IsInscribed ts e rest → ⊥
     only [] alike x = inscribed-some x
     only (u ∷ us) alike x = word-only k (ap (λ v. v.kind) (sym alike) ∙ is) none x
 
-pub no_token : (tokens : List Token) (seen : Seen) → seen.at ≤ length tokens → HasNoNext tokens seen.at → Reads 0 IsInscribed tokens seen [] (Err (Fault.P2 seen.at))
-no_token tokens seen inside none = stuck_next tokens seen.at (begins tokens seen) inside zero-inscribed (λ ts e rest alike ends x. only ts (subst (λ us. BeginAlike us ts) none alike) x)
+pub no_token : (tokens : List Token) (seen : Seen) → seen.at ≤ length tokens → HasNoNext tokens seen.at → Reads 0 IsInscribed tokens seen [] (Err (Fault.Stopped seen.at))
+no_token tokens seen inside none = stuck_next tokens seen.at (begins tokens seen) inside zero-inscribed (λ ts e rest alike x. only ts (subst (λ us. BeginAlike us ts) none alike) x)
   where
     only : (ts : List Token) {e : PInscribed} {rest : List Token} → BeginAlike [] ts → IsInscribed ts e rest → ⊥
     only [] alike x = inscribed-some x
@@ -320,7 +323,7 @@ target-can {t = t} form is = (
 equality-some : {e : PInscribed} {rest : List Token} → IsEquality [] e rest → ⊥
 equality-some y = expr-some y.4 refl
 
-pub target_reads : (tokens : List Token) (seen : Seen) {t : Token} (form : PForm) (r : Result (PInscribed × Seen) InscriptFault) → IsNext tokens seen.at t → target_of t.kind ≡ Some form → IsNotNextKind tokens (seen.at + 1) colon →
+pub target_reads : (tokens : List Token) (seen : Seen) {t : Token} (form : PForm) (r : Result (PInscribed × Seen) ReadFault) → IsNext tokens seen.at t → target_of t.kind ≡ Some form → IsNotNextKind tokens (seen.at + 1) colon →
     Reads 0 IsEquality tokens seen [] r → Reads 0 IsInscribed tokens seen [] r
 target_reads tokens seen {t = t} form (Ok (a, after)) next is other p = record {
   open_now = p.open_now;
@@ -335,7 +338,7 @@ target_reads tokens seen {t = t} form (Ok (a, after)) next is other p = record {
     count = p.stage.count;
   };
 }
-target_reads tokens seen {t = t} form (Err (Fault.P2 k)) next is other f = let p = f.1 in (
+target_reads tokens seen {t = t} form (Err (Fault.Stopped k)) next is other f = let p = f.1 in (
   f.0,
   record {
     taken = p.taken;
@@ -350,7 +353,7 @@ target_reads tokens seen {t = t} form (Err (Fault.P2 k)) next is other f = let p
   },
   f.2,
 )
-target_reads tokens seen form (Err (Fault.P5 k)) next is other f = let p = f.1 in (
+target_reads tokens seen form (Err (Fault.TooFar k)) next is other f = let p = f.1 in (
   f.0,
   record {
     taken = p.taken;

@@ -8,14 +8,17 @@ use Rattle.rn_notation.specs.declared.token.TokenKind.TheVariants.{Name, Sign}
 use Rattle.rn_inscript.specs.declared.exprs.PExpr.{PExpr}
 use Rattle.rn_inscript.specs.declared.exprs.PForm.TheVariants as F
 use Rattle.rn_inscript.specs.declared.cursor.Seen.{Seen}
-use Rattle.rn_inscript.specs.declared.fault.InscriptFault.{InscriptFault}
-use Rattle.rn_inscript.specs.declared.fault.InscriptFault.TheVariants as Fault
-use Rattle.rn_inscript.specs.Signs.{open_paren, close_paren, open_brace, close_brace, colon}
+use Rattle.rn_reading.specs.declared.fault.ReadFault.{ReadFault}
+use Rattle.rn_reading.specs.declared.fault.ReadFault.TheVariants as Fault
+use Rattle.rn_inscript.specs.Signs.{open_paren, close_paren, open_brace, close_brace}
 use Rattle.rn_inscript.specs.Expressions.{IsExpr, IsPrimary, IsListed, IsExprs, at_spot}
 use Rattle.rn_inscript.specs.Levels.{Level, bracket, Count}
-use Rattle.rn_inscript.specs.link.Stages.{Phrases, Then, Done, Takes, BeginAlike, Ends, Stage, CanEnd, Fails, IsSoFar, Reads, ReadsFrom, IsNext, IsNextSign, IsNotNextSign, IsClose, strength, ready, ended, past}
+use Rattle.rn_reading.specs.Phrases.{Phrases, Then, Done}
+use Rattle.rn_reading.specs.link.Stages.{BeginAlike, CanEnd, IsNext}
+use Rattle.rn_inscript.specs.link.Stages.{Takes, Ends, Stage, Fails, IsSoFar, Reads, ReadsFrom, IsNextSign, IsNotNextSign, IsClose, strength, ready, ended, past}
 use Rattle.rn_inscript.proofs.StageLemmas.{begin, change, inner, inner_fails}
-use Rattle.rn_inscript.proofs.Passing.{alike-cons, pass, stuck_sign}
+use Rattle.rn_reading.proofs.Steps.{alike-cons}
+use Rattle.rn_inscript.proofs.Passing.{pass, stuck_sign}
 use Rattle.rn_inscript.proofs.BracketSteps.{can_end_takes, can_end_by, takes_follow, opening-brace, opening-paren, opening_passed, opening_far}
 use Rattle.rn_inscript.proofs.BracketSteps.{IsClosing, closing-brace, closing-bracket, closing-paren, neutral-colon, neutral_passed, inside_fails, inside_read, close_read, close_first}
 use Rattle.rn_inscript.proofs.OperandReading.{paren_stage}
@@ -56,7 +59,7 @@ listed_stage : (tokens : List Token) (seen : Seen) (first : Count) (k : ℕ) →
 listed_stage tokens seen first k other = change (Then IsExprs (λ es. Takes (Sign k) es)) (listed_begins k (drop seen.at tokens) first) (λ ts e rest y. inr y)
     (λ ts e rest alike ends x. elim x [ inl y ↦ absurd (not-next tokens seen.at other alike y) | inr y ↦ y ])
 
-pub listed_fails : (tokens : List Token) (seen : Seen) (first : Count) (k : ℕ) (e : InscriptFault) → IsClose k → IsNotNextSign tokens seen.at k →
+pub listed_fails : (tokens : List Token) (seen : Seen) (first : Count) (k : ℕ) (e : ReadFault) → IsClose k → IsNotNextSign tokens seen.at k →
     Fails 3 IsExprs (drop seen.at tokens) first (length tokens) e → Fails 6 (IsListed (Sign k)) (drop seen.at tokens) first (length tokens) e
 listed_fails tokens seen first k e is other f = inside_fails (length tokens) e (close-closing k is) (omega arith) (listed_stage tokens seen first k other) f
 
@@ -67,7 +70,7 @@ listed_inside tokens seen after first now k es is other s = inside_read (λ es. 
 
 pub listed_stuck : (tokens : List Token) (seen after : Seen) (around : List Level) (k : ℕ) (es : List PExpr) → IsClose k → IsNotNextSign tokens seen.at k → after.at ≤ length tokens →
     IsSoFar 3 IsExprs tokens seen (ready (bracket ∷ around) seen.operators) (bracket ∷ around) (Done es) after → IsNotNextSign tokens after.at k →
-    ReadsFrom 6 (IsListed (Sign k)) tokens seen (ready (bracket ∷ around) seen.operators) around (Err (Fault.P2 after.at))
+    ReadsFrom 6 (IsListed (Sign k)) tokens seen (ready (bracket ∷ around) seen.operators) around (Err (Fault.Stopped after.at))
 listed_stuck tokens seen after around k es is other inside p none =
     stuck_sign tokens after.at k (listed_inside tokens seen after _ _ k es is other p.stage) inside (can_end_takes (Sign k) es) none
 
@@ -78,7 +81,7 @@ listed_read tokens seen after around k es is other p next =
     close_read tokens seen after (close-closing k is) (listed_inside tokens seen after _ _ k es is other p.stage) p.closed next
 
 -- parentheses
-pub paren_fails : (tokens : List Token) (seen : Seen) (around : List Level) (levels : ℕ) {t : Token} (e : InscriptFault) → IsNext tokens seen.at t → t.kind ≡ open_paren → levels + length around ≡ 64 → 0 < levels →
+pub paren_fails : (tokens : List Token) (seen : Seen) (around : List Level) (levels : ℕ) {t : Token} (e : ReadFault) → IsNext tokens seen.at t → t.kind ≡ open_paren → levels + length around ≡ 64 → 0 < levels →
     Reads 4 IsExpr tokens (past seen) (bracket ∷ around) (Err e) → Reads 6 IsPrimary tokens seen around (Err e)
 paren_fails tokens seen around levels e next is fits some f = inside_fails {f = λ a. a} (length tokens) e closing-paren (omega arith) (paren_stage tokens seen around levels next is fits some) f
 
@@ -88,7 +91,7 @@ paren_inside : (tokens : List Token) (seen after : Seen) (around : List Level) (
 paren_inside tokens seen after around levels a next is fits some s = inside_read (λ b. b) closing-paren (omega arith) (paren_stage tokens seen around levels next is fits some) s
 
 pub paren_stuck : (tokens : List Token) (seen after : Seen) (around : List Level) (levels : ℕ) {t : Token} (a : PExpr) → IsNext tokens seen.at t → t.kind ≡ open_paren → levels + length around ≡ 64 → 0 < levels → after.at ≤ length tokens →
-    IsSoFar 4 IsExpr tokens (past seen) (ready (bracket ∷ around) seen.operators) (bracket ∷ around) (Done a) after → IsNotNextSign tokens after.at 5 → Reads 6 IsPrimary tokens seen around (Err (Fault.P2 after.at))
+    IsSoFar 4 IsExpr tokens (past seen) (ready (bracket ∷ around) seen.operators) (bracket ∷ around) (Done a) after → IsNotNextSign tokens after.at 5 → Reads 6 IsPrimary tokens seen around (Err (Fault.Stopped after.at))
 paren_stuck tokens seen after around levels a next is fits some inside p none =
     stuck_sign tokens after.at 5 (paren_inside tokens seen after around levels a next is fits some p.stage) inside (can_end_takes close_paren a) none
 
@@ -118,7 +121,7 @@ list_end-follow spot es ts e rest x = elim x [
 ]
 
 pub list_far : (tokens : List Token) (seen : Seen) (around : List Level) (levels : ℕ) {t : Token} → IsNext tokens seen.at t → t.kind ≡ open_brace → levels + length around ≡ 64 → levels ≡ 0 →
-    Reads 6 IsPrimary tokens seen around (Err (Fault.P5 seen.at))
+    Reads 6 IsPrimary tokens seen around (Err (Fault.TooFar seen.at))
 list_far tokens seen around levels {t = t} next is fits none =
     opening_far tokens seen.at opening-brace (begin 6 IsPrimary (drop seen.at tokens) (ready around seen.operators)) next is refl fits none
     (can_end_by (ListInside t.spot) (λ ts. IsPrimary (t ∷ ts)) (can_end_by (Takes close_brace (at_spot t.spot (F.List []))) (ListInside t.spot) (can_end_takes close_brace (at_spot t.spot (F.List []))) (λ ts e rest y. inl y)) (brace-on is))
@@ -147,7 +150,7 @@ elements_stage : {tokens : List Token} {seen : Seen} {around : List Level} {leve
 elements_stage {tokens = tokens} {seen = seen} {t = t} i other = change (Then IsExprs (ListEnd t.spot)) (list_stage i) (λ ts e rest y. inr y)
     (λ ts e rest alike ends x. elim x [ inl y ↦ absurd (not-next tokens (seen.at + 1) other alike y) | inr y ↦ y ])
 
-pub elements_fail : {tokens : List Token} {seen : Seen} {around : List Level} {levels : ℕ} {t : Token} (e : InscriptFault) → InList tokens seen around levels t → IsNotNextSign tokens (seen.at + 1) 1 →
+pub elements_fail : {tokens : List Token} {seen : Seen} {around : List Level} {levels : ℕ} {t : Token} (e : ReadFault) → InList tokens seen around levels t → IsNotNextSign tokens (seen.at + 1) 1 →
     Reads 3 IsExprs tokens (past seen) (bracket ∷ around) (Err e) → Reads 6 IsPrimary tokens seen around (Err e)
 elements_fail {tokens = tokens} {t = t} e i other f =
     inner_fails (length tokens) e (elements_stage i other) (λ es ts e rest ends y. list_end-follow t.spot es ts e rest y) (list_end-ends t.spot) f
@@ -174,7 +177,7 @@ tail_stage {tokens = tokens} {after = after} spot es p next =
       | inr y ↦ subst (λ us. Then IsExpr (λ tail. Takes close_brace (at_spot spot (F.Cons es tail))) us e rest) (let h : y.1 ≡ ts = let d = y.2 in cc in h) y.4
     ])
 
-pub tail_fails : {tokens : List Token} {seen after : Seen} {around : List Level} (spot : Spot) (es : List PExpr) (e : InscriptFault) →
+pub tail_fails : {tokens : List Token} {seen after : Seen} {around : List Level} (spot : Spot) (es : List PExpr) (e : ReadFault) →
     IsSoFar 6 IsPrimary tokens seen (ready around seen.operators) (bracket ∷ around) (ListEnd spot es) after → IsNextSign tokens after.at 8 →
     Reads 4 IsExpr tokens (past after) (bracket ∷ around) (Err e) → Reads 6 IsPrimary tokens seen around (Err e)
 tail_fails {tokens = tokens} spot es e p next f = inside_fails {f = λ tail. at_spot spot (F.Cons es tail)} (length tokens) e closing-brace (omega arith) (tail_stage spot es p next) f
@@ -188,7 +191,7 @@ tail_inside end spot es p next s = inside_read (λ tail. at_spot spot (F.Cons es
 pub tail_stuck : {tokens : List Token} {seen after end : Seen} {around : List Level} (spot : Spot) (es : List PExpr) {tail : PExpr} →
     IsSoFar 6 IsPrimary tokens seen (ready around seen.operators) (bracket ∷ around) (ListEnd spot es) after → IsNextSign tokens after.at 8 → end.at ≤ length tokens →
     IsSoFar 4 IsExpr tokens (past after) (ready (bracket ∷ around) after.operators) (bracket ∷ around) (Done tail) end → IsNotNextSign tokens end.at 1 →
-    Reads 6 IsPrimary tokens seen around (Err (Fault.P2 end.at))
+    Reads 6 IsPrimary tokens seen around (Err (Fault.Stopped end.at))
 tail_stuck {tokens = tokens} {end = end} spot es p next inside q none = stuck_sign tokens end.at 1 (tail_inside end spot es p next q.stage) inside (can_end_takes close_brace _) none
 
 pub tail_read : {tokens : List Token} {seen after end : Seen} {around : List Level} (spot : Spot) (es : List PExpr) {tail : PExpr} →
@@ -206,7 +209,7 @@ end_stage {tokens = tokens} {after = after} spot es p other = change (Takes clos
 
 pub list_stuck : {tokens : List Token} {seen after : Seen} {around : List Level} (spot : Spot) (es : List PExpr) →
     IsSoFar 6 IsPrimary tokens seen (ready around seen.operators) (bracket ∷ around) (ListEnd spot es) after → IsNotNextSign tokens after.at 8 → after.at ≤ length tokens → IsNotNextSign tokens after.at 1 →
-    Reads 6 IsPrimary tokens seen around (Err (Fault.P2 after.at))
+    Reads 6 IsPrimary tokens seen around (Err (Fault.Stopped after.at))
 list_stuck {tokens = tokens} {after = after} spot es p other inside none = stuck_sign tokens after.at 1 (end_stage spot es p other) inside (can_end_takes close_brace _) none
 
 pub list_read : {tokens : List Token} {seen after : Seen} {around : List Level} (spot : Spot) (es : List PExpr) →
@@ -248,7 +251,7 @@ name_read tokens seen around {t = t} s next is other = record {
 
 -- it is `step`, and a parenthesis follows
 pub step_far : (tokens : List Token) (seen : Seen) (around : List Level) (levels : ℕ) {t : Token} (s : List ℕ) → IsNext tokens seen.at t → t.kind ≡ Name s → s ≡ codes "step" → IsNextSign tokens (seen.at + 1) 4 →
-    levels + length around ≡ 64 → levels ≡ 0 → Reads 6 IsPrimary tokens seen around (Err (Fault.P5 (seen.at + 1)))
+    levels + length around ≡ 64 → levels ≡ 0 → Reads 6 IsPrimary tokens seen around (Err (Fault.TooFar (seen.at + 1)))
 step_far tokens seen around levels {t = t} s next is step paren fits none =
     opening_far tokens (seen.at + 1) opening-paren (name_stage tokens seen around s next is) paren.1 paren.2 refl fits none
     (can_end_by (Takes close_paren (at_spot t.spot F.Step)) (λ ts. NameEnd t.spot s (paren.0 ∷ ts)) (can_end_takes close_paren (at_spot t.spot F.Step)) (λ ts e rest y. inr (step, (paren.0, ts, refl, paren.2, y))))
@@ -265,7 +268,7 @@ step_inside tokens seen around levels {t = t} s next is step paren fits some =
     ])
 
 pub step_stuck : (tokens : List Token) (seen : Seen) (around : List Level) (levels : ℕ) {t : Token} (s : List ℕ) → IsNext tokens seen.at t → t.kind ≡ Name s → s ≡ codes "step" → IsNextSign tokens (seen.at + 1) 4 →
-    levels + length around ≡ 64 → 0 < levels → IsNotNextSign tokens (seen.at + 1 + 1) 5 → Reads 6 IsPrimary tokens seen around (Err (Fault.P2 (seen.at + 1 + 1)))
+    levels + length around ≡ 64 → 0 < levels → IsNotNextSign tokens (seen.at + 1 + 1) 5 → Reads 6 IsPrimary tokens seen around (Err (Fault.Stopped (seen.at + 1 + 1)))
 step_stuck tokens seen around levels {t = t} s next is step paren fits some none =
     stuck_sign tokens (seen.at + 1 + 1) 5 (step_inside tokens seen around levels s next is step paren fits some) (omega (arith, paren.1.1)) (can_end_takes close_paren (at_spot t.spot F.Step)) none
 

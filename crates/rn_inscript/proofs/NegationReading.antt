@@ -1,20 +1,23 @@
 -- The stages of reading negations.
-use Rattle.std.proofs.Common.{◌≡◌, ℕ, ◌+◌, ◌<◌, ◌≤◌, inl, inr, true, false, List, ◌∷◌, ◌++◌, length, drop, refl, sym, subst, arith}
+use Rattle.std.proofs.Common.{◌≡◌, ℕ, ◌+◌, ◌<◌, ◌≤◌, inl, inr, true, List, ◌∷◌, ◌++◌, length, drop, refl, sym, subst, arith}
 use Rattle.std.specs.Prelude.{Err}
 use Rattle.rn_notation.specs.declared.token.Token.{Token}
 use Rattle.rn_inscript.specs.declared.cursor.Seen.{Seen}
-use Rattle.rn_inscript.specs.declared.fault.InscriptFault.{InscriptFault}
-use Rattle.rn_inscript.specs.declared.fault.InscriptFault.TheVariants as Fault
+use Rattle.rn_reading.specs.declared.fault.ReadFault.{ReadFault}
+use Rattle.rn_reading.specs.declared.fault.ReadFault.TheVariants as Fault
 use Rattle.rn_inscript.specs.declared.conds.PCond.{PCond}
 use Rattle.rn_inscript.specs.declared.conds.PSimple.{PSimple}
 use Rattle.rn_inscript.specs.declared.conds.PSimple.TheVariants as S
 use Rattle.rn_inscript.specs.Signs.{not_sign, open_paren, close_paren}
 use Rattle.rn_inscript.specs.Conditions.{IsCond, IsSimple}
 use Rattle.rn_inscript.specs.Levels.{Level, bracket, Count}
-use Rattle.rn_inscript.specs.link.Stages.{Phrases, Then, Done, Takes, BeginAlike, Stage, CanEnd, IsSoFar, Reads, IsNextSign, IsNotNextSign, IsBadOpening, ready, past, past_operator}
+use Rattle.rn_reading.specs.Phrases.{Phrases, Then, Done}
+use Rattle.rn_reading.specs.link.Stages.{BeginAlike, CanEnd}
+use Rattle.rn_inscript.specs.link.Stages.{Takes, Stage, IsSoFar, Reads, IsNextSign, IsNotNextSign, IsBadOpening, ready, past, past_operator}
 use Rattle.rn_inscript.proofs.StageLemmas.{begin, change}
 use Rattle.rn_inscript.proofs.CountSteps.{le-false, le-true}
-use Rattle.rn_inscript.proofs.Passing.{alike-cons, pass, far_next, stuck_next, stuck_sign}
+use Rattle.rn_reading.proofs.Steps.{alike-cons}
+use Rattle.rn_inscript.proofs.Passing.{pass, far_next, stuck_next, stuck_sign}
 use Rattle.rn_inscript.proofs.BracketSteps.{any, can_end_then, can_end_takes, can_end_by, opening-paren, opening_passed, opening_far, closing-paren, inside_fails, inside_read, close_read}
 use Rattle.rn_inscript.proofs.ConditionPhrases.{zero-cond}
 use Rattle.rn_inscript.proofs.OperandPhrases.{begins_expr, expr-begins}
@@ -47,17 +50,17 @@ not_stage tokens seen then around next few is =
     (change NotOpen (pass tokens seen.at not_sign (ready around (seen.operators + 1)) (begin 3 IsSimple (drop seen.at tokens) (ready around seen.operators)) next.1 next.2 (le-false 256 seen.operators few) refl)
     (not-on next.2) (λ ts e rest alike ends x. not-only next.2 x))
 
-pub not_far : (tokens : List Token) (seen : Seen) (around : List Level) → IsNextSign tokens seen.at 23 → 256 ≤ seen.operators → Reads 3 IsSimple tokens seen around (Err (Fault.P5 seen.at))
+pub not_far : (tokens : List Token) (seen : Seen) (around : List Level) → IsNextSign tokens seen.at 23 → 256 ≤ seen.operators → Reads 3 IsSimple tokens seen around (Err (Fault.TooFar seen.at))
 not_far tokens seen around next far =
     far_next tokens seen.at not_sign (begin 3 IsSimple (drop seen.at tokens) (ready around seen.operators)) next.1 next.2
     (can_end_by NotOpen (λ ts. IsSimple (next.0 ∷ ts)) open-ends (not-on next.2)) (le-true 256 seen.operators far)
 
 -- no parenthesis follows, or one that opens a level too many
-pub opening_fails : (tokens : List Token) (seen then : Seen) (around : List Level) (levels : ℕ) (e : InscriptFault) → IsNextSign tokens seen.at 23 → seen.operators < 256 → then ≡ past_operator seen → then.at ≤ length tokens → levels + length around ≡ 64 →
+pub opening_fails : (tokens : List Token) (seen then : Seen) (around : List Level) (levels : ℕ) (e : ReadFault) → IsNextSign tokens seen.at 23 → seen.operators < 256 → then ≡ past_operator seen → then.at ≤ length tokens → levels + length around ≡ 64 →
     IsBadOpening tokens then levels e → Reads 3 IsSimple tokens seen around (Err e)
 opening_fails tokens seen then around levels e next few is inside fits bad = elim bad [
   | inl b ↦ subst (λ x. Reads 3 IsSimple tokens seen around (Err x)) (sym b.1)
-      (stuck_next tokens then.at (not_stage tokens seen then around next few is) inside open-ends (λ ts e rest alike ends z.
+      (stuck_next tokens then.at (not_stage tokens seen then around next few is) inside open-ends (λ ts e rest alike z.
       let follows = alike-cons (drop then.at tokens) z.0 z.1 (subst (λ us. BeginAlike (drop then.at tokens) us) z.2 alike) in b.0 z.0 follows.0 follows.1 z.3))
   | inr b ↦ subst (λ x. Reads 3 IsSimple tokens seen around (Err x)) (sym b.2)
       (opening_far tokens then.at opening-paren (not_stage tokens seen then around next few is) b.0.1 b.0.2 refl fits b.1
@@ -81,7 +84,7 @@ inside_stage {tokens = tokens} {seen = seen} {then = then} {around = around} i =
     (change (Then IsCond (λ c. Takes close_paren (S.Not c))) (opening_passed tokens then.at opening-paren (not_stage tokens seen then around i.next i.few i.is) i.paren.1 i.paren.2 refl i.fits i.some)
     (open-on i.paren.2) (λ ts e rest alike ends z. subst (λ us. Then IsCond (λ c. Takes close_paren (S.Not c)) us e rest) (let h : z.1 ≡ ts = let d = z.2 in cc in h) z.4))
 
-pub negated_fails : {tokens : List Token} {seen then inside : Seen} {around : List Level} {levels : ℕ} (e : InscriptFault) → InNot tokens seen then inside around levels →
+pub negated_fails : {tokens : List Token} {seen then inside : Seen} {around : List Level} {levels : ℕ} (e : ReadFault) → InNot tokens seen then inside around levels →
     Reads 1 IsCond tokens inside (bracket ∷ around) (Err e) → Reads 3 IsSimple tokens seen around (Err e)
 negated_fails {tokens = tokens} e i f = inside_fails {f = λ c. S.Not c} (length tokens) e closing-paren (omega arith) (inside_stage i) f
 
@@ -91,7 +94,7 @@ closing_stage : {tokens : List Token} {seen then inside : Seen} (after : Seen) {
 closing_stage after i s = inside_read (λ c. S.Not c) closing-paren (omega arith) (inside_stage i) s
 
 pub negated_stuck : {tokens : List Token} {seen then inside : Seen} (after : Seen) {around : List Level} {levels : ℕ} {c : PCond} → InNot tokens seen then inside around levels → after.at ≤ length tokens →
-    IsSoFar 1 IsCond tokens inside (ready (bracket ∷ around) inside.operators) (bracket ∷ around) (Done c) after → IsNotNextSign tokens after.at 5 → Reads 3 IsSimple tokens seen around (Err (Fault.P2 after.at))
+    IsSoFar 1 IsCond tokens inside (ready (bracket ∷ around) inside.operators) (bracket ∷ around) (Done c) after → IsNotNextSign tokens after.at 5 → Reads 3 IsSimple tokens seen around (Err (Fault.Stopped after.at))
 negated_stuck {tokens = tokens} after {c = c} i within p none = stuck_sign tokens after.at 5 (closing_stage after i p.stage) within (can_end_takes close_paren (S.Not c)) none
 
 pub negated_read : {tokens : List Token} {seen then inside : Seen} (after : Seen) {around : List Level} {levels : ℕ} {c : PCond} → InNot tokens seen then inside around levels →

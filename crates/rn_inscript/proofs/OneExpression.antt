@@ -1,5 +1,5 @@
 -- A list of tokens is one expression at most.
-use Rattle.std.proofs.Common.{◌≡◌, ℕ, ◌+◌, ◌<◌, inl, inr, true, false, List, [], ◌∷◌, ◌++◌, refl, sym, ◌∙◌, ap, subst, arith}
+use Rattle.std.proofs.Common.{◌≡◌, ℕ, ◌<◌, inl, inr, true, false, List, [], ◌∷◌, ◌++◌, refl, sym, ◌∙◌, ap, subst, arith}
 use Rattle.std.specs.Prelude.{Option, codes}
 use Rattle.rn_notation.specs.declared.token.Token.{Token}
 use Rattle.rn_notation.specs.declared.token.TokenKind.{TokenKind}
@@ -8,7 +8,8 @@ use Rattle.rn_inscript.specs.declared.exprs.PExpr.{PExpr}
 use Rattle.rn_inscript.specs.declared.exprs.PForm.TheVariants as F
 use Rattle.rn_inscript.specs.Signs.{minus, close_brace, colon}
 use Rattle.rn_inscript.specs.Expressions.{IsExpr, IsTerms, IsProduct, IsFactors, IsUnary, IsPrimary, IsListed, IsExprs, IsMoreExprs, joined, at_spot}
-use Rattle.rn_inscript.specs.link.Stages.{Phrases, Ends, strength}
+use Rattle.rn_reading.specs.Phrases.{Phrases}
+use Rattle.rn_inscript.specs.link.Stages.{Ends, strength}
 use Rattle.rn_inscript.proofs.Chains.{Goes, Chain, chain_follow}
 use Rattle.rn_inscript.proofs.ExpressionPhrases.{products, sums, lists}
 use Rattle.rn_inscript.proofs.OperandPhrases.{begins_primary, begins_expr, primary-begins, number-only, text-only, this-only, name-only, paren-only, bracket-only, brace-only, ListEnd, exprs-begin, listed-only, minus-only, no-minus}

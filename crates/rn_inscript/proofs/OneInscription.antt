@@ -1,5 +1,5 @@
 -- A list of tokens is one condition, and one inscription, at most.
-use Rattle.std.proofs.Common.{◌≡◌, ◌+◌, ◌<◌, inl, inr, true, false, List, [], ◌∷◌, ◌++◌, refl, sym, ◌∙◌, ap, subst, arith}
+use Rattle.std.proofs.Common.{◌≡◌, ◌<◌, inl, inr, true, false, List, [], ◌∷◌, ◌++◌, refl, sym, ◌∙◌, ap, subst, arith}
 use Rattle.std.specs.Prelude.{Some}
 use Rattle.rn_notation.specs.declared.token.Token.{Token}
 use Rattle.rn_notation.specs.declared.token.TokenKind.TheVariants.{Name}
@@ -18,7 +18,8 @@ use Rattle.rn_inscript.specs.Signs.{colon, not_sign, close_paren, compare_of, ta
 use Rattle.rn_inscript.specs.Expressions.{IsExpr, IsListed, at_spot}
 use Rattle.rn_inscript.specs.Conditions.{IsCond, IsAlternatives, IsMoreAlternatives, IsBoth, IsMoreBoth, IsSimple, any_of}
 use Rattle.rn_inscript.specs.Inscriptions.{IsInscribed, IsInscription, IsCall, name_at, absent}
-use Rattle.rn_inscript.specs.link.Stages.{Then, Ends, strength}
+use Rattle.rn_reading.specs.Phrases.{Then}
+use Rattle.rn_inscript.specs.link.Stages.{Ends, strength}
 use Rattle.rn_inscript.specs.link.NextNames.{IsEquality}
 use Rattle.rn_inscript.proofs.Chains.{chain_follow}
 use Rattle.rn_inscript.proofs.ConditionPhrases.{conjunctions, disjunctions, SimpleEnd, cond-part, simple-only, end-follow, compare-strength}

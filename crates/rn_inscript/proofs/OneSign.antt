@@ -7,7 +7,8 @@ use Rattle.rn_notation.specs.declared.token.Token.{Token}
 use Rattle.rn_notation.specs.declared.token.TokenKind.{TokenKind}
 use Rattle.rn_notation.specs.declared.token.TokenKind.TheVariants.{Name, Word, Number, Text, Sign}
 use Rattle.rn_inscript.specs.Levels.{Level, goes_too_far, after_token}
-use Rattle.rn_inscript.specs.link.Stages.{IsNextOf, IsNoneOf, IsNextSign, IsNotNextSign, ready, ended}
+use Rattle.rn_reading.specs.link.Stages.{IsNextOne, IsNotNext}
+use Rattle.rn_inscript.specs.link.Stages.{IsNextSign, IsNotNextSign, ready, ended}
 use Rattle.rn_inscript.proofs.Chains.{Separates}
 
 abbrev pub sign_of : ℕ → TokenKind → Option ⊤
@@ -34,10 +35,10 @@ sign-none k (Number n) h = refl
 sign-none k (Text s) h = refl
 sign-none k (Word w) h = refl
 
-pub next-of : (k : ℕ) (tokens : List Token) (at : ℕ) → IsNextSign tokens at k → IsNextOf (sign_of k) tokens at tt
+pub next-of : (k : ℕ) (tokens : List Token) (at : ℕ) → IsNextSign tokens at k → IsNextOne (λ t. sign_of k t.kind) tokens at tt
 next-of k tokens at next = (next.0, next.1, sign-some k next.0.kind next.2)
 
-pub none-of : (k : ℕ) (tokens : List Token) (at : ℕ) → IsNotNextSign tokens at k → IsNoneOf (sign_of k) tokens at
+pub none-of : (k : ℕ) (tokens : List Token) (at : ℕ) → IsNotNextSign tokens at k → IsNotNext (λ t. sign_of k t.kind) tokens at
 none-of k tokens at other = λ t others is. sign-none k t.kind (λ h. other t others is h)
 
 -- a comma closes minuses alone

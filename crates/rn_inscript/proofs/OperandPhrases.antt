@@ -12,7 +12,8 @@ use Rattle.rn_inscript.specs.declared.exprs.PExpr.{PExpr}
 use Rattle.rn_inscript.specs.declared.exprs.PForm.TheVariants as F
 use Rattle.rn_inscript.specs.Signs.{minus, open_paren, close_paren, open_bracket, close_bracket, open_brace, close_brace, colon, this_word}
 use Rattle.rn_inscript.specs.Expressions.{IsExpr, IsProduct, IsUnary, IsPrimary, IsListed, IsExprs, at_spot}
-use Rattle.rn_inscript.specs.link.Stages.{Phrases, Then, Done, Takes}
+use Rattle.rn_reading.specs.Phrases.{Phrases, Then, Done}
+use Rattle.rn_inscript.specs.link.Stages.{Takes}
 
 -- whether a token begins a primary expression
 abbrev pub begins_primary : TokenKind → Bool

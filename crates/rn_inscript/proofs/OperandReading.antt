@@ -7,15 +7,18 @@ use Rattle.rn_notation.specs.declared.token.TokenKind.TheVariants.{Sign}
 use Rattle.rn_inscript.specs.declared.exprs.PExpr.{PExpr}
 use Rattle.rn_inscript.specs.declared.exprs.PForm.TheVariants as F
 use Rattle.rn_inscript.specs.declared.cursor.Seen.{Seen}
-use Rattle.rn_inscript.specs.declared.fault.InscriptFault.{InscriptFault}
-use Rattle.rn_inscript.specs.declared.fault.InscriptFault.TheVariants as Fault
+use Rattle.rn_reading.specs.declared.fault.ReadFault.{ReadFault}
+use Rattle.rn_reading.specs.declared.fault.ReadFault.TheVariants as Fault
 use Rattle.rn_inscript.specs.Signs.{minus, open_paren, close_paren, open_bracket, close_bracket}
 use Rattle.rn_inscript.specs.Expressions.{IsExpr, IsUnary, IsPrimary, IsListed, at_spot}
 use Rattle.rn_inscript.specs.Levels.{Level, bracket, negative, goes_too_far, after_token}
-use Rattle.rn_inscript.specs.link.Stages.{Then, Done, Takes, BeginAlike, Stage, CanEnd, IsSoFar, Reads, ReadsFrom, IsNext, HasNoNext, ready, ended, past, past_operator}
+use Rattle.rn_reading.specs.Phrases.{Then, Done}
+use Rattle.rn_reading.specs.link.Stages.{BeginAlike, CanEnd, IsNext, HasNoNext}
+use Rattle.rn_inscript.specs.link.Stages.{Takes, Stage, IsSoFar, Reads, ReadsFrom, ready, ended, past, past_operator}
 use Rattle.rn_inscript.proofs.StageLemmas.{begin, change, inner, inner_fails}
 use Rattle.rn_inscript.proofs.CountSteps.{le-false, le-true}
-use Rattle.rn_inscript.proofs.Passing.{alike-cons, pass, far_next, stuck_next}
+use Rattle.rn_reading.proofs.Steps.{alike-cons}
+use Rattle.rn_inscript.proofs.Passing.{pass, far_next, stuck_next}
 use Rattle.rn_inscript.proofs.BracketSteps.{any, can_end_then, can_end_takes, can_end_done, can_end_by, done_follow, whole_reads, opening-bracket, opening-paren, opening_passed, opening_far}
 use Rattle.rn_inscript.proofs.ExpressionPhrases.{zero-expr, zero-unary, zero-primary}
 use Rattle.rn_inscript.proofs.OperandPhrases.{begins_primary, primary-begins, primary-some, paren-only, bracket-only, minus-only, no-minus}
@@ -37,9 +40,9 @@ leaf_read tokens seen around {t = t} kind a next is small after on only = record
 
 -- the next token begins no primary expression
 pub none_begins : (tokens : List Token) (seen : Seen) (around : List Level) {t : Token} (kind : TokenKind) →
-    IsNext tokens seen.at t → t.kind ≡ kind → begins_primary kind ≡ false → Reads 6 IsPrimary tokens seen around (Err (Fault.P2 seen.at))
+    IsNext tokens seen.at t → t.kind ≡ kind → begins_primary kind ≡ false → Reads 6 IsPrimary tokens seen around (Err (Fault.Stopped seen.at))
 none_begins tokens seen around {t = t} kind next is none =
-    stuck_next tokens seen.at (begin 6 IsPrimary (drop seen.at tokens) (ready around seen.operators)) (omega (arith, next.1)) zero-primary (λ ts e rest alike ends x.
+    stuck_next tokens seen.at (begin 6 IsPrimary (drop seen.at tokens) (ready around seen.operators)) (omega (arith, next.1)) zero-primary (λ ts e rest alike x.
     let like : BeginAlike (t ∷ drop (seen.at + 1) tokens) ts = subst (λ us. BeginAlike us ts) next.0 alike in
     other ts like x)
   where
@@ -48,9 +51,9 @@ none_begins tokens seen around {t = t} kind next is none =
     other (u ∷ us) like x = let yes : begins_primary u.kind ≡ true = primary-begins x in let same : u.kind ≡ kind = ap (λ v. v.kind) (sym like) ∙ is in cc
 
 -- no token is next
-pub none_next : (tokens : List Token) (seen : Seen) (around : List Level) → seen.at ≤ length tokens → HasNoNext tokens seen.at → Reads 6 IsPrimary tokens seen around (Err (Fault.P2 seen.at))
+pub none_next : (tokens : List Token) (seen : Seen) (around : List Level) → seen.at ≤ length tokens → HasNoNext tokens seen.at → Reads 6 IsPrimary tokens seen around (Err (Fault.Stopped seen.at))
 none_next tokens seen around inside none =
-    stuck_next tokens seen.at (begin 6 IsPrimary (drop seen.at tokens) (ready around seen.operators)) inside zero-primary (λ ts e rest alike ends x.
+    stuck_next tokens seen.at (begin 6 IsPrimary (drop seen.at tokens) (ready around seen.operators)) inside zero-primary (λ ts e rest alike x.
     other ts (subst (λ us. BeginAlike us ts) none alike) x)
   where
     other : (ts : List Token) {e : PExpr} {rest : List Token} → BeginAlike [] ts → IsPrimary ts e rest → ⊥
@@ -68,7 +71,7 @@ paren_stage tokens seen around levels next is fits some =
     (paren-on is) (λ ts e rest alike ends x. paren-only is x)
 
 pub paren_far : (tokens : List Token) (seen : Seen) (around : List Level) (levels : ℕ) {t : Token} → IsNext tokens seen.at t → t.kind ≡ open_paren → levels + length around ≡ 64 → levels ≡ 0 →
-    Reads 6 IsPrimary tokens seen around (Err (Fault.P5 seen.at))
+    Reads 6 IsPrimary tokens seen around (Err (Fault.TooFar seen.at))
 paren_far tokens seen around levels {t = t} next is fits none =
     opening_far tokens seen.at opening-paren (begin 6 IsPrimary (drop seen.at tokens) (ready around seen.operators)) next is refl fits none
     (can_end_by (Then IsExpr (Takes close_paren)) (λ ts. IsPrimary (t ∷ ts)) (can_end_then IsExpr (Takes close_paren) zero-expr (can_end_takes close_paren)) (paren-on is))
@@ -87,12 +90,12 @@ tuple_stage tokens seen around levels {t = t} next is fits some =
     (tuple-on is) (λ ts e rest alike ends x. bracket-only is x)
 
 pub tuple_far : (tokens : List Token) (seen : Seen) (around : List Level) (levels : ℕ) {t : Token} → IsNext tokens seen.at t → t.kind ≡ open_bracket → levels + length around ≡ 64 → levels ≡ 0 →
-    Reads 6 IsPrimary tokens seen around (Err (Fault.P5 seen.at))
+    Reads 6 IsPrimary tokens seen around (Err (Fault.TooFar seen.at))
 tuple_far tokens seen around levels {t = t} next is fits none =
     opening_far tokens seen.at opening-bracket (begin 6 IsPrimary (drop seen.at tokens) (ready around seen.operators)) next is refl fits none
     (can_end_by (Then (IsListed close_bracket) (λ es. Done (at_spot t.spot (F.Tuple es)))) (λ ts. IsPrimary (t ∷ ts)) (can_end_then (IsListed close_bracket) (λ es. Done (at_spot t.spot (F.Tuple es))) (empty-listed 3) (λ es. can_end_done (at_spot t.spot (F.Tuple es)))) (tuple-on is))
 
-pub tuple_fails : (tokens : List Token) (seen : Seen) (around : List Level) (levels : ℕ) {t : Token} (e : InscriptFault) → IsNext tokens seen.at t → t.kind ≡ open_bracket → levels + length around ≡ 64 → 0 < levels →
+pub tuple_fails : (tokens : List Token) (seen : Seen) (around : List Level) (levels : ℕ) {t : Token} (e : ReadFault) → IsNext tokens seen.at t → t.kind ≡ open_bracket → levels + length around ≡ 64 → 0 < levels →
     ReadsFrom 6 (IsListed close_bracket) tokens (past seen) (ready (bracket ∷ around) seen.operators) around (Err e) → Reads 6 IsPrimary tokens seen around (Err e)
 tuple_fails tokens seen around levels {t = t} e next is fits some f =
     inner_fails (length tokens) e (tuple_stage tokens seen around levels next is fits some) (λ es. done_follow 6) (λ es. can_end_done (at_spot t.spot (F.Tuple es))) f
@@ -118,7 +121,7 @@ minus_stage tokens seen around levels {t = t} next is fits some few =
     (minus-on is) (λ ts e rest alike ends x. minus-only is x)
 
 pub minus_far : (tokens : List Token) (seen : Seen) (around : List Level) (levels : ℕ) {t : Token} → IsNext tokens seen.at t → t.kind ≡ minus → levels + length around ≡ 64 → (levels ≡ 0) ⊎ (256 ≤ seen.operators) →
-    Reads 6 IsUnary tokens seen around (Err (Fault.P5 seen.at))
+    Reads 6 IsUnary tokens seen around (Err (Fault.TooFar seen.at))
 minus_far tokens seen around levels {t = t} next is fits far =
     far_next tokens seen.at minus (begin 6 IsUnary (drop seen.at tokens) (ready around seen.operators)) next is
     (can_end_by (Then IsUnary (λ e. Done (at_spot t.spot (F.Neg e)))) (λ ts. IsUnary (t ∷ ts)) (can_end_then IsUnary (λ e. Done (at_spot t.spot (F.Neg e))) zero-unary (λ e. can_end_done (at_spot t.spot (F.Neg e)))) (minus-on is))
@@ -131,7 +134,7 @@ minus_far tokens seen around levels {t = t} next is fits far =
     or-true true = refl
     or-true false = refl
 
-pub minus_fails : (tokens : List Token) (seen : Seen) (around : List Level) (levels : ℕ) {t : Token} (e : InscriptFault) → IsNext tokens seen.at t → t.kind ≡ minus → levels + length around ≡ 64 → 0 < levels → seen.operators < 256 →
+pub minus_fails : (tokens : List Token) (seen : Seen) (around : List Level) (levels : ℕ) {t : Token} (e : ReadFault) → IsNext tokens seen.at t → t.kind ≡ minus → levels + length around ≡ 64 → 0 < levels → seen.operators < 256 →
     Reads 6 IsUnary tokens (past_operator seen) (negative ∷ around) (Err e) → Reads 6 IsUnary tokens seen around (Err e)
 minus_fails tokens seen around levels {t = t} e next is fits some few f =
     inner_fails (length tokens) e (minus_stage tokens seen around levels next is fits some few) (λ b. done_follow 6) (λ b. can_end_done (at_spot t.spot (F.Neg b))) f
@@ -146,7 +149,7 @@ minus_read tokens seen after around levels {t = t} a next is fits some few p = r
 }
 
 -- no minus is next
-pub primary_reads : (tokens : List Token) (seen : Seen) (around : List Level) (r : Result (PExpr × Seen) InscriptFault) →
+pub primary_reads : (tokens : List Token) (seen : Seen) (around : List Level) (r : Result (PExpr × Seen) ReadFault) →
     ((t : Token) (us : List Token) → drop seen.at tokens ≡ t ∷ us → t.kind ≡ minus → ⊥) → Reads 6 IsPrimary tokens seen around r → Reads 6 IsUnary tokens seen around r
 primary_reads tokens seen around r other p = whole_reads tokens seen (ready around seen.operators) around r
     (change (Then IsPrimary Done) (begin 6 IsUnary (drop seen.at tokens) (ready around seen.operators))

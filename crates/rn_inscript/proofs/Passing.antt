@@ -1,20 +1,14 @@
 -- A token is passed, or can't be.
-use Rattle.std.proofs.Common.{◌≡◌, ℕ, ◌+◌, ◌≤◌, true, false, List, [], ◌∷◌, length, drop, sym, ◌∙◌, ap, subst, arith}
-use Rattle.std.proofs.Math.ListN.{length-drop}
+use Rattle.std.proofs.Common.{◌≡◌, ℕ, ◌+◌, ◌≤◌, true, false, List, ◌∷◌, length, drop, sym, ◌∙◌, ap, subst}
 use Rattle.rn_notation.specs.declared.token.Token.{Token}
 use Rattle.rn_notation.specs.declared.token.TokenKind.{TokenKind}
 use Rattle.rn_notation.specs.declared.token.TokenKind.TheVariants.{Sign}
-use Rattle.rn_inscript.specs.declared.fault.InscriptFault.TheVariants as Fault
-use Rattle.rn_inscript.specs.Levels.{Count, after_token, goes_too_far}
-use Rattle.rn_inscript.specs.link.Stages.{Phrases, Takes, BeginAlike, Ends, Stage, CanEnd, IsTooFar, Fails, IsNext, IsNotNextSign}
-use Rattle.rn_inscript.proofs.StageLemmas.{take, stuck, too_far}
-
-pub index-of : (at : ℕ) (tokens : List Token) → at ≤ length tokens → at + length (drop at tokens) ≡ length tokens
-index-of at tokens h = omega (arith, length-drop at tokens)
-
-pub alike-cons : (ts : List Token) (u : Token) (us : List Token) → BeginAlike ts (u ∷ us) → (others : List Token) × (ts ≡ u ∷ others)
-alike-cons [] u us alike = absurd alike
-alike-cons (t ∷ ts) u us alike = (ts, ap (λ x. x ∷ ts) alike)
+use Rattle.rn_reading.specs.declared.fault.ReadFault.TheVariants as Fault
+use Rattle.rn_inscript.specs.Levels.{Count, inscript_counting, after_token, goes_too_far}
+use Rattle.rn_reading.specs.Phrases.{Phrases}
+use Rattle.rn_reading.specs.link.Stages.{BeginAlike, CanEnd, IsNext}
+use Rattle.rn_inscript.specs.link.Stages.{Takes, Ends, Stage, Fails, IsNotNextSign}
+use Rattle.rn_reading.proofs.Steps.{alike-cons, take, stuck, too_far}
 
 -- the next token is of this kind, and is taken
 pub pass : {A : Type 0} {n : ℕ} {X Y : Phrases A} {start : List Token} {first now : Count} (tokens : List Token) (at : ℕ) {t : Token} (kind : TokenKind) (then : Count) →
@@ -23,32 +17,29 @@ pub pass : {A : Type 0} {n : ℕ} {X Y : Phrases A} {start : List Token} {first 
     Stage n X start first (λ ts. Y (t ∷ ts)) (drop (at + 1) tokens) then
 pass {n = n} {X = X} {Y = Y} {start = start} {first = first} {now = now} tokens at {t = t} kind then s next is small after =
     subst (λ c. Stage n X start first (λ ts. Y (t ∷ ts)) (drop (at + 1) tokens) c) (ap (after_token now) is ∙ after)
-    (take (subst (λ us. Stage n X start first Y us now) next.0 s) (subst (λ k. goes_too_far now k ≡ false) (sym is) small))
+    (take inscript_counting (Ends n) (subst (λ us. Stage n X start first Y us now) next.0 s) (subst (λ k. goes_too_far now k ≡ false) (sym is) small))
 
 -- the next token is of this kind, can follow and goes too far
 pub far_next : {A : Type 0} {n : ℕ} {X Y : Phrases A} {start : List Token} {first now : Count} (tokens : List Token) (at : ℕ) {t : Token} (kind : TokenKind) →
     Stage n X start first Y (drop at tokens) now → IsNext tokens at t → t.kind ≡ kind →
     CanEnd (λ ts. Y (t ∷ ts)) → goes_too_far now kind ≡ true →
-    Fails n X start first (length tokens) (Fault.P5 at)
-far_next {n = n} {X = X} {Y = Y} {start = start} {first = first} {now = now} tokens at {t = t} kind s next is end far = (
-  drop at tokens,
-  subst (λ us. IsTooFar X start first us) (sym next.0) (too_far (subst (λ us. Stage n X start first Y us now) next.0 s) end (subst (λ k. goes_too_far now k ≡ true) (sym is) far)),
-  index-of at tokens (omega (arith, next.1)),
-)
+    Fails n X start first (length tokens) (Fault.TooFar at)
+far_next {n = n} {now = now} tokens at kind s next is end far =
+    too_far inscript_counting (Ends n) tokens at s next end (subst (λ k. goes_too_far now k ≡ true) (sym is) far)
 
 -- what is left goes on in no way with the next token, or at the end
 pub stuck_next : {A : Type 0} {n : ℕ} {X Y : Phrases A} {start : List Token} {first now : Count} (tokens : List Token) (at : ℕ) →
     Stage n X start first Y (drop at tokens) now → at ≤ length tokens → CanEnd Y →
-    ((ts : List Token) (e : A) (rest : List Token) → BeginAlike (drop at tokens) ts → Ends n rest → Y ts e rest → ⊥) →
-    Fails n X start first (length tokens) (Fault.P2 at)
-stuck_next tokens at s inside end none = (drop at tokens, stuck s end none, index-of at tokens inside)
+    ((ts : List Token) (e : A) (rest : List Token) → BeginAlike (drop at tokens) ts → Y ts e rest → ⊥) →
+    Fails n X start first (length tokens) (Fault.Stopped at)
+stuck_next {n = n} tokens at s inside end none = stuck inscript_counting (Ends n) tokens at s inside end none
 
 -- a sign has to come that isn't next
 pub stuck_sign : {A : Type 0} {n : ℕ} {X : Phrases A} {a : A} {start : List Token} {first now : Count} (tokens : List Token) (at k : ℕ) →
     Stage n X start first (Takes (Sign k) a) (drop at tokens) now → at ≤ length tokens → CanEnd (Takes (Sign k) a) →
     IsNotNextSign tokens at k →
-    Fails n X start first (length tokens) (Fault.P2 at)
+    Fails n X start first (length tokens) (Fault.Stopped at)
 stuck_sign tokens at k s inside end other =
-    stuck_next tokens at s inside end (λ ts e rest alike ends y.
+    stuck_next tokens at s inside end (λ ts e rest alike y.
     let next = alike-cons (drop at tokens) y.0 rest (subst (λ us. BeginAlike (drop at tokens) us) y.1 alike) in
     other y.0 next.0 next.1 y.2)

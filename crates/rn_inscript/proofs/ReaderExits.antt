@@ -5,16 +5,17 @@ use Rattle.std.specs.Result.{IsErrAnd}
 use Rattle.std.proofs.lemmas.Result.{err_from_is_err_and}
 use Rattle.rn_notation.specs.declared.token.Token.{Token}
 use Rattle.rn_inscript.specs.declared.cursor.Seen.{Seen}
-use Rattle.rn_inscript.specs.declared.fault.InscriptFault.{InscriptFault}
+use Rattle.rn_reading.specs.declared.fault.ReadFault.{ReadFault}
 use Rattle.rn_inscript.specs.Levels.{Level, Count}
-use Rattle.rn_inscript.specs.link.Stages.{Phrases, Done, Fails, IsSoFar, ReadsFrom}
+use Rattle.rn_reading.specs.Phrases.{Phrases, Done}
+use Rattle.rn_inscript.specs.link.Stages.{Fails, IsSoFar, ReadsFrom}
 
-pub failed : {A : Type 0} (n : ℕ) (X : Phrases A) (tokens : List Token) (before : Seen) (first : Count) (around : List Level) (r : Result (A × Seen) InscriptFault) (e : InscriptFault) →
+pub failed : {A : Type 0} (n : ℕ) (X : Phrases A) (tokens : List Token) (before : Seen) (first : Count) (around : List Level) (r : Result (A × Seen) ReadFault) (e : ReadFault) →
     IsErrAnd r (λ y. y ≡ e) → Fails n X (drop before.at tokens) first (length tokens) e → ReadsFrom n X tokens before first around r
 failed n X tokens before first around r e is f =
     let p = err_from_is_err_and r is in subst (ReadsFrom n X tokens before first around) (sym (p.1 ∙ ap Err p.2)) f
 
-pub failed_as : {A : Type 0} (n : ℕ) (X : Phrases A) (tokens : List Token) (before : Seen) (first : Count) (around : List Level) (r : Result (A × Seen) InscriptFault) (e d : InscriptFault) →
+pub failed_as : {A : Type 0} (n : ℕ) (X : Phrases A) (tokens : List Token) (before : Seen) (first : Count) (around : List Level) (r : Result (A × Seen) ReadFault) (e d : ReadFault) →
     IsErrAnd r (λ y. y ≡ e) → e ≡ d → Fails n X (drop before.at tokens) first (length tokens) d → ReadsFrom n X tokens before first around r
 failed_as n X tokens before first around r e d is same f =
     let p = err_from_is_err_and r is in subst (ReadsFrom n X tokens before first around) (sym (p.1 ∙ ap Err (p.2 ∙ same))) f

@@ -9,10 +9,16 @@ use Rattle.rn_notation.specs.declared.token.Token.{Token}
 use Rattle.rn_inscript.specs.declared.cursor.Seen.{Seen}
 use Rattle.rn_inscript.specs.declared.fault.InscriptFault.{InscriptFault}
 use Rattle.rn_inscript.specs.declared.fault.InscriptFault.TheVariants as Fault
-use Rattle.rn_inscript.specs.Levels.{Count, IsWithin, at_first, count_after, goes_too_far, after_token}
-use Rattle.rn_inscript.specs.link.Stages.{Phrases, Done, BeginAlike, Fails, IsSoFar, ready}
+use Rattle.rn_reading.specs.declared.fault.ReadFault.{ReadFault}
+use Rattle.rn_reading.specs.declared.fault.ReadFault.TheVariants as Read
+use Rattle.rn_inscript.specs.link.Faults.{inscript_fault}
+use Rattle.rn_inscript.specs.Levels.{Count, IsWithin, inscript_counting, at_first, count_after, goes_too_far}
+use Rattle.rn_reading.specs.Phrases.{Phrases, Done}
+use Rattle.rn_reading.specs.link.Stages.{BeginAlike}
+use Rattle.rn_inscript.specs.link.Stages.{Fails, IsSoFar, ready}
 use Rattle.rn_inscript.specs.Readings.{Wholes, IsPrefix, IsLongest, IsReading, IsStopped, IsDeep, IsRefusal, IsAnswer, Answers}
-use Rattle.rn_inscript.proofs.Passing.{index-of}
+use Rattle.rn_reading.proofs.Steps.{index-of}
+use Rattle.rn_reading.proofs.Wholes.{split-at, within-at}
 
 -- the phrases of a sort after which nothing comes
 abbrev pub wholes : {A : Type 0} → Phrases A → Wholes A
@@ -21,12 +27,10 @@ wholes X ts a = X ts a []
 -- of two prefixes of a list the longer one goes on with what the shorter one leaves
 pub longer : (taken left others rest : List Token) → taken ++ left ≡ others ++ rest → length taken < length others →
     (u : Token) × (us : List Token) × (others ≡ taken ++ u ∷ us) × (left ≡ u ∷ (us ++ rest))
-longer [] left [] rest e lt = absurd (omega (arith, lt))
-longer [] left (o ∷ os) rest e lt = (o, os, refl, e)
-longer (t ∷ ts) left [] rest e lt = absurd (omega (arith, lt))
-longer (t ∷ ts) left (o ∷ os) rest e lt =
-    let r = longer ts left os rest (let h : ts ++ left ≡ os ++ rest = cc in h) (omega (arith, lt)) in
-    (r.0, r.1, let h : t ≡ o = cc in let g = r.2 in ap (λ x. x ∷ os) (sym h) ∙ ap (λ xs. t ∷ xs) g, r.3)
+longer taken left others rest e lt = elim (split-at others rest taken left (sym e)) [
+  | inl g ↦ absurd (omega (arith, lt, ap length g.1, length-append others g.0))
+  | inr g ↦ g
+]
 
 pub same_length : (a x b y : List Token) → a ++ x ≡ b ++ y → length a ≡ length b → a ≡ b
 same_length [] x [] y e h = refl
@@ -78,16 +82,16 @@ read_answer {X = X} tokens at after a here there p = (
   λ b x. (p.stage.only [] b [] tt tt (subst (λ us. X us b []) (sym (append-nil p.stage.taken)) x)).0,
 )
 
-pub refusal_fact : {A : Type 0} (n : ℕ) (X : Phrases A) (tokens : List Token) (at : ℕ) (fault : InscriptFault) → at ≤ length tokens → Fails n X (drop at tokens) (ready [] 0) (length tokens) fault →
-    IsRefusal (wholes X) tokens at fault
-refusal_fact n X tokens at (Fault.P2 k) here f = let p = f.1 in record {
+pub refusal_fact : {A : Type 0} (n : ℕ) (X : Phrases A) (tokens : List Token) (at : ℕ) (fault : ReadFault) → at ≤ length tokens → Fails n X (drop at tokens) (ready [] 0) (length tokens) fault →
+    IsRefusal (wholes X) tokens at (inscript_fault fault)
+refusal_fact n X tokens at (Read.Stopped k) here f = let p = f.1 in record {
   taken = p.taken;
   longest = longest_of X (drop at tokens) p.taken f.0 p.whole (prefix-nil X p.taken p.begins.0 p.begins.1 (p.begins.2 [])) (λ ts b alike x. absurd (p.none ts b [] alike tt x));
   not_whole = λ a x. p.none [] a [] tt tt (subst (λ us. X us a []) (sym (append-nil p.taken)) x);
   within = p.within;
   stops = omega (arith, index-of at tokens here, f.2, ap length p.whole, length-append p.taken f.0);
 }
-refusal_fact n X tokens at (Fault.P5 k) here f = let p = f.1 in record {
+refusal_fact n X tokens at (Read.TooFar k) here f = let p = f.1 in record {
   before = p.taken;
   token = p.token;
   left = p.others;
@@ -97,7 +101,7 @@ refusal_fact n X tokens at (Fault.P5 k) here f = let p = f.1 in record {
   far = p.far;
   stands = omega (arith, index-of at tokens here, f.2, ap length p.whole, length-append p.taken f.0);
 }
-refusal_fact n X tokens at (Fault.NoMemory _) here f = tt
+refusal_fact n X tokens at (Read.NoMemory _) here f = tt
 
 -- two longest prefixes are one
 pub one_longest : {A : Type 0} {Whole : Wholes A} {tokens a b : List Token} → IsLongest Whole tokens a → IsLongest Whole tokens b → a ≡ b
@@ -106,8 +110,7 @@ one_longest {a = a} {b = b} p q = same_length a p.left b q.left (sym p.parts ∙
 
 -- a token that goes too far is not among tokens that don't
 not_within : (c : Count) (before : List Token) (t : Token) (after : List Token) → IsWithin c (before ++ t ∷ after) → goes_too_far (count_after c before) t.kind ≡ true → ⊥
-not_within c [] t after w far = let no = w.0 in cc
-not_within c (u ∷ us) t after w far = not_within (after_token c u.kind) us t after w.1 far
+not_within c before t after w far = let no = within-at inscript_counting c before t after w in cc
 
 -- a prefix that goes too far at its last token is no part of tokens that don't
 not_deep : {A : Type 0} {Whole : Wholes A} {tokens taken : List Token} {at k : ℕ} → IsLongest Whole (drop at tokens) taken → IsWithin at_first taken → IsDeep Whole tokens at k → ⊥
@@ -157,7 +160,7 @@ answer_deep (Err (Fault.P5 j)) s k x = ap (λ i. Err (Fault.P5 i)) (one_deep s x
 answer_deep (Err (Fault.NoMemory _)) s k x = tt
 
 -- what a reader returns where the reader that it calls fails
-pub refused_answer : {A : Type 0} (n : ℕ) (X : Phrases A) (tokens : List Token) (at : ℕ) (r : Result (A × ℕ) InscriptFault) (e : InscriptFault) → IsErrAnd r (λ y. y ≡ e) → at ≤ length tokens →
+pub refused_answer : {A : Type 0} (n : ℕ) (X : Phrases A) (tokens : List Token) (at : ℕ) (r : Result (A × ℕ) InscriptFault) (e : ReadFault) → IsErrAnd r (λ y. y ≡ inscript_fault e) → at ≤ length tokens →
     Fails n X (drop at tokens) (ready [] 0) (length tokens) e → IsAnswer (wholes X) tokens at r
 refused_answer n X tokens at r e is here f = let p = err_from_is_err_and r is in subst (IsAnswer (wholes X) tokens at) (sym (p.1 ∙ ap Err p.2)) (refusal_fact n X tokens at e here f)
 

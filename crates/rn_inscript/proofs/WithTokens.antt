@@ -4,15 +4,18 @@ use Rattle.rn_notation.specs.declared.token.Token.{Token}
 use Rattle.rn_notation.specs.declared.token.TokenKind.{TokenKind}
 use Rattle.rn_notation.specs.declared.token.TokenKind.TheVariants.{Name}
 use Rattle.rn_inscript.specs.declared.cursor.Seen.{Seen}
-use Rattle.rn_inscript.specs.declared.fault.InscriptFault.{InscriptFault}
-use Rattle.rn_inscript.specs.declared.fault.InscriptFault.TheVariants as Fault
+use Rattle.rn_reading.specs.declared.fault.ReadFault.{ReadFault}
+use Rattle.rn_reading.specs.declared.fault.ReadFault.TheVariants as Fault
 use Rattle.rn_inscript.specs.declared.inscriptions.PName.{PName}
 use Rattle.rn_inscript.specs.Inscriptions.{name_at}
 use Rattle.rn_inscript.specs.Levels.{Level, Count, goes_too_far, after_token}
-use Rattle.rn_inscript.specs.link.Stages.{Phrases, Then, Done, BeginAlike, Ends, Stage, CanEnd, Fails, IsSoFar, IsNextKind, ready, ended}
+use Rattle.rn_reading.specs.Phrases.{Phrases, Then, Done}
+use Rattle.rn_reading.specs.link.Stages.{BeginAlike, CanEnd}
+use Rattle.rn_inscript.specs.link.Stages.{Ends, Stage, Fails, IsSoFar, IsNextKind, ready, ended}
 use Rattle.rn_inscript.specs.link.NextNames.{IsNotNextKind, IsNextName, IsNoName}
 use Rattle.rn_inscript.proofs.StageLemmas.{change, inner, inner_fails}
-use Rattle.rn_inscript.proofs.Passing.{alike-cons, pass, stuck_next}
+use Rattle.rn_reading.proofs.Steps.{alike-cons}
+use Rattle.rn_inscript.proofs.Passing.{pass, stuck_next}
 use Rattle.rn_inscript.proofs.BracketSteps.{any, can_end_done}
 
 -- a token of a kind, and then a phrase
@@ -40,9 +43,9 @@ with_kind_read {Y = Y} {kind = kind} tokens at then s next small after =
 
 pub with_kind_stuck : {A : Type 0} {n : ℕ} {X : Phrases A} (Y : Phrases A) {kind : TokenKind} {start : List Token} {first now : Count} (tokens : List Token) (at : ℕ) →
     Stage n X start first (WithKind kind Y) (drop at tokens) now → at ≤ length tokens → CanEnd Y → IsNotNextKind tokens at kind →
-    Fails n X start first (length tokens) (Fault.P2 at)
+    Fails n X start first (length tokens) (Fault.Stopped at)
 with_kind_stuck Y {kind = kind} tokens at s inside end other =
-    stuck_next tokens at s inside (with_kind_ends kind Y end) (λ ts e rest alike ends x.
+    stuck_next tokens at s inside (with_kind_ends kind Y end) (λ ts e rest alike x.
     let next = alike-cons (drop at tokens) x.0 x.1 (subst (λ us. BeginAlike (drop at tokens) us) x.2 alike) in other x.0 next.0 next.1 x.3)
 
 pub with_name_read : {A : Type 0} {n : ℕ} {X : Phrases A} (Y : PName → Phrases A) {start : List Token} {first : Count} (tokens : List Token) (at : ℕ) (levels : List Level) (operators : ℕ) (name : PName) →
@@ -55,14 +58,14 @@ with_name_read {n = n} {X = X} Y {start = start} {first = first} tokens at level
     (λ ts e rest alike ends x. subst (λ us. Y (name_at next.0.spot next.1) us e rest) (let h : x.1 ≡ ts = let d = x.3 in cc in h)
     (subst (λ p. Y p x.1 e rest) (let h : name_at x.0.spot x.2 ≡ name_at next.0.spot next.1 = let d = x.3 in let f = x.4 in let g = next.3 in cc in h) x.5)))
 
-pub with_name_fails : {A : Type 0} {n : ℕ} {X : Phrases A} (Y : PName → Phrases A) {start : List Token} {first now : Count} (tokens : List Token) (at : ℕ) (e : InscriptFault) →
+pub with_name_fails : {A : Type 0} {n : ℕ} {X : Phrases A} (Y : PName → Phrases A) {start : List Token} {first now : Count} (tokens : List Token) (at : ℕ) (e : ReadFault) →
     Stage n X start first (WithName Y) (drop at tokens) now → at ≤ length tokens → ((p : PName) → CanEnd (Y p)) → IsNoName tokens at e →
     Fails n X start first (length tokens) e
-with_name_fails {n = n} {X = X} Y {start = start} {first = first} tokens at (Fault.P2 k) s inside ends bad =
-    subst (λ x. Fails n X start first (length tokens) (Fault.P2 x)) (sym bad.1)
-    (stuck_next tokens at s inside (with_name_ends Y ends) (λ ts e rest alike fit x.
+with_name_fails {n = n} {X = X} Y {start = start} {first = first} tokens at (Fault.Stopped k) s inside ends bad =
+    subst (λ x. Fails n X start first (length tokens) (Fault.Stopped x)) (sym bad.1)
+    (stuck_next tokens at s inside (with_name_ends Y ends) (λ ts e rest alike x.
     let next = alike-cons (drop at tokens) x.0 x.1 (subst (λ us. BeginAlike (drop at tokens) us) x.3 alike) in bad.0 x.0 next.0 x.2 next.1 x.4))
-with_name_fails Y tokens at (Fault.P5 k) s inside ends bad = absurd bad
+with_name_fails Y tokens at (Fault.TooFar k) s inside ends bad = absurd bad
 with_name_fails Y tokens at (Fault.NoMemory _) s inside ends bad = tt
 
 -- the last phrase of an inscription, after which nothing comes
@@ -73,7 +76,7 @@ ends-zero m (t ∷ ts) h = absurd (omega (arith, h))
 last_follow : {A B : Type 0} (f : A → B) (m : ℕ) (a : A) (ts : List Token) (e : B) (rest : List Token) → Ends 0 rest → Done (f a) ts e rest → Ends m ts
 last_follow f m a ts e rest ends d = ends-zero m ts (subst (Ends 0) d.1 ends)
 
-pub last_fails : {A B : Type 0} (f : A → B) (m : ℕ) {X : Phrases A} {Z : Phrases B} {start mid : List Token} {first now : Count} (total : ℕ) (e : InscriptFault) →
+pub last_fails : {A B : Type 0} (f : A → B) (m : ℕ) {X : Phrases A} {Z : Phrases B} {start mid : List Token} {first now : Count} (total : ℕ) (e : ReadFault) →
     Stage 0 Z start first (Then X (λ a. Done (f a))) mid now → Fails m X mid now total e → Fails 0 Z start first total e
 last_fails f m total e s p = inner_fails total e s (last_follow f m) (λ a. can_end_done (f a)) p
 

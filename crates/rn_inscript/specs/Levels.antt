@@ -1,5 +1,5 @@
 -- Levels and operators, counted along the tokens of one expression or inscription.
-use Rattle.std.specs.Prelude.{◌≡◌, ℕ, ◌+◌, Bool, true, false, not, ◌&&◌, ◌||◌, List, [], ◌∷◌}
+use Rattle.std.specs.Prelude.{ℕ, ◌+◌, Bool, true, false, not, ◌&&◌, ◌||◌, List, [], ◌∷◌}
 use Rattle.std.specs.Prelude.{length, nat_eq, nat_le, if◌then◌else◌, drop}
 use Rattle.std.specs.List.{list_any}
 use Rattle.rn_notation.specs.declared.sign.TheConstants as sign
@@ -8,6 +8,8 @@ use Rattle.rn_notation.specs.declared.token.Token.{Token}
 use Rattle.rn_notation.specs.declared.token.TokenKind.{TokenKind}
 use Rattle.rn_notation.specs.declared.token.TokenKind.TheVariants.{Name, Word, Number, Text, Sign}
 use Rattle.rn_model.specs.Limits.{most_nested}
+use Rattle.rn_reading.specs.Counting as Counted
+use Rattle.rn_reading.specs.Counting.{Counting}
 
 -- how many operators an expression or an inscription has at most
 abbrev pub most_operators : ℕ
@@ -101,12 +103,14 @@ goes_too_far c kind =
 abbrev pub at_first : Count
 at_first = record { levels = []; ended = false; operators = 0 }
 
+-- what is counted along the tokens
+abbrev pub inscript_counting : Counting
+inscript_counting = record { Count = Count; after = after_token; is_too_far = goes_too_far }
+
 -- after some tokens
 abbrev pub count_after : Count → List Token → Count
-count_after c [] = c
-count_after c (t ∷ ts) = count_after (after_token c t.kind) ts
+count_after c tokens = Counted.count_after inscript_counting c tokens
 
 -- none of these tokens opens level 65 or is the 257th operator
 abbrev pub IsWithin : Count → List Token → Type 0
-IsWithin c [] = Unit {0}
-IsWithin c (t ∷ ts) = (goes_too_far c t.kind ≡ false) × IsWithin (after_token c t.kind) ts
+IsWithin c tokens = Counted.IsWithin inscript_counting c tokens

@@ -4,17 +4,18 @@ ghost use Rattle.rn_notation.specs.declared.sign.TheConstants as sign;
 ghost use Rattle.rn_inscript.specs.Conditions.{IsCond, IsAlternatives, IsBoth, IsSimple};
 ghost use Rattle.rn_inscript.specs.Levels.{Level, without_minuses};
 ghost use Rattle.rn_inscript.specs.Signs.{compare_of};
-ghost use Rattle.rn_inscript.specs.link.Stages.{Reads, MovesOn, IsNextOf, IsNoneOf, IsNextSign};
+ghost use Rattle.rn_reading.specs.link.Stages.{IsNextOne, IsNotNext};
+ghost use Rattle.rn_inscript.specs.link.Stages.{Reads, MovesOn, IsNextSign};
 ghost use Rattle.rn_inscript.specs.link.Stages.{IsNotNextSign, or_strength, and_strength, comparing_strength};
 
 use crate::conds::{PAlts, PCond, PSimple, PSimples};
-use crate::cursor::{Seen, expect_opening, expect_sign, next, past_sign};
+use crate::cursor::{Seen, expect_opening, expect_sign, past_sign};
 use crate::expressions::expr;
-use crate::fault::InscriptFault;
 use rn_items::Items;
 use rn_model::CompareKind;
 use rn_model::limits::MOST_NESTED;
 use rn_notation::{TokenKind, Tokens, sign};
+use rn_reading::{ReadFault, next};
 use std::alloc::Global;
 
 fn compare_of(kind: &TokenKind) -> Option<CompareKind>
@@ -33,7 +34,9 @@ fn compare_of(kind: &TokenKind) -> Option<CompareKind>
 
 /// A comparison's sign, where it is next.
 fn next_comparison(tokens: &Tokens, at: usize) -> Option<CompareKind>
-    ensures { MatchOption result (IsNoneOf compare_of tokens.now at) (IsNextOf compare_of tokens.now at) }
+    ensures { MatchOption result
+        (IsNotNext (λ t. compare_of t.kind) tokens.now at)
+        (IsNextOne (λ t. compare_of t.kind) tokens.now at) }
 {
     match next(tokens, at) {
         Some(token) => compare_of(token.kind),
@@ -47,7 +50,7 @@ pub(crate) fn cond(
     tokens: &Tokens,
     seen: Seen,
     levels: u32,
-) -> Result<(PCond, Seen), InscriptFault>
+) -> Result<(PCond, Seen), ReadFault>
     requires { seen.at ≤ length tokens.now }
     ensures moved { MovesOn tokens.now seen result }
     ensures reads { (around : List Level) → without_minuses around ≡ around →
@@ -63,7 +66,7 @@ fn alternatives(
     tokens: &Tokens,
     seen: Seen,
     levels: u32,
-) -> Result<(PAlts, Seen), InscriptFault>
+) -> Result<(PAlts, Seen), ReadFault>
     requires { seen.at ≤ length tokens.now }
     ensures moved { MovesOn tokens.now seen result }
     ensures reads { (around : List Level) → without_minuses around ≡ around →
@@ -89,7 +92,7 @@ fn both(
     tokens: &Tokens,
     seen: Seen,
     levels: u32,
-) -> Result<(PSimples, Seen), InscriptFault>
+) -> Result<(PSimples, Seen), ReadFault>
     requires { seen.at ≤ length tokens.now }
     ensures moved { MovesOn tokens.now seen result }
     ensures reads { (around : List Level) → without_minuses around ≡ around →
@@ -115,7 +118,7 @@ fn simple(
     tokens: &Tokens,
     seen: Seen,
     levels: u32,
-) -> Result<(PSimple, Seen), InscriptFault>
+) -> Result<(PSimple, Seen), ReadFault>
     requires { seen.at ≤ length tokens.now }
     ensures moved { MovesOn tokens.now seen result }
     ensures reads { (around : List Level) → without_minuses around ≡ around →
@@ -133,7 +136,7 @@ fn negation(
     tokens: &Tokens,
     seen: Seen,
     levels: u32,
-) -> Result<(PSimple, Seen), InscriptFault>
+) -> Result<(PSimple, Seen), ReadFault>
     requires { IsNextSign tokens.now seen.at sign.NOT }
     ensures moved { MovesOn tokens.now seen result }
     ensures reads { (around : List Level) → without_minuses around ≡ around →
@@ -152,7 +155,7 @@ fn comparison(
     tokens: &Tokens,
     seen: Seen,
     levels: u32,
-) -> Result<(PSimple, Seen), InscriptFault>
+) -> Result<(PSimple, Seen), ReadFault>
     requires inside { seen.at ≤ length tokens.now }
     requires other { IsNotNextSign tokens.now seen.at sign.NOT }
     ensures moved { MovesOn tokens.now seen result }

@@ -1,12 +1,11 @@
 //! Steps from token to token, with levels and operators counted.
 ghost use Rattle.std.specs.Prelude.{◌≡◌, ◌+◌, ◌<◌, ◌≤◌, ◌⊎◌, length, MatchOption, MatchResult};
 ghost use Rattle.rn_notation.specs.declared.sign.TheConstants as sign;
-ghost use Rattle.rn_notation.specs.StoredTokens.{lent};
-ghost use Rattle.rn_inscript.specs.link.Stages.{IsNext, HasNoNext, IsNextSign, IsNotNextSign, past, past_operator};
+ghost use Rattle.rn_inscript.specs.link.Stages.{IsNextSign, IsNotNextSign, past, past_operator};
 ghost use Rattle.rn_inscript.specs.link.Stages.{IsBadOpening};
 
-use crate::fault::InscriptFault;
-use rn_notation::{TokenKind, TokenRef, Tokens, sign};
+use rn_notation::{TokenKind, Tokens, sign};
+use rn_reading::{ReadFault, next};
 
 /// How many operators a phrase may have.
 const MOST_OPERATORS: u32 = 256;
@@ -33,16 +32,16 @@ impl Seen {
     }
 
     /// Past an operator.
-    pub(crate) fn past_operator(self, tokens: &Tokens) -> Result<Seen, InscriptFault>
+    pub(crate) fn past_operator(self, tokens: &Tokens) -> Result<Seen, ReadFault>
         requires { self.at < length tokens.now }
         ensures { MatchResult result
             (λ seen. (self.operators < MOST_OPERATORS) × (seen ≡ past_operator self))
-            (λ fault. (MOST_OPERATORS ≤ self.operators) × (fault ≡ InscriptFault.P5 self.at)) }
+            (λ fault. (MOST_OPERATORS ≤ self.operators) × (fault ≡ ReadFault.TooFar self.at)) }
     {
         // For its clause: there are fewer than 2^64 tokens, so `at + 1` doesn't overflow.
         let _count = tokens.len();
         if self.operators >= MOST_OPERATORS {
-            return Err(InscriptFault::P5(self.at));
+            return Err(ReadFault::TooFar(self.at));
         }
         Ok(Seen {
             at: self.at + 1,
@@ -51,37 +50,30 @@ impl Seen {
     }
 
     /// Past a bracket that opens a level, where so many more may be opened.
-    pub(crate) fn past_opening(self, tokens: &Tokens, levels: u32) -> Result<Seen, InscriptFault>
+    pub(crate) fn past_opening(self, tokens: &Tokens, levels: u32) -> Result<Seen, ReadFault>
         requires { self.at < length tokens.now }
         ensures { MatchResult result
             (λ seen. (0 < levels) × (seen ≡ past self))
-            (λ fault. (levels ≡ 0) × (fault ≡ InscriptFault.P5 self.at)) }
+            (λ fault. (levels ≡ 0) × (fault ≡ ReadFault.TooFar self.at)) }
     {
         if levels == 0 {
-            return Err(InscriptFault::P5(self.at));
+            return Err(ReadFault::TooFar(self.at));
         }
         Ok(self.past(tokens))
     }
 
     /// Past a unary minus, which is an operator and opens a level.
-    pub(crate) fn past_minus(self, tokens: &Tokens, levels: u32) -> Result<Seen, InscriptFault>
+    pub(crate) fn past_minus(self, tokens: &Tokens, levels: u32) -> Result<Seen, ReadFault>
         requires { self.at < length tokens.now }
         ensures { MatchResult result
             (λ seen. (0 < levels) × (self.operators < MOST_OPERATORS) × (seen ≡ past_operator self))
-            (λ fault. ((levels ≡ 0) ⊎ (MOST_OPERATORS ≤ self.operators)) × (fault ≡ InscriptFault.P5 self.at)) }
+            (λ fault. ((levels ≡ 0) ⊎ (MOST_OPERATORS ≤ self.operators)) × (fault ≡ ReadFault.TooFar self.at)) }
     {
         if levels == 0 {
-            return Err(InscriptFault::P5(self.at));
+            return Err(ReadFault::TooFar(self.at));
         }
         self.past_operator(tokens)
     }
-}
-
-/// The next token.
-pub(crate) fn next(tokens: &Tokens, at: usize) -> Option<TokenRef<'_>>
-    ensures { MatchOption result (HasNoNext tokens.now at) (λ t. IsNext tokens.now at (lent t)) }
-{
-    tokens.get(at)
 }
 
 /// Past this sign, where it is next.
@@ -106,30 +98,26 @@ pub(crate) fn past_sign(tokens: &Tokens, seen: Seen, wanted: u32) -> Option<Seen
 }
 
 /// Past this sign, which has to be next.
-pub(crate) fn expect_sign(tokens: &Tokens, seen: Seen, wanted: u32) -> Result<Seen, InscriptFault>
+pub(crate) fn expect_sign(tokens: &Tokens, seen: Seen, wanted: u32) -> Result<Seen, ReadFault>
     ensures { MatchResult result
         (λ after. IsNextSign tokens.now seen.at wanted × (after ≡ past seen))
-        (λ fault. IsNotNextSign tokens.now seen.at wanted × (fault ≡ InscriptFault.P2 seen.at)) }
+        (λ fault. IsNotNextSign tokens.now seen.at wanted × (fault ≡ ReadFault.Stopped seen.at)) }
 {
     match past_sign(tokens, seen, wanted) {
         Some(after) => Ok(after),
-        None => Err(InscriptFault::P2(seen.at)),
+        None => Err(ReadFault::Stopped(seen.at)),
     }
 }
 
 /// Past an opening parenthesis, which has to be next, where so many more levels may be opened.
-pub(crate) fn expect_opening(
-    tokens: &Tokens,
-    seen: Seen,
-    levels: u32,
-) -> Result<Seen, InscriptFault>
+pub(crate) fn expect_opening(tokens: &Tokens, seen: Seen, levels: u32) -> Result<Seen, ReadFault>
     ensures { MatchResult result
         (λ after. IsNextSign tokens.now seen.at sign.LEFT_PAREN × (0 < levels) × (after ≡ past seen))
         (λ fault. IsBadOpening tokens.now seen levels fault) }
 {
     let after = expect_sign(tokens, seen, sign::LEFT_PAREN)?;
     if levels == 0 {
-        return Err(InscriptFault::P5(seen.at));
+        return Err(ReadFault::TooFar(seen.at));
     }
     Ok(after)
 }

@@ -10,17 +10,18 @@ ghost use Rattle.rn_inscript.specs.Expressions.{IsExprs, joined, at_spot};
 ghost use Rattle.rn_inscript.specs.Signs.{open_brace, open_bracket, open_paren, minus, plus_of};
 ghost use Rattle.rn_inscript.specs.Signs.{times_of};
 ghost use Rattle.rn_inscript.specs.Levels.{Level, bracket, without_minuses};
-ghost use Rattle.rn_inscript.specs.link.Stages.{Reads, ReadsFrom, MovesOn, IsNext, IsNextOf, IsNoneOf};
+ghost use Rattle.rn_reading.specs.link.Stages.{IsNext, IsNextOne, IsNotNext};
+ghost use Rattle.rn_inscript.specs.link.Stages.{Reads, ReadsFrom, MovesOn};
 ghost use Rattle.rn_inscript.specs.link.Stages.{IsClose, IsNotNextSign, ready, comparing_strength};
 ghost use Rattle.rn_inscript.specs.link.Stages.{sum_strength, product_strength, call_strength};
 
-use crate::cursor::{Seen, expect_sign, next, past_sign};
+use crate::cursor::{Seen, expect_sign, past_sign};
 use crate::exprs::{PExpr, PExprs, PForm};
-use crate::fault::InscriptFault;
 use rn_items::{Boxed, Items};
 use rn_model::OpKind;
 use rn_model::limits::MOST_NESTED;
 use rn_notation::{Spot, TokenKind, TokenRef, Tokens, sign, word};
+use rn_reading::{ReadFault, next};
 use rn_value::{NoMemory, Str, copy_text};
 use std::alloc::Global;
 
@@ -47,7 +48,9 @@ fn times_of(kind: &TokenKind) -> Option<OpKind>
 
 /// `+` or `-`, where it is next.
 fn next_plus(tokens: &Tokens, at: usize) -> Option<OpKind>
-    ensures { MatchOption result (IsNoneOf plus_of tokens.now at) (IsNextOf plus_of tokens.now at) }
+    ensures { MatchOption result
+        (IsNotNext (λ t. plus_of t.kind) tokens.now at)
+        (IsNextOne (λ t. plus_of t.kind) tokens.now at) }
 {
     match next(tokens, at) {
         Some(token) => plus_of(token.kind),
@@ -57,7 +60,9 @@ fn next_plus(tokens: &Tokens, at: usize) -> Option<OpKind>
 
 /// `*`, `/` or `%`, where it is next.
 fn next_times(tokens: &Tokens, at: usize) -> Option<OpKind>
-    ensures { MatchOption result (IsNoneOf times_of tokens.now at) (IsNextOf times_of tokens.now at) }
+    ensures { MatchOption result
+        (IsNotNext (λ t. times_of t.kind) tokens.now at)
+        (IsNextOne (λ t. times_of t.kind) tokens.now at) }
 {
     match next(tokens, at) {
         Some(token) => times_of(token.kind),
@@ -135,7 +140,7 @@ fn named(
     levels: u32,
     token: TokenRef<'_>,
     name: &Str,
-) -> Result<(PExpr, Seen), InscriptFault>
+) -> Result<(PExpr, Seen), ReadFault>
     requires next { IsNext tokens.now seen.at (lent token) }
     requires name { token.kind.now ≡ Kind.Name name.now }
     ensures moved { MovesOn tokens.now seen result }
@@ -172,14 +177,14 @@ fn this(
     seen: Seen,
     token: TokenRef<'_>,
     number: u32,
-) -> Result<(PExpr, Seen), InscriptFault>
+) -> Result<(PExpr, Seen), ReadFault>
     requires next { IsNext tokens.now seen.at (lent token) }
     requires kind { token.kind.now ≡ Kind.Word number }
     ensures moved { MovesOn tokens.now seen result }
     ensures reads { (around : List Level) → Reads call_strength IsPrimary tokens.now seen around result }
 {
     if number != word::THIS {
-        return Err(InscriptFault::P2(seen.at));
+        return Err(ReadFault::Stopped(seen.at));
     }
     Ok((
         PExpr {
@@ -196,7 +201,7 @@ fn primary(
     tokens: &Tokens,
     seen: Seen,
     levels: u32,
-) -> Result<(PExpr, Seen), InscriptFault>
+) -> Result<(PExpr, Seen), ReadFault>
     requires { seen.at ≤ length tokens.now }
     ensures moved { MovesOn tokens.now seen result }
     ensures reads { (around : List Level) → levels + length around ≡ MOST_NESTED →
@@ -222,7 +227,7 @@ fn primary(
             TokenKind::Word(number) => this(tokens, seen, token, *number),
             TokenKind::Sign(opening) => bracketed(alloc, tokens, seen, levels, token, *opening),
         },
-        None => Err(InscriptFault::P2(seen.at)),
+        None => Err(ReadFault::Stopped(seen.at)),
     }
 }
 
@@ -235,7 +240,7 @@ fn bracketed(
     levels: u32,
     token: TokenRef<'_>,
     opening: u32,
-) -> Result<(PExpr, Seen), InscriptFault>
+) -> Result<(PExpr, Seen), ReadFault>
     requires next { IsNext tokens.now seen.at (lent token) }
     requires kind { token.kind.now ≡ Kind.Sign opening }
     ensures moved { MovesOn tokens.now seen result }
@@ -249,7 +254,7 @@ fn bracketed(
     } else if opening == sign::LEFT_BRACE {
         list(alloc, tokens, seen, levels, token)
     } else {
-        Err(InscriptFault::P2(seen.at))
+        Err(ReadFault::Stopped(seen.at))
     }
 }
 
@@ -260,7 +265,7 @@ fn parenthesised(
     seen: Seen,
     levels: u32,
     token: TokenRef<'_>,
-) -> Result<(PExpr, Seen), InscriptFault>
+) -> Result<(PExpr, Seen), ReadFault>
     requires next { IsNext tokens.now seen.at (lent token) }
     requires kind { token.kind.now ≡ open_paren }
     ensures moved { MovesOn tokens.now seen result }
@@ -280,7 +285,7 @@ fn tuple(
     seen: Seen,
     levels: u32,
     token: TokenRef<'_>,
-) -> Result<(PExpr, Seen), InscriptFault>
+) -> Result<(PExpr, Seen), ReadFault>
     requires next { IsNext tokens.now seen.at (lent token) }
     requires kind { token.kind.now ≡ open_bracket }
     ensures moved { MovesOn tokens.now seen result }
@@ -305,7 +310,7 @@ fn list(
     seen: Seen,
     levels: u32,
     token: TokenRef<'_>,
-) -> Result<(PExpr, Seen), InscriptFault>
+) -> Result<(PExpr, Seen), ReadFault>
     requires next { IsNext tokens.now seen.at (lent token) }
     requires kind { token.kind.now ≡ open_brace }
     ensures moved { MovesOn tokens.now seen result }
@@ -334,7 +339,7 @@ pub(crate) fn listed(
     seen: Seen,
     levels: u32,
     close: u32,
-) -> Result<(PExprs, Seen), InscriptFault>
+) -> Result<(PExprs, Seen), ReadFault>
     requires inside { seen.at ≤ length tokens.now }
     requires close { IsClose close }
     ensures moved { MovesOn tokens.now seen result }
@@ -356,7 +361,7 @@ fn exprs(
     tokens: &Tokens,
     seen: Seen,
     levels: u32,
-) -> Result<(PExprs, Seen), InscriptFault>
+) -> Result<(PExprs, Seen), ReadFault>
     requires { seen.at ≤ length tokens.now }
     ensures moved { MovesOn tokens.now seen result }
     ensures reads { (around : List Level) → without_minuses around ≡ around → levels + length around ≡ MOST_NESTED →
@@ -382,7 +387,7 @@ fn negative(
     seen: Seen,
     levels: u32,
     token: TokenRef<'_>,
-) -> Result<(PExpr, Seen), InscriptFault>
+) -> Result<(PExpr, Seen), ReadFault>
     requires next { IsNext tokens.now seen.at (lent token) }
     requires kind { token.kind.now ≡ minus }
     ensures moved { MovesOn tokens.now seen result }
@@ -400,7 +405,7 @@ fn unary(
     tokens: &Tokens,
     seen: Seen,
     levels: u32,
-) -> Result<(PExpr, Seen), InscriptFault>
+) -> Result<(PExpr, Seen), ReadFault>
     requires { seen.at ≤ length tokens.now }
     ensures moved { MovesOn tokens.now seen result }
     ensures reads { (around : List Level) → levels + length around ≡ MOST_NESTED →
@@ -418,7 +423,7 @@ fn product(
     tokens: &Tokens,
     seen: Seen,
     levels: u32,
-) -> Result<(PExpr, Seen), InscriptFault>
+) -> Result<(PExpr, Seen), ReadFault>
     requires { seen.at ≤ length tokens.now }
     ensures moved { MovesOn tokens.now seen result }
     ensures reads { (around : List Level) → without_minuses around ≡ around → levels + length around ≡ MOST_NESTED →
@@ -442,7 +447,7 @@ pub(crate) fn expr(
     tokens: &Tokens,
     seen: Seen,
     levels: u32,
-) -> Result<(PExpr, Seen), InscriptFault>
+) -> Result<(PExpr, Seen), ReadFault>
     requires { seen.at ≤ length tokens.now }
     ensures moved { MovesOn tokens.now seen result }
     ensures reads { (around : List Level) → without_minuses around ≡ around → levels + length around ≡ MOST_NESTED →

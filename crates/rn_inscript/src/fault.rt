@@ -2,7 +2,9 @@
 ghost use Rattle.std.specs.Prelude.{◌≡◌};
 ghost use Rattle.rn_items.specs.Memory.{no_memory};
 ghost use Rattle.rn_inscript.specs.declared.fault.InscriptFault.TheVariants.{NoMemory as OutOfMemory};
+ghost use Rattle.rn_inscript.specs.link.Faults.{inscript_fault};
 
+use rn_reading::ReadFault;
 use rn_value::NoMemory;
 use std::alloc::{AllocError, AllocFailed};
 
@@ -39,5 +41,17 @@ impl<T: Drop> From<AllocFailed<T>> for InscriptFault {
 
     fn from(failed: AllocFailed<T>) -> InscriptFault {
         InscriptFault::NoMemory(NoMemory::from(failed))
+    }
+}
+
+impl From<ReadFault> for InscriptFault {
+    ghost from_gives = { λ read fault. fault ≡ inscript_fault read };
+
+    fn from(fault: ReadFault) -> InscriptFault {
+        match fault {
+            ReadFault::Stopped(at) => InscriptFault::P2(at),
+            ReadFault::TooFar(at) => InscriptFault::P5(at),
+            ReadFault::NoMemory(no_memory) => InscriptFault::NoMemory(no_memory),
+        }
     }
 }

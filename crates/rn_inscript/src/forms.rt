@@ -7,18 +7,19 @@ ghost use Rattle.rn_inscript.specs.Signs.{arc_of, target_of, guard_word, action_
 ghost use Rattle.rn_inscript.specs.Signs.{this_word};
 ghost use Rattle.rn_inscript.specs.link.NextNames.{IsNotNextKind, IsNextName, IsNoName, IsEquality};
 ghost use Rattle.rn_inscript.specs.link.NextNames.{IsNoCreation};
-ghost use Rattle.rn_inscript.specs.link.Stages.{Reads, MovesOn, or_strength, IsNext, IsNextKind, past};
+ghost use Rattle.rn_reading.specs.link.Stages.{IsNext};
+ghost use Rattle.rn_inscript.specs.link.Stages.{Reads, MovesOn, or_strength, IsNextKind, past};
 
 use crate::conditions::cond;
-use crate::cursor::{Seen, expect_sign, next, past_sign};
+use crate::cursor::{Seen, expect_sign, past_sign};
 use crate::expressions::{expr, listed};
 use crate::exprs::{PExpr, PExprs, PForm};
-use crate::fault::InscriptFault;
 use crate::inscriptions::{PInscribed, PName};
 use rn_items::Items;
 use rn_model::ArcKind;
 use rn_model::limits::MOST_NESTED;
 use rn_notation::{Spot, TokenKind, TokenRef, Tokens, sign, word};
+use rn_reading::{ReadFault, next};
 use rn_value::{Str, copy_text};
 use std::alloc::Global;
 
@@ -44,7 +45,7 @@ fn past_word(tokens: &Tokens, seen: Seen, wanted: u32) -> Option<Seen>
 }
 
 /// A name, which has to be next.
-fn expect_name(alloc: Global, tokens: &Tokens, seen: Seen) -> Result<(PName, Seen), InscriptFault>
+fn expect_name(alloc: Global, tokens: &Tokens, seen: Seen) -> Result<(PName, Seen), ReadFault>
     ensures { MatchResult result
         (λ found. IsNextName tokens.now seen.at found.0 × (found.1 ≡ past seen))
         (λ fault. IsNoName tokens.now seen.at fault) }
@@ -61,9 +62,9 @@ fn expect_name(alloc: Global, tokens: &Tokens, seen: Seen) -> Result<(PName, See
                     seen.past(tokens),
                 ))
             }
-            _ => Err(InscriptFault::P2(seen.at)),
+            _ => Err(ReadFault::Stopped(seen.at)),
         },
-        None => Err(InscriptFault::P2(seen.at)),
+        None => Err(ReadFault::Stopped(seen.at)),
     }
 }
 
@@ -103,7 +104,7 @@ fn arc(
     seen: Seen,
     token: TokenRef<'_>,
     kind: ArcKind,
-) -> Result<(PInscribed, Seen), InscriptFault>
+) -> Result<(PInscribed, Seen), ReadFault>
     requires next { IsNext tokens.now seen.at (lent token) }
     requires kind { arc_of token.kind.now ≡ Some kind }
     ensures moved { MovesOn tokens.now seen result }
@@ -142,7 +143,7 @@ fn guard(
     tokens: &Tokens,
     seen: Seen,
     token: TokenRef<'_>,
-) -> Result<(PInscribed, Seen), InscriptFault>
+) -> Result<(PInscribed, Seen), ReadFault>
     requires next { IsNext tokens.now seen.at (lent token) }
     requires kind { token.kind.now ≡ guard_word }
     ensures moved { MovesOn tokens.now seen result }
@@ -158,7 +159,7 @@ fn action(
     tokens: &Tokens,
     seen: Seen,
     token: TokenRef<'_>,
-) -> Result<(PInscribed, Seen), InscriptFault>
+) -> Result<(PInscribed, Seen), ReadFault>
     requires next { IsNext tokens.now seen.at (lent token) }
     requires kind { token.kind.now ≡ action_word }
     ensures moved { MovesOn tokens.now seen result }
@@ -176,11 +177,7 @@ fn action(
 }
 
 /// `ch(e1,e2)`
-fn call(
-    alloc: Global,
-    tokens: &Tokens,
-    seen: Seen,
-) -> Result<((PName, PExprs), Seen), InscriptFault>
+fn call(alloc: Global, tokens: &Tokens, seen: Seen) -> Result<((PName, PExprs), Seen), ReadFault>
     requires { seen.at ≤ length tokens.now }
     ensures moved { MovesOn tokens.now seen result }
     ensures reads { Reads or_strength IsCall tokens.now seen [] result }
@@ -197,7 +194,7 @@ fn uplink(
     tokens: &Tokens,
     seen: Seen,
     token: TokenRef<'_>,
-) -> Result<(PInscribed, Seen), InscriptFault>
+) -> Result<(PInscribed, Seen), ReadFault>
     requires next { IsNext tokens.now seen.at (lent token) }
     requires kind { token.kind.now ≡ colon }
     ensures moved { MovesOn tokens.now seen result }
@@ -214,7 +211,7 @@ fn creation(
     seen: Seen,
     token: TokenRef<'_>,
     name: &Str,
-) -> Result<(PInscribed, Seen), InscriptFault>
+) -> Result<(PInscribed, Seen), ReadFault>
     requires next { IsNext tokens.now seen.at (lent token) }
     requires kind { token.kind.now ≡ Kind.Name name.now }
     requires follows { IsNextKind tokens.now (seen.at + 1) colon }
@@ -238,7 +235,7 @@ fn downlink(
     seen: Seen,
     token: TokenRef<'_>,
     form: PForm,
-) -> Result<(PInscribed, Seen), InscriptFault>
+) -> Result<(PInscribed, Seen), ReadFault>
     requires next { IsNext tokens.now seen.at (lent token) }
     requires kind { target_of token.kind.now ≡ Some form }
     requires follows { IsNextKind tokens.now (seen.at + 1) colon }
@@ -262,7 +259,7 @@ fn downlink(
 }
 
 /// `e1 = e2`
-fn equality(alloc: Global, tokens: &Tokens, seen: Seen) -> Result<(PInscribed, Seen), InscriptFault>
+fn equality(alloc: Global, tokens: &Tokens, seen: Seen) -> Result<(PInscribed, Seen), ReadFault>
     requires { seen.at ≤ length tokens.now }
     ensures moved { MovesOn tokens.now seen result }
     ensures reads { Reads 0 IsEquality tokens.now seen [] result }
@@ -280,7 +277,7 @@ fn by_name(
     seen: Seen,
     token: TokenRef<'_>,
     name: &Str,
-) -> Result<(PInscribed, Seen), InscriptFault>
+) -> Result<(PInscribed, Seen), ReadFault>
     requires next { IsNext tokens.now seen.at (lent token) }
     requires kind { token.kind.now ≡ Kind.Name name.now }
     ensures moved { MovesOn tokens.now seen result }
@@ -300,7 +297,7 @@ fn by_link(
     after: Seen,
     token: TokenRef<'_>,
     name: &Str,
-) -> Result<(PInscribed, Seen), InscriptFault>
+) -> Result<(PInscribed, Seen), ReadFault>
     requires next { IsNext tokens.now seen.at (lent token) }
     requires kind { token.kind.now ≡ Kind.Name name.now }
     requires follows { IsNextKind tokens.now (seen.at + 1) colon }
@@ -323,7 +320,7 @@ fn by_this(
     tokens: &Tokens,
     seen: Seen,
     token: TokenRef<'_>,
-) -> Result<(PInscribed, Seen), InscriptFault>
+) -> Result<(PInscribed, Seen), ReadFault>
     requires next { IsNext tokens.now seen.at (lent token) }
     requires kind { token.kind.now ≡ this_word }
     ensures moved { MovesOn tokens.now seen result }
@@ -342,7 +339,7 @@ fn by_word(
     seen: Seen,
     token: TokenRef<'_>,
     number: u32,
-) -> Result<(PInscribed, Seen), InscriptFault>
+) -> Result<(PInscribed, Seen), ReadFault>
     requires next { IsNext tokens.now seen.at (lent token) }
     requires kind { token.kind.now ≡ Kind.Word number }
     ensures moved { MovesOn tokens.now seen result }
@@ -357,7 +354,7 @@ fn by_word(
     } else if number == word::THIS {
         by_this(alloc, tokens, seen, token)
     } else {
-        Err(InscriptFault::P2(seen.at))
+        Err(ReadFault::Stopped(seen.at))
     }
 }
 
@@ -368,7 +365,7 @@ fn by_sign(
     seen: Seen,
     token: TokenRef<'_>,
     number: u32,
-) -> Result<(PInscribed, Seen), InscriptFault>
+) -> Result<(PInscribed, Seen), ReadFault>
     requires next { IsNext tokens.now seen.at (lent token) }
     requires kind { token.kind.now ≡ Kind.Sign number }
     ensures moved { MovesOn tokens.now seen result }
@@ -386,7 +383,7 @@ pub(crate) fn inscribed(
     alloc: Global,
     tokens: &Tokens,
     seen: Seen,
-) -> Result<(PInscribed, Seen), InscriptFault>
+) -> Result<(PInscribed, Seen), ReadFault>
     requires { seen.at ≤ length tokens.now }
     ensures moved { MovesOn tokens.now seen result }
     ensures reads { Reads 0 IsInscribed tokens.now seen [] result }
@@ -399,6 +396,6 @@ pub(crate) fn inscribed(
             TokenKind::Number(_) => equality(alloc, tokens, seen),
             TokenKind::Text(_) => equality(alloc, tokens, seen),
         },
-        None => Err(InscriptFault::P2(seen.at)),
+        None => Err(ReadFault::Stopped(seen.at)),
     }
 }

@@ -6,7 +6,7 @@ ghost use Rattle.rn_inscript.specs.Readings.{IsAnswer, IsWholeForm, Answers};
 ghost use Rattle.rn_inscript.specs.declared.exprs.PExpr.{PExpr as Expression};
 ghost use Rattle.rn_inscript.specs.declared.inscriptions.PInscription.{PInscription as Inscription};
 
-use crate::cursor::{Seen, next};
+use crate::cursor::Seen;
 use crate::expressions::expr;
 use crate::exprs::PExpr;
 use crate::fault::InscriptFault;
@@ -14,6 +14,7 @@ use crate::forms::inscribed;
 use crate::inscriptions::{PInscribed, PInscription};
 use rn_model::limits::MOST_NESTED;
 use rn_notation::Tokens;
+use rn_reading::next;
 use std::alloc::Global;
 
 fn expr_at(alloc: Global, tokens: &Tokens, at: usize) -> Result<(PExpr, usize), InscriptFault>

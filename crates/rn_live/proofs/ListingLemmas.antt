@@ -4,6 +4,7 @@ use Rattle.std.specs.Prelude.{◌⊎◌, ◌↔◌, Result, Ok, Err, IfOk, Conta
 use Rattle.rn_model.specs.declared.system.System.{System}
 use Rattle.rn_model.specs.Liveness.{IsLive}
 use Rattle.rn_model.specs.Markings.{Marking, IsThere, instance_at}
+use Rattle.rn_model.proofs.AskedValues.{later}
 use Rattle.rn_model.proofs.EnablingLemmas.{not_in_nil}
 use Rattle.rn_model.proofs.LiveBindings.{live_is_there}
 use Rattle.rn_live.specs.Rooms.{is_marked}
@@ -16,9 +17,6 @@ pub if_ok : {A E : Type 0} (P Q : A → Type 0) (r : Result A E) → ((a : A) �
 if_ok P Q (Ok a) pass h = pass a h
 if_ok P Q (Err e) pass h = h
 
-pub later : (x : ℕ) (xs : List ℕ) (n : ℕ) → Contains xs n → Contains (x ∷ xs) n
-later x xs n there = (suc there.0, omega (arith, there.1), there.2)
-
 pub first_or_later : (x : ℕ) (xs : List ℕ) (n : ℕ) → Contains (x ∷ xs) n → (x ≡ n) ⊎ Contains xs n
 first_or_later x xs n (zero, h, is) = inl is
 first_or_later x xs n (suc k, h, is) = inr (k, omega (arith, h), is)
@@ -28,9 +26,9 @@ chosen p [] n there = absurd (not_in_nil n there)
 chosen p (x ∷ xs) n there = elim (p x) as (λ b. p x ≡ b → Contains (cond b (x ∷ filter p xs) (filter p xs)) n → Contains (x ∷ xs) n × (p n ≡ true)) [
   | true ↦ λ e inside. elim (first_or_later x (filter p xs) n inside) as (λ _. Contains (x ∷ xs) n × (p n ≡ true)) [
     | inl same ↦ ((0, omega arith, same), ap p (sym same) ∙ e)
-    | inr rest ↦ let found = chosen p xs n rest in (later x xs n found.0, found.1)
+    | inr rest ↦ let found = chosen p xs n rest in (later x n xs found.0, found.1)
   ]
-  | false ↦ λ e inside. let found = chosen p xs n inside in (later x xs n found.0, found.1)
+  | false ↦ λ e inside. let found = chosen p xs n inside in (later x n xs found.0, found.1)
 ] refl there
 
 chooses : (p : ℕ → Bool) (xs : List ℕ) (n : ℕ) → Contains xs n → p n ≡ true → Contains (filter p xs) n
@@ -38,7 +36,7 @@ chooses p [] n there e = absurd (not_in_nil n there)
 chooses p (x ∷ xs) n there e = elim (p x) as (λ b. p x ≡ b → Contains (cond b (x ∷ filter p xs) (filter p xs)) n) [
   | true ↦ λ passes. elim (first_or_later x xs n there) as (λ _. Contains (x ∷ filter p xs) n) [
     | inl same ↦ (0, omega arith, same)
-    | inr rest ↦ later x (filter p xs) n (chooses p xs n rest e)
+    | inr rest ↦ later x n (filter p xs) (chooses p xs n rest e)
   ]
   | false ↦ λ fails. elim (first_or_later x xs n there) as (λ _. Contains (filter p xs) n) [
     | inl same ↦ absurd (let there : p x ≡ p n = ap p same in let no : ⊥ = cc in no)

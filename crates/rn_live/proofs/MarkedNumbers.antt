@@ -5,7 +5,8 @@ use Rattle.std.specs.List.{count_by}
 use Rattle.std.specs.List.Sorted.{IsStrictlyIncreasing}
 use Rattle.std.proofs.lemmas.List.Recursion.{is_count_by}
 use Rattle.rn_live.specs.Rooms.{is_marked, marked_from}
-use Rattle.rn_live.proofs.ListingLemmas.{first_or_later, later}
+use Rattle.rn_live.proofs.ListingLemmas.{first_or_later}
+use Rattle.rn_model.proofs.AskedValues.{later}
 use Rattle.rn_model.proofs.EnablingLemmas.{not_in_nil}
 
 -- as many from whichever number
@@ -37,7 +38,7 @@ there_marked n [] j is = absurd (let no : ⊥ = cc in no)
 there_marked n (true ∷ marks) zero is = (0, omega arith, omega arith)
 there_marked n (false ∷ marks) zero is = absurd (let no : ⊥ = cc in no)
 there_marked n (true ∷ marks) (suc j) is =
-    later n (marked_from (n + 1) marks) (n + suc j)
+    later n (n + suc j) (marked_from (n + 1) marks)
     (subst (λ k. Contains (marked_from (n + 1) marks) k) (omega arith) (there_marked (n + 1) marks j is))
 there_marked n (false ∷ marks) (suc j) is =
     subst (λ k. Contains (marked_from (n + 1) marks) k) (omega arith) (there_marked (n + 1) marks j is)

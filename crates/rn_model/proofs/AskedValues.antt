@@ -151,7 +151,8 @@ module _ (system : System) (b : Binding) where
         from_rest v held (taken_at system b node.inst x.place)
         (from_rest v (without_each held (taken_at system b node.inst x.place)) (flat_map (λ vs. vs) (cleared_at system b node.inst x.place)) left)
 
-    cleared : Contains (clears x.kind v) (elements v) → elements v ≡ tokens m node.inst x.place
+    -- what a clear arc finds is the list of the tokens of its place
+    pub cleared : Contains (clears x.kind v) (elements v) → elements v ≡ tokens m node.inst x.place
     cleared has =
         let listed = asked clears node x v (elements v) there arc is has in
         elim fits.whole as (λ _. elements v ≡ tokens m node.inst x.place) [

@@ -16,9 +16,11 @@ pub mod EnablingLemmas
 pub mod EvaluationLemmas
 pub mod Examples
 pub mod FilledPlaces
+pub mod ForcedKinds
 pub mod ForcedValues
 pub mod FormsAtWays
 pub mod FormsOfExpressions
+pub mod HoleKinds
 pub mod HoleValues
 pub mod IndicesInLists
 pub mod InitialTokens
@@ -33,6 +35,8 @@ pub mod LiveByRounds
 pub mod LivePartIsThere
 pub mod MarkingsOfRuns
 pub mod MarkingsStay
+pub mod MendedTerms
+pub mod MendedValues
 pub mod NamingRules
 pub mod NextNumber
 pub mod NodesByPath

@@ -79,7 +79,7 @@ module _ (kinds : ℕ → Kind) where
   kinds_of parts = map expr_has_kind parts
 
   -- one expression at a kind, opened
-  opened : (e : Expr) (kind : Kind) →
+  pub opened : (e : Expr) (kind : Kind) →
       expr_has_kind e kinds kind
       ≡ expr_or_var_step (map-Expr Expr ((ℕ → Kind) → Kind → Bool) expr_has_kind (out-Expr e))
       kinds kind
@@ -103,17 +103,17 @@ module _ (kinds : ℕ → Kind) where
       (list_all (λ test. test kinds k) (kinds_of parts)) e in
       ((k, both.0), list_parts parts k both.1)
 
-  tuple_at : (parts : List Expr) (z : K.Kind-F Kind) →
+  pub tuple_at : (parts : List Expr) (z : K.Kind-F Kind) →
       expr_kind_step (O.Tuple (kinds_of parts)) kinds z ≡ true → AllByRecursion HasSome parts
   tuple_at parts (K.Tuple ks) e = tuple_parts parts ks e
   tuple_at parts _ e = absurd (let no : ⊥ = cc in no)
 
-  list_at : (parts : List Expr) (z : K.Kind-F Kind) →
+  pub list_at : (parts : List Expr) (z : K.Kind-F Kind) →
       expr_kind_step (O.List (kinds_of parts)) kinds z ≡ true → AllByRecursion HasSome parts
   list_at parts (K.List k) e = list_parts parts k e
   list_at parts _ e = absurd (let no : ⊥ = cc in no)
 
-  cons_at : (parts : List Expr) (rest : Expr) (z : K.Kind-F Kind) →
+  pub cons_at : (parts : List Expr) (rest : Expr) (z : K.Kind-F Kind) →
       expr_kind_step (O.Cons (kinds_of parts) (expr_has_kind rest)) kinds z ≡ true →
       AllByRecursion HasSome parts × ((k : Kind) × HasExprKind kinds rest (Kind.List k))
   cons_at parts rest (K.List k) e =

@@ -13,6 +13,7 @@ pub mod Firing
 pub mod FiringLaws
 pub mod FittingLaws
 pub mod Good
+pub mod KindLaws
 pub mod Kinds
 pub mod Laws
 pub mod Limits

@@ -46,7 +46,9 @@ pub use parts::{
     transition_at, transition_of, transitions_of,
 };
 pub use repeats::{Repeat, Repeats, repeats_hold_values, same_repeats};
-pub use round_laws::{forced_terms_are_own, items_come_in, more_items_force_more};
+pub use round_laws::{
+    forced_terms_are_own, forced_values_have_kinds, items_come_in, more_items_force_more,
+};
 pub use system::{
     Action, Actions, ArcKind, Channel, Channels, Creation, Creations, Downlink, Downlinks, Net,
     NetArc, NetArcs, Nets, Nums, Place, Places, System, Transition, Transitions, Uplink, Var, Vars,

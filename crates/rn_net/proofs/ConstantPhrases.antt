@@ -4,19 +4,22 @@ use Rattle.rn_notation.specs.declared.token.Spot.{Spot}
 use Rattle.rn_notation.specs.declared.token.Token.{Token}
 use Rattle.rn_notation.specs.declared.token.TokenKind.{TokenKind}
 use Rattle.rn_notation.specs.declared.token.TokenKind.TheVariants.{Number, Text, Sign}
+use Rattle.rn_reading.specs.Phrases.{Phrases, Then, Done}
+use Rattle.rn_reading.specs.link.Stages.{BeginAlike, Sort, done}
 use Rattle.rn_inscript.specs.Signs.{open_brace, close_brace, open_bracket, close_bracket, comma, minus}
-use Rattle.rn_inscript.specs.link.Stages.{Phrases, Then, Done, BeginAlike}
 use Rattle.rn_inscript.specs.link.NextNames.{IsNotNextKind}
-use Rattle.rn_inscript.specs.declared.fault.InscriptFault.TheVariants as Fault
+use Rattle.rn_reading.specs.declared.fault.ReadFault.TheVariants as Fault
 use Rattle.rn_net.specs.declared.constants.PConst.{PConst}
 use Rattle.rn_net.specs.declared.constants.PConstForm.{PConstForm}
 use Rattle.rn_net.specs.declared.constants.PConstForm.TheVariants as C
 use Rattle.rn_net.specs.Constants.{IsConstant, AreItems, AreConstants, AreMoreConstants, constant_at}
 use Rattle.rn_net.specs.Levels.{Region, is_too_deep, after}
 use Rattle.rn_net.specs.Levels.Region.{declaring}
-use Rattle.rn_net.specs.link.Progress.{Sort, Stage, Fails, done, HasNext, IsNoNumber, IsNoText, IsEnd}
-use Rattle.rn_net.proofs.Steps.{alike-cons, begin, stuck}
-use Rattle.rn_net.proofs.Sorts.{any, WithKind, kind_then, number_then, then, kind_read, kind_far, from_done, next_is, tell_apart}
+use Rattle.rn_net.specs.link.Progress.{Stage, Fails, HasNext, IsNoNumber, IsNoText, IsEnd}
+use Rattle.rn_reading.proofs.Sorts.{any, and_then}
+use Rattle.rn_reading.proofs.Steps.{alike-cons}
+use Rattle.rn_net.proofs.Sorts.{WithKind, kind_then, number_then, kind_read, kind_far, from_done, next_is, tell_apart}
+use Rattle.rn_net.proofs.Steps.{begin, stuck}
 use Rattle.std.specs.Prelude.{neg_ℤ}
 use Rattle.rn_net.proofs.Rows.{Row, row_up_to, opening_small, opening_deep}
 
@@ -55,13 +58,13 @@ abbrev pub negative : Sort PConst
 negative = kind_then minus negative_end
 
 abbrev pub tuple_end : Spot → Sort PConst
-tuple_end spot = then (listed close_bracket) (λ parts. done (constant_at spot (C.Tuple parts)))
+tuple_end spot = and_then (listed close_bracket) (λ parts. done (constant_at spot (C.Tuple parts)))
 
 abbrev pub tuple : Sort PConst
 tuple = kind_then open_bracket tuple_end
 
 abbrev pub list_end : Spot → Sort PConst
-list_end spot = then (listed close_brace) (λ parts. done (constant_at spot (C.List parts)))
+list_end spot = and_then (listed close_brace) (λ parts. done (constant_at spot (C.List parts)))
 
 abbrev pub list : Sort PConst
 list = kind_then open_brace list_end
@@ -159,8 +162,8 @@ negative_open tokens at next depth here there = kind_read negative_end tokens at
 
 -- no token is next that begins a constant
 pub none_next : (tokens : List Token) (at : ℕ) (first : Region) → at ≤ length tokens → IsNoNumber tokens at → IsNoText tokens at → IsNotNextKind tokens at minus →
-    IsNotNextKind tokens at open_bracket → IsNotNextKind tokens at open_brace → Fails IsConstant (drop at tokens) first (length tokens) (Fault.P2 at)
-none_next tokens at first inside a b c d e = stuck tokens at (begin constants (drop at tokens) first (λ ts e rest x. x) (λ ts e rest alike x. x)) inside (λ ts k rest alike x. none ts k rest alike (split x))
+    IsNotNextKind tokens at open_bracket → IsNotNextKind tokens at open_brace → Fails IsConstant (drop at tokens) first (length tokens) (Fault.Stopped at)
+none_next tokens at first inside a b c d e = stuck constants tokens at (begin constants (drop at tokens) first (λ ts e rest x. x) (λ ts e rest alike x. x)) inside (λ ts k rest alike x. none ts k rest alike (split x))
   where
     here : {ts : List Token} (t : Token) (us : List Token) → BeginAlike (drop at tokens) ts → ts ≡ t ∷ us → (others : List Token) × (drop at tokens ≡ t ∷ others)
     here t us alike is = alike-cons (drop at tokens) t us (subst (λ vs. BeginAlike (drop at tokens) vs) is alike)
@@ -178,7 +181,7 @@ tuple_open tokens at next depth inside levels here there some fits =
     kind_read tuple_end tokens at next (declaring (depth + 1)) (begin_tuple tokens at (declaring depth) here) here there (opening_small depth inside levels some fits) refl
 
 pub tuple_deep : (tokens : List Token) (at depth levels : ℕ) {spot : Spot} → HasNext tokens at open_bracket spot → levels ≡ 0 → levels + depth ≡ 64 →
-    Fails IsConstant (drop at tokens) (declaring depth) (length tokens) (Fault.P5 at)
+    Fails IsConstant (drop at tokens) (declaring depth) (length tokens) (Fault.TooFar at)
 tuple_deep tokens at depth levels here none fits =
     kind_far tuple_end tokens at (begin_tuple tokens at (declaring depth) here) here (opening_deep depth levels none fits)
 
@@ -188,7 +191,7 @@ list_open tokens at next depth inside levels here there some fits =
     kind_read list_end tokens at next (declaring (depth + 1)) (begin_list tokens at (declaring depth) here) here there (opening_small depth inside levels some fits) refl
 
 pub list_deep : (tokens : List Token) (at depth levels : ℕ) {spot : Spot} → HasNext tokens at open_brace spot → levels ≡ 0 → levels + depth ≡ 64 →
-    Fails IsConstant (drop at tokens) (declaring depth) (length tokens) (Fault.P5 at)
+    Fails IsConstant (drop at tokens) (declaring depth) (length tokens) (Fault.TooFar at)
 list_deep tokens at depth levels here none fits =
     kind_far list_end tokens at (begin_list tokens at (declaring depth) here) here (opening_deep depth levels none fits)
 

@@ -5,13 +5,15 @@ use Rattle.rn_notation.specs.declared.token.Spot.{Spot}
 use Rattle.rn_notation.specs.declared.token.Token.{Token}
 use Rattle.rn_notation.specs.declared.token.TokenKind.{TokenKind}
 use Rattle.rn_notation.specs.declared.token.TokenKind.TheVariants.{Name, Number}
+use Rattle.rn_reading.specs.Phrases.{Phrases, Then, Done}
+use Rattle.rn_reading.specs.link.Stages.{BeginAlike, Sort, MovesOn, done}
 use Rattle.rn_inscript.specs.Inscriptions.{name_at}
 use Rattle.rn_inscript.specs.Signs.{open_paren, close_paren, comma, colon, equals}
-use Rattle.rn_inscript.specs.link.Stages.{Phrases, Then, Done, Takes, BeginAlike, IsNextKind}
+use Rattle.rn_inscript.specs.link.Stages.{Takes, IsNextKind}
 use Rattle.rn_inscript.specs.link.NextNames.{IsNotNextKind, IsNextName, IsNoName}
 use Rattle.rn_inscript.specs.declared.inscriptions.PName.{PName}
-use Rattle.rn_inscript.specs.declared.fault.InscriptFault.{InscriptFault}
-use Rattle.rn_inscript.specs.declared.fault.InscriptFault.TheVariants as Fault
+use Rattle.rn_reading.specs.declared.fault.ReadFault.{ReadFault}
+use Rattle.rn_reading.specs.declared.fault.ReadFault.TheVariants as Fault
 use Rattle.rn_net.specs.declared.kinds.PKind.{PKind}
 use Rattle.rn_net.specs.declared.kinds.PKindForm.TheVariants as K
 use Rattle.rn_net.specs.declared.constants.PConst.{PConst}
@@ -26,9 +28,11 @@ use Rattle.rn_net.specs.Nets.{IsChannel, AreVars, AreMoreNames, IsKindOfPlace, I
 use Rattle.rn_net.specs.link.Parts.{IsPName, AreNames, IsInitialUpTo, IsPlaceEnd, end_of}
 use Rattle.rn_net.specs.Levels.{Region}
 use Rattle.rn_net.specs.Levels.Region.{between, declaring}
-use Rattle.rn_net.specs.link.Progress.{Sort, Stage, Fails, Reads, MovesOn, done, HasNext, IsNoNumber}
-use Rattle.rn_net.proofs.Steps.{alike-cons, begin, change}
-use Rattle.rn_net.proofs.Sorts.{any, WithKind, kind_then, name_then, number_then, then, kind_read, kind_stuck, name_read, name_fails, number_read, number_stuck, from_done, next_is, tell_apart}
+use Rattle.rn_net.specs.link.Progress.{Stage, Fails, Reads, HasNext, IsNoNumber}
+use Rattle.rn_reading.proofs.Sorts.{any, and_then}
+use Rattle.rn_reading.proofs.Steps.{alike-cons}
+use Rattle.rn_net.proofs.Sorts.{WithKind, kind_then, name_then, number_then, kind_read, kind_stuck, name_read, name_fails, number_read, number_stuck, from_done, next_is, tell_apart}
+use Rattle.rn_net.proofs.Steps.{begin, change}
 use Rattle.rn_net.proofs.Rows.{Row, row_up_to}
 use Rattle.rn_net.proofs.KindPhrases as KP
 use Rattle.rn_net.proofs.ConstantPhrases.{constant_row}
@@ -41,7 +45,7 @@ abbrev pub channel_end : PName → List PKind → Sort PChannel
 channel_end name kinds = kind_then semicolon (λ s. done (channel_of name kinds))
 
 abbrev pub channel_kinds : PName → Sort PChannel
-channel_kinds name = then (KP.listed close_paren) (channel_end name)
+channel_kinds name = and_then (KP.listed close_paren) (channel_end name)
 
 abbrev pub channel_open : PName → Sort PChannel
 channel_open name = kind_then open_paren (λ p. channel_kinds name)
@@ -98,17 +102,17 @@ name_row = record {
 pub name_reads : {name : PName} (tokens : List Token) (at next : ℕ) → IsNextName tokens at name → next ≡ at + 1 → Stage IsPName (drop at tokens) (declaring 0) (done name) (drop next tokens) (declaring 0)
 name_reads {name = name} tokens at next named there = name_read done tokens at next (declaring 0) name (begin (name_then done) (drop at tokens) (declaring 0) (λ ts e rest x. x) (λ ts e rest alike x. x)) named there (λ s. refl) (λ s. refl)
 
-pub name_none : (tokens : List Token) (at : ℕ) (e : InscriptFault) → at ≤ length tokens → IsNoName tokens at e → Fails IsPName (drop at tokens) (declaring 0) (length tokens) e
+pub name_none : (tokens : List Token) (at : ℕ) (e : ReadFault) → at ≤ length tokens → IsNoName tokens at e → Fails IsPName (drop at tokens) (declaring 0) (length tokens) e
 name_none tokens at e inside bad = name_fails done tokens at e (begin (name_then done) (drop at tokens) (declaring 0) (λ ts e rest x. x) (λ ts e rest alike x. x)) inside bad
 
 abbrev pub vars_end : List PName → PKind → Sort (List PVar)
 vars_end names kind = kind_then semicolon (λ s. done (map (var_of kind) names))
 
 abbrev pub vars_kind : List PName → Sort (List PVar)
-vars_kind names = then KP.kinds (vars_end names)
+vars_kind names = and_then KP.kinds (vars_end names)
 
 abbrev pub vars_names : Sort (List PVar)
-vars_names = then (row_up_to name_row colon) vars_kind
+vars_names = and_then (row_up_to name_row colon) vars_kind
 
 abbrev pub vars_sort : Sort (List PVar)
 vars_sort = kind_then var_word (λ w. vars_names)
@@ -160,7 +164,7 @@ initial-some tokens at other = begin (kind_then equals (λ spot. row_up_to const
       | inr y ↦ y
     ])
 
-pub initial_stuck : (tokens : List Token) (at : ℕ) → at ≤ length tokens → IsNotNextKind tokens at semicolon → IsNotNextKind tokens at equals → Fails IsInitialUpTo (drop at tokens) (declaring 0) (length tokens) (Fault.P2 at)
+pub initial_stuck : (tokens : List Token) (at : ℕ) → at ≤ length tokens → IsNotNextKind tokens at semicolon → IsNotNextKind tokens at equals → Fails IsInitialUpTo (drop at tokens) (declaring 0) (length tokens) (Fault.Stopped at)
 initial_stuck tokens at inside a b = kind_stuck (λ spot. row_up_to constant_row semicolon) tokens at (initial-some tokens at a) inside b
 
 initial-first : {k : TokenKind} {spot : Spot} (tokens : List Token) (at : ℕ) {ts rest : List Token} {es : List PConst} → HasNext tokens at k spot → BeginAlike (drop at tokens) ts → IsInitialUpTo ts es rest → (k ≡ semicolon) ⊎ (k ≡ equals)
@@ -171,7 +175,7 @@ initial_open tokens at next a here there = kind_read (λ spot. row_up_to constan
 
 -- the end of a place, with `max` or without
 abbrev pub rest_with : Option PMax → Sort PlaceEnd
-rest_with max = then initials (λ initial. done (end_of max initial))
+rest_with max = and_then initials (λ initial. done (end_of max initial))
 
 abbrev pub max_number : Sort PlaceEnd
 max_number = number_then (λ spot number. rest_with (Some (max_of number spot)))
@@ -207,7 +211,7 @@ pub max_given : {spot number_spot : Spot} {number : ℤ} (tokens : List Token) (
     Stage IsPlaceEnd (drop at tokens) (declaring 0) (rest_with (Some (max_of number number_spot))) (drop last tokens) (declaring 0)
 max_given tokens at next last here there number then_at = number_read (λ spot number. rest_with (Some (max_of number spot))) tokens next last (declaring 0) (max_begun tokens at next here there) number then_at refl refl
 
-pub max_stuck : {spot : Spot} (tokens : List Token) (at next : ℕ) → HasNext tokens at max_name spot → next ≡ at + 1 → IsNoNumber tokens next → Fails IsPlaceEnd (drop at tokens) (declaring 0) (length tokens) (Fault.P2 next)
+pub max_stuck : {spot : Spot} (tokens : List Token) (at next : ℕ) → HasNext tokens at max_name spot → next ≡ at + 1 → IsNoNumber tokens next → Fails IsPlaceEnd (drop at tokens) (declaring 0) (length tokens) (Fault.Stopped next)
 max_stuck tokens at next here there none = number_stuck (λ spot number. rest_with (Some (max_of number spot))) tokens next (max_begun tokens at next here there) (omega (arith, there, here.1.1)) none
 
 pub max_none : (tokens : List Token) (at : ℕ) → IsNotNextKind tokens at max_name → Stage IsPlaceEnd (drop at tokens) (declaring 0) (rest_with None) (drop at tokens) (declaring 0)
@@ -220,10 +224,10 @@ max_none tokens at other = begin (rest_with None) (drop at tokens) (declaring 0)
 
 -- `place p: int max 5 = 1, 2;`
 abbrev pub place_end : PName → PKind → Sort PPlace
-place_end name kind = then ends (λ end. done (place_of name kind end.initial end.max))
+place_end name kind = and_then ends (λ end. done (place_of name kind end.initial end.max))
 
 abbrev pub place_kind : PName → Sort PPlace
-place_kind name = then KP.kinds (place_end name)
+place_kind name = and_then KP.kinds (place_end name)
 
 -- what stands after the name of a place
 abbrev pub PlaceOn : PName → Phrases PPlace
@@ -294,10 +298,10 @@ place_no_colon tokens at name s other = change (place_end name (kind_at name.spo
 ])
 
 -- a name read is what was expected
-pub name_result : (tokens : List Token) (at : ℕ) (r : Result (PName × ℕ) InscriptFault) → at ≤ length tokens → MatchResult r (λ found. IsNextName tokens at found.0 × (found.1 ≡ at + 1)) (λ fault. IsNoName tokens at fault) → Reads IsPName tokens at (declaring 0) (declaring 0) r
+pub name_result : (tokens : List Token) (at : ℕ) (r : Result (PName × ℕ) ReadFault) → at ≤ length tokens → MatchResult r (λ found. IsNextName tokens at found.0 × (found.1 ≡ at + 1)) (λ fault. IsNoName tokens at fault) → Reads IsPName tokens at (declaring 0) (declaring 0) r
 name_result tokens at (Ok (name, next)) inside h = name_reads tokens at next h.0 h.1
 name_result tokens at (Err e) inside h = name_none tokens at e inside h
 
-pub name_moves : (tokens : List Token) (at : ℕ) (r : Result (PName × ℕ) InscriptFault) → MatchResult r (λ found. IsNextName tokens at found.0 × (found.1 ≡ at + 1)) (λ fault. IsNoName tokens at fault) → MovesOn tokens at r
+pub name_moves : (tokens : List Token) (at : ℕ) (r : Result (PName × ℕ) ReadFault) → MatchResult r (λ found. IsNextName tokens at found.0 × (found.1 ≡ at + 1)) (λ fault. IsNoName tokens at fault) → MovesOn tokens at r
 name_moves tokens at (Ok (name, next)) h = (omega (arith, h.1), omega (arith, h.1, h.0.2.1))
 name_moves tokens at (Err e) h = tt

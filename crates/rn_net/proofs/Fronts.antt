@@ -10,7 +10,7 @@ use Rattle.rn_notation.specs.declared.token.TokenKind.TheVariants.{Name, Word, N
 use Rattle.rn_model.specs.declared.expr.OpKind.{OpKind}
 use Rattle.rn_model.specs.declared.expr.CompareKind.{CompareKind}
 use Rattle.rn_model.specs.declared.system.ArcKind.{ArcKind}
-use Rattle.rn_inscript.specs.link.Stages.{Phrases}
+use Rattle.rn_reading.specs.Phrases.{Phrases}
 use Rattle.rn_inscript.specs.Levels.{opens, closes}
 use Rattle.rn_inscript.specs.Signs.{plus_of, times_of, compare_of, arc_of, target_of}
 use Rattle.rn_inscript.specs.Signs.{open_brace, close_brace, open_bracket, close_bracket}

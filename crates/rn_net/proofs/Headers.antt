@@ -4,7 +4,7 @@ use Rattle.rn_notation.specs.declared.token.Spot.{Spot}
 use Rattle.rn_notation.specs.declared.token.Token.{Token}
 use Rattle.rn_notation.specs.declared.token.TokenKind.{TokenKind}
 use Rattle.rn_notation.specs.declared.token.TokenKind.TheVariants.{Number}
-use Rattle.rn_inscript.specs.link.Stages.{BeginAlike}
+use Rattle.rn_reading.specs.link.Stages.{BeginAlike}
 use Rattle.rn_inscript.specs.link.NextNames.{IsNotNextKind}
 use Rattle.rn_net.specs.declared.plain.Plain.{Plain}
 use Rattle.rn_net.specs.link.Answers.{Top, Halts, IsBare}
@@ -15,8 +15,8 @@ use Rattle.rn_net.specs.link.Parts.{with_item}
 use Rattle.rn_net.specs.link.Progress.{HasNext}
 use Rattle.rn_net.specs.Words.{notation_name, semicolon}
 use Rattle.rn_net.proofs.NetPhrases.{item_sort}
-use Rattle.rn_net.proofs.Sorts.{any}
-use Rattle.rn_net.proofs.Steps.{alike-cons}
+use Rattle.rn_reading.proofs.Sorts.{any}
+use Rattle.rn_reading.proofs.Steps.{alike-cons}
 use Rattle.rn_net.proofs.Systems.{items-on, no-header, no-item}
 
 as-first : (ts : List Token) (p : Plain) → (ts ≡ [] → ⊥) → AreItems 1 (plain_of 1 [] []) ts p → IsSystem ts p
@@ -103,7 +103,7 @@ header_open tokens i a i_is other = record {
   left = drop i tokens;
   parts = a.1.0 ∙ ap (λ n. a.0 ∷ drop n tokens) (sym i_is);
   stands = i_is;
-  begins = (let y = goes-on a.0 (any (Number (pos 2))) (any semicolon) a.2 refl refl in (any (Number (pos 2)) ∷ any semicolon ∷ y.0, y.1, y.2));
+  begins = (let y = goes-on a.0 (any (Number (pos 2))) (any semicolon) a.2 refl refl in (any (Number (pos 2)) ∷ any semicolon ∷ y.0, y.1, (y.2, refl)));
   none = λ ts p alike ends x. by ts p alike x refl;
   within = (refl, tt);
 }
@@ -122,7 +122,7 @@ header_unclosed tokens i j a i_is b j_is other = record {
   left = drop j tokens;
   parts = a.1.0 ∙ ap (λ us. a.0 ∷ us) (ap (λ n. drop n tokens) (sym i_is) ∙ b.1.0) ∙ ap (λ n. a.0 ∷ b.0 ∷ drop n tokens) (sym j_is);
   stands = (let h : j ≡ 2 = omega (arith, i_is, j_is) in h);
-  begins = (let y = goes-on a.0 b.0 (any semicolon) a.2 b.2 refl in (any semicolon ∷ y.0, y.1, y.2));
+  begins = (let y = goes-on a.0 b.0 (any semicolon) a.2 b.2 refl in (any semicolon ∷ y.0, y.1, (y.2, refl)));
   none = λ ts p alike ends x. by ts p alike x refl;
   within = (let f = header-flat a.0 b.0 (any semicolon) a.2 b.2 refl in (f.0.0, (f.0.1.0, tt)));
 }

@@ -5,13 +5,14 @@ use Rattle.rn_notation.specs.declared.token.Spot.{Spot}
 use Rattle.rn_notation.specs.declared.token.Token.{Token}
 use Rattle.rn_notation.specs.declared.token.TokenKind.TheVariants.{Name, Word}
 use Rattle.rn_model.specs.declared.system.ArcKind.{ArcKind}
+use Rattle.rn_reading.specs.Phrases.{Phrases, Then}
+use Rattle.rn_reading.specs.link.Stages.{Sort, done}
 use Rattle.rn_inscript.specs.Signs.{close_brace, colon, comma, arc_of}
-use Rattle.rn_inscript.specs.link.Stages.{Phrases, Then}
 use Rattle.rn_inscript.specs.link.NextNames.{IsNotNextKind}
 use Rattle.rn_inscript.specs.Levels.{Count, at_first, count_after}
-use Rattle.rn_inscript.specs.Readings.{IsWholeExpr, IsReading, IsRefusal}
+use Rattle.rn_inscript.specs.Readings.{IsWholeExpr, IsReading}
 use Rattle.rn_inscript.specs.Laws.{OneExpression, OneInscription}
-use Rattle.rn_inscript.specs.declared.fault.InscriptFault.{InscriptFault}
+use Rattle.rn_reading.specs.declared.fault.ReadFault.{ReadFault}
 use Rattle.rn_inscript.specs.declared.exprs.PExpr.{PExpr}
 use Rattle.rn_inscript.specs.declared.inscriptions.PName.{PName}
 use Rattle.rn_inscript.specs.declared.inscriptions.PInscribed.{PInscribed}
@@ -25,12 +26,14 @@ use Rattle.rn_net.specs.link.Lists.{AreInscribedUpTo}
 use Rattle.rn_net.specs.link.Parts.{IsOpen, NotOpen, EndsStatement}
 use Rattle.rn_net.specs.Levels.{Region}
 use Rattle.rn_net.specs.Levels.Region.{between, inscribing}
-use Rattle.rn_net.specs.link.Progress.{Sort, Stage, Fails, done, HasNext}
-use Rattle.rn_net.proofs.Steps.{begin, change, same_end}
-use Rattle.rn_net.proofs.Sorts.{any, kind_then, then, kind_read, kind_stuck, then_read, then_fails, tell_apart}
+use Rattle.rn_net.specs.link.Progress.{Stage, Fails, HasNext, Refuses}
+use Rattle.rn_reading.proofs.Sorts.{any, and_then}
+use Rattle.rn_net.proofs.Sorts.{kind_then, kind_read, kind_stuck, tell_apart}
+use Rattle.rn_reading.proofs.Steps.{append-nil}
+use Rattle.rn_net.proofs.Steps.{begin, change, same_end, then_read, then_fails}
 use Rattle.rn_net.proofs.Rows.{Row, row_on, row_comma_from}
 use Rattle.rn_net.proofs.Fronts.{AreInside, front-expr, front-inscribed}
-use Rattle.rn_net.proofs.Openings.{append-nil, IsOut, unique, fresh_between, fresh_first, opens_none, Cut, Opening, opening_read, opening_fails}
+use Rattle.rn_net.proofs.Openings.{IsOut, unique, fresh_between, fresh_first, opens_none, Cut, Opening, opening_read, opening_fails}
 
 -- an inscription has a token
 some-primary : {ts rest : List Token} {e : PExpr} → IsPrimary ts e rest → ts ≡ [] → ⊥
@@ -88,7 +91,7 @@ abbrev pub further_on : List PExpr → Sort (List PExpr)
 further_on all = row_on expr_row semicolon all
 
 abbrev pub further_next : List PExpr → Sort (List PExpr)
-further_next all = then expr_sort (λ e. further_on (all ++ e ∷ []))
+further_next all = and_then expr_sort (λ e. further_on (all ++ e ∷ []))
 
 semicolon-comma : semicolon ≡ comma → ⊥
 semicolon-comma h = tell_apart semicolon comma h (λ e. omega (arith, e))
@@ -182,7 +185,7 @@ abbrev pub arcs_of : PInscription → ArcKind → PName → List PExpr → List 
 arcs_of i kind place more = i ∷ map (further_arc kind place) more
 
 abbrev pub arcs_on : PInscription → ArcKind → PName → Sort (List PInscription)
-arcs_on i kind place = then (further_on []) (λ more. done (arcs_of i kind place more))
+arcs_on i kind place = and_then (further_on []) (λ more. done (arcs_of i kind place more))
 
 abbrev pub Onward : ℕ → List Token → PInscription → Phrases (List PInscription)
 Onward notation p i ts b rest = (alone_on i).is ts b rest
@@ -287,7 +290,7 @@ statement_read law notation tokens at end other r = opening_read (form_opening l
     (fresh_between 0 r.taken (form-inside r.taken _ r.whole) (opens_none tokens at r.taken r.longest.left r.longest.parts other))
 
 -- no inscription is read
-pub statement_fails : OneInscription → (notation : ℕ) (tokens : List Token) (at : ℕ) (e : InscriptFault) → at ≤ length tokens → IsNotNextKind tokens at close_brace → IsRefusal IsInscription tokens at e →
+pub statement_fails : OneInscription → (notation : ℕ) (tokens : List Token) (at : ℕ) (e : ReadFault) → at ≤ length tokens → IsNotNextKind tokens at close_brace → Refuses IsInscription tokens at e →
     Fails (AreInscribedUpTo notation) (drop at tokens) between (length tokens) e
 statement_fails law notation tokens at e inside other x = opening_fails (form_opening law notation) tokens at e inside (statement_begun notation tokens at)
     (λ j ts left is h. fresh_between j ts h (opens_none tokens at ts left is other)) x
@@ -319,7 +322,7 @@ ends_read {X = X} {start = start} {first = first} {c = c} notation p i tokens at
   | inr b ↦ same_end (ap (λ us. i ∷ us) b.3.1) (then_read (further_on []) (λ more. done (arcs_of i b.0 b.1 more)) (arcs_open notation p i s b.2) (b.3.2 c))
 ]
 
-pub ends_fail : {X : Phrases (List PInscription)} {start : List Token} {first : Region} {c : Count} (notation : ℕ) (p : List Token) (i : PInscription) (tokens : List Token) (at : ℕ) (e : InscriptFault) →
+pub ends_fail : {X : Phrases (List PInscription)} {start : List Token} {first : Region} {c : Count} (notation : ℕ) (p : List Token) (i : PInscription) (tokens : List Token) (at : ℕ) (e : ReadFault) →
     Stage X start first (onward notation p i) (drop at tokens) (inscribing 0 c) → at ≤ length tokens → EndsStatement notation (length p) i tokens at (Err e) → Fails X start first (length tokens) e
 ends_fail {X = X} {start = start} {first = first} {c = c} notation p i tokens at e s inside x = elim x as (λ w. Fails X start first (length tokens) e) [
   | inl a ↦ subst (Fails X start first (length tokens)) (sym a.1.1) (kind_stuck (λ spot. done (i ∷ [])) tokens at (alone_open notation p i s a.0) inside a.1.0)
@@ -332,8 +335,8 @@ pub further_read : OneExpression → {X : Phrases (List PExpr)} {start : List To
     Stage X start first (further_on (all ++ e ∷ [])) (drop end tokens) (inscribing 0 (count_after at_first r.taken))
 further_read law all {e = e} tokens at end s r = opening_read (expr_opening law all) tokens at end s r (fresh_first 0 r.taken (expr-inside r.taken e r.whole))
 
-pub further_fails : OneExpression → {X : Phrases (List PExpr)} {start : List Token} {first : Region} (all : List PExpr) (tokens : List Token) (at : ℕ) (e : InscriptFault) → at ≤ length tokens →
-    Stage X start first (further_next all) (drop at tokens) (inscribing 0 at_first) → IsRefusal IsWholeExpr tokens at e → Fails X start first (length tokens) e
+pub further_fails : OneExpression → {X : Phrases (List PExpr)} {start : List Token} {first : Region} (all : List PExpr) (tokens : List Token) (at : ℕ) (e : ReadFault) → at ≤ length tokens →
+    Stage X start first (further_next all) (drop at tokens) (inscribing 0 at_first) → Refuses IsWholeExpr tokens at e → Fails X start first (length tokens) e
 further_fails law all tokens at e inside s x = opening_fails (expr_opening law all) tokens at e inside s (λ j ts left is h. fresh_first j ts h) x
 
 -- a comma comes before it

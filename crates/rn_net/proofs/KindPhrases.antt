@@ -3,11 +3,13 @@ use Rattle.std.proofs.Common.{◌≡◌, ℕ, ◌+◌, ◌≤◌, ◌⊎◌, inl
 use Rattle.rn_notation.specs.declared.token.Spot.{Spot}
 use Rattle.rn_notation.specs.declared.token.Token.{Token}
 use Rattle.rn_notation.specs.declared.token.TokenKind.{TokenKind}
-use Rattle.rn_notation.specs.declared.token.TokenKind.TheVariants.{Text, Sign}
+use Rattle.rn_notation.specs.declared.token.TokenKind.TheVariants.{Sign}
+use Rattle.rn_reading.specs.Phrases.{Phrases, Then, Done}
+use Rattle.rn_reading.specs.link.Stages.{BeginAlike, Sort, done}
 use Rattle.rn_inscript.specs.Signs.{open_brace, close_brace, open_bracket, close_bracket, comma}
-use Rattle.rn_inscript.specs.link.Stages.{Phrases, Then, Done, BeginAlike, IsClose}
+use Rattle.rn_inscript.specs.link.Stages.{IsClose}
 use Rattle.rn_inscript.specs.link.NextNames.{IsNotNextKind}
-use Rattle.rn_inscript.specs.declared.fault.InscriptFault.TheVariants as Fault
+use Rattle.rn_reading.specs.declared.fault.ReadFault.TheVariants as Fault
 use Rattle.rn_net.specs.declared.kinds.PKind.{PKind}
 use Rattle.rn_net.specs.declared.kinds.PKindForm.{PKindForm}
 use Rattle.rn_net.specs.declared.kinds.PKindForm.TheVariants as K
@@ -15,9 +17,11 @@ use Rattle.rn_net.specs.Words.{int_word, text_word, net_word}
 use Rattle.rn_net.specs.Kinds.{IsKind, AreListed, AreKinds, AreMoreKinds, kind_at}
 use Rattle.rn_net.specs.Levels.{Region}
 use Rattle.rn_net.specs.Levels.Region.{declaring}
-use Rattle.rn_net.specs.link.Progress.{Sort, Stage, Fails, done, HasNext}
-use Rattle.rn_net.proofs.Steps.{alike-cons, begin, stuck}
-use Rattle.rn_net.proofs.Sorts.{any, WithKind, kind_then, then, kind_read, kind_far, from_done, next_is, tell_apart}
+use Rattle.rn_net.specs.link.Progress.{Stage, Fails, HasNext}
+use Rattle.rn_reading.proofs.Sorts.{any, and_then}
+use Rattle.rn_reading.proofs.Steps.{alike-cons}
+use Rattle.rn_net.proofs.Sorts.{WithKind, kind_then, kind_read, kind_far, from_done, next_is, tell_apart}
+use Rattle.rn_net.proofs.Steps.{begin, stuck}
 use Rattle.rn_net.proofs.Rows.{Row, row_up_to, opening_small, opening_deep, close_small, close_after}
 
 -- kinds, one of which is `int`
@@ -49,10 +53,10 @@ abbrev pub leaf : TokenKind → PKindForm → Sort PKind
 leaf kind form = kind_then kind (λ spot. done (kind_at spot form))
 
 abbrev pub tuple : Sort PKind
-tuple = kind_then open_bracket (λ spot. then (listed close_bracket) (λ parts. done (kind_at spot (K.Tuple parts))))
+tuple = kind_then open_bracket (λ spot. and_then (listed close_bracket) (λ parts. done (kind_at spot (K.Tuple parts))))
 
 abbrev pub list : Sort PKind
-list = kind_then open_brace (λ spot. then kinds (λ element. kind_then close_brace (λ end. done (kind_at spot (K.List element)))))
+list = kind_then open_brace (λ spot. and_then kinds (λ element. kind_then close_brace (λ end. done (kind_at spot (K.List element)))))
 
 abbrev pub Forms : Phrases PKind
 Forms ts e rest = (leaf int_word K.Int).is ts e rest ⊎ ((leaf text_word K.Text).is ts e rest ⊎ ((leaf net_word K.Net).is ts e rest ⊎ (tuple.is ts e rest ⊎ list.is ts e rest)))
@@ -142,8 +146,8 @@ net_read tokens at next depth here there = kind_read (λ spot. done (kind_at spo
 
 -- no token is next that begins a kind
 pub none_next : (tokens : List Token) (at : ℕ) (first : Region) → at ≤ length tokens → IsNotNextKind tokens at int_word → IsNotNextKind tokens at text_word → IsNotNextKind tokens at net_word →
-    IsNotNextKind tokens at open_bracket → IsNotNextKind tokens at open_brace → Fails IsKind (drop at tokens) first (length tokens) (Fault.P2 at)
-none_next tokens at first inside a b c d e = stuck tokens at (begin kinds (drop at tokens) first (λ ts e rest x. x) (λ ts e rest alike x. x)) inside (λ ts k rest alike x. none ts k rest alike (split x))
+    IsNotNextKind tokens at open_bracket → IsNotNextKind tokens at open_brace → Fails IsKind (drop at tokens) first (length tokens) (Fault.Stopped at)
+none_next tokens at first inside a b c d e = stuck kinds tokens at (begin kinds (drop at tokens) first (λ ts e rest x. x) (λ ts e rest alike x. x)) inside (λ ts k rest alike x. none ts k rest alike (split x))
   where
     next-of : {k : TokenKind} {ts : List Token} (t : Token) (us : List Token) → BeginAlike (drop at tokens) ts → IsNotNextKind tokens at k → ts ≡ t ∷ us → t.kind ≡ k → ⊥
     next-of t us alike other is has = let next = alike-cons (drop at tokens) t us (subst (λ vs. BeginAlike (drop at tokens) vs) is alike) in other t next.0 next.1 has
@@ -157,27 +161,27 @@ none_next tokens at first inside a b c d e = stuck tokens at (begin kinds (drop 
 
 -- the bracket of a tuple, and the brace of a list
 pub tuple_open : (tokens : List Token) (at next depth inside levels : ℕ) {spot : Spot} → HasNext tokens at open_bracket spot → next ≡ at + 1 → levels ≡ inside + 1 → levels + depth ≡ 64 →
-    Stage IsKind (drop at tokens) (declaring depth) (then (listed close_bracket) (λ parts. done (kind_at spot (K.Tuple parts)))) (drop next tokens) (declaring (depth + 1))
+    Stage IsKind (drop at tokens) (declaring depth) (and_then (listed close_bracket) (λ parts. done (kind_at spot (K.Tuple parts)))) (drop next tokens) (declaring (depth + 1))
 tuple_open tokens at next depth inside levels here there some fits =
-    kind_read (λ spot. then (listed close_bracket) (λ parts. done (kind_at spot (K.Tuple parts)))) tokens at next (declaring (depth + 1)) (begin_tuple tokens at (declaring depth) here) here there (opening_small depth inside levels some fits) refl
+    kind_read (λ spot. and_then (listed close_bracket) (λ parts. done (kind_at spot (K.Tuple parts)))) tokens at next (declaring (depth + 1)) (begin_tuple tokens at (declaring depth) here) here there (opening_small depth inside levels some fits) refl
 
 pub tuple_deep : (tokens : List Token) (at depth levels : ℕ) {spot : Spot} → HasNext tokens at open_bracket spot → levels ≡ 0 → levels + depth ≡ 64 →
-    Fails IsKind (drop at tokens) (declaring depth) (length tokens) (Fault.P5 at)
+    Fails IsKind (drop at tokens) (declaring depth) (length tokens) (Fault.TooFar at)
 tuple_deep tokens at depth levels here none fits =
-    kind_far (λ spot. then (listed close_bracket) (λ parts. done (kind_at spot (K.Tuple parts)))) tokens at (begin_tuple tokens at (declaring depth) here) here (opening_deep depth levels none fits)
+    kind_far (λ spot. and_then (listed close_bracket) (λ parts. done (kind_at spot (K.Tuple parts)))) tokens at (begin_tuple tokens at (declaring depth) here) here (opening_deep depth levels none fits)
 
 abbrev pub list_end : Spot → PKind → Sort PKind
 list_end spot element = kind_then close_brace (λ end. done (kind_at spot (K.List element)))
 
 pub list_open : (tokens : List Token) (at next depth inside levels : ℕ) {spot : Spot} → HasNext tokens at open_brace spot → next ≡ at + 1 → levels ≡ inside + 1 → levels + depth ≡ 64 →
-    Stage IsKind (drop at tokens) (declaring depth) (then kinds (list_end spot)) (drop next tokens) (declaring (depth + 1))
+    Stage IsKind (drop at tokens) (declaring depth) (and_then kinds (list_end spot)) (drop next tokens) (declaring (depth + 1))
 list_open tokens at next depth inside levels here there some fits =
-    kind_read (λ spot. then kinds (list_end spot)) tokens at next (declaring (depth + 1)) (begin_list tokens at (declaring depth) here) here there (opening_small depth inside levels some fits) refl
+    kind_read (λ spot. and_then kinds (list_end spot)) tokens at next (declaring (depth + 1)) (begin_list tokens at (declaring depth) here) here there (opening_small depth inside levels some fits) refl
 
 pub list_deep : (tokens : List Token) (at depth levels : ℕ) {spot : Spot} → HasNext tokens at open_brace spot → levels ≡ 0 → levels + depth ≡ 64 →
-    Fails IsKind (drop at tokens) (declaring depth) (length tokens) (Fault.P5 at)
+    Fails IsKind (drop at tokens) (declaring depth) (length tokens) (Fault.TooFar at)
 list_deep tokens at depth levels here none fits =
-    kind_far (λ spot. then kinds (list_end spot)) tokens at (begin_list tokens at (declaring depth) here) here (opening_deep depth levels none fits)
+    kind_far (λ spot. and_then kinds (list_end spot)) tokens at (begin_list tokens at (declaring depth) here) here (opening_deep depth levels none fits)
 
 -- what stands after an opening bracket
 abbrev ListedForms : (close : ℕ) → Phrases (List PKind)

@@ -6,17 +6,19 @@ use Rattle.rn_notation.specs.declared.token.TokenKind.{TokenKind}
 use Rattle.rn_notation.specs.declared.token.TokenKind.TheVariants.{Name, Word, Number, Text, Sign}
 use Rattle.std.specs.Prelude.{Some}
 use Rattle.rn_model.specs.declared.system.ArcKind.{ArcKind}
+use Rattle.rn_reading.specs.Phrases.{Phrases, Then, Done}
+use Rattle.rn_reading.specs.link.Stages.{BeginAlike, Sort, done}
 use Rattle.rn_inscript.specs.declared.exprs.PForm.{PForm}
 use Rattle.rn_inscript.specs.declared.exprs.PExpr.{PExpr}
 use Rattle.rn_inscript.specs.declared.inscriptions.PInscribed.{PInscribed}
 use Rattle.rn_inscript.specs.Expressions.{IsExpr, IsProduct, IsUnary, IsPrimary}
 use Rattle.rn_inscript.specs.Inscriptions.{IsInscribed, name_at}
 use Rattle.rn_inscript.specs.Signs.{open_brace, close_brace, arc_of, target_of}
-use Rattle.rn_inscript.specs.link.Stages.{Phrases, Then, Done, Takes, BeginAlike, IsNextKind}
+use Rattle.rn_inscript.specs.link.Stages.{Takes, IsNextKind}
 use Rattle.rn_inscript.specs.link.NextNames.{IsNotNextKind, IsNextName}
 use Rattle.rn_inscript.specs.declared.inscriptions.PName.{PName}
 use Rattle.rn_inscript.specs.declared.inscriptions.PInscription.{PInscription}
-use Rattle.rn_inscript.specs.declared.fault.InscriptFault.TheVariants as Fault
+use Rattle.rn_reading.specs.declared.fault.ReadFault.TheVariants as Fault
 use Rattle.rn_net.specs.declared.plain.PNet.{PNet}
 use Rattle.rn_net.specs.declared.plain.PVar.{PVar}
 use Rattle.rn_net.specs.declared.plain.PPlace.{PPlace}
@@ -30,9 +32,11 @@ use Rattle.rn_net.specs.Nets.{IsChannel, AreVars, IsPlace, IsTransition, AreInsc
 use Rattle.rn_net.specs.link.Parts.{IsNetPart, IsItem, with_part}
 use Rattle.rn_net.specs.Levels.{Region, is_too_deep, after}
 use Rattle.rn_net.specs.Levels.Region.{between, heading}
-use Rattle.rn_net.specs.link.Progress.{Sort, Stage, Fails, done, HasNext}
-use Rattle.rn_net.proofs.Steps.{alike-cons, begin, change, stuck}
-use Rattle.rn_net.proofs.Sorts.{any, WithKind, kind_then, name_then, then, kind_read, name_read, from_done, next_is, tell_apart}
+use Rattle.rn_net.specs.link.Progress.{Stage, Fails, HasNext}
+use Rattle.rn_reading.proofs.Sorts.{any, and_then}
+use Rattle.rn_reading.proofs.Steps.{alike-cons}
+use Rattle.rn_net.proofs.Sorts.{WithKind, kind_then, name_then, kind_read, name_read, from_done, next_is, tell_apart}
+use Rattle.rn_net.proofs.Steps.{begin, change, stuck}
 use Rattle.rn_net.proofs.InscriptionReading.{statement_sort}
 use Rattle.rn_net.proofs.DeclarationPhrases.{has_next, channel_sort, channel-on, channel-only, vars_sort, vars-on, vars-only, place_sort, place-on, place-only}
 
@@ -51,10 +55,10 @@ many_on {More = More} {close = close} m b = record {
 }
 
 pub many_next : {A B : Type 0} {Item : Sort A} {add : B → A → B} {More : B → Phrases B} {close : TokenKind} {X : Phrases B} {start : List Token} {first now : Region} {b : B} (m : Many Item add More close) (tokens : List Token) (at : ℕ) →
-    Stage X start first (many_on m b) (drop at tokens) now → IsNotNextKind tokens at close → Stage X start first (then Item (λ a. many_on m (add b a))) (drop at tokens) now
-many_next {Item = Item} {add = add} {b = b} m tokens at s other = change (then Item (λ a. many_on m (add b a))) s
+    Stage X start first (many_on m b) (drop at tokens) now → IsNotNextKind tokens at close → Stage X start first (and_then Item (λ a. many_on m (add b a))) (drop at tokens) now
+many_next {Item = Item} {add = add} {b = b} m tokens at s other = change (and_then Item (λ a. many_on m (add b a))) s
     (λ ts e rest x. (x.3.0, x.3.1, m.on x.2 x.3.2, x.3.3))
-    (λ ts e rest alike x. elim (m.split x.2) as (λ w. (then Item (λ a. many_on m (add b a))).is ts e rest) [
+    (λ ts e rest alike x. elim (m.split x.2) as (λ w. (and_then Item (λ a. many_on m (add b a))).is ts e rest) [
       | inl d ↦ absurd (let next = alike-cons (drop at tokens) x.3.0 rest (subst (λ us. BeginAlike (drop at tokens) us) (sym d.1 ∙ x.3.1) alike) in other x.3.0 next.0 next.1 x.3.2)
       | inr g ↦ (g.0, g.1, g.2, (x.0, x.1, g.3, x.3))
     ])
@@ -162,7 +166,7 @@ inscriptions_sort notation = many_on (inscriptions notation) []
 
 -- `trans t { in p: x; }`
 abbrev pub transition_inside : ℕ → PName → Sort PTransition
-transition_inside notation name = then (inscriptions_sort notation) (λ all. done (transition_of name all))
+transition_inside notation name = and_then (inscriptions_sort notation) (λ all. done (transition_of name all))
 
 abbrev pub transition_open : ℕ → PName → Sort PTransition
 transition_open notation name = kind_then open_brace (λ b. transition_inside notation name)
@@ -232,8 +236,8 @@ parts notation = record {
   some = λ {rest = rest} {a = a} x. parts-some notation rest a x;
 }
 
-pub part_none : (notation : ℕ) (tokens : List Token) (at : ℕ) → at ≤ length tokens → IsNotNextKind tokens at var_word → IsNotNextKind tokens at place_word → IsNotNextKind tokens at trans_word → Fails (IsNetPart notation) (drop at tokens) between (length tokens) (Fault.P2 at)
-part_none notation tokens at inside a b c = stuck tokens at (begin (part_sort notation) (drop at tokens) between (λ ts e rest x. x) (λ ts e rest alike x. x)) inside (λ ts p rest alike x.
+pub part_none : (notation : ℕ) (tokens : List Token) (at : ℕ) → at ≤ length tokens → IsNotNextKind tokens at var_word → IsNotNextKind tokens at place_word → IsNotNextKind tokens at trans_word → Fails (IsNetPart notation) (drop at tokens) between (length tokens) (Fault.Stopped at)
+part_none notation tokens at inside a b c = stuck (part_sort notation) tokens at (begin (part_sort notation) (drop at tokens) between (λ ts e rest x. x) (λ ts e rest alike x. x)) inside (λ ts p rest alike x.
     let y = part-begins notation ts rest p x in let n = alike-cons (drop at tokens) y.0 y.1 (subst (λ us. BeginAlike (drop at tokens) us) y.2 alike) in
     elim y.3 as (λ w. ⊥) [ inl e ↦ a y.0 n.0 n.1 e | inr f ↦ elim f as (λ w. ⊥) [ inl e ↦ b y.0 n.0 n.1 e | inr e ↦ c y.0 n.0 n.1 e ] ])
 
@@ -272,14 +276,14 @@ pub item-begins : (notation : ℕ) (ts rest : List Token) (i : Item) → IsItem 
 item-begins notation ts rest (Item.Channel channel) x = let y = channel-only ts channel rest x in (y.0, y.1, y.2, inl y.3)
 item-begins notation ts rest (Item.Net net) x = let y = net-only notation ts net rest x in (y.0, y.1, y.2, inr y.3)
 
-pub item_none : (notation : ℕ) (tokens : List Token) (at : ℕ) → at ≤ length tokens → IsNotNextKind tokens at channel_word → IsNotNextKind tokens at net_word → Fails (IsItem notation) (drop at tokens) between (length tokens) (Fault.P2 at)
-item_none notation tokens at inside a b = stuck tokens at (begin (item_sort notation) (drop at tokens) between (λ ts e rest x. x) (λ ts e rest alike x. x)) inside (λ ts p rest alike x.
+pub item_none : (notation : ℕ) (tokens : List Token) (at : ℕ) → at ≤ length tokens → IsNotNextKind tokens at channel_word → IsNotNextKind tokens at net_word → Fails (IsItem notation) (drop at tokens) between (length tokens) (Fault.Stopped at)
+item_none notation tokens at inside a b = stuck (item_sort notation) tokens at (begin (item_sort notation) (drop at tokens) between (λ ts e rest x. x) (λ ts e rest alike x. x)) inside (λ ts p rest alike x.
     let y = item-begins notation ts rest p x in let n = alike-cons (drop at tokens) y.0 y.1 (subst (λ us. BeginAlike (drop at tokens) us) y.2 alike) in
     elim y.3 as (λ w. ⊥) [ inl e ↦ a y.0 n.0 n.1 e | inr e ↦ b y.0 n.0 n.1 e ])
 
 -- a part by its first word, and an item
 abbrev pub part_of : {A : Type 0} → Sort A → (A → Part) → Sort Part
-part_of X make = then X (λ a. done (make a))
+part_of X make = and_then X (λ a. done (make a))
 
 abbrev pub many_vars : Sort (List PVar)
 many_vars = record { is = AreVars; ends = (vars_sort.ends.0, vars_sort.ends.1, λ rest. vars-on (vars_sort.ends.0 ++ rest) vars_sort.ends.1 rest (vars_sort.ends.2 rest)) }
@@ -327,7 +331,7 @@ part_transition notation tokens at here = begin (part_of (one_transition notatio
     by (Part.Place p) ts rest alike x = let y = place-only ts p rest x in absurd (tell_apart trans_word place_word (first-word tokens at y.0 y.1 here alike y.2 y.3) (λ d. omega (arith, d)))
 
 abbrev pub item_of : {A : Type 0} → Sort A → (A → Item) → Sort Item
-item_of X make = then X (λ a. done (make a))
+item_of X make = and_then X (λ a. done (make a))
 
 pub item_channel : (notation : ℕ) {spot : Spot} (tokens : List Token) (at : ℕ) → HasNext tokens at channel_word spot → Stage (IsItem notation) (drop at tokens) between (item_of one_channel Item.Channel) (drop at tokens) between
 item_channel notation tokens at here = begin (item_of one_channel Item.Channel) (drop at tokens) between

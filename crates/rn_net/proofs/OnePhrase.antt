@@ -8,9 +8,10 @@ use Rattle.rn_notation.specs.declared.token.Spot.{Spot}
 use Rattle.rn_notation.specs.declared.token.Token.{Token}
 use Rattle.rn_notation.specs.declared.token.TokenKind.{TokenKind}
 use Rattle.rn_notation.specs.declared.token.TokenKind.TheVariants.{Word, Number, Text, Sign}
+use Rattle.rn_reading.specs.Phrases.{Phrases, Then, Done}
 use Rattle.rn_inscript.specs.Signs.{comma}
 use Rattle.rn_inscript.specs.Inscriptions.{name_at}
-use Rattle.rn_inscript.specs.link.Stages.{Phrases, Then, Done, Takes}
+use Rattle.rn_inscript.specs.link.Stages.{Takes}
 use Rattle.rn_inscript.specs.declared.inscriptions.PName.{PName}
 use Rattle.rn_net.specs.declared.kinds.PKind.{PKind}
 use Rattle.rn_net.specs.declared.kinds.PKindForm.TheVariants as K

@@ -9,23 +9,66 @@ use Rattle.std.proofs.lemmas.Grind.{common_steps}
 use Rattle.rn_notation.specs.declared.token.Token.{Token}
 use Rattle.rn_notation.specs.declared.token.TokenKind.{TokenKind}
 use Rattle.rn_notation.specs.declared.token.TokenKind.TheVariants.{Name, Word, Number, Text, Sign}
+use Rattle.rn_reading.specs.Phrases.{Phrases}
+use Rattle.rn_reading.specs.link.Stages.{BeginAlike, CanEnd, Sort}
 use Rattle.rn_inscript.specs.Signs.{close_brace, comma}
-use Rattle.rn_inscript.specs.link.Stages.{Phrases, BeginAlike, CanEnd}
 use Rattle.rn_inscript.specs.link.NextNames.{IsNotNextKind}
 use Rattle.rn_inscript.specs.Levels.{Count, IsWithin, at_first, after_token, count_after, goes_too_far, opens_level, is_operator}
-use Rattle.rn_inscript.specs.Readings.{Wholes, IsPrefix, IsLongest, IsReading, IsRefusal}
-use Rattle.rn_inscript.specs.declared.fault.InscriptFault.{InscriptFault}
-use Rattle.rn_inscript.specs.declared.fault.InscriptFault.TheVariants as Fault
+use Rattle.rn_inscript.specs.Readings.{Wholes, IsPrefix, IsLongest, IsReading}
+use Rattle.rn_reading.specs.declared.fault.ReadFault.{ReadFault}
+use Rattle.rn_reading.specs.declared.fault.ReadFault.TheVariants as Fault
 use Rattle.rn_net.specs.Words.{semicolon}
-use Rattle.rn_net.specs.Levels.{Region, is_too_deep, after, begun_by, inscribed_from, is_semicolon, is_comma, open_after, region_after, IsShallow}
+use Rattle.rn_net.specs.Levels.{Region, is_too_deep, after, begun_by, inscribed_from, is_semicolon, is_comma, open_after, region_after, IsShallow, net_counting}
 use Rattle.rn_net.specs.Levels.Region.{between, inscribing}
-use Rattle.rn_net.specs.link.Progress.{Sort, Stage, Fails}
-use Rattle.rn_net.proofs.Steps.{alike-cons, take_all, stuck_all, far_all}
+use Rattle.rn_net.specs.link.Progress.{Stage, Fails, Refuses}
+use Rattle.rn_reading.specs.link.Stages.{Anything, Progress, IsStuck, IsTooFar}
+use Rattle.rn_reading.proofs.Steps.{append-nil, alike-cons, alike-append, count-append, within-append}
+use Rattle.rn_reading.proofs.Wholes.{split-at}
 use Rattle.rn_net.proofs.Fronts.{is_inside, Passes, AreInside}
 
-pub append-nil : (xs : List Token) → xs ++ [] ≡ xs
-append-nil [] = refl
-append-nil (x ∷ xs) = ap (λ us. x ∷ us) (append-nil xs)
+-- some tokens are taken at once
+take_all : {A : Type 0} {X Y : Phrases A} {start mid left : List Token} {first now last : Region} (Z : Sort A) (some : List Token) →
+    Progress net_counting Anything X start first Y mid now → mid ≡ some ++ left → IsShallow now some → region_after now some ≡ last →
+    ((ts : List Token) (e : A) (rest : List Token) → Z.is ts e rest → Y (some ++ ts) e rest) →
+    ((ts : List Token) (e : A) (rest : List Token) → BeginAlike left ts → Y (some ++ ts) e rest → Z.is ts e rest) →
+    Stage X start first Z left last
+take_all {X = X} {left = left} {first = first} Z some s parts small there on only = record {
+  taken = s.taken ++ some;
+  whole = s.whole ∙ ap (λ us. s.taken ++ us) parts ∙ sym (append_assoc s.taken some left);
+  on = λ ts e rest z. subst (λ us. X us e rest) (sym (append_assoc s.taken some ts)) (s.on (some ++ ts) e rest (on ts e rest z));
+  only = λ ts e rest alike follows x. only ts e rest alike (s.only (some ++ ts) e rest (subst (λ us. BeginAlike us (some ++ ts)) (sym parts) (alike-append some left ts alike)) follows (subst (λ us. X us e rest) (append_assoc s.taken some ts) x));
+  within = within-append net_counting first s.taken some s.within (subst (λ r. IsShallow r some) (sym s.count) small);
+  count = count-append net_counting first s.taken some ∙ ap (λ r. region_after r some) s.count ∙ there;
+}
+
+-- some tokens begin what is left, and with the next they don't
+stuck_all : {A : Type 0} {X Y : Phrases A} {start mid left : List Token} {first now : Region} (some : List Token) →
+    Progress net_counting Anything X start first Y mid now → mid ≡ some ++ left → IsShallow now some → CanEnd (λ ts. Y (some ++ ts)) →
+    ((ts : List Token) (e : A) (rest : List Token) → BeginAlike left ts → Y (some ++ ts) e rest → ⊥) →
+    IsStuck net_counting Anything X start first left
+stuck_all {X = X} {left = left} {first = first} some s parts small end none = record {
+  taken = s.taken ++ some;
+  whole = s.whole ∙ ap (λ us. s.taken ++ us) parts ∙ sym (append_assoc s.taken some left);
+  begins = (end.0, end.1, λ rest. subst (λ us. X us end.1 rest) (sym (append_assoc s.taken some (end.0 ++ rest))) (s.on (some ++ (end.0 ++ rest)) end.1 rest (end.2 rest)));
+  none = λ ts e rest alike follows x. none ts e rest alike (s.only (some ++ ts) e rest (subst (λ us. BeginAlike us (some ++ ts)) (sym parts) (alike-append some left ts alike)) follows (subst (λ us. X us e rest) (append_assoc s.taken some ts) x));
+  within = within-append net_counting first s.taken some s.within (subst (λ r. IsShallow r some) (sym s.count) small);
+}
+
+-- some tokens begin what is left, and the next can follow and is too deep
+far_all : {A : Type 0} {X Y : Phrases A} {start mid others : List Token} {first now : Region} {t : Token} (some : List Token) →
+    Progress net_counting Anything X start first Y mid now → mid ≡ some ++ t ∷ others → IsShallow now some → CanEnd (λ ts. Y (some ++ t ∷ ts)) →
+    is_too_deep (region_after now some) t.kind ≡ true →
+    IsTooFar net_counting X start first (t ∷ others)
+far_all {X = X} {others = others} {first = first} {t = t} some s parts small end far = record {
+  taken = s.taken ++ some;
+  token = t;
+  others = others;
+  next = refl;
+  whole = s.whole ∙ ap (λ us. s.taken ++ us) parts ∙ sym (append_assoc s.taken some (t ∷ others));
+  begins = (end.0, end.1, λ rest. subst (λ us. X us end.1 rest) (sym (append_assoc s.taken some (t ∷ (end.0 ++ rest)))) (s.on (some ++ t ∷ (end.0 ++ rest)) end.1 rest (end.2 rest)));
+  within = within-append net_counting first s.taken some s.within (subst (λ r. IsShallow r some) (sym s.count) small);
+  far = subst (λ r. is_too_deep r t.kind ≡ true) (ap (λ r. region_after r some) (sym s.count) ∙ sym (count-append net_counting first s.taken some)) far;
+}
 
 -- a comma or a semicolon
 abbrev pub IsOut : TokenKind → Type 0
@@ -46,17 +89,6 @@ same-depth p q = sym p.depth ∙ q.depth
 pub inside-back : (i j k : ℕ) (a b : List Token) → AreInside i j a → AreInside i k (a ++ b) → AreInside j k b
 inside-back i j k [] b x y = subst (λ n. AreInside n k b) x y
 inside-back i j k (t ∷ a) b x y = inside-back x.0 j k a b x.2 (subst (λ n. AreInside n k (a ++ b)) (same-depth y.1 x.1) y.2)
-
--- two lists that make the same list
-pub split-at : (a b c d : List Token) → a ++ b ≡ c ++ d → ((m : List Token) × (c ≡ a ++ m) × (b ≡ m ++ d)) ⊎ ((t : Token) × (m : List Token) × (a ≡ c ++ t ∷ m) × (d ≡ t ∷ m ++ b))
-split-at [] b c d is = inl (c, refl, is)
-split-at (x ∷ a) b [] d is = inr (x, a, refl, sym is)
-split-at (x ∷ a) b (y ∷ c) d is =
-    let here : x ≡ y = cc in
-    elim (split-at a b c d (let h : a ++ b ≡ c ++ d = cc in h)) [
-      | inl s ↦ inl (s.0, let e = s.1 in (ap (λ us. y ∷ us) e ∙ ap (λ v. v ∷ (a ++ s.0)) (sym here)), s.2)
-      | inr s ↦ inr (s.0, s.1, let e = s.2 in (ap (λ us. x ∷ us) e ∙ ap (λ v. v ∷ (c ++ s.0 ∷ s.1)) here), s.3)
-    ]
 
 -- where the first token stands that is in no phrase is given by the tokens
 pub unique : (i : ℕ) (p q : List Token) (u v : Token) (r s : List Token) → AreInside i 0 p → AreInside i 0 q → IsOut u.kind → IsOut v.kind → p ++ u ∷ r ≡ q ++ v ∷ s → (p ≡ q) × (u ∷ r ≡ v ∷ s)
@@ -220,9 +252,9 @@ opening-begins {W = W} {Next = Next} o taken p = let y = (Next (taken ++ p.0) p.
 )
 
 -- it isn't read
-pub opening_fails : {A B : Type 0} {Whole : Wholes A} {W : Sort B} {Z : Phrases B} {Next : List Token → A → Sort B} {start : List Token} {first now : Region} (o : Opening Whole W Next) (tokens : List Token) (at : ℕ) (e : InscriptFault) → at ≤ length tokens →
-    Stage Z start first W (drop at tokens) now → ((j : ℕ) (ts left : List Token) → drop at tokens ≡ ts ++ left → AreInside 0 j ts → Fresh now j ts) → IsRefusal Whole tokens at e → Fails Z start first (length tokens) e
-opening_fails {Whole = Whole} o tokens at (Fault.P2 k) inside s fresh x =
+pub opening_fails : {A B : Type 0} {Whole : Wholes A} {W : Sort B} {Z : Phrases B} {Next : List Token → A → Sort B} {start : List Token} {first now : Region} (o : Opening Whole W Next) (tokens : List Token) (at : ℕ) (e : ReadFault) → at ≤ length tokens →
+    Stage Z start first W (drop at tokens) now → ((j : ℕ) (ts left : List Token) → drop at tokens ≡ ts ++ left → AreInside 0 j ts → Fresh now j ts) → Refuses Whole tokens at e → Fails Z start first (length tokens) e
+opening_fails {Whole = Whole} o tokens at (Fault.Stopped k) inside s fresh x =
     let d = prefix-inside o x.taken x.longest.prefix in
     let f = fresh d.0 x.taken x.longest.left x.longest.parts d.1 in (
       x.longest.left,
@@ -232,7 +264,7 @@ opening_fails {Whole = Whole} o tokens at (Fault.P2 k) inside s fresh x =
           x.not_whole c.item (subst (λ us. Whole us c.item) same.0 c.whole)),
       index-is tokens at k x.taken x.longest.left inside x.longest.parts x.stops,
     )
-opening_fails {W = W} o tokens at (Fault.P5 k) inside s fresh x =
+opening_fails {W = W} o tokens at (Fault.TooFar k) inside s fresh x =
     let d = prefix-inside o (x.before ++ x.token ∷ []) x.prefix in
     let g = inside-front 0 d.0 x.before (x.token ∷ []) d.1 in
     let f = fresh g.0 x.before (x.token ∷ x.left) x.parts g.1 in

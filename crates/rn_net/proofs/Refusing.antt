@@ -1,100 +1,69 @@
--- No two reasons of a text differ.
-use Rattle.std.proofs.Common.{◌≡◌, ℕ, ◌<◌, ◌≤◌, inl, inr, List, [], ◌∷◌, ◌++◌, length, refl, sym, ◌∙◌, ap, subst, arith}
+-- A text is refused for one reason.
+use Rattle.std.proofs.Common.{◌≡◌, ℕ, ◌<◌, inl, inr, List, length, refl, sym, ◌∙◌, ap, subst, arith}
 use Rattle.std.specs.Prelude.{Result, Ok, Err, Option, Some, None, IfSome, IfNone}
 use Rattle.rn_notation.specs.Limits.{longest_net_text}
-use Rattle.rn_notation.specs.Spots.{spot_after}
 use Rattle.rn_notation.specs.Laws.{OneReading, OneFault, NoFaultInTokens}
 use Rattle.rn_notation.specs.Reading.{Tokens, FirstFault}
-use Rattle.rn_notation.specs.declared.token.Spot.{Spot}
 use Rattle.rn_notation.specs.declared.token.Token.{Token}
 use Rattle.rn_notation.specs.declared.token.LexFault.{LexFault}
+use Rattle.rn_notation.specs.declared.token.Lexed.{Lexed}
+use Rattle.rn_reading.specs.declared.fault.TextFault.{TextFault}
+use Rattle.rn_reading.specs.declared.fault.TextFault.TheVariants as Why
+use Rattle.rn_reading.proofs.Wholes.{IsTold, one_reason, same_tokens}
 use Rattle.rn_net.specs.declared.plain.Plain.{Plain}
 use Rattle.rn_net.specs.declared.refusal.Refusal.{Refusal}
 use Rattle.rn_net.specs.declared.refusal.Refusal.TheVariants as R
+use Rattle.rn_net.specs.Levels.{net_counting}
+use Rattle.rn_net.specs.Levels.Region.{between}
 use Rattle.rn_net.specs.Nets.{IsSystem}
-use Rattle.rn_net.specs.Refusals.{IsBeginning, IsStopped, IsDeep, AreFine, AreTokensOf, IsRefused, Answers, refusal_of}
-use Rattle.rn_net.specs.link.Answers.{Reason, Settles}
-use Rattle.rn_net.proofs.Openings.{append-nil, split-at}
-use Rattle.rn_net.proofs.Settling.{Ends, stopped-ends, deep-ends, not-on, ends-fine, spelled-alone, settled_read, unless_memory}
+use Rattle.rn_net.specs.Refusals.{IsText, IsStopped, IsDeep, AreFine, IsRefused, Answers}
+use Rattle.rn_net.specs.link.Answers.{report, answer_of}
+use Rattle.rn_net.proofs.Settling.{Explains, Settles, LexedOf, tokens_of, spelled-alone, text_read}
 
--- two tokens at which reading ends are one
-same-end : {tokens : List Token} {s t : Spot} (e : Ends tokens s) (f : Ends tokens t) → (e.before ≡ f.before) × (e.token ≡ f.token)
-same-end e f = elim (split-at e.before (e.token ∷ e.left) f.before (f.token ∷ f.left) (sym e.parts ∙ f.parts)) as (λ w. (e.before ≡ f.before) × (e.token ≡ f.token)) [
-  | inl g ↦ at g.0 g.1 g.2
-  | inr g ↦ absurd (not-on f g.1 e.before (g.2 ∙ ap (λ u. f.before ++ u ∷ g.1) (let h : g.0 ≡ f.token = let is = g.3 in cc in h)) e.begins e.within)
-]
+-- why a text is refused, said of what was lexed of it
+told-by : OneReading → OneFault → NoFaultInTokens → (bytes : List ℕ) (lexed : Lexed) (q : Refusal) → LexedOf bytes lexed → IsRefused bytes q → (why : TextFault) × (q ≡ report why) × IsTold why × Explains lexed why
+told-by one only apart bytes lexed q of x = by x
   where
-    at : (m : List Token) → f.before ≡ e.before ++ m → e.token ∷ e.left ≡ m ++ f.token ∷ f.left → (e.before ≡ f.before) × (e.token ≡ f.token)
-    at [] is next = (sym (is ∙ append-nil e.before), (let h : e.token ≡ f.token = let n = next in cc in h))
-    at (x ∷ m) is next = absurd (not-on e m f.before (is ∙ ap (λ u. e.before ++ u ∷ m) (let h : x ≡ e.token = let n = next in cc in h)) f.begins f.within)
+    faulty : (fault : Option LexFault) → IfNone fault (Tokens bytes lexed.tokens) → IfSome fault (FirstFault bytes lexed.tokens) → (ts : List Token) (f : LexFault) → FirstFault bytes ts f → (ts ≡ lexed.tokens) × (fault ≡ Some f)
+    faulty None none some ts f y = absurd (apart bytes lexed.tokens ts f none y)
+    faulty (Some g) none some ts f y = let same = only bytes ts lexed.tokens f g y some in (same.0, ap Some (sym same.1))
 
-both-stopped : {tokens : List Token} {s t : Spot} → IsStopped tokens s → IsStopped tokens t → s ≡ t
-unfolding stopped-ends
-both-stopped x y = x.stands ∙ ap (λ u. u.spot) (same-end (stopped-ends x) (stopped-ends y)).1 ∙ sym y.stands
+    whole : (fault : Option LexFault) → IfNone fault (Tokens bytes lexed.tokens) → IfSome fault (FirstFault bytes lexed.tokens) → (ts : List Token) → Tokens bytes ts → (ts ≡ lexed.tokens) × (fault ≡ None)
+    whole None none some ts y = (one bytes ts lexed.tokens y none, refl)
+    whole (Some g) none some ts y = absurd (apart bytes ts lexed.tokens g y some)
 
-both-deep : {tokens : List Token} {s t : Spot} → IsDeep tokens s → IsDeep tokens t → s ≡ t
-unfolding deep-ends
-both-deep x y = x.stands ∙ ap (λ u. u.spot) (same-end (deep-ends x) (deep-ends y)).1 ∙ sym y.stands
+    by : {q : Refusal} → IsRefused bytes q → (why : TextFault) × (q ≡ report why) × IsTold why × Explains lexed why
+    by (IsRefused.too_long h) = absurd (let f = of.fits in omega (arith, h, f))
+    by (IsRefused.stopped {tokens = ts} {spot = spot} h is y) = (Why.Stopped spot, refl, tt, inl (subst (λ us. IsStopped us spot) (same_tokens one only apart bytes ts lexed.tokens is (tokens_of of)) y))
+    by (IsRefused.deep {tokens = ts} {spot = spot} h is y) = (Why.TooFar spot, refl, tt, subst (λ us. IsDeep us spot) (same_tokens one only apart bytes ts lexed.tokens is (tokens_of of)) y)
+    by (IsRefused.faulty {tokens = ts} {fault = f} h y z) = let same = faulty lexed.fault of.tokens of.fault ts f y in (Why.Lexical f, refl, tt, (same.1, subst AreFine same.0 z))
+    by (IsRefused.unfinished {tokens = ts} h y z none) = let same = whole lexed.fault of.tokens of.fault ts y in
+        (Why.Stopped lexed.end, ap R.P2 (sym of.end), tt, inr (same.1, refl, subst AreFine same.0 z, λ p x. none p (subst (λ us. IsSystem us p) (sym same.0) x.0)))
 
-not-both : {tokens : List Token} {s t : Spot} → IsStopped tokens s → IsDeep tokens t → ⊥
-unfolding stopped-ends deep-ends
-not-both x y = let same = same-end (stopped-ends x) (deep-ends y) in
-    x.none (subst (λ us. IsBeginning (us ++ x.token ∷ [])) (sym same.0) (subst (λ u. IsBeginning (y.before ++ u ∷ [])) (sym same.1) y.begins))
+-- an answer is this one unless memory ran out
+unless-memory : (q : Refusal) (expected : Result Plain Refusal) → Err q ≡ expected → Answers (Err q) expected
+unless-memory (R.P1 s) expected x = x
+unless-memory (R.P2 s) expected x = x
+unless-memory (R.P3 s) expected x = x
+unless-memory (R.P4 s) expected x = x
+unless-memory (R.P5 s) expected x = x
+unless-memory (R.P6 s) expected x = x
+unless-memory (R.P7 s) expected x = x
+unless-memory (R.NoMemory _) expected x = tt
 
--- tokens with what comes after them are refused for one reason
-one-reason : (tokens : List Token) (fault : Option LexFault) (end : Spot) (r q : Refusal) → Reason tokens fault end r → Reason tokens fault end q → r ≡ q
-one-reason tokens fault end r q (inl x) (inl y) = x.1 ∙ ap R.P2 (both-stopped x.2 y.2) ∙ sym y.1
-one-reason tokens fault end r q (inl x) (inr (inl y)) = absurd (not-both x.2 y.2)
-one-reason tokens fault end r q (inl x) (inr (inr (inl y))) = absurd (ends-fine (stopped-ends x.2) y.3)
-one-reason tokens fault end r q (inl x) (inr (inr (inr y))) = absurd (ends-fine (stopped-ends x.2) y.2)
-one-reason tokens fault end r q (inr (inl x)) (inl y) = absurd (not-both y.2 x.2)
-one-reason tokens fault end r q (inr (inl x)) (inr (inl y)) = x.1 ∙ ap R.P5 (both-deep x.2 y.2) ∙ sym y.1
-one-reason tokens fault end r q (inr (inl x)) (inr (inr (inl y))) = absurd (ends-fine (deep-ends x.2) y.3)
-one-reason tokens fault end r q (inr (inl x)) (inr (inr (inr y))) = absurd (ends-fine (deep-ends x.2) y.2)
-one-reason tokens fault end r q (inr (inr (inl x))) (inl y) = absurd (ends-fine (stopped-ends y.2) x.3)
-one-reason tokens fault end r q (inr (inr (inl x))) (inr (inl y)) = absurd (ends-fine (deep-ends y.2) x.3)
-one-reason tokens fault end r q (inr (inr (inl x))) (inr (inr (inl y))) = x.2 ∙ ap refusal_of (let h : x.0 ≡ y.0 = let a = x.1 in let b = y.1 in cc in h) ∙ sym y.2
-one-reason tokens fault end r q (inr (inr (inl x))) (inr (inr (inr y))) = absurd (let a = x.1 in let b = y.0 in cc)
-one-reason tokens fault end r q (inr (inr (inr x))) (inl y) = absurd (ends-fine (stopped-ends y.2) x.2)
-one-reason tokens fault end r q (inr (inr (inr x))) (inr (inl y)) = absurd (ends-fine (deep-ends y.2) x.2)
-one-reason tokens fault end r q (inr (inr (inr x))) (inr (inr (inl y))) = absurd (let a = x.0 in let b = y.1 in cc)
-one-reason tokens fault end r q (inr (inr (inr x))) (inr (inr (inr y))) = x.1 ∙ sym y.1
-
--- the tokens up to the first fault are one list
-same-list : OneReading → OneFault → NoFaultInTokens → (bytes : List ℕ) (s t : List Token) → AreTokensOf bytes s → AreTokensOf bytes t → s ≡ t
-same-list one only apart bytes s t (inl x) (inl y) = one bytes s t x y
-same-list one only apart bytes s t (inl x) (inr y) = absurd (apart bytes s t y.0 x y.1)
-same-list one only apart bytes s t (inr x) (inl y) = absurd (apart bytes t s x.0 y x.1)
-same-list one only apart bytes s t (inr x) (inr y) = (only bytes s t x.0 y.0 x.1 y.1).0
-
-lexed-of : {bytes : List ℕ} {tokens : List Token} (fault : Option LexFault) → IfNone fault (Tokens bytes tokens) → IfSome fault (FirstFault bytes tokens) → AreTokensOf bytes tokens
-lexed-of None none some = inl none
-lexed-of (Some f) none some = inr (f, some)
-
--- why a text is refused, said of its tokens and of its first fault
-reason-of : OneReading → OneFault → NoFaultInTokens → (bytes : List ℕ) (tokens : List Token) (fault : Option LexFault) (end : Spot) (q : Refusal) → length bytes ≤ longest_net_text → IfNone fault (Tokens bytes tokens) → IfSome fault (FirstFault bytes tokens) → end ≡ spot_after bytes →
-    IsRefused bytes q → Reason tokens fault end q
-reason-of one only apart bytes tokens fault end q fits none some there x = by x
+pub text_refuses : OneReading → OneFault → NoFaultInTokens → (bytes : List ℕ) (lexed : Lexed) (text : Result Plain TextFault) → LexedOf bytes lexed → Settles lexed text → (q : Refusal) → IsRefused bytes q → Answers (answer_of text) (Err q)
+text_refuses one only apart bytes lexed (Ok p) of s q x = absurd (spelled-alone one only apart (text_read bytes lexed (Ok p) of s) x)
+text_refuses one only apart bytes lexed (Err why) of s q x = by why s
   where
-    faulty : (fault : Option LexFault) → IfNone fault (Tokens bytes tokens) → IfSome fault (FirstFault bytes tokens) → (ts : List Token) (f : LexFault) → FirstFault bytes ts f → (ts ≡ tokens) × (fault ≡ Some f)
-    faulty None none some ts f y = absurd (apart bytes tokens ts f none y)
-    faulty (Some g) none some ts f y = let same = only bytes ts tokens f g y some in (same.0, ap Some (sym same.1))
+    same : (why : TextFault) → IsTold why → Explains lexed why → Answers (Err (report why)) (Err q)
+    same why told s = let t = told-by one only apart bytes lexed q of x in
+        unless-memory (report why) (Err q) (ap Err (ap report (one_reason net_counting between IsText lexed why t.0 told t.2 s t.3) ∙ sym t.1))
 
-    whole : (fault : Option LexFault) → IfNone fault (Tokens bytes tokens) → IfSome fault (FirstFault bytes tokens) → (ts : List Token) → Tokens bytes ts → (ts ≡ tokens) × (fault ≡ None)
-    whole None none some ts y = (one bytes ts tokens y none, refl)
-    whole (Some g) none some ts y = absurd (apart bytes ts tokens g y some)
-
-    by : {q : Refusal} → IsRefused bytes q → Reason tokens fault end q
-    by (IsRefused.too_long h) = absurd (omega (arith, h, fits))
-    by (IsRefused.stopped {tokens = ts} {spot = spot} h of y) = inl (spot, refl, subst (λ us. IsStopped us spot) (same-list one only apart bytes ts tokens of (lexed-of fault none some)) y)
-    by (IsRefused.deep {tokens = ts} {spot = spot} h of y) = inr (inl (spot, refl, subst (λ us. IsDeep us spot) (same-list one only apart bytes ts tokens of (lexed-of fault none some)) y))
-    by (IsRefused.faulty {tokens = ts} {fault = f} h y z) = let same = faulty fault none some ts f y in inr (inr (inl (f, same.1, refl, subst AreFine same.0 z)))
-    by (IsRefused.unfinished {tokens = ts} h y z none_reads) = let same = whole fault none some ts y in inr (inr (inr (same.1, ap R.P2 (sym there), subst AreFine same.0 z, subst (λ us. (p : Plain) → IsSystem us p → ⊥) same.0 none_reads)))
-
-pub settled_refuses : OneReading → OneFault → NoFaultInTokens → (bytes : List ℕ) (tokens : List Token) (fault : Option LexFault) (end : Spot) (r : Result Plain Refusal) → length bytes ≤ longest_net_text → IfNone fault (Tokens bytes tokens) → IfSome fault (FirstFault bytes tokens) → end ≡ spot_after bytes →
-    Settles tokens fault end r → (q : Refusal) → IsRefused bytes q → Answers r (Err q)
-settled_refuses one only apart bytes tokens fault end (Ok p) fits none some there s q x = absurd (spelled-alone one only apart (settled_read bytes tokens fault end (Ok p) fits none s) x)
-settled_refuses one only apart bytes tokens fault end (Err r) fits none some there s q x = unless_memory {tokens = tokens} {fault = fault} {end = end} r (Err q) (λ y. ap Err (one-reason tokens fault end r q y (reason-of one only apart bytes tokens fault end q fits none some there x))) s
+    by : (why : TextFault) → Explains lexed why → Answers (Err (report why)) (Err q)
+    by (Why.Stopped y) s = same (Why.Stopped y) tt s
+    by (Why.TooFar y) s = same (Why.TooFar y) tt s
+    by (Why.Lexical f) s = same (Why.Lexical f) tt s
+    by (Why.NoMemory _) s = tt
 
 pub long_refuses : (bytes : List ℕ) → longest_net_text < length bytes → (q : Refusal) → IsRefused bytes q → Answers (Err (R.P6 (record { line = 1; column = 1 }))) (Err q)
 long_refuses bytes long q x = by x

@@ -5,14 +5,18 @@ use Rattle.rn_notation.specs.declared.token.Spot.{Spot}
 use Rattle.rn_notation.specs.declared.token.Token.{Token}
 use Rattle.rn_notation.specs.declared.token.TokenKind.{TokenKind}
 use Rattle.rn_notation.specs.declared.token.TokenKind.TheVariants.{Sign}
+use Rattle.rn_reading.specs.Phrases.{Phrases, Then, Done}
+use Rattle.rn_reading.specs.link.Stages.{BeginAlike, Sort, done}
 use Rattle.rn_inscript.specs.Signs.{comma}
-use Rattle.rn_inscript.specs.link.Stages.{Phrases, Then, Done, Takes, BeginAlike, IsClose}
+use Rattle.rn_inscript.specs.link.Stages.{Takes, IsClose}
 use Rattle.rn_inscript.specs.link.NextNames.{IsNotNextKind}
 use Rattle.rn_net.specs.Levels.{Region, is_too_deep, after}
 use Rattle.rn_net.specs.Levels.Region.{declaring}
-use Rattle.rn_net.specs.link.Progress.{Sort, Stage, done, HasNext}
-use Rattle.rn_net.proofs.Steps.{alike-cons, begin, change}
-use Rattle.rn_net.proofs.Sorts.{any, WithKind, kind_then, then, kind_read, next_is}
+use Rattle.rn_net.specs.link.Progress.{Stage, HasNext}
+use Rattle.rn_reading.proofs.Sorts.{any, and_then}
+use Rattle.rn_reading.proofs.Steps.{alike-cons}
+use Rattle.rn_net.proofs.Sorts.{WithKind, kind_then, kind_read, next_is}
+use Rattle.rn_net.proofs.Steps.{begin, change}
 
 pub record Row {A : Type 0} (Item : Sort A) (Are : Phrases (List A)) (More : List A → Phrases (List A)) : Type 0 where
   pub nothing : (all : List A) (ts : List Token) → More all ts all ts
@@ -46,8 +50,8 @@ row_up_to {Item = Item} {Are = Are} r close = record {
 }
 
 pub row_first : {A : Type 0} {Item : Sort A} {Are : Phrases (List A)} {More : List A → Phrases (List A)} (r : Row Item Are More) (close : TokenKind) (start : List Token) (first : Region) →
-    Stage (row_up_to r close).is start first (then Item (λ e. row_on r close (e ∷ []))) start first
-row_first {Item = Item} r close start first = begin (then Item (λ e. row_on r close (e ∷ []))) start first
+    Stage (row_up_to r close).is start first (and_then Item (λ e. row_on r close (e ∷ []))) start first
+row_first {Item = Item} r close start first = begin (and_then Item (λ e. row_on r close (e ∷ []))) start first
     (λ ts e rest x. (x.3.0, x.3.1, r.join x.2 x.3.2, x.3.3))
     (λ ts e rest alike x. let p = r.part x.2 in (p.0, p.1, p.2, (x.0, x.1, p.3, x.3)))
 
@@ -55,12 +59,12 @@ row_first {Item = Item} r close start first = begin (then Item (λ e. row_on r c
 pub row_comma_from : {A : Type 0} {Item : Sort A} {Are : Phrases (List A)} {More : List A → Phrases (List A)} {X : Phrases (List A)} {start : List Token} {first now : Region} {spot : Spot} {all : List A}
     (r : Row Item Are More) (close : TokenKind) (tokens : List Token) (at next : ℕ) (last : Region) → (close ≡ comma → ⊥) →
     Stage X start first (row_on r close all) (drop at tokens) now → HasNext tokens at comma spot → next ≡ at + 1 → is_too_deep now comma ≡ false → after now comma ≡ last →
-    Stage X start first (then Item (λ e. row_on r close (all ++ e ∷ []))) (drop next tokens) last
+    Stage X start first (and_then Item (λ e. row_on r close (all ++ e ∷ []))) (drop next tokens) last
 row_comma_from {Item = Item} {More = More} {all = all} r close tokens at next last other s here there small there_now =
-    kind_read (λ spot. then Item (λ e. row_on r close (all ++ e ∷ []))) tokens at next last
-    (change (kind_then comma (λ spot. then Item (λ e. row_on r close (all ++ e ∷ [])))) s
+    kind_read (λ spot. and_then Item (λ e. row_on r close (all ++ e ∷ []))) tokens at next last
+    (change (kind_then comma (λ spot. and_then Item (λ e. row_on r close (all ++ e ∷ [])))) s
     (λ ts e rest x. (x.4.3.0, x.4.3.1, subst (λ us. More all us x.4.3.0 x.4.3.1) (sym x.2) (r.on x.3 x.4.2 x.4.3.2), x.4.3.3))
-    (λ ts e rest alike x. elim (r.split x.2) as (λ w. WithKind comma (λ spot. (then Item (λ e. row_on r close (all ++ e ∷ []))).is) ts e rest) [
+    (λ ts e rest alike x. elim (r.split x.2) as (λ w. WithKind comma (λ spot. (and_then Item (λ e. row_on r close (all ++ e ∷ []))).is) ts e rest) [
       | inl d ↦ absurd (other (sym x.3.2 ∙ next_is tokens at x.3.0 rest here alike (sym d.1 ∙ x.3.1)))
       | inr g ↦ (g.0, g.1, g.2, g.3, (g.4.0, g.4.1, g.4.2, (x.0, x.1, g.4.3, x.3)))
     ]))
@@ -69,7 +73,7 @@ row_comma_from {Item = Item} {More = More} {all = all} r close tokens at next la
 pub row_comma : {A : Type 0} {Item : Sort A} {Are : Phrases (List A)} {More : List A → Phrases (List A)} {X : Phrases (List A)} {start : List Token} {first : Region} {n : ℕ} {spot : Spot} {all : List A}
     (r : Row Item Are More) (close : TokenKind) (tokens : List Token) (at next : ℕ) → (close ≡ comma → ⊥) →
     Stage X start first (row_on r close all) (drop at tokens) (declaring n) → HasNext tokens at comma spot → next ≡ at + 1 →
-    Stage X start first (then Item (λ e. row_on r close (all ++ e ∷ []))) (drop next tokens) (declaring n)
+    Stage X start first (and_then Item (λ e. row_on r close (all ++ e ∷ []))) (drop next tokens) (declaring n)
 row_comma {n = n} r close tokens at next other s here there = row_comma_from r close tokens at next (declaring n) other s here there refl refl
 
 -- no comma is next

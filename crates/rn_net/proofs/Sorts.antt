@@ -1,22 +1,22 @@
 -- Sorts of phrases made of others, and the steps along them.
-use Rattle.std.proofs.Common.{◌≡◌, ℕ, ℤ, ◌+◌, ◌≤◌, true, false, List, [], ◌∷◌, ◌++◌, length, drop, refl, sym, ◌∙◌, ap, subst, append_assoc, pos}
+use Rattle.std.proofs.Common.{◌≡◌, ℕ, ℤ, ◌+◌, ◌≤◌, true, false, List, [], ◌∷◌, ◌++◌, length, drop, refl, sym, ◌∙◌, ap, subst, pos}
 use Rattle.rn_notation.specs.declared.token.Spot.{Spot}
 use Rattle.rn_notation.specs.declared.token.Token.{Token}
 use Rattle.rn_notation.specs.declared.token.TokenKind.{TokenKind}
 use Rattle.rn_notation.specs.declared.token.TokenKind.TheVariants.{Name, Word, Number, Text, Sign}
-use Rattle.rn_inscript.specs.declared.fault.InscriptFault.{InscriptFault}
-use Rattle.rn_inscript.specs.declared.fault.InscriptFault.TheVariants as Fault
+use Rattle.rn_reading.specs.declared.fault.ReadFault.{ReadFault}
+use Rattle.rn_reading.specs.declared.fault.ReadFault.TheVariants as Fault
+use Rattle.rn_reading.specs.Phrases.{Phrases, Done}
+use Rattle.rn_reading.specs.link.Stages.{BeginAlike, Sort}
 use Rattle.rn_inscript.specs.declared.inscriptions.PName.{PName}
 use Rattle.rn_inscript.specs.Inscriptions.{name_at}
-use Rattle.rn_inscript.specs.link.Stages.{Phrases, Then, Done, BeginAlike}
 use Rattle.rn_inscript.specs.link.NextNames.{IsNotNextKind, IsNextName, IsNoName}
-use Rattle.rn_net.specs.Levels.{Region, is_too_deep, after}
-use Rattle.rn_net.specs.link.Progress.{Sort, Stage, Fails, done, HasNext, IsNoNumber}
-use Rattle.rn_net.proofs.Steps.{alike-cons, change, take, stuck, too_far, inner, inner_fails}
-
--- a token of a kind, wherever it stands
-abbrev pub any : TokenKind → Token
-any kind = record { kind = kind; start = 0; end = 0; spot = record { line = 1; column = 1 } }
+use Rattle.rn_net.specs.Levels.{Region, is_too_deep, after, net_counting}
+use Rattle.rn_net.specs.link.Progress.{Stage, Fails, HasNext, IsNoNumber}
+use Rattle.rn_reading.specs.link.Stages.{Anything}
+use Rattle.rn_reading.proofs.Steps.{alike-cons, too_far}
+use Rattle.rn_reading.proofs.Sorts.{any}
+use Rattle.rn_net.proofs.Steps.{change, take, stuck}
 
 -- phrases that begin with a token of a kind, or with a name
 abbrev pub WithKind : {A : Type 0} → TokenKind → (Spot → Phrases A) → Phrases A
@@ -35,11 +35,6 @@ abbrev pub name_then : {A : Type 0} → (PName → Sort A) → Sort A
 name_then Y = let y = (Y (name_at (any (Name [])).spot [])).ends in
     record { is = WithName (λ p. (Y p).is); ends = (any (Name []) ∷ y.0, y.1, λ rest. (any (Name []), y.0 ++ rest, [], refl, refl, y.2 rest)) }
 
--- a phrase, and then one that may depend on it
-abbrev pub then : {A B : Type 0} → Sort A → (A → Sort B) → Sort B
-then X Y = let y = (Y X.ends.1).ends in
-    record { is = Then X.is (λ a. (Y a).is); ends = (X.ends.0 ++ y.0, y.1, λ rest. (X.ends.1, y.0 ++ rest, subst (λ us. X.is us X.ends.1 (y.0 ++ rest)) (sym (append_assoc X.ends.0 y.0 rest)) (X.ends.2 (y.0 ++ rest)), y.2 rest)) }
-
 -- the token of the kind is next
 pub kind_read : {A : Type 0} {X : Phrases A} {start : List Token} {first now : Region} {kind : TokenKind} {spot : Spot} (Y : Spot → Sort A) (tokens : List Token) (at next : ℕ) (last : Region) →
     Stage X start first (kind_then kind Y) (drop at tokens) now → HasNext tokens at kind spot → next ≡ at + 1 →
@@ -57,17 +52,17 @@ kind_read {X = X} {start = start} {first = first} {now = now} {kind = kind} {spo
 -- another token is next, or none
 pub kind_stuck : {A : Type 0} {X : Phrases A} {start : List Token} {first now : Region} {kind : TokenKind} (Y : Spot → Sort A) (tokens : List Token) (at : ℕ) →
     Stage X start first (kind_then kind Y) (drop at tokens) now → at ≤ length tokens → IsNotNextKind tokens at kind →
-    Fails X start first (length tokens) (Fault.P2 at)
-kind_stuck Y tokens at s inside other = stuck tokens at s inside (λ ts e rest alike x.
+    Fails X start first (length tokens) (Fault.Stopped at)
+kind_stuck {kind = kind} Y tokens at s inside other = stuck (kind_then kind Y) tokens at s inside (λ ts e rest alike x.
     let next = alike-cons (drop at tokens) x.0 x.1 (subst (λ us. BeginAlike (drop at tokens) us) x.2 alike) in other x.0 next.0 next.1 x.3)
 
 -- the token of the kind is next, and too deep
 pub kind_far : {A : Type 0} {X : Phrases A} {start : List Token} {first now : Region} {kind : TokenKind} {spot : Spot} (Y : Spot → Sort A) (tokens : List Token) (at : ℕ) →
     Stage X start first (kind_then kind Y) (drop at tokens) now → HasNext tokens at kind spot → is_too_deep now kind ≡ true →
-    Fails X start first (length tokens) (Fault.P5 at)
+    Fails X start first (length tokens) (Fault.TooFar at)
 kind_far {now = now} Y tokens at s here deep =
     let y = (Y here.0.spot).ends in
-    too_far tokens at s here.1 (y.0, y.1, λ rest. (here.0, y.0 ++ rest, refl, here.2, y.2 rest)) (subst (λ k. is_too_deep now k ≡ true) (sym here.2) deep)
+    too_far net_counting Anything tokens at s here.1 (y.0, y.1, λ rest. (here.0, y.0 ++ rest, refl, here.2, y.2 rest)) (subst (λ k. is_too_deep now k ≡ true) (sym here.2) deep)
 
 -- a name is next, or none
 pub name_read : {A : Type 0} {X : Phrases A} {start : List Token} {first now : Region} (Y : PName → Sort A) (tokens : List Token) (at next : ℕ) (last : Region) (name : PName) →
@@ -82,23 +77,14 @@ name_read {X = X} {start = start} {first = first} {now = now} Y tokens at next l
     (λ ts e rest alike x. subst (λ us. (Y name).is us e rest) (let h : x.1 ≡ ts = let d = x.3 in cc in h)
     (subst (λ p. (Y p).is x.1 e rest) (let h : name_at x.0.spot x.2 ≡ name_at here.0.spot here.1 = let d = x.3 in let f = x.4 in let g = here.3 in cc in h ∙ sym here.4) x.5))))
 
-pub name_fails : {A : Type 0} {X : Phrases A} {start : List Token} {first now : Region} (Y : PName → Sort A) (tokens : List Token) (at : ℕ) (e : InscriptFault) →
+pub name_fails : {A : Type 0} {X : Phrases A} {start : List Token} {first now : Region} (Y : PName → Sort A) (tokens : List Token) (at : ℕ) (e : ReadFault) →
     Stage X start first (name_then Y) (drop at tokens) now → at ≤ length tokens → IsNoName tokens at e →
     Fails X start first (length tokens) e
-name_fails {X = X} {start = start} {first = first} Y tokens at (Fault.P2 k) s inside bad =
-    subst (λ x. Fails X start first (length tokens) (Fault.P2 x)) (sym bad.1) (stuck tokens at s inside (λ ts e rest alike x.
+name_fails {X = X} {start = start} {first = first} Y tokens at (Fault.Stopped k) s inside bad =
+    subst (λ x. Fails X start first (length tokens) (Fault.Stopped x)) (sym bad.1) (stuck (name_then Y) tokens at s inside (λ ts e rest alike x.
     let next = alike-cons (drop at tokens) x.0 x.1 (subst (λ us. BeginAlike (drop at tokens) us) x.3 alike) in bad.0 x.0 next.0 x.2 next.1 x.4))
-name_fails Y tokens at (Fault.P5 k) s inside bad = absurd bad
+name_fails Y tokens at (Fault.TooFar k) s inside bad = absurd bad
 name_fails Y tokens at (Fault.NoMemory _) s inside bad = tt
-
--- a phrase is read, or fails
-pub then_read : {A B : Type 0} (X : Sort A) {Z : Phrases B} {start mid left : List Token} {first now last : Region} {a : A} (Y : A → Sort B) →
-    Stage Z start first (then X Y) mid now → Stage X.is mid now (done a) left last → Stage Z start first (Y a) left last
-then_read X Y s p = inner Y s (λ ts e rest x. x) (λ ts e rest x. x) p
-
-pub then_fails : {A B : Type 0} (X : Sort A) {Z : Phrases B} {start mid : List Token} {first now : Region} (Y : A → Sort B) (total : ℕ) (e : InscriptFault) →
-    Stage Z start first (then X Y) mid now → Fails X.is mid now total e → Fails Z start first total e
-then_fails X Y total e s f = inner_fails Y total e s (λ ts e rest x. x) (λ ts e rest x. x) f
 
 -- what is read is done
 pub from_done : {A : Type 0} (X : A → List Token → Type 0) {a e : A} {mid rest : List Token} → Done a mid e rest → X a mid → X e rest
@@ -142,6 +128,6 @@ number_read {n = n} Y tokens at next last s here there small there_now = kind_re
 
 pub number_stuck : {A : Type 0} {X : Phrases A} {start : List Token} {first now : Region} (Y : Spot → ℤ → Sort A) (tokens : List Token) (at : ℕ) →
     Stage X start first (number_then Y) (drop at tokens) now → at ≤ length tokens → IsNoNumber tokens at →
-    Fails X start first (length tokens) (Fault.P2 at)
-number_stuck Y tokens at s inside other = stuck tokens at s inside (λ ts e rest alike x.
+    Fails X start first (length tokens) (Fault.Stopped at)
+number_stuck Y tokens at s inside other = stuck (number_then Y) tokens at s inside (λ ts e rest alike x.
     let next = alike-cons (drop at tokens) x.0 x.1 (subst (λ us. BeginAlike (drop at tokens) us) x.3 alike) in other x.0 next.0 x.2 next.1 x.4)

@@ -2,22 +2,22 @@
 use Rattle.std.proofs.Common.{◌≡◌, ℕ, ◌<◌, ◌⊎◌, inl, inr, true, List, [], ◌∷◌, ◌++◌, length, drop, refl, sym, ◌∙◌, ap, subst, append_assoc, arith}
 use Rattle.std.proofs.lemmas.List.{length-append, length-drop}
 use Rattle.rn_notation.specs.declared.token.Token.{Token}
-use Rattle.rn_inscript.specs.link.Stages.{BeginAlike, CanEnd}
-use Rattle.rn_inscript.specs.declared.fault.InscriptFault.{InscriptFault}
-use Rattle.rn_inscript.specs.declared.fault.InscriptFault.TheVariants as Fault
+use Rattle.rn_reading.specs.link.Stages.{BeginAlike, CanEnd, done}
+use Rattle.rn_reading.specs.declared.fault.ReadFault.{ReadFault}
+use Rattle.rn_reading.specs.declared.fault.ReadFault.TheVariants as Fault
 use Rattle.rn_net.specs.declared.plain.Plain.{Plain}
 use Rattle.rn_net.specs.declared.part.Item.{Item}
-use Rattle.rn_net.specs.Levels.{IsShallow, region_after, is_too_deep}
+use Rattle.rn_net.specs.Levels.{IsShallow, region_after, is_too_deep, net_counting}
 use Rattle.rn_net.specs.Levels.Region.{between}
 use Rattle.rn_net.specs.Nets.{AreItems, IsSystem}
 use Rattle.rn_net.specs.link.Parts.{IsItem, with_item}
-use Rattle.rn_net.specs.link.Progress.{Stage, Fails, done}
+use Rattle.rn_net.specs.link.Progress.{Stage, Fails}
 use Rattle.rn_net.specs.Refusals.{IsBeginning}
 use Rattle.rn_net.specs.link.Answers.{Top, Ends, IsBare}
 use Rattle.rn_net.specs.Words.{notation_name, channel_word, net_word}
-use Rattle.rn_net.proofs.Steps.{alike-append, region-append, shallow-append}
-use Rattle.rn_net.proofs.NetPhrases.{item-begins}
+use Rattle.rn_reading.proofs.Steps.{alike-append, count-append, within-append}
 use Rattle.rn_net.proofs.Sorts.{tell_apart}
+use Rattle.rn_net.proofs.NetPhrases.{item-begins}
 
 pub items-on : {ts mid : List Token} (i : Item) {p e : Plain} → IsItem p.notation ts i mid → AreItems p.notation (with_item p i) mid e → AreItems p.notation p ts e
 items-on (Item.Channel channel) x rest = AreItems.and_channel x rest
@@ -61,10 +61,10 @@ top_read {tokens = tokens} {mid = mid} {left = left} {p = p} {i = i} s x = recor
       let z = s.only (x.taken ++ ts) e (subst (λ us. BeginAlike us (x.taken ++ ts)) (sym x.whole) (alike-append x.taken left ts alike)) (subst (λ us. IsSystem us e) (append_assoc s.taken x.taken ts) y) in
       kept-back i (elim (items-split p.notation {p = p} {e = e} {ts = x.taken ++ ts} z) as (λ w. AreItems p.notation (with_item p i) ts e) [
         | inl d ↦ absurd (no-item p.notation i ts (subst (λ us. IsItem p.notation us i ts) d.0 (x.on ts i ts (refl, refl))))
-        | inr g ↦ let d = x.only ts g.0 g.1 alike g.2 in subst (λ us. AreItems p.notation (with_item p i) us e) d.1 (subst (λ j. AreItems p.notation (with_item p j) g.1 e) d.0 g.3)
+        | inr g ↦ let d = x.only ts g.0 g.1 alike tt g.2 in subst (λ us. AreItems p.notation (with_item p i) us e) d.1 (subst (λ j. AreItems p.notation (with_item p j) g.1 e) d.0 g.3)
       ]);
-  within = shallow-append between s.taken x.taken s.within (subst (λ r. IsShallow r x.taken) (sym s.count) x.within);
-  count = region-append between s.taken x.taken ∙ ap (λ r. region_after r x.taken) s.count ∙ x.count;
+  within = within-append net_counting between s.taken x.taken s.within (subst (λ r. IsShallow r x.taken) (sym s.count) x.within);
+  count = count-append net_counting between s.taken x.taken ∙ ap (λ r. region_after r x.taken) s.count ∙ x.count;
 }
   where
     kept : {ts : List Token} {e : Plain} (i : Item) → AreItems (with_item p i).notation (with_item p i) ts e → AreItems p.notation (with_item p i) ts e
@@ -89,12 +89,15 @@ begins-with {p = p} s ts end =
     let item : IsItem p.notation (ts ++ (end.0 ++ [])) end.1 [] = end.2 [] in (
       end.0 ++ [],
       with_item p end.1,
-      subst (λ us. IsSystem us (with_item p end.1)) (sym (append_assoc s.taken ts (end.0 ++ [])))
-          (s.on (ts ++ (end.0 ++ [])) (with_item p end.1) (λ e. no-item p.notation end.1 [] (subst (λ us. IsItem p.notation us end.1 []) e item)) (items-on end.1 item AreItems.no_more_items)),
+      (
+        subst (λ us. IsSystem us (with_item p end.1)) (sym (append_assoc s.taken ts (end.0 ++ [])))
+            (s.on (ts ++ (end.0 ++ [])) (with_item p end.1) (λ e. no-item p.notation end.1 [] (subst (λ us. IsItem p.notation us end.1 []) e item)) (items-on end.1 item AreItems.no_more_items)),
+        refl,
+      ),
     )
 
-pub top_fails : {tokens mid : List Token} {p : Plain} (e : InscriptFault) → IsBare tokens mid → Top tokens mid p → Fails (IsItem p.notation) mid between (length tokens) e → Ends tokens e
-top_fails {tokens = tokens} {mid = mid} {p = p} (Fault.P2 k) bare s f = let x = f.1 in record {
+pub top_fails : {tokens mid : List Token} {p : Plain} (e : ReadFault) → IsBare tokens mid → Top tokens mid p → Fails (IsItem p.notation) mid between (length tokens) e → Ends tokens e
+top_fails {tokens = tokens} {mid = mid} {p = p} (Fault.Stopped k) bare s f = let x = f.1 in record {
   before = s.taken ++ x.taken;
   left = f.0;
   parts = parts;
@@ -107,22 +110,22 @@ top_fails {tokens = tokens} {mid = mid} {p = p} (Fault.P2 k) bare s f = let x = 
             let none : ts ≡ [] = nothing x.taken ts d.0 in
             let same : f.0 ≡ ts = ends none ∙ sym none in
             bare (x.whole ∙ ap (λ us. x.taken ++ us) same ∙ d.0) e (subst (λ us. IsSystem us e) (ap (λ us. (s.taken ++ x.taken) ++ us) (sym same) ∙ sym parts) y)
-        | inr g ↦ x.none ts g.0 g.1 alike g.2
+        | inr g ↦ x.none ts g.0 g.1 alike tt g.2
       ];
-  within = shallow-append between s.taken x.taken s.within (subst (λ r. IsShallow r x.taken) (sym s.count) x.within);
+  within = within-append net_counting between s.taken x.taken s.within (subst (λ r. IsShallow r x.taken) (sym s.count) x.within);
 }
   where
     parts : tokens ≡ (s.taken ++ f.1.taken) ++ f.0
     parts = s.whole ∙ ap (λ us. s.taken ++ us) f.1.whole ∙ sym (append_assoc s.taken f.1.taken f.0)
-top_fails {tokens = tokens} {mid = mid} {p = p} (Fault.P5 k) bare s f = let x = f.1 in record {
+top_fails {tokens = tokens} {mid = mid} {p = p} (Fault.TooFar k) bare s f = let x = f.1 in record {
   before = s.taken ++ x.taken;
   token = x.token;
   left = x.others;
   parts = parts ∙ ap (λ us. (s.taken ++ x.taken) ++ us) x.next;
   stands = (let a = ap length parts in let b = length-append (s.taken ++ x.taken) f.0 in omega (arith, a, b, f.2));
   begins = subst IsBeginning (sym (append_assoc s.taken x.taken (x.token ∷ []))) (begins-with s (x.taken ++ x.token ∷ []) (x.begins.0, x.begins.1, λ rest. subst (λ us. IsItem p.notation us x.begins.1 rest) (sym (append_assoc x.taken (x.token ∷ []) (x.begins.0 ++ rest))) (x.begins.2 rest)));
-  within = shallow-append between s.taken x.taken s.within (subst (λ r. IsShallow r x.taken) (sym s.count) x.within);
-  deep = subst (λ r. is_too_deep r x.token.kind ≡ true) (ap (λ r. region_after r x.taken) (sym s.count) ∙ sym (region-append between s.taken x.taken)) x.deep;
+  within = within-append net_counting between s.taken x.taken s.within (subst (λ r. IsShallow r x.taken) (sym s.count) x.within);
+  deep = subst (λ r. is_too_deep r x.token.kind ≡ true) (ap (λ r. region_after r x.taken) (sym s.count) ∙ sym (count-append net_counting between s.taken x.taken)) x.far;
 }
   where
     parts : tokens ≡ (s.taken ++ f.1.taken) ++ f.0

@@ -1,11 +1,12 @@
 -- Levels and operators, counted along the tokens of a whole net text.
-use Rattle.std.specs.Prelude.{◌≡◌, ℕ, ◌+◌, ◌-◌, Bool, false, ◌&&◌, ◌||◌, List, [], ◌∷◌}
+use Rattle.std.specs.Prelude.{ℕ, ◌+◌, ◌-◌, Bool, false, ◌&&◌, ◌||◌, List}
 use Rattle.std.specs.Prelude.{nat_eq, nat_le, if◌then◌else◌}
 use Rattle.rn_notation.specs.declared.sign.TheConstants as sign
 use Rattle.rn_notation.specs.declared.word.TheConstants as word
 use Rattle.rn_notation.specs.declared.token.Token.{Token}
 use Rattle.rn_notation.specs.declared.token.TokenKind.{TokenKind}
 use Rattle.rn_notation.specs.declared.token.TokenKind.TheVariants.{Word, Sign}
+use Rattle.rn_reading.specs.Counting.{Counting, count_after, IsWithin}
 use Rattle.rn_model.specs.Limits.{most_nested}
 use Rattle.rn_inscript.specs.Levels.{Count, at_first, after_token, opens, closes, goes_too_far}
 
@@ -79,12 +80,14 @@ is_too_deep (declaring n) kind = opens kind && nat_le most_nested n
 is_too_deep (inscribing n c) kind = goes_too_far c kind
 is_too_deep _ kind = false
 
+-- what is counted along the tokens of a net text
+abbrev pub net_counting : Counting
+net_counting = record { Count = Region; after = after; is_too_far = is_too_deep }
+
 -- after some tokens
 abbrev pub region_after : Region → List Token → Region
-region_after r [] = r
-region_after r (t ∷ ts) = region_after (after r t.kind) ts
+region_after r ts = count_after net_counting r ts
 
 -- none of these tokens opens level 65 or is the 257th operator of its inscription
 abbrev pub IsShallow : Region → List Token → Type 0
-IsShallow r [] = Unit {0}
-IsShallow r (t ∷ ts) = (is_too_deep r t.kind ≡ false) × IsShallow (after r t.kind) ts
+IsShallow r ts = IsWithin net_counting r ts

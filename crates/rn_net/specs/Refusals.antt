@@ -1,54 +1,42 @@
 -- Why a text is refused.
-use Rattle.std.specs.Prelude.{◌≡◌, ℕ, ◌<◌, ◌≤◌, ◌⊎◌, true, List, [], ◌∷◌, ◌++◌, length, Result, Err}
+use Rattle.std.specs.Prelude.{◌≡◌, ℕ, ◌<◌, ◌≤◌, List, [], length, Result, Err}
 use Rattle.rn_notation.specs.Limits.{longest_net_text}
 use Rattle.rn_notation.specs.Reading.{Tokens, FirstFault}
 use Rattle.rn_notation.specs.Spots.{spot_after}
 use Rattle.rn_notation.specs.declared.token.Token.{Token}
 use Rattle.rn_notation.specs.declared.token.Spot.{Spot}
 use Rattle.rn_notation.specs.declared.token.LexFault.{LexFault}
+use Rattle.rn_reading.specs.Phrases.{Phrases}
+use Rattle.rn_reading.specs.Texts as Texts
+use Rattle.rn_reading.specs.Texts.{AreTokensOf}
 use Rattle.rn_net.specs.declared.plain.Plain.{Plain}
 use Rattle.rn_net.specs.declared.refusal.Refusal.{Refusal}
 use Rattle.rn_net.specs.declared.refusal.Refusal.TheVariants as R
-use Rattle.rn_net.specs.Levels.{IsShallow, is_too_deep, region_after}
+use Rattle.rn_net.specs.Levels.{net_counting}
 use Rattle.rn_net.specs.Levels.Region.{between}
 use Rattle.rn_net.specs.Nets.{IsSystem}
 
+-- the tokens are a system, and nothing comes after it
+abbrev pub IsText : Phrases Plain
+IsText tokens plain rest = IsSystem tokens plain × (rest ≡ [])
+
 -- some tokens continue these to a system
 abbrev pub IsBeginning : List Token → Type 0
-IsBeginning taken = (more : List Token) × (plain : Plain) × IsSystem (taken ++ more) plain
+IsBeginning taken = Texts.IsBeginning IsText taken
 
 -- A token can't follow: those before it begin a system, and with it they begin none. None before it
 -- is too deep.
-pub record IsStopped (tokens : List Token) (spot : Spot) : Type 0 where
-  pub before : List Token
-  pub token : Token
-  pub left : List Token
-  pub parts : tokens ≡ before ++ token ∷ left
-  pub begins : IsBeginning before
-  pub none : IsBeginning (before ++ token ∷ []) → ⊥
-  pub within : IsShallow between before
-  pub stands : spot ≡ token.spot
+abbrev pub IsStopped : List Token → Spot → Type 0
+IsStopped tokens spot = Texts.IsStopped net_counting between IsText tokens spot
 
 -- A token that can follow opens level 65, or is the 257th operator of its inscription, and none
 -- before it does.
-pub record IsDeep (tokens : List Token) (spot : Spot) : Type 0 where
-  pub before : List Token
-  pub token : Token
-  pub left : List Token
-  pub parts : tokens ≡ before ++ token ∷ left
-  pub begins : IsBeginning (before ++ token ∷ [])
-  pub within : IsShallow between before
-  pub deep : is_too_deep (region_after between before) token.kind ≡ true
-  pub stands : spot ≡ token.spot
+abbrev pub IsDeep : List Token → Spot → Type 0
+IsDeep tokens spot = Texts.IsDeep net_counting between IsText tokens spot
 
 -- each of the tokens can follow those before it, and none is too deep
 abbrev pub AreFine : List Token → Type 0
-AreFine tokens = IsBeginning tokens × IsShallow between tokens
-
--- the tokens of a text up to its first fault, or all of them
-abbrev pub AreTokensOf : List ℕ → List Token → Type 0
-AreTokensOf bytes tokens =
-    Tokens bytes tokens ⊎ ((fault : LexFault) × FirstFault bytes tokens fault)
+AreFine tokens = Texts.AreFine net_counting between IsText tokens
 
 -- the refusal of a fault in the tokens
 abbrev pub refusal_of : LexFault → Refusal

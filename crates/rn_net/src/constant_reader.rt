@@ -2,18 +2,19 @@
 ghost use Rattle.std.specs.Prelude.{◌≡◌, ℕ, ◌+◌, ◌≤◌, ◌≤ℤ◌, length, neg_ℤ, pos};
 ghost use Rattle.rn_notation.specs.declared.token.TokenKind.TheVariants as Kind;
 ghost use Rattle.rn_model.specs.Limits.{most_nested};
+ghost use Rattle.rn_reading.specs.link.Stages.{MovesOn};
 ghost use Rattle.rn_inscript.specs.Signs.{open_brace, open_bracket, minus};
 ghost use Rattle.rn_net.specs.Constants.{IsConstant, AreItems};
 ghost use Rattle.rn_net.specs.Levels.{Region, after};
 ghost use Rattle.rn_net.specs.Levels.Region.{declaring};
 ghost use Rattle.rn_net.specs.link.Lists.{AreConstantsUpTo};
-ghost use Rattle.rn_net.specs.link.Progress.{Reads, MovesOn, HasNext, IsEnd, HaveNaturals};
+ghost use Rattle.rn_net.specs.link.Progress.{Reads, HasNext, IsEnd, HaveNaturals};
 
 use crate::constants::{PConst, PConstForm, PConsts};
 use crate::cursor::{expect_sign, open_level, past_number, past_sign, past_text};
-use rn_inscript::InscriptFault;
 use rn_items::Items;
 use rn_notation::{Spot, Tokens, sign};
+use rn_reading::ReadFault;
 use rn_value::copy_text;
 use std::alloc::Global;
 
@@ -24,7 +25,7 @@ pub(crate) fn constant(
     tokens: &Tokens,
     at: usize,
     levels: u32,
-) -> Result<(PConst, usize), InscriptFault>
+) -> Result<(PConst, usize), ReadFault>
     requires inside { at ≤ length tokens.now }
     requires naturals { HaveNaturals tokens.now }
     ensures moved { MovesOn tokens.now at result }
@@ -48,7 +49,7 @@ pub(crate) fn constant(
     if let Some((spot, inside)) = past_sign(tokens, at, sign::LEFT_BRACE) {
         return list(alloc, tokens, at, levels, spot, inside);
     }
-    Err(InscriptFault::P2(at))
+    Err(ReadFault::Stopped(at))
 }
 
 fn negated(number: i64) -> i64
@@ -64,7 +65,7 @@ fn negative(
     at: usize,
     spot: Spot,
     after: usize,
-) -> Result<(PConst, usize), InscriptFault>
+) -> Result<(PConst, usize), ReadFault>
     requires naturals { HaveNaturals tokens.now }
     requires next { HasNext tokens.now at minus spot }
     requires after { after ≡ at + 1 }
@@ -77,7 +78,7 @@ fn negative(
             let form = PConstForm::Int(negated(number));
             Ok((PConst { form, spot }, end))
         }
-        None => Err(InscriptFault::P2(after)),
+        None => Err(ReadFault::Stopped(after)),
     }
 }
 
@@ -90,7 +91,7 @@ fn tuple(
     levels: u32,
     spot: Spot,
     inside: usize,
-) -> Result<(PConst, usize), InscriptFault>
+) -> Result<(PConst, usize), ReadFault>
     requires naturals { HaveNaturals tokens.now }
     requires next { HasNext tokens.now at open_bracket spot }
     requires inside { inside ≡ at + 1 }
@@ -113,7 +114,7 @@ fn list(
     levels: u32,
     spot: Spot,
     inside: usize,
-) -> Result<(PConst, usize), InscriptFault>
+) -> Result<(PConst, usize), ReadFault>
     requires naturals { HaveNaturals tokens.now }
     requires next { HasNext tokens.now at open_brace spot }
     requires inside { inside ≡ at + 1 }
@@ -135,7 +136,7 @@ fn constants_listed(
     at: usize,
     levels: u32,
     close: u32,
-) -> Result<(PConsts, usize), InscriptFault>
+) -> Result<(PConsts, usize), ReadFault>
     requires inside { at ≤ length tokens.now }
     requires naturals { HaveNaturals tokens.now }
     requires close { IsEnd close }
@@ -158,7 +159,7 @@ pub(crate) fn constants_up_to(
     at: usize,
     levels: u32,
     close: u32,
-) -> Result<(PConsts, usize), InscriptFault>
+) -> Result<(PConsts, usize), ReadFault>
     requires inside { at ≤ length tokens.now }
     requires naturals { HaveNaturals tokens.now }
     requires close { IsEnd close }

@@ -2,28 +2,17 @@
 ghost use Rattle.std.specs.Prelude.{◌≡◌, ◌+◌, ◌<◌, ◌^◌, ◌↔◌, IsTrue};
 ghost use Rattle.std.specs.Prelude.{MatchOption, MatchResult, OnSome};
 ghost use Rattle.rn_notation.specs.declared.token.TokenKind.TheVariants as Kind;
-ghost use Rattle.rn_notation.specs.StoredTokens.{lent};
-ghost use Rattle.rn_inscript.specs.link.Stages.{IsNext, HasNoNext};
 ghost use Rattle.rn_inscript.specs.link.NextNames.{IsNotNextKind, IsNextName, IsNoName};
 ghost use Rattle.rn_net.specs.link.Progress.{HasNext, IsNoNumber, IsNoText};
 
-use rn_inscript::{InscriptFault, PName};
-use rn_notation::{Spot, TokenKind, TokenRef, Tokens};
+use rn_inscript::PName;
+use rn_notation::{Spot, TokenKind, Tokens};
+use rn_reading::{ReadFault, next};
 use rn_value::{Str, copy_text};
 use std::alloc::Global;
 
 /// How many levels may be open.
 pub(crate) const MOST_LEVELS: u32 = 64;
-
-/// The next token.
-pub(crate) fn next(tokens: &Tokens, at: usize) -> Option<TokenRef<'_>>
-    ensures next { MatchOption result (HasNoNext tokens.now at) (λ t. IsNext tokens.now at (lent t)) }
-    ensures fits { OnSome result (at + 1 < 2 ^ 64) }
-{
-    // For its clause: there are fewer than 2^64 tokens, so `at + 1` fits.
-    let _count = tokens.len();
-    tokens.get(at)
-}
 
 /// The spot of this reserved word, where it is next, and the index past it.
 pub(crate) fn past_word(tokens: &Tokens, at: usize, wanted: u32) -> Option<(Spot, usize)>
@@ -72,14 +61,14 @@ pub(crate) fn expect_sign(
     tokens: &Tokens,
     at: usize,
     wanted: u32,
-) -> Result<(Spot, usize), InscriptFault>
+) -> Result<(Spot, usize), ReadFault>
     ensures { MatchResult result
         (λ found. HasNext tokens.now at (Kind.Sign wanted) found.0 × (found.1 ≡ at + 1))
-        (λ fault. IsNotNextKind tokens.now at (Kind.Sign wanted) × (fault ≡ InscriptFault.P2 at)) }
+        (λ fault. IsNotNextKind tokens.now at (Kind.Sign wanted) × (fault ≡ ReadFault.Stopped at)) }
 {
     match past_sign(tokens, at, wanted) {
         Some(found) => Ok(found),
-        None => Err(InscriptFault::P2(at)),
+        None => Err(ReadFault::Stopped(at)),
     }
 }
 
@@ -115,7 +104,7 @@ pub(crate) fn expect_name(
     alloc: Global,
     tokens: &Tokens,
     at: usize,
-) -> Result<(PName, usize), InscriptFault>
+) -> Result<(PName, usize), ReadFault>
     ensures { MatchResult result
         (λ found. IsNextName tokens.now at found.0 × (found.1 ≡ at + 1))
         (λ fault. IsNoName tokens.now at fault) }
@@ -132,9 +121,9 @@ pub(crate) fn expect_name(
                     at + 1,
                 ))
             }
-            _ => Err(InscriptFault::P2(at)),
+            _ => Err(ReadFault::Stopped(at)),
         },
-        None => Err(InscriptFault::P2(at)),
+        None => Err(ReadFault::Stopped(at)),
     }
 }
 
@@ -154,14 +143,14 @@ pub(crate) fn past_number(tokens: &Tokens, at: usize) -> Option<(Spot, i64, usiz
 }
 
 /// The spot of a number, which has to be next, the number, and the index past it.
-pub(crate) fn expect_number(tokens: &Tokens, at: usize) -> Result<(Spot, i64, usize), InscriptFault>
+pub(crate) fn expect_number(tokens: &Tokens, at: usize) -> Result<(Spot, i64, usize), ReadFault>
     ensures { MatchResult result
         (λ found. HasNext tokens.now at (Kind.Number found.1) found.0 × (found.2 ≡ at + 1))
-        (λ fault. IsNoNumber tokens.now at × (fault ≡ InscriptFault.P2 at)) }
+        (λ fault. IsNoNumber tokens.now at × (fault ≡ ReadFault.Stopped at)) }
 {
     match past_number(tokens, at) {
         Some(found) => Ok(found),
-        None => Err(InscriptFault::P2(at)),
+        None => Err(ReadFault::Stopped(at)),
     }
 }
 
@@ -181,13 +170,13 @@ pub(crate) fn past_text(tokens: &Tokens, at: usize) -> Option<(Spot, &Str, usize
 }
 
 /// Whether one more level may be opened by the token at an index, where so many more may be.
-pub(crate) fn open_level(at: usize, levels: u32) -> Result<u32, InscriptFault>
+pub(crate) fn open_level(at: usize, levels: u32) -> Result<u32, ReadFault>
     ensures { MatchResult result
         (λ inside. levels ≡ inside + 1)
-        (λ fault. (levels ≡ 0) × (fault ≡ InscriptFault.P5 at)) }
+        (λ fault. (levels ≡ 0) × (fault ≡ ReadFault.TooFar at)) }
 {
     if levels == 0 {
-        return Err(InscriptFault::P5(at));
+        return Err(ReadFault::TooFar(at));
     }
     Ok(levels - 1)
 }

@@ -1,10 +1,11 @@
 //! Reading declarations: channels, variables and places.
 ghost use Rattle.std.specs.Prelude.{◌≡◌, ◌+◌, ◌≤◌, length, map, IfOk};
+ghost use Rattle.rn_reading.specs.link.Stages.{MovesOn};
 ghost use Rattle.rn_inscript.specs.link.Stages.{IsNextKind};
 ghost use Rattle.rn_net.specs.Levels.Region.{between, declaring};
 ghost use Rattle.rn_net.specs.Nets.{IsChannel, AreVars, IsPlace, var_of};
 ghost use Rattle.rn_net.specs.link.Parts.{IsPName, AreNamesUpTo, IsInitialUpTo, IsPlaceEnd};
-ghost use Rattle.rn_net.specs.link.Progress.{Reads, MovesOn, HaveNaturals};
+ghost use Rattle.rn_net.specs.link.Progress.{Reads, HaveNaturals};
 ghost use Rattle.rn_net.specs.Words.{channel_word, var_word, place_word};
 
 use crate::constant_reader::constants_up_to;
@@ -14,9 +15,10 @@ use crate::kind_reader::{kind, kinds_listed};
 use crate::kinds::{PKind, PKindForm};
 use crate::part::PlaceEnd;
 use crate::plain::{PChannel, PMax, PPlace, PVar, PVars};
-use rn_inscript::{InscriptFault, PName};
+use rn_inscript::PName;
 use rn_items::Items;
 use rn_notation::{Tokens, sign};
+use rn_reading::ReadFault;
 use rn_shared::Shared;
 use rn_value::{NoMemory, copy_text};
 use std::alloc::Global;
@@ -27,7 +29,7 @@ pub(crate) fn channel(
     tokens: &Tokens,
     at: usize,
     start: usize,
-) -> Result<(PChannel, usize), InscriptFault>
+) -> Result<(PChannel, usize), ReadFault>
     requires next { IsNextKind tokens.now at channel_word }
     requires start { start ≡ at + 1 }
     ensures moved { MovesOn tokens.now (at + 1) result }
@@ -41,7 +43,7 @@ pub(crate) fn channel(
     Ok((PChannel { name, kinds }, end))
 }
 
-fn one_name(alloc: Global, tokens: &Tokens, at: usize) -> Result<(PName, usize), InscriptFault>
+fn one_name(alloc: Global, tokens: &Tokens, at: usize) -> Result<(PName, usize), ReadFault>
     requires { at ≤ length tokens.now }
     ensures moved { MovesOn tokens.now at result }
     ensures reads { Reads IsPName tokens.now at (declaring 0) (declaring 0) result }
@@ -54,7 +56,7 @@ fn names_up_to(
     alloc: Global,
     tokens: &Tokens,
     at: usize,
-) -> Result<(Items<PName>, usize), InscriptFault>
+) -> Result<(Items<PName>, usize), ReadFault>
     requires { at ≤ length tokens.now }
     ensures moved { MovesOn tokens.now at result }
     ensures reads { Reads AreNamesUpTo tokens.now at (declaring 0) (declaring 0) result }
@@ -107,7 +109,7 @@ pub(crate) fn vars(
     tokens: &Tokens,
     at: usize,
     start: usize,
-) -> Result<(PVars, usize), InscriptFault>
+) -> Result<(PVars, usize), ReadFault>
     requires next { IsNextKind tokens.now at var_word }
     requires start { start ≡ at + 1 }
     ensures moved { MovesOn tokens.now (at + 1) result }
@@ -121,11 +123,7 @@ pub(crate) fn vars(
 }
 
 /// The initial tokens of a place, up to and past the semicolon after them.
-fn initial_up_to(
-    alloc: Global,
-    tokens: &Tokens,
-    at: usize,
-) -> Result<(PConsts, usize), InscriptFault>
+fn initial_up_to(alloc: Global, tokens: &Tokens, at: usize) -> Result<(PConsts, usize), ReadFault>
     requires inside { at ≤ length tokens.now }
     requires naturals { HaveNaturals tokens.now }
     ensures moved { MovesOn tokens.now at result }
@@ -139,7 +137,7 @@ fn initial_up_to(
 }
 
 /// The capacity and the initial tokens of a place, up to and past the semicolon after them.
-fn place_end(alloc: Global, tokens: &Tokens, at: usize) -> Result<(PlaceEnd, usize), InscriptFault>
+fn place_end(alloc: Global, tokens: &Tokens, at: usize) -> Result<(PlaceEnd, usize), ReadFault>
     requires inside { at ≤ length tokens.now }
     requires naturals { HaveNaturals tokens.now }
     ensures moved { MovesOn tokens.now at result }
@@ -161,7 +159,7 @@ pub(crate) fn place(
     tokens: &Tokens,
     at: usize,
     start: usize,
-) -> Result<(PPlace, usize), InscriptFault>
+) -> Result<(PPlace, usize), ReadFault>
     requires naturals { HaveNaturals tokens.now }
     requires next { IsNextKind tokens.now at place_word }
     requires start { start ≡ at + 1 }

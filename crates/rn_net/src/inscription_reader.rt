@@ -1,13 +1,16 @@
 //! Reading the inscriptions of transitions.
-ghost use Rattle.std.specs.Prelude.{◌≡◌, ◌+◌, ◌-◌, ◌≤◌, ◌∷◌, length, map, IfOk, MatchOption};
+ghost use Rattle.std.specs.Prelude.{◌≡◌, ◌+◌, ◌-◌, ◌≤◌, ◌∷◌, length, map, IfErr, IfOk, MatchOption};
+ghost use Rattle.rn_reading.specs.link.Stages.{MovesOn};
 ghost use Rattle.rn_inscript.specs.Levels.{Count};
 ghost use Rattle.rn_inscript.specs.link.NextNames.{IsNotNextKind};
+ghost use Rattle.rn_inscript.specs.Inscriptions.{IsInscription};
+ghost use Rattle.rn_inscript.specs.Readings.{IsReading, IsWholeExpr};
 ghost use Rattle.rn_inscript.specs.Signs.{close_brace};
 ghost use Rattle.rn_net.specs.Levels.Region.{between, inscribing};
 ghost use Rattle.rn_net.specs.link.Lists.{AreFurtherUpTo, AreInscribedUpTo};
 ghost use Rattle.rn_net.specs.Nets.{further_arc};
 ghost use Rattle.rn_net.specs.link.Parts.{AreInscriptionsUpTo, EndsStatement, IsOpen, NotOpen};
-ghost use Rattle.rn_net.specs.link.Progress.{MovesOn, Reads};
+ghost use Rattle.rn_net.specs.link.Progress.{Reads, Refuses};
 
 use crate::cursor::{expect_sign, past_sign};
 use crate::plain::PInscriptions;
@@ -18,6 +21,7 @@ use rn_inscript::{
 use rn_items::Items;
 use rn_model::ArcKind;
 use rn_notation::{Tokens, sign};
+use rn_reading::ReadFault;
 use rn_value::{NoMemory, copy_text};
 use std::alloc::Global;
 
@@ -103,12 +107,40 @@ fn with_others(
     Ok(Items::from_vec(all))
 }
 
-/// The other inscriptions of an arc, each after a comma, up to and past the semicolon.
-fn further_up_to(
+/// The expression that begins at an index, and the index after it.
+fn expression(alloc: Global, tokens: &Tokens, at: usize) -> Result<(PExpr, usize), ReadFault>
+    requires { at ≤ length tokens.now }
+    ensures read { IfOk result (λ found. IsReading IsWholeExpr tokens.now at found.0 found.1) }
+    ensures refused { IfErr result (λ fault. Refuses IsWholeExpr tokens.now at fault) }
+{
+    match read_expr(alloc, tokens, at) {
+        Ok(found) => Ok(found),
+        Err(InscriptFault::P2(k)) => Err(ReadFault::Stopped(k)),
+        Err(InscriptFault::P5(k)) => Err(ReadFault::TooFar(k)),
+        Err(InscriptFault::NoMemory(no_memory)) => Err(ReadFault::NoMemory(no_memory)),
+    }
+}
+
+/// The inscription that begins at an index, and the index after it.
+fn inscription(
     alloc: Global,
     tokens: &Tokens,
     at: usize,
-) -> Result<(PExprs, usize), InscriptFault>
+) -> Result<(PInscription, usize), ReadFault>
+    requires { at ≤ length tokens.now }
+    ensures read { IfOk result (λ found. IsReading IsInscription tokens.now at found.0 found.1) }
+    ensures refused { IfErr result (λ fault. Refuses IsInscription tokens.now at fault) }
+{
+    match read_transition_inscription(alloc, tokens, at) {
+        Ok(found) => Ok(found),
+        Err(InscriptFault::P2(k)) => Err(ReadFault::Stopped(k)),
+        Err(InscriptFault::P5(k)) => Err(ReadFault::TooFar(k)),
+        Err(InscriptFault::NoMemory(no_memory)) => Err(ReadFault::NoMemory(no_memory)),
+    }
+}
+
+/// The other inscriptions of an arc, each after a comma, up to and past the semicolon.
+fn further_up_to(alloc: Global, tokens: &Tokens, at: usize) -> Result<(PExprs, usize), ReadFault>
     requires { at ≤ length tokens.now }
     ensures moved { MovesOn tokens.now at result }
     ensures reads { (c : Count) →
@@ -119,7 +151,7 @@ fn further_up_to(
     let mut all = Vec::new(alloc);
     let mut now = at;
     while let Some((_, next)) = past_sign(tokens, now, sign::COMMA) {
-        let (more, after) = read_expr(alloc, tokens, next)?;
+        let (more, after) = expression(alloc, tokens, next)?;
         all.push(more)?;
         now = after;
     }
@@ -136,7 +168,7 @@ fn others_up_to(
     at: usize,
     after: usize,
     notation: u32,
-) -> Result<(PInscriptions, usize), InscriptFault>
+) -> Result<(PInscriptions, usize), ReadFault>
     requires before { at ≤ after }
     requires inside { after ≤ length tokens.now }
     ensures moved { MovesOn tokens.now after result }
@@ -157,7 +189,7 @@ fn inscribed(
     tokens: &Tokens,
     at: usize,
     notation: u32,
-) -> Result<(PInscriptions, usize), InscriptFault>
+) -> Result<(PInscriptions, usize), ReadFault>
     requires inside { at ≤ length tokens.now }
     requires other { IsNotNextKind tokens.now at close_brace }
     ensures moved { MovesOn tokens.now (at + 1) result }
@@ -165,7 +197,7 @@ fn inscribed(
 {
     // For its clause: tokens stand for one inscription at most.
     reading_laws();
-    let (first, after) = read_transition_inscription(alloc, tokens, at)?;
+    let (first, after) = inscription(alloc, tokens, at)?;
     let (others, end) = others_up_to(alloc, tokens, &first, at, after, notation)?;
     let all = with_others(alloc, first, others)?;
     Ok((all, end))
@@ -177,7 +209,7 @@ pub(crate) fn inscriptions_up_to(
     tokens: &Tokens,
     at: usize,
     notation: u32,
-) -> Result<(PInscriptions, usize), InscriptFault>
+) -> Result<(PInscriptions, usize), ReadFault>
     requires { at ≤ length tokens.now }
     ensures moved { MovesOn tokens.now at result }
     ensures reads { Reads (AreInscriptionsUpTo notation) tokens.now at between between result }

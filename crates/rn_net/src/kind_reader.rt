@@ -2,18 +2,19 @@
 ghost use Rattle.std.specs.Prelude.{◌≡◌, ℕ, ◌+◌, ◌≤◌, length};
 ghost use Rattle.rn_notation.specs.declared.token.TokenKind.TheVariants as Kind;
 ghost use Rattle.rn_model.specs.Limits.{most_nested};
+ghost use Rattle.rn_reading.specs.link.Stages.{MovesOn};
 ghost use Rattle.rn_inscript.specs.Signs.{open_brace, open_bracket};
 ghost use Rattle.rn_net.specs.Kinds.{IsKind, AreListed};
 ghost use Rattle.rn_net.specs.Levels.Region.{declaring};
-ghost use Rattle.rn_net.specs.link.Progress.{Reads, MovesOn, HasNext};
+ghost use Rattle.rn_net.specs.link.Progress.{Reads, HasNext};
 ghost use Rattle.rn_net.specs.link.Lists.{AreKindsUpTo};
 ghost use Rattle.rn_inscript.specs.link.Stages.{IsClose};
 
 use crate::cursor::{expect_sign, open_level, past_sign, past_word};
 use crate::kinds::{PKind, PKindForm, PKinds};
-use rn_inscript::InscriptFault;
 use rn_items::{Boxed, Items};
 use rn_notation::{Spot, Tokens, sign, word};
+use rn_reading::ReadFault;
 use std::alloc::Global;
 
 /// The kind that begins at an index, and the index after it. So many more levels may be opened.
@@ -23,7 +24,7 @@ pub(crate) fn kind(
     tokens: &Tokens,
     at: usize,
     levels: u32,
-) -> Result<(PKind, usize), InscriptFault>
+) -> Result<(PKind, usize), ReadFault>
     requires { at ≤ length tokens.now }
     ensures moved { MovesOn tokens.now at result }
     ensures reads { (depth : ℕ) → levels + depth ≡ most_nested →
@@ -47,7 +48,7 @@ pub(crate) fn kind(
     if let Some((spot, inside)) = past_sign(tokens, at, sign::LEFT_BRACE) {
         return list(alloc, tokens, at, levels, spot, inside);
     }
-    Err(InscriptFault::P2(at))
+    Err(ReadFault::Stopped(at))
 }
 
 /// `[K1,K2]`, of which the bracket is next.
@@ -59,7 +60,7 @@ fn tuple(
     levels: u32,
     spot: Spot,
     inside: usize,
-) -> Result<(PKind, usize), InscriptFault>
+) -> Result<(PKind, usize), ReadFault>
     requires next { HasNext tokens.now at open_bracket spot }
     requires inside { inside ≡ at + 1 }
     ensures moved { MovesOn tokens.now at result }
@@ -81,7 +82,7 @@ fn list(
     levels: u32,
     spot: Spot,
     inside: usize,
-) -> Result<(PKind, usize), InscriptFault>
+) -> Result<(PKind, usize), ReadFault>
     requires next { HasNext tokens.now at open_brace spot }
     requires inside { inside ≡ at + 1 }
     ensures moved { MovesOn tokens.now at result }
@@ -103,7 +104,7 @@ pub(crate) fn kinds_listed(
     at: usize,
     levels: u32,
     close: u32,
-) -> Result<(PKinds, usize), InscriptFault>
+) -> Result<(PKinds, usize), ReadFault>
     requires inside { at ≤ length tokens.now }
     requires close { IsClose close }
     ensures moved { MovesOn tokens.now at result }
@@ -124,7 +125,7 @@ fn kinds_up_to(
     at: usize,
     levels: u32,
     close: u32,
-) -> Result<(PKinds, usize), InscriptFault>
+) -> Result<(PKinds, usize), ReadFault>
     requires inside { at ≤ length tokens.now }
     requires close { IsClose close }
     ensures moved { MovesOn tokens.now at result }

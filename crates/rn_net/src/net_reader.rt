@@ -1,10 +1,11 @@
 //! Reading transitions, nets and the items of a text.
 ghost use Rattle.std.specs.Prelude.{◌≡◌, ◌+◌, ◌≤◌, length, IfOk};
+ghost use Rattle.rn_reading.specs.link.Stages.{MovesOn};
 ghost use Rattle.rn_inscript.specs.link.Stages.{IsNextKind};
 ghost use Rattle.rn_net.specs.Levels.Region.{between};
 ghost use Rattle.rn_net.specs.Nets.{IsTransition, IsNet};
 ghost use Rattle.rn_net.specs.link.Parts.{IsNetPart, IsItem, with_part, ArePartsUpTo};
-ghost use Rattle.rn_net.specs.link.Progress.{Reads, MovesOn, HaveNaturals};
+ghost use Rattle.rn_net.specs.link.Progress.{Reads, HaveNaturals};
 ghost use Rattle.rn_net.specs.Words.{trans_word, net_word};
 
 use crate::cursor::{expect_name, expect_sign, past_sign, past_word};
@@ -12,9 +13,10 @@ use crate::declaration_reader::{channel, place, vars};
 use crate::inscription_reader::inscriptions_up_to;
 use crate::part::{Item, Part};
 use crate::plain::{PNet, PPlace, PTransition, PVars};
-use rn_inscript::{InscriptFault, PName};
+use rn_inscript::PName;
 use rn_items::Items;
 use rn_notation::{Tokens, sign, word};
+use rn_reading::ReadFault;
 use rn_value::NoMemory;
 use std::alloc::Global;
 
@@ -25,7 +27,7 @@ fn transition(
     at: usize,
     start: usize,
     notation: u32,
-) -> Result<(PTransition, usize), InscriptFault>
+) -> Result<(PTransition, usize), ReadFault>
     requires next { IsNextKind tokens.now at trans_word }
     requires start { start ≡ at + 1 }
     ensures moved { MovesOn tokens.now (at + 1) result }
@@ -43,7 +45,7 @@ fn part(
     tokens: &Tokens,
     at: usize,
     notation: u32,
-) -> Result<(Part, usize), InscriptFault>
+) -> Result<(Part, usize), ReadFault>
     requires inside { at ≤ length tokens.now }
     requires naturals { HaveNaturals tokens.now }
     ensures moved { MovesOn tokens.now (at + 1) result }
@@ -61,7 +63,7 @@ fn part(
         let (more, end) = transition(alloc, tokens, at, start, notation)?;
         return Ok((Part::Transition(more), end));
     }
-    Err(InscriptFault::P2(at))
+    Err(ReadFault::Stopped(at))
 }
 
 /// The net with one more part.
@@ -122,7 +124,7 @@ fn parts_up_to(
     at: usize,
     name: PName,
     notation: u32,
-) -> Result<(PNet, usize), InscriptFault>
+) -> Result<(PNet, usize), ReadFault>
     requires inside { at ≤ length tokens.now }
     requires naturals { HaveNaturals tokens.now }
     ensures moved { MovesOn tokens.now at result }
@@ -152,7 +154,7 @@ fn net(
     at: usize,
     start: usize,
     notation: u32,
-) -> Result<(PNet, usize), InscriptFault>
+) -> Result<(PNet, usize), ReadFault>
     requires naturals { HaveNaturals tokens.now }
     requires next { IsNextKind tokens.now at net_word }
     requires start { start ≡ at + 1 }
@@ -170,7 +172,7 @@ pub(crate) fn item(
     tokens: &Tokens,
     at: usize,
     notation: u32,
-) -> Result<(Item, usize), InscriptFault>
+) -> Result<(Item, usize), ReadFault>
     requires inside { at ≤ length tokens.now }
     requires naturals { HaveNaturals tokens.now }
     ensures moved { MovesOn tokens.now (at + 1) result }
@@ -184,5 +186,5 @@ pub(crate) fn item(
         let (more, end) = net(alloc, tokens, at, start, notation)?;
         return Ok((Item::Net(more), end));
     }
-    Err(InscriptFault::P2(at))
+    Err(ReadFault::Stopped(at))
 }

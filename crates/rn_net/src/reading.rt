@@ -1,18 +1,17 @@
 //! Reading a net text.
 ghost use Rattle.std.specs.Prelude.{◌≡◌, IfErr, IfOk};
-ghost use Rattle.rn_net.specs.link.Answers.{SystemAnswer, Settles, unfinished_of};
+ghost use Rattle.rn_net.specs.link.Answers.{answer_of, report};
 ghost use Rattle.rn_net.specs.Refusals.{Answers, IsReason, IsRefused, refusal_of};
 ghost use Rattle.rn_net.specs.declared.plain.Plain.{Plain as System};
 ghost use Rattle.rn_net.specs.declared.refusal.Refusal.{Refusal as Why};
 ghost use Rattle.rn_net.specs.Texts.{Spells};
 
-use crate::cursor::next;
 use crate::plain::Plain;
 use crate::refusal::Refusal;
 use crate::system_reader::system;
-use rn_inscript::InscriptFault;
 use rn_notation::limits::LONGEST_NET_TEXT;
-use rn_notation::{LexFault, Lexed, Spot, lex, token_laws};
+use rn_notation::{LexFault, Spot, lex, token_laws};
+use rn_reading::{TextFault, whole};
 use std::alloc::Global;
 
 fn refusal_of(fault: LexFault) -> Refusal
@@ -26,45 +25,25 @@ fn refusal_of(fault: LexFault) -> Refusal
     }
 }
 
-/// Why a text is refused whose tokens are the beginning of a system.
-fn unfinished(lexed: &Lexed) -> Refusal
-    ensures { result ≡ unfinished_of lexed.now.fault lexed.now.end }
-{
-    match lexed.fault {
-        Some(fault) => refusal_of(fault),
-        None => Refusal::P2(lexed.end),
-    }
-}
-
-/// Why a text is refused of whose tokens no system was read.
-fn refused(lexed: &Lexed, fault: InscriptFault) -> Refusal
-    requires { SystemAnswer lexed.now.tokens (Err fault) }
-    ensures { Settles lexed.now.tokens lexed.now.fault lexed.now.end (Err result) }
+/// How it is reported that tokens are no system.
+fn report(fault: TextFault) -> Refusal
+    ensures { result ≡ report fault }
 {
     match fault {
-        InscriptFault::P2(at) => match next(&lexed.tokens, at) {
-            Some(token) => Refusal::P2(token.spot),
-            None => unfinished(lexed),
-        },
-        InscriptFault::P5(at) => match next(&lexed.tokens, at) {
-            Some(token) => Refusal::P5(token.spot),
-            None => unreachable!(),
-        },
-        InscriptFault::NoMemory(no_memory) => Refusal::NoMemory(no_memory),
+        TextFault::Stopped(spot) => Refusal::P2(spot),
+        TextFault::TooFar(spot) => Refusal::P5(spot),
+        TextFault::Lexical(fault) => refusal_of(fault),
+        TextFault::NoMemory(no_memory) => Refusal::NoMemory(no_memory),
     }
 }
 
-/// The answer for a text, from its tokens and what was read of them.
-fn settled(lexed: &Lexed, read: Result<Plain, InscriptFault>) -> Result<Plain, Refusal>
-    requires { SystemAnswer lexed.now.tokens read }
-    ensures { Settles lexed.now.tokens lexed.now.fault lexed.now.end result }
+/// The answer for a text, from that for its tokens.
+fn answer_of(text: Result<Plain, TextFault>) -> Result<Plain, Refusal>
+    ensures { result ≡ answer_of text }
 {
-    match read {
-        Ok(plain) => match lexed.fault {
-            Some(fault) => Err(refusal_of(fault)),
-            None => Ok(plain),
-        },
-        Err(fault) => Err(refused(lexed, fault)),
+    match text {
+        Ok(plain) => Ok(plain),
+        Err(fault) => Err(report(fault)),
     }
 }
 
@@ -87,5 +66,6 @@ pub fn read_system(alloc: Global, bytes: &[u8]) -> Result<Plain, Refusal>
     }
     let lexed = lex(alloc, bytes)?;
     let read = system(alloc, &lexed.tokens);
-    settled(&lexed, read)
+    let text = whole(&lexed, read);
+    answer_of(text)
 }

@@ -10,9 +10,9 @@ use crate::cursor::{expect_sign, past_name, past_number};
 use crate::net_reader::item;
 use crate::part::Item;
 use crate::plain::{PChannel, PNet, Plain};
-use rn_inscript::InscriptFault;
 use rn_items::Items;
 use rn_notation::{Spot, Tokens, sign};
+use rn_reading::ReadFault;
 use rn_value::NoMemory;
 use std::alloc::Global;
 
@@ -50,26 +50,26 @@ fn with_net(plain: Plain, net: PNet) -> Result<Plain, NoMemory>
     })
 }
 
-fn expect_two(tokens: &Tokens, at: usize) -> Result<(Spot, usize), InscriptFault>
+fn expect_two(tokens: &Tokens, at: usize) -> Result<(Spot, usize), ReadFault>
     ensures { MatchResult result
         (λ found. HasNext tokens.now at (Kind.Number (pos 2)) found.0 × (found.1 ≡ at + 1))
         (λ fault. IsNotNextKind tokens.now at (Kind.Number (pos 2))
-        × (fault ≡ InscriptFault.P2 at)) }
+        × (fault ≡ ReadFault.Stopped at)) }
 {
     match past_number(tokens, at) {
         Some((spot, number, end)) => {
             if number == 2 {
                 Ok((spot, end))
             } else {
-                Err(InscriptFault::P2(at))
+                Err(ReadFault::Stopped(at))
             }
         }
-        None => Err(InscriptFault::P2(at)),
+        None => Err(ReadFault::Stopped(at)),
     }
 }
 
 /// The notation of a text, and the index of its first item. Notation 1 has no header.
-fn notation(tokens: &Tokens) -> Result<(u32, usize), InscriptFault>
+fn notation(tokens: &Tokens) -> Result<(u32, usize), ReadFault>
     ensures moved { IfOk result (λ found. found.1 ≤ length tokens.now) }
     ensures reads { HeaderAnswer tokens.now result }
 {
@@ -81,8 +81,8 @@ fn notation(tokens: &Tokens) -> Result<(u32, usize), InscriptFault>
     Ok((1, 0))
 }
 
-/// The system that the tokens are.
-pub(crate) fn system(alloc: Global, tokens: &Tokens) -> Result<Plain, InscriptFault>
+/// The system that the tokens are, and their number.
+pub(crate) fn system(alloc: Global, tokens: &Tokens) -> Result<(Plain, usize), ReadFault>
     requires { HaveNaturals tokens.now }
     ensures { SystemAnswer tokens.now result }
 {
@@ -98,7 +98,7 @@ pub(crate) fn system(alloc: Global, tokens: &Tokens) -> Result<Plain, InscriptFa
         let (more, after) = item(alloc, tokens, now, notation)?;
         plain = with_item(plain, more)?;
         if after == count {
-            return Ok(plain);
+            return Ok((plain, count));
         }
         now = after;
     }

@@ -48,9 +48,9 @@ one_read C F {Z = Z} {start = start} {first = first} {now = now} {a = a} r Y tok
     let kept = counts here.0 here.2 in
     subst (λ n. Stage C F Z start first (Y a) (drop n tokens) last) (sym there)
     (subst (λ c. Stage C F Z start first (Y a) (drop (at + 1) tokens) c) kept.1
-    (take C F (Y a) (subst (λ us. Stage C F Z start first (and_then (one r) Y) us now) here.1.0 s) kept.0
+    (change C F (Y a).is (take C F (subst (λ us. Stage C F Z start first (and_then (one r) Y) us now) here.1.0 s) kept.0)
     (λ ts e rest y. (a, ts, (here.0, refl, here.2), y))
-    (λ ts e rest alike x.
+    (λ ts e rest alike follows x.
     let same : x.2.0 ≡ here.0 = let d = x.2.1 in cc in
     let left : x.1 ≡ ts = let d = x.2.1 in cc in
     let is : Some x.0 ≡ Some a = sym (ap r.read (sym same) ∙ x.2.2) ∙ here.2 in
@@ -60,7 +60,7 @@ one_read C F {Z = Z} {start = start} {first = first} {now = now} {a = a} r Y tok
 pub one_stuck : (C : Counting) (F : Following) {A B : Type 0} {Z : Phrases B} {start : List Token} {first now : C.Count} (r : Single A) (Y : A → Sort B) (tokens : List Token) (at : ℕ) →
     Stage C F Z start first (and_then (one r) Y) (drop at tokens) now → at ≤ length tokens → IsNotNext r.read tokens at →
     Fails C F Z start first (length tokens) (Fault.Stopped at)
-one_stuck C F r Y tokens at s inside other = stuck C F tokens at s inside (λ ts e rest alike x.
+one_stuck C F r Y tokens at s inside other = stuck C F tokens at s inside (and_then (one r) Y).ends (λ ts e rest alike x.
     let next = alike-cons (drop at tokens) x.2.0 x.1 (subst (λ us. BeginAlike (drop at tokens) us) x.2.1 alike) in
     let none = other x.2.0 next.0 next.1 in let some = x.2.2 in cc)
 
@@ -79,7 +79,7 @@ pub step_reads : (C : Counting) (F : Following) {A : Type 0} (r : Single A) (tok
 step_reads C F {A = A} r tokens at now last result inside counts steps = by result steps
   where
     start : Stage C F (One r.read) (drop at tokens) now (and_then (one r) done) (drop at tokens) now
-    start = begin C F (and_then (one r) done) (drop at tokens) now
+    start = begin C F (and_then (one r) done).is (drop at tokens) now
         (λ ts e rest x. subst (λ b. One r.read ts b rest) (sym x.3.0) (subst (λ us. One r.read ts x.0 us) (sym x.3.1) x.2))
         (λ ts e rest alike x. (e, rest, x, (refl, refl)))
 
@@ -90,13 +90,13 @@ step_reads C F {A = A} r tokens at now last result inside counts steps = by resu
     by (Err (Fault.NoMemory _)) s = tt
 
 -- a phrase is read, or fails
-pub then_read : (C : Counting) (F G : Following) {A B : Type 0} (X : Sort A) {Z : Phrases B} {start mid left : List Token} {first now last : C.Count} {a : A} (Y : A → Sort B) → Follow G F Y →
+pub then_read : (C : Counting) (F G : Following) {A B : Type 0} (X : Sort A) {Z : Phrases B} {start mid left : List Token} {first now last : C.Count} {a : A} (Y : A → Sort B) → Follow G F (λ a. (Y a).is) →
     Stage C F Z start first (and_then X Y) mid now → Stage C G X.is mid now (done a) left last → Stage C F Z start first (Y a) left last
-then_read C F G X Y follow s p = inner C F G Y follow s (λ ts e rest x. x) (λ ts e rest x. x) p
+then_read C F G X Y follow s p = inner C F G (λ a. (Y a).is) follow s p
 
-pub then_fails : (C : Counting) (F G : Following) {A B : Type 0} (X : Sort A) {Z : Phrases B} {start mid : List Token} {first now : C.Count} (Y : A → Sort B) (total : ℕ) (e : ReadFault) → Follow G F Y →
+pub then_fails : (C : Counting) (F G : Following) {A B : Type 0} (X : Sort A) {Z : Phrases B} {start mid : List Token} {first now : C.Count} (Y : A → Sort B) (total : ℕ) (e : ReadFault) → Follow G F (λ a. (Y a).is) →
     Stage C F Z start first (and_then X Y) mid now → Fails C G X.is mid now total e → Fails C F Z start first total e
-then_fails C F G X Y total e follow s f = inner_fails C F G Y total e follow s (λ ts e rest x. x) (λ ts e rest x. x) f
+then_fails C F G X Y total e follow s f = inner_fails C F G (λ a. (Y a).is) total e follow (λ a. (Y a).ends) s f
 
 -- phrases that begin with a token that isn't read so
 abbrev pub Others : {A B : Type 0} → (Token → Option B) → Phrases A → Type 0
@@ -121,9 +121,9 @@ none-some none some = let n = none in let s = some in cc
 pub maybe_some : (C : Counting) (F : Following) {A B D : Type 0} {Z : Phrases D} {start : List Token} {first now : C.Count} (r : Single B) (X : Sort A) (Y : Option A → Sort D) (tokens : List Token) (at : ℕ) {b : B} →
     Others r.read (Y None).is → Stage C F Z start first (and_then (maybe r X) Y) (drop at tokens) now → IsNextOne r.read tokens at b →
     Stage C F Z start first (and_then (one r) (λ b. and_then X (λ a. Y (Some a)))) (drop at tokens) now
-maybe_some C F r X Y tokens at apart s here = change C F (and_then (one r) (λ b. and_then X (λ a. Y (Some a)))) s
+maybe_some C F r X Y tokens at apart s here = change C F (and_then (one r) (λ b. and_then X (λ a. Y (Some a)))).is s
     (λ ts e rest x. (Some x.3.0, x.3.1, inr (x.0, x.1, x.2, (x.3.0, x.3.1, x.3.2, (refl, refl))), x.3.3))
-    (λ ts e rest alike x. elim x.2 as (λ w. (and_then (one r) (λ b. and_then X (λ a. Y (Some a)))).is ts e rest) [
+    (λ ts e rest alike follows x. elim x.2 as (λ w. (and_then (one r) (λ b. and_then X (λ a. Y (Some a)))).is ts e rest) [
       | inl d ↦ absurd (
           let y = apart ts e rest (subst (λ us. (Y None).is us e rest) d.1 (subst (λ o. (Y o).is x.1 e rest) d.0 x.3)) in
           none-some y.3 (next_is r.read tokens at y.0 y.1 here alike y.2))
@@ -134,9 +134,9 @@ maybe_some C F r X Y tokens at apart s here = change C F (and_then (one r) (λ b
 pub maybe_none : (C : Counting) (F : Following) {A B D : Type 0} {Z : Phrases D} {start : List Token} {first now : C.Count} (r : Single B) (X : Sort A) (Y : Option A → Sort D) (tokens : List Token) (at : ℕ) →
     Stage C F Z start first (and_then (maybe r X) Y) (drop at tokens) now → IsNotNext r.read tokens at →
     Stage C F Z start first (Y None) (drop at tokens) now
-maybe_none C F r X Y tokens at s other = change C F (Y None) s
+maybe_none C F r X Y tokens at s other = change C F (Y None).is s
     (λ ts e rest x. (None, ts, inl (refl, refl), x))
-    (λ ts e rest alike x. elim x.2 as (λ w. (Y None).is ts e rest) [
+    (λ ts e rest alike follows x. elim x.2 as (λ w. (Y None).is ts e rest) [
       | inl d ↦ subst (λ us. (Y None).is us e rest) d.1 (subst (λ o. (Y o).is x.1 e rest) d.0 x.3)
       | inr y ↦ absurd (none-some (next_isnt r.read tokens at y.2.0 y.1 other alike y.2.1) y.2.2)
     ])
@@ -145,9 +145,9 @@ maybe_none C F r X Y tokens at s other = change C F (Y None) s
 pub many_next : (C : Counting) (F : Following) {A B D : Type 0} {Z : Phrases D} {start : List Token} {first now : C.Count} (read : Token → Option B) (X : Sort A) (Y : List A → Sort D) (all : List A) (tokens : List Token) (at : ℕ) {b : B} →
     Others read (Y all).is → Stage C F Z start first (and_then (many X) (λ more. Y (all ++ more))) (drop at tokens) now → IsNextOne read tokens at b →
     Stage C F Z start first (and_then X (λ a. and_then (many X) (λ more. Y ((all ++ a ∷ []) ++ more)))) (drop at tokens) now
-many_next C F {D = D} read X Y all tokens at apart s here = change C F (and_then X (λ a. and_then (many X) (λ more. Y ((all ++ a ∷ []) ++ more)))) s
+many_next C F {D = D} read X Y all tokens at apart s here = change C F (and_then X (λ a. and_then (many X) (λ more. Y ((all ++ a ∷ []) ++ more)))).is s
     (λ ts e rest x. (x.0 ∷ x.3.0, x.3.1, (x.1, x.2, x.3.2), subst (λ more. (Y more).is x.3.1 e rest) (append_assoc all (x.0 ∷ []) x.3.0) x.3.3))
-    (λ ts e rest alike x. only ts e rest alike x.0 x.1 x.2 x.3)
+    (λ ts e rest alike follows x. only ts e rest alike x.0 x.1 x.2 x.3)
   where
     only : (ts : List Token) (e : D) (rest : List Token) → BeginAlike (drop at tokens) ts → (more : List _) (mid : List Token) → Many X.is ts more mid → (Y (all ++ more)).is mid e rest →
         (and_then X (λ a. and_then (many X) (λ more. Y ((all ++ a ∷ []) ++ more)))).is ts e rest
@@ -161,9 +161,9 @@ pub many_end : (C : Counting) (F : Following) {A B D : Type 0} {Z : Phrases D} {
     ((ts : List Token) (a : A) (rest : List Token) → X.is ts a rest → (t : Token) × (us : List Token) × (ts ≡ t ∷ us) × (b : B) × (read t ≡ Some b)) →
     Stage C F Z start first (and_then (many X) (λ more. Y (all ++ more))) (drop at tokens) now → IsNotNext read tokens at →
     Stage C F Z start first (Y all) (drop at tokens) now
-many_end C F {D = D} read X Y all tokens at begins s other = change C F (Y all) s
+many_end C F {D = D} read X Y all tokens at begins s other = change C F (Y all).is s
     (λ ts e rest x. ([], ts, refl, subst (λ more. (Y more).is ts e rest) (sym (append-nil all)) x))
-    (λ ts e rest alike x. only ts e rest alike x.0 x.1 x.2 x.3)
+    (λ ts e rest alike follows x. only ts e rest alike x.0 x.1 x.2 x.3)
   where
     only : (ts : List Token) (e : D) (rest : List Token) → BeginAlike (drop at tokens) ts → (more : List _) (mid : List Token) → Many X.is ts more mid → (Y (all ++ more)).is mid e rest → (Y all).is ts e rest
     only ts e rest alike [] mid m y = subst (λ us. (Y all).is us e rest) m (subst (λ more. (Y more).is mid e rest) (append-nil all) y)

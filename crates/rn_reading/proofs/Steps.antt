@@ -12,9 +12,9 @@ use Rattle.rn_notation.specs.declared.token.Token.{Token}
 use Rattle.rn_notation.specs.declared.token.TokenRef.{TokenRef}
 use Rattle.rn_reading.specs.declared.fault.ReadFault.{ReadFault}
 use Rattle.rn_reading.specs.declared.fault.ReadFault.TheVariants as Fault
-use Rattle.rn_reading.specs.Phrases.{Phrases, Then}
+use Rattle.rn_reading.specs.Phrases.{Phrases, Then, Done}
 use Rattle.rn_reading.specs.Counting.{Counting, count_after, IsWithin}
-use Rattle.rn_reading.specs.link.Stages.{Following, Sort, Stage, IsStuck, IsTooFar, Fails, Reads, done, BeginAlike, CanEnd, IsNext, HasNoNext}
+use Rattle.rn_reading.specs.link.Stages.{Following, Progress, Stage, IsStuck, IsTooFar, Fails, Reads, done, BeginAlike, CanEnd, IsNext, HasNoNext}
 
 -- the next token, as a list of tokens lends it
 pub next_lent : (tokens : List Token) (at : ℕ) (t : Option TokenRef) → option_map lent t ≡ slice_get tokens at →
@@ -51,10 +51,10 @@ within-append C c [] us first second = second
 within-append C c (t ∷ ts) us first second = (first.0, within-append C (C.after c t.kind) ts us first.1 second)
 
 -- nothing was taken; the phrase in other words
-pub begin : (C : Counting) (F : Following) {A : Type 0} {X : Phrases A} (Y : Sort A) (start : List Token) (first : C.Count) →
-    ((ts : List Token) (e : A) (rest : List Token) → Y.is ts e rest → X ts e rest) →
-    ((ts : List Token) (e : A) (rest : List Token) → BeginAlike start ts → X ts e rest → Y.is ts e rest) →
-    Stage C F X start first Y start first
+pub begin : (C : Counting) (F : Following) {A : Type 0} {X : Phrases A} (Y : Phrases A) (start : List Token) (first : C.Count) →
+    ((ts : List Token) (e : A) (rest : List Token) → Y ts e rest → X ts e rest) →
+    ((ts : List Token) (e : A) (rest : List Token) → BeginAlike start ts → X ts e rest → Y ts e rest) →
+    Progress C F X start first Y start first
 begin C F Y start first on only = record {
   taken = [];
   whole = refl;
@@ -64,51 +64,49 @@ begin C F Y start first on only = record {
   count = refl;
 }
 
--- nothing was taken of a phrase of this sort
-pub begin_itself : (C : Counting) (F : Following) {A : Type 0} (Y : Sort A) (start : List Token) (first : C.Count) → Stage C F Y.is start first Y start first
+-- nothing was taken of such a phrase
+pub begin_itself : (C : Counting) (F : Following) {A : Type 0} (Y : Phrases A) (start : List Token) (first : C.Count) → Progress C F Y start first Y start first
 begin_itself C F Y start first = begin C F Y start first (λ ts e rest x. x) (λ ts e rest alike x. x)
 
--- what is left is said in other words, which the next token may decide
-pub change : (C : Counting) (F : Following) {A : Type 0} {X : Phrases A} {Y : Sort A} {start left : List Token} {first now : C.Count} (Z : Sort A) →
-    Stage C F X start first Y left now →
-    ((ts : List Token) (e : A) (rest : List Token) → Z.is ts e rest → Y.is ts e rest) →
-    ((ts : List Token) (e : A) (rest : List Token) → BeginAlike left ts → Y.is ts e rest → Z.is ts e rest) →
-    Stage C F X start first Z left now
+-- what is left is said in other words, which the next token may decide, and what may follow
+pub change : (C : Counting) (F : Following) {A : Type 0} {X Y : Phrases A} {start left : List Token} {first now : C.Count} (Z : Phrases A) →
+    Progress C F X start first Y left now →
+    ((ts : List Token) (e : A) (rest : List Token) → Z ts e rest → Y ts e rest) →
+    ((ts : List Token) (e : A) (rest : List Token) → BeginAlike left ts → F rest → Y ts e rest → Z ts e rest) →
+    Progress C F X start first Z left now
 change C F Z s on only = record {
   taken = s.taken;
   whole = s.whole;
   on = λ ts e rest z. s.on ts e rest (on ts e rest z);
-  only = λ ts e rest alike follows x. only ts e rest alike (s.only ts e rest alike follows x);
+  only = λ ts e rest alike follows x. only ts e rest alike follows (s.only ts e rest alike follows x);
   within = s.within;
   count = s.count;
 }
 
 -- the next token is taken
-pub take : (C : Counting) (F : Following) {A : Type 0} {X : Phrases A} {Y : Sort A} {start others : List Token} {first now : C.Count} {t : Token} (Z : Sort A) →
-    Stage C F X start first Y (t ∷ others) now → (C.is_too_far now t.kind ≡ false) →
-    ((ts : List Token) (e : A) (rest : List Token) → Z.is ts e rest → Y.is (t ∷ ts) e rest) →
-    ((ts : List Token) (e : A) (rest : List Token) → BeginAlike others ts → Y.is (t ∷ ts) e rest → Z.is ts e rest) →
-    Stage C F X start first Z others (C.after now t.kind)
-take C F {X = X} {others = others} {first = first} {t = t} Z s small on only = record {
+pub take : (C : Counting) (F : Following) {A : Type 0} {X Y : Phrases A} {start others : List Token} {first now : C.Count} {t : Token} →
+    Progress C F X start first Y (t ∷ others) now → (C.is_too_far now t.kind ≡ false) →
+    Progress C F X start first (λ ts. Y (t ∷ ts)) others (C.after now t.kind)
+take C F {X = X} {others = others} {first = first} {t = t} s small = record {
   taken = s.taken ++ t ∷ [];
   whole = s.whole ∙ sym (append_assoc s.taken (t ∷ []) others);
-  on = λ ts e rest z. subst (λ us. X us e rest) (sym (append_assoc s.taken (t ∷ []) ts)) (s.on (t ∷ ts) e rest (on ts e rest z));
-  only = λ ts e rest alike follows x. only ts e rest alike (s.only (t ∷ ts) e rest refl follows (subst (λ us. X us e rest) (append_assoc s.taken (t ∷ []) ts) x));
+  on = λ ts e rest y. subst (λ us. X us e rest) (sym (append_assoc s.taken (t ∷ []) ts)) (s.on (t ∷ ts) e rest y);
+  only = λ ts e rest alike follows x. s.only (t ∷ ts) e rest refl follows (subst (λ us. X us e rest) (append_assoc s.taken (t ∷ []) ts) x);
   within = within-append C first s.taken (t ∷ []) s.within (subst (λ c. C.is_too_far c t.kind ≡ false) (sym s.count) small, tt);
   count = count-append C first s.taken (t ∷ []) ∙ ap (λ c. C.after c t.kind) s.count;
 }
 
 -- nothing that is left goes on so
-pub stuck : (C : Counting) (F : Following) {A : Type 0} {X : Phrases A} {Y : Sort A} {start : List Token} {first now : C.Count} (tokens : List Token) (at : ℕ) →
-    Stage C F X start first Y (drop at tokens) now → at ≤ length tokens →
-    ((ts : List Token) (e : A) (rest : List Token) → BeginAlike (drop at tokens) ts → Y.is ts e rest → ⊥) →
+pub stuck : (C : Counting) (F : Following) {A : Type 0} {X Y : Phrases A} {start : List Token} {first now : C.Count} (tokens : List Token) (at : ℕ) →
+    Progress C F X start first Y (drop at tokens) now → at ≤ length tokens → CanEnd Y →
+    ((ts : List Token) (e : A) (rest : List Token) → BeginAlike (drop at tokens) ts → Y ts e rest → ⊥) →
     Fails C F X start first (length tokens) (Fault.Stopped at)
-stuck C F {Y = Y} tokens at s inside none = (
+stuck C F tokens at s inside end none = (
   drop at tokens,
   record {
     taken = s.taken;
     whole = s.whole;
-    begins = (Y.ends.0, Y.ends.1, λ rest. s.on (Y.ends.0 ++ rest) Y.ends.1 rest (Y.ends.2 rest));
+    begins = (end.0, end.1, λ rest. s.on (end.0 ++ rest) end.1 rest (end.2 rest));
     none = λ ts e rest alike follows x. none ts e rest alike (s.only ts e rest alike follows x);
     within = s.within;
   },
@@ -116,10 +114,10 @@ stuck C F {Y = Y} tokens at s inside none = (
 )
 
 -- the next token can follow, and goes too far
-pub too_far : (C : Counting) (F : Following) {A : Type 0} {X : Phrases A} {Y : Sort A} {start : List Token} {first now : C.Count} (tokens : List Token) (at : ℕ) {t : Token} →
-    Stage C F X start first Y (drop at tokens) now → IsNext tokens at t → CanEnd (λ ts. Y.is (t ∷ ts)) → C.is_too_far now t.kind ≡ true →
+pub too_far : (C : Counting) (F : Following) {A : Type 0} {X Y : Phrases A} {start : List Token} {first now : C.Count} (tokens : List Token) (at : ℕ) {t : Token} →
+    Progress C F X start first Y (drop at tokens) now → IsNext tokens at t → CanEnd (λ ts. Y (t ∷ ts)) → C.is_too_far now t.kind ≡ true →
     Fails C F X start first (length tokens) (Fault.TooFar at)
-too_far C F {Y = Y} tokens at {t = t} s next end far = (
+too_far C F tokens at {t = t} s next end far = (
   drop at tokens,
   record {
     taken = s.taken;
@@ -135,80 +133,73 @@ too_far C F {Y = Y} tokens at {t = t} s next end far = (
 )
 
 -- what follows a phrase that another follows
-abbrev pub Follow : Following → {A B : Type 0} → Following → (A → Sort B) → Type 0
-Follow G {A = A} {B = B} F Y = (a : A) (ts : List Token) (b : B) (rest : List Token) → (Y a).is ts b rest → F rest → G ts
+abbrev pub Follow : Following → {A B : Type 0} → Following → (A → Phrases B) → Type 0
+Follow G {A = A} {B = B} F Y = (a : A) (ts : List Token) (b : B) (rest : List Token) → Y a ts b rest → F rest → G ts
 
 -- a phrase was taken that another has to follow
-pub inner : (C : Counting) (F G : Following) {A B : Type 0} {X : Phrases A} {Z : Phrases B} {W : Sort B} {start mid left : List Token} {first now last : C.Count} {a : A} (Y : A → Sort B) → Follow G F Y →
-    Stage C F Z start first W mid now →
-    ((ts : List Token) (e : B) (rest : List Token) → Then X (λ b. (Y b).is) ts e rest → W.is ts e rest) →
-    ((ts : List Token) (e : B) (rest : List Token) → W.is ts e rest → Then X (λ b. (Y b).is) ts e rest) →
-    Stage C G X mid now (done a) left last →
-    Stage C F Z start first (Y a) left last
-inner C F G {X = X} {Z = Z} {start = start} {mid = mid} {left = left} {first = first} {a = a} Y follow s on only p = record {
+pub inner : (C : Counting) (F G : Following) {A B : Type 0} {X : Phrases A} {Z : Phrases B} {start mid left : List Token} {first now last : C.Count} {a : A} (Y : A → Phrases B) → Follow G F Y →
+    Progress C F Z start first (Then X Y) mid now →
+    Progress C G X mid now (Done a) left last →
+    Progress C F Z start first (Y a) left last
+inner C F G {X = X} {Z = Z} {start = start} {mid = mid} {left = left} {first = first} {a = a} Y follow s p = record {
   taken = s.taken ++ p.taken;
   whole = s.whole ∙ ap (λ us. s.taken ++ us) p.whole ∙ sym (append_assoc s.taken p.taken left);
-  on = λ ts e rest y. subst (λ us. Z us e rest) (sym (append_assoc s.taken p.taken ts)) (s.on (p.taken ++ ts) e rest (on (p.taken ++ ts) e rest (a, ts, p.on ts a ts (refl, refl), y)));
+  on = λ ts e rest y. subst (λ us. Z us e rest) (sym (append_assoc s.taken p.taken ts)) (s.on (p.taken ++ ts) e rest (a, ts, p.on ts a ts (refl, refl), y));
   only = λ ts e rest alike follows z.
-      let x = only (p.taken ++ ts) e rest (s.only (p.taken ++ ts) e rest (subst (λ us. BeginAlike us (p.taken ++ ts)) (sym p.whole) (alike-append p.taken left ts alike)) follows (subst (λ us. Z us e rest) (append_assoc s.taken p.taken ts) z)) in
+      let x = s.only (p.taken ++ ts) e rest (subst (λ us. BeginAlike us (p.taken ++ ts)) (sym p.whole) (alike-append p.taken left ts alike)) follows (subst (λ us. Z us e rest) (append_assoc s.taken p.taken ts) z) in
       let d = p.only ts x.0 x.1 alike (follow x.0 x.1 e rest x.3 follows) x.2 in
-      subst (λ us. (Y a).is us e rest) d.1 (subst (λ b. (Y b).is x.1 e rest) d.0 x.3);
+      subst (λ us. Y a us e rest) d.1 (subst (λ b. Y b x.1 e rest) d.0 x.3);
   within = within-append C first s.taken p.taken s.within (subst (λ c. IsWithin C c p.taken) (sym s.count) p.within);
   count = count-append C first s.taken p.taken ∙ ap (λ c. count_after C c p.taken) s.count ∙ p.count;
 }
 
-inner_stuck : (C : Counting) (F G : Following) {A B : Type 0} {X : Phrases A} {Z : Phrases B} {W : Sort B} {start mid left : List Token} {first now : C.Count} (Y : A → Sort B) → Follow G F Y →
-    Stage C F Z start first W mid now →
-    ((ts : List Token) (e : B) (rest : List Token) → Then X (λ b. (Y b).is) ts e rest → W.is ts e rest) →
-    ((ts : List Token) (e : B) (rest : List Token) → W.is ts e rest → Then X (λ b. (Y b).is) ts e rest) →
+inner_stuck : (C : Counting) (F G : Following) {A B : Type 0} {X : Phrases A} {Z : Phrases B} {start mid left : List Token} {first now : C.Count} (Y : A → Phrases B) → Follow G F Y → ((a : A) → CanEnd (Y a)) →
+    Progress C F Z start first (Then X Y) mid now →
     IsStuck C G X mid now left → IsStuck C F Z start first left
-inner_stuck C F G {X = X} {Z = Z} {left = left} {first = first} Y follow s on only p = record {
+inner_stuck C F G {X = X} {Z = Z} {left = left} {first = first} Y follow ends s p = record {
   taken = s.taken ++ p.taken;
   whole = s.whole ∙ ap (λ us. s.taken ++ us) p.whole ∙ sym (append_assoc s.taken p.taken left);
   begins =
-      let end = (Y p.begins.1).ends in (
+      let end = ends p.begins.1 in (
         p.begins.0 ++ end.0,
         end.1,
         λ rest.
-            let x = s.on (p.taken ++ (p.begins.0 ++ (end.0 ++ rest))) end.1 rest (on (p.taken ++ (p.begins.0 ++ (end.0 ++ rest))) end.1 rest (p.begins.1, end.0 ++ rest, p.begins.2 (end.0 ++ rest), end.2 rest)) in
+            let x = s.on (p.taken ++ (p.begins.0 ++ (end.0 ++ rest))) end.1 rest (p.begins.1, end.0 ++ rest, p.begins.2 (end.0 ++ rest), end.2 rest) in
             subst (λ us. Z us end.1 rest) (ap (λ us. s.taken ++ (p.taken ++ us)) (sym (append_assoc p.begins.0 end.0 rest)) ∙ sym (append_assoc s.taken p.taken ((p.begins.0 ++ end.0) ++ rest))) x,
       );
   none = λ ts e rest alike follows z.
-      let x = only (p.taken ++ ts) e rest (s.only (p.taken ++ ts) e rest (subst (λ us. BeginAlike us (p.taken ++ ts)) (sym p.whole) (alike-append p.taken left ts alike)) follows (subst (λ us. Z us e rest) (append_assoc s.taken p.taken ts) z)) in
+      let x = s.only (p.taken ++ ts) e rest (subst (λ us. BeginAlike us (p.taken ++ ts)) (sym p.whole) (alike-append p.taken left ts alike)) follows (subst (λ us. Z us e rest) (append_assoc s.taken p.taken ts) z) in
       p.none ts x.0 x.1 alike (follow x.0 x.1 e rest x.3 follows) x.2;
   within = within-append C first s.taken p.taken s.within (subst (λ c. IsWithin C c p.taken) (sym s.count) p.within);
 }
 
-inner_far : (C : Counting) (F : Following) {A B : Type 0} {X : Phrases A} {Z : Phrases B} {W : Sort B} {start mid left : List Token} {first now : C.Count} (Y : A → Sort B) →
-    Stage C F Z start first W mid now →
-    ((ts : List Token) (e : B) (rest : List Token) → Then X (λ b. (Y b).is) ts e rest → W.is ts e rest) →
+inner_far : (C : Counting) (F : Following) {A B : Type 0} {X : Phrases A} {Z : Phrases B} {start mid left : List Token} {first now : C.Count} (Y : A → Phrases B) → ((a : A) → CanEnd (Y a)) →
+    Progress C F Z start first (Then X Y) mid now →
     IsTooFar C X mid now left → IsTooFar C Z start first left
-inner_far C F {X = X} {Z = Z} {left = left} {first = first} Y s on p = record {
+inner_far C F {X = X} {Z = Z} {left = left} {first = first} Y ends s p = record {
   taken = s.taken ++ p.taken;
   token = p.token;
   others = p.others;
   next = p.next;
   whole = s.whole ∙ ap (λ us. s.taken ++ us) p.whole ∙ sym (append_assoc s.taken p.taken left);
   begins =
-      let end = (Y p.begins.1).ends in (
+      let end = ends p.begins.1 in (
         p.begins.0 ++ end.0,
         end.1,
         λ rest.
-            let x = s.on (p.taken ++ (p.token ∷ (p.begins.0 ++ (end.0 ++ rest)))) end.1 rest (on (p.taken ++ (p.token ∷ (p.begins.0 ++ (end.0 ++ rest)))) end.1 rest (p.begins.1, end.0 ++ rest, p.begins.2 (end.0 ++ rest), end.2 rest)) in
+            let x = s.on (p.taken ++ (p.token ∷ (p.begins.0 ++ (end.0 ++ rest)))) end.1 rest (p.begins.1, end.0 ++ rest, p.begins.2 (end.0 ++ rest), end.2 rest) in
             subst (λ us. Z us end.1 rest) (ap (λ us. s.taken ++ (p.taken ++ p.token ∷ us)) (sym (append_assoc p.begins.0 end.0 rest)) ∙ sym (append_assoc s.taken p.taken (p.token ∷ ((p.begins.0 ++ end.0) ++ rest)))) x,
       );
   within = within-append C first s.taken p.taken s.within (subst (λ c. IsWithin C c p.taken) (sym s.count) p.within);
   far = subst (λ c. C.is_too_far c p.token.kind ≡ true) (ap (λ c. count_after C c p.taken) (sym s.count) ∙ sym (count-append C first s.taken p.taken)) p.far;
 }
 
-pub inner_fails : (C : Counting) (F G : Following) {A B : Type 0} {X : Phrases A} {Z : Phrases B} {W : Sort B} {start mid : List Token} {first now : C.Count} (Y : A → Sort B) (total : ℕ) (e : ReadFault) → Follow G F Y →
-    Stage C F Z start first W mid now →
-    ((ts : List Token) (e : B) (rest : List Token) → Then X (λ b. (Y b).is) ts e rest → W.is ts e rest) →
-    ((ts : List Token) (e : B) (rest : List Token) → W.is ts e rest → Then X (λ b. (Y b).is) ts e rest) →
+pub inner_fails : (C : Counting) (F G : Following) {A B : Type 0} {X : Phrases A} {Z : Phrases B} {start mid : List Token} {first now : C.Count} (Y : A → Phrases B) (total : ℕ) (e : ReadFault) → Follow G F Y → ((a : A) → CanEnd (Y a)) →
+    Progress C F Z start first (Then X Y) mid now →
     Fails C G X mid now total e → Fails C F Z start first total e
-inner_fails C F G Y total (Fault.Stopped k) follow s on only f = (f.0, inner_stuck C F G Y follow s on only f.1, f.2)
-inner_fails C F G Y total (Fault.TooFar k) follow s on only f = (f.0, inner_far C F Y s on f.1, f.2)
-inner_fails C F G Y total (Fault.NoMemory _) follow s on only f = tt
+inner_fails C F G Y total (Fault.Stopped k) follow ends s f = (f.0, inner_stuck C F G Y follow ends s f.1, f.2)
+inner_fails C F G Y total (Fault.TooFar k) follow ends s f = (f.0, inner_far C F Y ends s f.1, f.2)
+inner_fails C F G Y total (Fault.NoMemory _) follow ends s f = tt
 
 -- what a reader returns where a reader that it calls fails
 pub failed : (C : Counting) (F : Following) {A : Type 0} (X : Phrases A) (tokens : List Token) (at : ℕ) (first last : C.Count) (r : Result (A × ℕ) ReadFault) (e : ReadFault) →

@@ -1,5 +1,5 @@
 -- The steps along phrases where nothing is counted, and anything may follow.
-use Rattle.std.proofs.Common.{◌≡◌, ℕ, ◌+◌, ◌≤◌, List, [], ◌∷◌, ◌++◌, length, drop, refl, sym, subst, Option, Some, None}
+use Rattle.std.proofs.Common.{◌≡◌, ℕ, ◌≤◌, List, [], ◌∷◌, ◌++◌, length, drop, refl, sym, subst, Option, Some, None}
 use Rattle.std.specs.Prelude.{Result, Ok, Err}
 use Rattle.std.specs.Result.{IsErrAnd}
 use Rattle.rn_notation.specs.declared.token.Token.{Token}
@@ -20,7 +20,7 @@ Failed Z from tokens e = Fails uncounted Anything Z from tt (length tokens) e
 
 -- at the start all of the phrase is left
 pub started : {D : Type 0} (Y : Sort D) (tokens : List Token) (start : ℕ) → At Y.is (drop start tokens) tokens Y start
-started Y tokens start = begin_itself uncounted Anything Y (drop start tokens) tt
+started Y tokens start = begin_itself uncounted Anything Y.is (drop start tokens) tt
 
 -- one token is read, or not
 pub goes : {A D : Type 0} {Z : Phrases D} {from : List Token} {a : A} (r : Single A) (Y : A → Sort D) (tokens : List Token) (at end : ℕ) →
@@ -81,9 +81,9 @@ pub itself : {D : Type 0} (X : Sort D) (Z : Phrases D) (tokens : List Token) (st
 itself {D = D} X Z tokens start at r s p = by r p
   where
     left : At Z (drop start tokens) tokens (and_then X done) at
-    left = change uncounted Anything (and_then X done) s
+    left = change uncounted Anything (and_then X done).is s
         (λ ts e rest x. subst (λ b. X.is ts b rest) (sym x.3.0) (subst (λ us. X.is ts x.0 us) (sym x.3.1) x.2))
-        (λ ts e rest alike x. (e, rest, x, (refl, refl)))
+        (λ ts e rest alike follows x. (e, rest, x, (refl, refl)))
 
     by : (r : Result (D × ℕ) ReadFault) → ReadsUncounted X.is tokens at r → ReadsUncounted Z tokens start r
     by (Ok (a, end)) p = reads X done tokens at end left p

@@ -1,6 +1,7 @@
 -- Whole texts: what was read of the tokens decides, and no two reasons of a text differ.
 use Rattle.std.proofs.Common.{◌≡◌, ℕ, ◌+◌, ◌⊎◌, inl, inr, true, false, List, [], ◌∷◌, ◌++◌, length, drop, refl, sym, ◌∙◌, ap, subst, append_assoc, arith, Option, Some, None}
 use Rattle.std.specs.Prelude.{Result, Ok, Err, IfSome, IfNone}
+use Rattle.std.proofs.Math.ListN.{length-append}
 use Rattle.rn_notation.specs.Laws.{OneReading, OneFault, NoFaultInTokens}
 use Rattle.rn_notation.specs.Reading.{Tokens, FirstFault}
 use Rattle.rn_notation.specs.declared.token.Token.{Token}
@@ -33,7 +34,7 @@ split-at (x ∷ a) b (y ∷ c) d e =
 pub begins-front : {A : Type 0} (X : Phrases A) (a b : List Token) → IsBeginning X (a ++ b) → IsBeginning X a
 begins-front X a b x = (b ++ x.0, x.1, subst (λ us. X us x.1 []) (append_assoc a b x.0) x.2)
 
-within-at : (C : Counting) (c : C.Count) (a : List Token) (t : Token) (m : List Token) → IsWithin C c (a ++ t ∷ m) → C.is_too_far (count_after C c a) t.kind ≡ false
+pub within-at : (C : Counting) (c : C.Count) (a : List Token) (t : Token) (m : List Token) → IsWithin C c (a ++ t ∷ m) → C.is_too_far (count_after C c a) t.kind ≡ false
 within-at C c [] t m h = h.0
 within-at C c (x ∷ a) t m h = within-at C (C.after c x.kind) a t m h.1
 
@@ -140,10 +141,6 @@ drop-append (t ∷ before) left = drop-append before left
 
 taken-length : (tokens taken left : List Token) (k : ℕ) → tokens ≡ taken ++ left → k + length left ≡ length tokens → k ≡ length taken
 taken-length tokens taken left k whole total = let h : length tokens ≡ length taken + length left = ap length whole ∙ length-append taken left in omega (arith, h, total)
-  where
-    length-append : (a b : List Token) → length (a ++ b) ≡ length a + length b
-    length-append [] b = omega arith
-    length-append (t ∷ a) b = omega (arith, length-append a b)
 
 left-of : (tokens taken left : List Token) (k : ℕ) → tokens ≡ taken ++ left → k + length left ≡ length tokens → drop k tokens ≡ left
 left-of tokens taken left k whole total = ap (λ n. drop n tokens) (taken-length tokens taken left k whole total) ∙ ap (drop (length taken)) whole ∙ drop-append taken left

@@ -58,11 +58,6 @@ pub(crate) fn put_lines<N: Naming, L: Text>(
         (binding_text system.now (take before (N.names names.now)) (L.text lead.now) binding.now) }
 {
     let nodes = binding.nodes.as_slice();
-    let numbered = Numbered {
-        names,
-        system,
-        nodes,
-        next: before as u32 + 1,
-    };
+    let numbered = Numbered::new(names, system, nodes, before as u32 + 1);
     put_nodes(system, nodes, &numbered, lead, window);
 }

@@ -1,5 +1,5 @@
 //! The entries of a run, written into a sink piece by piece.
-ghost use Rattle.std.specs.Prelude.{◌≡◌, ◌<◌, ◌≤◌, ◌++◌, length, take, min, IsTrue, OnOk, OnErr};
+ghost use Rattle.std.specs.Prelude.{◌≡◌, ◌↔◌, ◌<◌, ◌≤◌, ◌++◌, length, take, min, IsTrue, OnOk, OnErr};
 ghost use Rattle.rn_window.specs.Windows.{top};
 ghost use Rattle.rn_pour.specs.Flows.{Standing, Flows, Breaks};
 ghost use Rattle.rn_record.specs.RecordText.{IsFormat, entry_text, entries_text, header_text};
@@ -47,7 +47,7 @@ pub fn count_named(log: &LogText<'_>) -> usize
 /// once, and counted. It takes no memory.
 pub fn log_is_short(log: &LogText<'_>, window: &mut Window) -> bool
     requires { EntriesFit log.now.system.now log.now.nets.now 1 log.now.entries.now }
-    ensures short { IsTrue result → AreShort (entry_parts log.now.system.now
+    ensures short { IsTrue result ↔ AreShort (entry_parts log.now.system.now
         (first_of log.now.system.now log.now.nets.now 1) 1 log.now.entries.now) }
     ensures room { window.new.room ≡ window.old.room }
 {

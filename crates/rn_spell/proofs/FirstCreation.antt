@@ -37,7 +37,7 @@ number_of_new cs n path j =
     number_of_place (nat_lt place (length cs)) n place path j ∙ sym (counted_from (is_the path j) n cs)
 
 -- the tests by what they say
-less_of : {j n : ℕ} → nat_lt j n ≡ true → j < n
+pub less_of : {j n : ℕ} → nat_lt j n ≡ true → j < n
 less_of {j} {n} h = grind (arith, nat_tests)
 
 not_less_of : {j n : ℕ} → nat_lt j n ≡ false → n ≤ j

@@ -1,7 +1,10 @@
 pub mod FirstCreation
+pub mod Halving
+pub mod MadeCounts
 pub mod MadeInstances
 pub mod NodeTexts
 pub mod Numerals
+pub mod Paths
 pub mod Pieces
 pub mod PlainBytes
 pub mod Slices

@@ -1,2 +1,3 @@
-pub mod Spelling
+pub mod link
 pub mod Made
+pub mod Spelling

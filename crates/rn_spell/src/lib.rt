@@ -2,9 +2,11 @@
 #![tactic(auto)]
 
 mod digits;
+mod marks;
 mod naming;
 mod nodes;
 mod numbering;
+mod places;
 mod values;
 
 pub use digits::{put_int, put_numeral};

@@ -1,5 +1,5 @@
 -- What is poured of a state is its record.
-use Rattle.std.proofs.Common.{◌≡◌, ◌<◌, ◌≤◌, ◌+◌, ℕ, suc, List, [], ◌∷◌, ◌++◌, Bool, true, false, length, take, map, refl, sym, ap, ◌∙◌, subst, arith, append-nil}
+use Rattle.std.proofs.Common.{◌≡◌, ◌<◌, ◌≤◌, ◌+◌, ℕ, suc, List, [], ◌∷◌, ◌++◌, Bool, true, false, length, length-append, take, map, refl, sym, ap, ◌∙◌, subst, arith, append-nil}
 use Rattle.std.specs.Prelude.{◌↔◌, Option, Some, None, Result, Ok, Err, IfSome, codes, cond, not, flat_map, nat_eq, nat_lt, position, slice_get, unwrap_or}
 use Rattle.std.specs.List.{count_by, prefix_len, position_or_len}
 use Rattle.std.specs.Option.{option_map}
@@ -24,17 +24,20 @@ use Rattle.rn_live.proofs.MarkedNumbers.{marked_ascend, marked_listed}
 use Rattle.rn_spell.specs.Made.{names_of_nets}
 use Rattle.rn_record.specs.RecordText.{entries_text, first_names, header_text, mark_text, names_at_end, record_text}
 use Rattle.rn_record.specs.Nets.{EndsLast, EntriesFit, HasNets, first_of, nets_of_run}
+use Rattle.rn_record.specs.Parts.{AreShort, entry_parts}
 use Rattle.rn_record.specs.Writable.{HasText}
 use Rattle.rn_record.proofs.EntriesInOrder.{fit_at_start, names_at_start}
-use Rattle.rn_end_marking.specs.MarkTexts.{marks_text}
+use Rattle.rn_end_marking.specs.MarkTexts.{AreShort as AreShortMarks, marks_text}
 use Rattle.rn_end_marking.specs.link.Lines.{lines_at}
 use Rattle.rn_end_marking.proofs.LinesInOrder.{lines_of_live}
 use Rattle.rn_outside.specs.Bytes.{AppendsPrefix, IsCalledSeldom}
+use Rattle.rn_window.specs.Windows.{top}
 use Rattle.rn_pour.specs.Flows.{Standing, Flows, Breaks}
 use Rattle.rn_fire.specs.Nets.{nets_logged}
 use Rattle.rn_fire.specs.States.{State, end_marking, logged}
-use Rattle.rn_state_record.specs.Poured.{TakesRecord, BreaksRecord}
+use Rattle.rn_state_record.specs.Poured.{TakesRecord, BreaksRecord, HasEndlessRecord}
 use Rattle.rn_state_record.specs.Written.{IsRecordOf}
+use Rattle.rn_state_record.proofs.ShortParts.{entries_short, marks_short}
 use Rattle.rn_state_record.proofs.WrittenStates.{has_text, live_at_end}
 
 -- where something passes a test, the first that does is there
@@ -128,6 +131,28 @@ module _ (s : State) (system : System) (table : Marking) (is : system ≡ s.setu
 
   pub its_record : LivePart s.setup.system (end_marking s) lines
   its_record = live_at_end s system table is good stands lines are_live
+
+  -- and where a part of it isn't short, it has no end
+  pub endless : (format named : ℕ) (marked_nets : List ℕ) → marked_nets ≡ take named nets →
+      first_of system nets named ≡ names_at_end system (first_of system nets 1) entries →
+      ¬ (AreShort (entry_parts system (first_of system nets 1) 1 entries) × AreShortMarks format system marked_nets table) →
+      HasEndlessRecord format s
+  endless format named marked_nets cut names long =
+      let log = entries_text system (first_of system nets 1) 1 entries in
+      let last = marks_text format system marked_nets lines in
+      let bytes = record_text format s.setup.system (record { entries = logged s; marks = lines }) in
+      let whole = ap (λ (bs : List ℕ). length bs) (sym (text_is format named marked_nets cut names)) in
+      let front = length-append (header_text format ++ log) last in
+      let first = length-append (header_text format) log in
+      let no_less : ¬ (length bytes < top) = λ few. long (
+        entries_short system (first_of system nets 1) 1 entries (omega (arith, few, whole, front, first)),
+        marks_short format system marked_nets table lines are_live (omega (arith, few, whole, front)),
+      ) in
+      record {
+        bytes = bytes;
+        is_record = record { marks = lines; live = its_record; text = refl };
+        endless = omega (arith, no_less);
+      }
 
 -- a sink that was called no more than for each byte was called seldom
 seldom : (before since : Standing) → IfSome before.held (λ then. IfSome since.held (λ now. since.writes + length then ≤ before.writes + length now)) →

@@ -11,7 +11,7 @@ ghost use Rattle.rn_record.specs.RecordText.{IsFormat, entries_text, header_text
 ghost use Rattle.rn_record.specs.Nets.{EntriesFit, first_of};
 ghost use Rattle.rn_record.specs.Parts.{AreShort, entry_parts};
 ghost use Rattle.rn_end_marking.specs.MarkTexts.{AreShort as AreShortMarks, marks_text};
-ghost use Rattle.rn_state_record.specs.Poured.{TakesRecord, BreaksRecord};
+ghost use Rattle.rn_state_record.specs.Poured.{TakesRecord, BreaksRecord, HasEndlessRecord};
 
 use rn_end_marking::{LiveMarks, marks_are_short, pour_marks};
 use rn_fire::{Parts, SimState};
@@ -70,6 +70,7 @@ pub fn pour_record<O: Sink>(
           empty_writes = O.empty_writes out.new;
         }) }
     ensures endless { IsErrOf result PourFault.Endless → out.new ≡ out.old }
+    ensures long { IsErrOf result PourFault.Endless → HasEndlessRecord format state }
     ensures room { window.new.room ≡ window.old.room }
 {
     let Parts {

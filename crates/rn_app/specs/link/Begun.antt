@@ -1,5 +1,5 @@
 -- What a command comes to before a run, or why to nothing.
-use Rattle.std.specs.Prelude.{ℕ, List, Option, Result, Ok, Err, ⊤}
+use Rattle.std.specs.Prelude.{ℕ, ◌≡◌, List, Option, Result, Ok, Err, ⊤}
 use Rattle.rn_outside.specs.Faults.{Rose}
 use Rattle.rn_words.specs.declared.command.Command.{Command}
 use Rattle.rn_words.specs.declared.command.Command.TheVariants as command
@@ -8,6 +8,7 @@ use Rattle.rn_answering.specs.declared.stopped.Stopped.{Stopped}
 use Rattle.rn_answering.specs.declared.stopped.Stopped.TheVariants.{Refused, ReadFault, NoMemory}
 use Rattle.rn_answering.specs.NetTexts.{RefusesNet}
 use Rattle.rn_answering.specs.Refusing.{Stops}
+use Rattle.rn_commands.specs.declared.jobs.Job.{Job}
 use Rattle.rn_app.specs.declared.preparing.Prepared.{Prepared}
 use Rattle.rn_app.specs.declared.preparing.Prepared.TheVariants.{Answered, Due}
 use Rattle.rn_app.specs.Commands.{ComesTo}
@@ -22,6 +23,14 @@ AnswersTo (command.RunSeeded options seed) bytes a = RefusesNet bytes a
 AnswersTo (command.Gen copies options) bytes a = ⊥
 AnswersTo (command.GenSeeded copies options seed) bytes a = ⊥
 AnswersTo c bytes a = ComesTo c bytes a
+
+-- this run is due, or there is no memory for it
+abbrev pub IsReadied : Job → Result Prepared Stopped → Type 0
+IsReadied job (Ok (Answered a)) = ⊥
+IsReadied job (Ok (Due ready)) = ready ≡ job
+IsReadied job (Err (Refused a)) = ⊥
+IsReadied job (Err ReadFault) = ⊥
+IsReadied job (Err (NoMemory _)) = ⊤
 
 -- what a command comes to on its input, or the run that it asks for; or why there is neither
 abbrev pub IsPrepared : Command → List ℕ → Result Prepared Stopped → Type 0

@@ -3,15 +3,16 @@ use Rattle.std.specs.Prelude.{◌≡◌, ℕ, List, ◌∷◌, drop}
 use Rattle.rn_notation.specs.declared.token.Token.{Token}
 use Rattle.rn_notation.specs.declared.token.TokenKind.{TokenKind}
 use Rattle.rn_notation.specs.declared.token.TokenKind.TheVariants.{Name}
-use Rattle.rn_inscript.specs.declared.fault.InscriptFault.{InscriptFault}
-use Rattle.rn_inscript.specs.declared.fault.InscriptFault.TheVariants as Fault
+use Rattle.rn_reading.specs.declared.fault.ReadFault.{ReadFault}
+use Rattle.rn_reading.specs.declared.fault.ReadFault.TheVariants as Fault
 use Rattle.rn_inscript.specs.declared.exprs.PExpr.{PExpr}
 use Rattle.rn_inscript.specs.declared.inscriptions.PName.{PName}
 use Rattle.rn_inscript.specs.declared.inscriptions.PInscribed.{PInscribed}
 use Rattle.rn_inscript.specs.declared.inscriptions.PInscribed.TheVariants as I
 use Rattle.rn_inscript.specs.Expressions.{IsExpr}
 use Rattle.rn_inscript.specs.Signs.{equals, new_word}
-use Rattle.rn_inscript.specs.link.Stages.{Phrases, IsNext}
+use Rattle.rn_reading.specs.Phrases.{Phrases}
+use Rattle.rn_reading.specs.link.Stages.{IsNext}
 
 -- no token is at an index, or one of another kind
 abbrev pub IsNotNextKind : List Token → ℕ → TokenKind → Type 0
@@ -30,9 +31,9 @@ IsNotName tokens at = (t : Token) (others : List Token) (s : List ℕ) →
     drop at tokens ≡ t ∷ others → t.kind ≡ Name s → ⊥
 
 -- memory ran out, or no name is at an index
-abbrev pub IsNoName : List Token → ℕ → InscriptFault → Type 0
-IsNoName tokens at (Fault.P2 k) = IsNotName tokens at × (k ≡ at)
-IsNoName tokens at (Fault.P5 k) = ⊥
+abbrev pub IsNoName : List Token → ℕ → ReadFault → Type 0
+IsNoName tokens at (Fault.Stopped k) = IsNotName tokens at × (k ≡ at)
+IsNoName tokens at (Fault.TooFar k) = ⊥
 IsNoName tokens at (Fault.NoMemory _) = Unit {0}
 
 -- the two sides of an equality

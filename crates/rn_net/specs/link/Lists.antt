@@ -2,7 +2,8 @@
 -- the grammar.
 use Rattle.std.specs.Prelude.{ℕ, List, []}
 use Rattle.rn_notation.specs.declared.token.TokenKind.{TokenKind}
-use Rattle.rn_inscript.specs.link.Stages.{Phrases, Then, Takes}
+use Rattle.rn_reading.specs.Phrases.{Phrases, Then}
+use Rattle.rn_inscript.specs.link.Stages.{Takes}
 use Rattle.rn_net.specs.declared.kinds.PKind.{PKind}
 use Rattle.rn_net.specs.declared.constants.PConst.{PConst}
 use Rattle.rn_inscript.specs.declared.exprs.PExpr.{PExpr}

@@ -4,12 +4,13 @@ use Rattle.std.specs.Prelude.{Result, Ok, Err}
 use Rattle.rn_notation.specs.declared.token.Spot.{Spot}
 use Rattle.rn_notation.specs.declared.token.Token.{Token}
 use Rattle.rn_notation.specs.declared.token.TokenKind.TheVariants.{Name}
+use Rattle.rn_reading.specs.Phrases.{Phrases, Then, Done}
 use Rattle.rn_inscript.specs.Inscriptions.{name_at}
-use Rattle.rn_inscript.specs.link.Stages.{Phrases, Then, Done, Takes}
+use Rattle.rn_inscript.specs.link.Stages.{Takes}
 use Rattle.rn_inscript.specs.link.NextNames.{IsNotNextKind}
 use Rattle.rn_inscript.specs.Levels.{Count}
-use Rattle.rn_inscript.specs.declared.fault.InscriptFault.{InscriptFault}
-use Rattle.rn_inscript.specs.declared.fault.InscriptFault.TheVariants as Fault
+use Rattle.rn_reading.specs.declared.fault.ReadFault.{ReadFault}
+use Rattle.rn_reading.specs.declared.fault.ReadFault.TheVariants as Fault
 use Rattle.rn_inscript.specs.Signs.{close_brace, colon}
 use Rattle.rn_model.specs.declared.system.ArcKind.{ArcKind}
 use Rattle.rn_inscript.specs.declared.exprs.PExpr.{PExpr}
@@ -97,13 +98,13 @@ NotOpen notation count i = (kind : ArcKind) (place : PName) → IsOpen notation 
 
 -- What was read from an inscription up to its semicolon, or how that failed: the semicolon alone, or
 -- the other inscriptions of an arc of this kind and place.
-abbrev pub EndsAlone : List Token → ℕ → Result (List PInscription × ℕ) InscriptFault → Type 0
+abbrev pub EndsAlone : List Token → ℕ → Result (List PInscription × ℕ) ReadFault → Type 0
 EndsAlone tokens at (Ok (others, end)) =
     (others ≡ []) × ((spot : Spot) × HasNext tokens at semicolon spot) × (end ≡ at + 1)
-EndsAlone tokens at (Err fault) = IsNotNextKind tokens at semicolon × (fault ≡ Fault.P2 at)
+EndsAlone tokens at (Err fault) = IsNotNextKind tokens at semicolon × (fault ≡ Fault.Stopped at)
 
 abbrev pub EndsFurther : ArcKind → PName → List Token → ℕ →
-    Result (List PInscription × ℕ) InscriptFault → Type 0
+    Result (List PInscription × ℕ) ReadFault → Type 0
 EndsFurther kind place tokens at (Ok (others, end)) =
     (more : List PExpr) × (others ≡ map (further_arc kind place) more)
     × ((c : Count) → Reads AreFurtherUpTo tokens at (inscribing 0 c) between (Ok (more, end)))
@@ -112,7 +113,7 @@ EndsFurther kind place tokens at (Err fault) =
 
 -- one of the two, as more inscriptions may follow one of so many tokens or may not
 abbrev pub EndsStatement : ℕ → ℕ → PInscription → List Token → ℕ →
-    Result (List PInscription × ℕ) InscriptFault → Type 0
+    Result (List PInscription × ℕ) ReadFault → Type 0
 EndsStatement notation count i tokens at result =
     (NotOpen notation count i × EndsAlone tokens at result)
     ⊎ ((kind : ArcKind) × (place : PName) × IsOpen notation count i kind place

@@ -38,15 +38,21 @@ Anything rest = Unit {0}
 
 -- Some tokens of a phrase were taken, and what is left of it is one of these. None of those taken
 -- goes too far.
-pub record Stage (C : Counting) (F : Following) {A : Type 0} (X : Phrases A) (start : List Token)
-    (first : C.Count) (Y : Sort A) (left : List Token) (now : C.Count) : Type 0 where
+pub record Progress (C : Counting) (F : Following) {A : Type 0} (X : Phrases A)
+    (start : List Token) (first : C.Count) (Y : Phrases A) (left : List Token) (now : C.Count) :
+    Type 0 where
   pub taken : List Token
   pub whole : start ≡ taken ++ left
-  pub on : (ts : List Token) (e : A) (rest : List Token) → Y.is ts e rest → X (taken ++ ts) e rest
+  pub on : (ts : List Token) (e : A) (rest : List Token) → Y ts e rest → X (taken ++ ts) e rest
   pub only : (ts : List Token) (e : A) (rest : List Token) → BeginAlike left ts → F rest →
-      X (taken ++ ts) e rest → Y.is ts e rest
+      X (taken ++ ts) e rest → Y ts e rest
   pub within : IsWithin C first taken
   pub count : count_after C first taken ≡ now
+
+-- the same, where what is left is of a sort
+abbrev pub Stage : (C : Counting) → Following → {A : Type 0} → Phrases A → List Token → C.Count →
+    Sort A → List Token → C.Count → Type 0
+Stage C F X start first Y left now = Progress C F X start first Y.is left now
 
 -- the tokens taken begin such a phrase, and with the next they begin none
 pub record IsStuck (C : Counting) (F : Following) {A : Type 0} (X : Phrases A)

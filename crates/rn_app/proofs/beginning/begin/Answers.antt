@@ -226,11 +226,11 @@ returns-in-Err-NoMemory g c =
 
 pub returns-in-Ok-Due : goal.returns-in-Ok-Due
 returns-in-Ok-Due g c =
-    let due : IsDue (map string_bytes c.args.words.now) (g.I.Source.left c.args.input.now) (g.I.Source.left c.prepare.new.input) c.in-Ok-Due.job = was_due (map string_bytes c.args.words.now) (g.I.Source.left c.args.input.now) (g.I.Source.left c.prepare.new.input) (g.I.Source.faults c.args.input.now) (g.I.Source.faults c.prepare.new.input) c.prepare.result c.in-Ok-Due.job (c.in-Ok-Due.is ∙ ap Ok c.in-Ok-Due.field-0-is) c.prepare.ensures.comes in
+    let due : IsDue (map string_bytes c.args.words.now) (g.I.Source.left c.args.input.now) (g.I.Source.left c.prepare.new.input) c.in-Ok-Due.ready = was_due (map string_bytes c.args.words.now) (g.I.Source.left c.args.input.now) (g.I.Source.left c.prepare.new.input) (g.I.Source.faults c.args.input.now) (g.I.Source.faults c.prepare.new.input) c.prepare.result c.in-Ok-Due.ready (c.in-Ok-Due.is ∙ ap Ok c.in-Ok-Due.field-0-is) c.prepare.ensures.comes in
     record {
       working = due;
       unwritten = (refl, refl);
-      done = λ command accepted none. none (due_needs c.words_laws.ensures.accepted (map string_bytes c.args.words.now) (g.I.Source.left c.args.input.now) (g.I.Source.left c.prepare.new.input) c.in-Ok-Due.job command due accepted);
+      done = λ command accepted none. none (due_needs c.words_laws.ensures.accepted (map string_bytes c.args.words.now) (g.I.Source.left c.args.input.now) (g.I.Source.left c.prepare.new.input) c.in-Ok-Due.ready command due accepted);
       refuses_run = λ command accepted needs. tt;
       writes = tt;
       quiet = λ is. absurd (never_done is);

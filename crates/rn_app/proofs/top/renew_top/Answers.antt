@@ -1,16 +1,17 @@
 -- All is done, or the run that is due is done and written.
-use Rattle.std.proofs.Common.{◌≡◌, ◌∙◌, ℕ, Option, Some, Result, Ok, inl, inr, map, string_bytes, codes, ap, refl, subst, rules}
-use Rattle.std.specs.Prelude.{IfOk, IfSome}
+use Rattle.std.proofs.Common.{◌≡◌, ◌∙◌, ◌⊎◌, inl, inr, map, string_bytes, codes, ap, refl, sym, subst, arith}
 use Rattle.rn_words.specs.declared.command.Command.TheVariants as command
-use Rattle.rn_answering.specs.declared.status.TheConstants.{DONE, FAULTED}
+use Rattle.rn_answering.specs.declared.status.TheConstants.{DONE, FAULTED, NET_REFUSED, NO_MEMORY, READ_FAULT, RECORD_REFUSED, WRITE_FAULT}
+use Rattle.rn_outside.specs.Bytes.{IsCalledSeldom}
 use Rattle.rn_answering.specs.Writing.{TakesLine}
 use Rattle.rn_pour.specs.Flows.{Standing}
 use Rattle.rn_commands.specs.Written.{WritesAnswer}
 use Rattle.rn_app.specs.declared.beginning.Begun.TheVariants.{Done}
+use Rattle.rn_app.specs.TopCall.{IsNoInput, IsNoRecord, IsUnread}
 use Rattle.rn_app.proofs.Causes.{Laws}
-use Rattle.rn_app.proofs.Written.{Call, IsWritten, err_faults_clause, faulted_clause, few_faults_clause, least_clause, least_faulted_clause, memory_clause, never_read}
+use Rattle.rn_app.proofs.Written.{Call, IsWritten, err_faults_clause, faulted_clause, few_faults_clause, least_clause, least_faulted_clause, line_faults, memory_clause, never_read}
 use Rattle.rn_app.proofs.Written.{only_clause, quiet_clause, run_clause, seeded_clause, seeded_faulted_clause, write_fault_clause, writes_clause}
-use Rattle.rn_app.proofs.Answering.{complete_clause, input_clause, migrate_clause, moves_clause, never_done, record_clause, run_is_undone, status_is, words_clause}
+use Rattle.rn_app.proofs.Answering.{complete_clause, in_place, input_clause, migrate_clause, moves_clause, never_done, record_clause, run_is_undone, status_is, words_clause}
 use Rattle.rn_app.proofs.DueRuns.{due_comes}
 use Rattle.rn_app.proofs.top.renew_top.Goals as goal
 
@@ -50,17 +51,19 @@ returns-in-Done g c =
       none_empty = begun.none_empty;
     }
 
--- a status that a run came to is told
-told_of : {N : Type 0} (T : ℕ → Type 0) (result : Result (Option ℕ) N) (status : ℕ) → result ≡ Ok (Some status) → IfOk result (λ told. IfSome told T) → T status
-told_of T result status is told = subst (λ r. IfOk r (λ o. IfSome o T)) is told
+-- where a run is left, what it comes to is written, or it has no end
+either : {A B P : Type 0} → A ⊎ B → (A → P) → (B → P) → P
+either (inl a) f g = f a
+either (inr b) f g = g b
 
-pub returns-in-Ok-Some : goal.returns-in-Ok-Some
-returns-in-Ok-Some g c =
+pub returns-in-Working : goal.returns-in-Working
+returns-in-Working g c =
     let begun = c.in-Working.ensures in
-    let status = c.in-Ok-Some.status in
-    let out = c.run_to.new.out in
-    let err = c.run_to.new.err in
-    let told = told_of _ c.run_to.result status (c.in-Ok-Some.is ∙ ap Ok c.in-Ok-Some.field-0-is) c.run_to.ensures.told in
+    let status = c.finish.result in
+    let out = c.finish.new.out in
+    let err = c.finish.new.err in
+    either c.finish.ensures.recorded
+    (λ told.
     let a = told.0 in
     let out_stands : g.row.O.Denot → Standing = λ o. record { held = g.O.Sink.held o; faults = g.O.Sink.faults o; writes = g.O.Sink.writes o; empty_writes = g.O.Sink.empty_writes o } in
     let err_stands : g.row.E.Denot → Standing = λ e. record { held = g.E.Sink.held e; faults = g.E.Sink.faults e; writes = g.E.Sink.writes e; empty_writes = g.E.Sink.empty_writes e } in
@@ -84,7 +87,7 @@ returns-in-Ok-Some g c =
       err_faults_after = g.E.Sink.faults err;
     } in
     let w : IsWritten k a = record {
-      comes = due_comes (map string_bytes c.args.words.now) (g.I.Source.left c.args.input.now) (g.I.Source.left c.begin.new.input) c.in-Working.job a begun.working told.1;
+      comes = due_comes (map string_bytes c.args.words.now) (g.I.Source.left c.args.input.now) (g.I.Source.left c.begin.new.input) c.in-Working.ready a begun.working told.1;
       written = wrote.written;
       told = wrote.told;
       memory = wrote.memory;
@@ -136,8 +139,54 @@ returns-in-Ok-Some g c =
       seldom = wrote.seldom;
       none_empty = wrote.none_empty;
     }
-
-pub returns-in-Ok-None-clause-memory : goal.returns-in-Ok-None-clause-memory
-returns-in-Ok-None-clause-memory g c =
-    let same : (c.run_to.new.out ≡ c.args.out.now) × (c.run_to.new.err ≡ c.args.err.now) = search rules in
-    λ is. (subst (λ e. TakesLine (g.E.Sink.held e) (g.E.Sink.held c.write_line.new.err) (g.E.Sink.faults e) (g.E.Sink.faults c.write_line.new.err) (codes "memory\n")) same.1 c.write_line.ensures.line, inl same.0)
+    )
+    (λ endless.
+    let is = endless.1 in
+    let same : out ≡ c.args.out.now = endless.2 ∙ begun.unwritten.0 in
+    let line : TakesLine (g.E.Sink.held c.args.err.now) (g.E.Sink.held err) (g.E.Sink.faults c.args.err.now) (g.E.Sink.faults err) (codes "memory\n") =
+    subst (λ e. TakesLine (g.E.Sink.held e) (g.E.Sink.held err) (g.E.Sink.faults e) (g.E.Sink.faults err) (codes "memory\n")) begun.unwritten.1 endless.3 in
+    let no_done : status ≡ DONE → ⊥ = λ other. let no : NO_MEMORY ≡ DONE = sym is ∙ other in cc in
+    let no_fault : status ≡ FAULTED → ⊥ = λ other. let no : NO_MEMORY ≡ FAULTED = sym is ∙ other in cc in
+    let no_read : status ≡ READ_FAULT → ⊥ = λ other. let no : NO_MEMORY ≡ READ_FAULT = sym is ∙ other in cc in
+    let no_write : status ≡ WRITE_FAULT → ⊥ = λ other. let no : NO_MEMORY ≡ WRITE_FAULT = sym is ∙ other in cc in
+    record {
+      run = λ done. absurd (no_done done);
+      faulted = λ faulted. absurd (no_fault faulted);
+      seeded = λ done. absurd (no_done done);
+      seeded_faulted = λ faulted. absurd (no_fault faulted);
+      least = λ done. absurd (no_done done);
+      least_faulted = λ faulted. absurd (no_fault faulted);
+      writes = λ mine. absurd (mine.3 is);
+      quiet = λ done. absurd (no_done done);
+      only = omega (arith, is);
+      read_fault = λ fault. absurd (no_read fault);
+      write_fault = λ fault. absurd (no_write fault);
+      memory = λ _. (line, inl same);
+      refuses_words = λ fault faulty. (inr (inr is), (c.begin.ensures.refuses_words fault faulty).1);
+      refuses_input = λ command accepted. in_place (g.I.Source.left c.args.input.now) (IsNoInput command) NET_REFUSED status (inr (inr is));
+      refuses_record = λ options accepted. in_place (g.I.Source.left c.args.input.now) (IsNoRecord options) RECORD_REFUSED status (inr (inr is));
+      refuses_moved = λ options accepted. in_place (g.I.Source.left c.args.input.now) (IsNoRecord options) RECORD_REFUSED status (inr (inr is));
+      refuses_migrated = λ accepted. in_place (g.I.Source.left c.args.input.now) IsUnread RECORD_REFUSED status (inr (inr is));
+      complete = λ command accepted fine reads outs errs. inr (inl is);
+      taken = c.begin.ensures.taken;
+      reads = c.begin.ensures.reads;
+      each_gives = c.begin.ensures.each_gives;
+      inputless = c.begin.ensures.inputless;
+      limited = c.begin.ensures.limited;
+      input_faults = λ other. begun.input_faults never_done;
+      one_read_fault = λ fault. absurd (no_read fault);
+      out_faults = λ other. ap (λ sink. g.O.Sink.faults sink) same;
+      err_faults = λ mine. absurd (mine.3 is);
+      few_faults = (
+        inl (ap (λ sink. g.O.Sink.faults sink) same),
+        line_faults (g.E.Sink.held c.args.err.now) (g.E.Sink.held err) (g.E.Sink.faults c.args.err.now) (g.E.Sink.faults err) _ line,
+      );
+      seldom = (
+        subst (λ o. IsCalledSeldom (g.O.Sink.held o) (g.O.Sink.held out) (g.O.Sink.writes o) (g.O.Sink.writes out)) begun.unwritten.0 c.finish.ensures.seldom.0,
+        subst (λ e. IsCalledSeldom (g.E.Sink.held e) (g.E.Sink.held err) (g.E.Sink.writes e) (g.E.Sink.writes err)) begun.unwritten.1 c.finish.ensures.seldom.1,
+      );
+      none_empty = (
+        c.finish.ensures.none_empty.0 ∙ ap (λ sink. g.O.Sink.empty_writes sink) begun.unwritten.0,
+        c.finish.ensures.none_empty.1 ∙ ap (λ sink. g.E.Sink.empty_writes sink) begun.unwritten.1,
+      );
+    })

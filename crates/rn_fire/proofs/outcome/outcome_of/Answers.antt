@@ -7,6 +7,23 @@ use Rattle.rn_acts.specs.Acted.{AreOfArcs, ArePut}
 use Rattle.rn_acts.proofs.NumberingLemmas.{nodes_kept}
 use Rattle.rn_fire.proofs.OutcomeLemmas.{MadeFor, fires_by, is_over}
 use Rattle.rn_fire.proofs.outcome.outcome_of.Goals as goal
+use Rattle.rn_fire.proofs.outcome.outcome_of.Goals.{After-gives_too_many}
+
+-- what the calls made, over the binding with these numbers
+made : (c : After-gives_too_many) →
+    MadeFor c.args.system.now c.in_ok-numbered.numbered c.args.step c.args.next c.in-Some.acted c.in_ok-change.change c.gives_too_many.result
+made c = record {
+  outs = ap (option_map (λ a. a.outs)) (sym c.in-Some.is) ∙ c.in_ok-acted.ensures.outs;
+  put = subst (λ o. IfSome o (λ a. (fx : Effects) → all_effects c.args.system.now c.args.step c.in_ok-numbered.numbered.nodes ≡ Some fx → ArePut c.args.system.now fx a.put)) c.in-Some.is c.in_ok-acted.ensures.put;
+  put_arcs = subst (λ o. IfSome o (λ a. AreOfArcs c.args.system.now c.in_ok-numbered.numbered.nodes a.put)) c.in-Some.is c.in_ok-acted.ensures.arcs;
+  taken = c.in_ok-change.ensures.taken;
+  cleared = c.in_ok-change.ensures.cleared;
+  made = c.in_ok-change.ensures.made;
+  is_put = c.in_ok-change.ensures.put;
+  arcs = c.in_ok-change.ensures.arcs;
+  after = c.in_ok-change.ensures.after;
+  many = c.gives_too_many.ensures ∙ ap (too_many c.args.next) c.len.ensures;
+}
 
 pub act-requires-clause-nodes : goal.act-requires-clause-nodes
 act-requires-clause-nodes c =
@@ -21,40 +38,14 @@ change_of-requires c = record {
 
 pub returns-then-gives_too_many : goal.returns-then-gives_too_many
 returns-then-gives_too_many c =
-    let system = c.args.system.now in
-    let numbered = c.in_ok-numbered.numbered in
-    let made : MadeFor system numbered c.args.step c.args.next c.in-Some.acted c.in_ok-change.change c.gives_too_many.result = record {
-      outs = ap (option_map (λ a. a.outs)) (sym c.in-Some.is) ∙ c.in_ok-acted.ensures.outs;
-      put = subst (λ o. IfSome o (λ a. (fx : Effects) → all_effects system c.args.step numbered.nodes ≡ Some fx → ArePut system fx a.put)) c.in-Some.is c.in_ok-acted.ensures.put;
-      put_arcs = subst (λ o. IfSome o (λ a. AreOfArcs system numbered.nodes a.put)) c.in-Some.is c.in_ok-acted.ensures.arcs;
-      taken = c.in_ok-change.ensures.taken;
-      cleared = c.in_ok-change.ensures.cleared;
-      made = c.in_ok-change.ensures.made;
-      is_put = c.in_ok-change.ensures.put;
-      arcs = c.in_ok-change.ensures.arcs;
-      after = c.in_ok-change.ensures.after;
-      many = c.gives_too_many.ensures ∙ ap (too_many c.args.next) c.len.ensures;
-    } in
-    is_over system c.args.binding.now c.args.next c.args.step c.in-Some.acted c.in_ok-change.change c.gives_too_many.result
-    (subst (λ b. MadeFor system b c.args.step c.args.next c.in-Some.acted c.in_ok-change.change c.gives_too_many.result) c.in_ok-numbered.ensures made)
+    is_over c.args.system.now c.args.binding.now c.args.next c.args.step c.in-Some.acted c.in_ok-change.change c.gives_too_many.result
+    (subst (λ b. MadeFor c.args.system.now b c.args.step c.args.next c.in-Some.acted c.in_ok-change.change c.gives_too_many.result) c.in_ok-numbered.ensures
+    (made (goal.at.returns-then-gives_too_many c).After-gives_too_many))
     c.if-gives_too_many.true
 
 pub returns : goal.returns
 returns c =
-    let system = c.args.system.now in
-    let numbered = c.in_ok-numbered.numbered in
-    let made : MadeFor system numbered c.args.step c.args.next c.in-Some.acted c.in_ok-change.change c.gives_too_many.result = record {
-      outs = ap (option_map (λ a. a.outs)) (sym c.in-Some.is) ∙ c.in_ok-acted.ensures.outs;
-      put = subst (λ o. IfSome o (λ a. (fx : Effects) → all_effects system c.args.step numbered.nodes ≡ Some fx → ArePut system fx a.put)) c.in-Some.is c.in_ok-acted.ensures.put;
-      put_arcs = subst (λ o. IfSome o (λ a. AreOfArcs system numbered.nodes a.put)) c.in-Some.is c.in_ok-acted.ensures.arcs;
-      taken = c.in_ok-change.ensures.taken;
-      cleared = c.in_ok-change.ensures.cleared;
-      made = c.in_ok-change.ensures.made;
-      is_put = c.in_ok-change.ensures.put;
-      arcs = c.in_ok-change.ensures.arcs;
-      after = c.in_ok-change.ensures.after;
-      many = c.gives_too_many.ensures ∙ ap (too_many c.args.next) c.len.ensures;
-    } in
-    fires_by system c.args.binding.now c.args.next c.args.step c.in-Some.acted c.in_ok-change.change c.gives_too_many.result
-    (subst (λ b. MadeFor system b c.args.step c.args.next c.in-Some.acted c.in_ok-change.change c.gives_too_many.result) c.in_ok-numbered.ensures made)
+    fires_by c.args.system.now c.args.binding.now c.args.next c.args.step c.in-Some.acted c.in_ok-change.change c.gives_too_many.result
+    (subst (λ b. MadeFor c.args.system.now b c.args.step c.args.next c.in-Some.acted c.in_ok-change.change c.gives_too_many.result) c.in_ok-numbered.ensures
+    (made (goal.at.returns c).After-gives_too_many))
     c.if-gives_too_many.false c.requires.next

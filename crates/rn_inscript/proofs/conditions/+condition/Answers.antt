@@ -1,5 +1,5 @@
 use Rattle.std.proofs.Common.{◌≡◌, ◌+◌, length, [], ◌∷◌, drop, refl, sym, ◌∙◌, ap, subst, arith, rules}
-use Rattle.rn_inscript.specs.declared.fault.InscriptFault.TheVariants as Fault
+use Rattle.rn_reading.specs.declared.fault.ReadFault.TheVariants as Fault
 use Rattle.rn_inscript.specs.Conditions.{IsCond, IsAlternatives, IsMoreAlternatives, IsBoth, IsMoreBoth, IsSimple}
 use Rattle.rn_inscript.specs.Levels.{bracket}
 use Rattle.rn_inscript.specs.link.Stages.{IsSoFar, ready}
@@ -22,7 +22,7 @@ both-loop-all-init t c = record {
 }
 
 pub both-returns-in_err-operand-clause-reads : goal.both-returns-in_err-operand-clause-reads
-both-returns-in_err-operand-clause-reads t c = λ around base fits. failed_as 2 IsBoth c.args.tokens.now c.args.seen (ready around c.args.seen.operators) around c.from_residual-in_err-operand.result c.in_err-operand.field-0.0 (Fault.P5 c.loop-all.seen.at) c.from_residual-in_err-operand.ensures.1 c.in_err-operand.ensures.1
+both-returns-in_err-operand-clause-reads t c = λ around base fits. failed_as 2 IsBoth c.args.tokens.now c.args.seen (ready around c.args.seen.operators) around c.from_residual-in_err-operand.result c.in_err-operand.field-0.0 (Fault.TooFar c.loop-all.seen.at) c.from_residual-in_err-operand.ensures.1 c.in_err-operand.ensures.1
     (sign_far conjunctions (c.loop-all.invariant.reads around base fits) (next-of 21 c.args.tokens.now c.loop-all.seen.at c.in-Some.ensures.0) (sign-binary 21 (omega arith)) c.in_err-operand.ensures.0)
 
 pub both-returns-in_err-condition-clause-reads : goal.both-returns-in_err-condition-clause-reads
@@ -51,7 +51,7 @@ alternatives-loop-all-init t c = record {
 }
 
 pub alternatives-returns-in_err-operand-clause-reads : goal.alternatives-returns-in_err-operand-clause-reads
-alternatives-returns-in_err-operand-clause-reads t c = λ around base fits. failed_as 1 IsAlternatives c.args.tokens.now c.args.seen (ready around c.args.seen.operators) around c.from_residual-in_err-operand.result c.in_err-operand.field-0.0 (Fault.P5 c.loop-all.seen.at) c.from_residual-in_err-operand.ensures.1 c.in_err-operand.ensures.1
+alternatives-returns-in_err-operand-clause-reads t c = λ around base fits. failed_as 1 IsAlternatives c.args.tokens.now c.args.seen (ready around c.args.seen.operators) around c.from_residual-in_err-operand.result c.in_err-operand.field-0.0 (Fault.TooFar c.loop-all.seen.at) c.from_residual-in_err-operand.ensures.1 c.in_err-operand.ensures.1
     (sign_far disjunctions (c.loop-all.invariant.reads around base fits) (next-of 22 c.args.tokens.now c.loop-all.seen.at c.in-Some.ensures.0) (sign-binary 22 (omega arith)) c.in_err-operand.ensures.0)
 
 pub alternatives-returns-in_err-alternative-clause-reads : goal.alternatives-returns-in_err-alternative-clause-reads
@@ -76,7 +76,7 @@ pub cond-returns-clause-reads : goal.cond-returns-clause-reads
 cond-returns-clause-reads t c = λ around base fits. cond_read c.args.tokens.now c.args.seen c.in_ok-any.after around c.in_ok-any.any (c.in_ok-any.ensures.reads around base fits)
 
 pub negation-returns-in_err-after_not-clause-reads : goal.negation-returns-in_err-after_not-clause-reads
-negation-returns-in_err-after_not-clause-reads t c = λ around base fits. failed_as 3 IsSimple c.args.tokens.now c.args.seen (ready around c.args.seen.operators) around c.from_residual.result c.in_err-after_not.field-0.0 (Fault.P5 c.args.seen.at) c.from_residual.ensures.1 c.in_err-after_not.ensures.1
+negation-returns-in_err-after_not-clause-reads t c = λ around base fits. failed_as 3 IsSimple c.args.tokens.now c.args.seen (ready around c.args.seen.operators) around c.from_residual.result c.in_err-after_not.field-0.0 (Fault.TooFar c.args.seen.at) c.from_residual.ensures.1 c.in_err-after_not.ensures.1
     (not_far c.args.tokens.now c.args.seen around c.requires c.in_err-after_not.ensures.0)
 
 pub negation-returns-in_err-inside-clause-reads : goal.negation-returns-in_err-inside-clause-reads
@@ -88,7 +88,7 @@ negation-returns-in_err-condition-clause-reads t c = λ around base fits. failed
     (negated_fails c.in_err-condition.field-0.0 (let i : InNot c.args.tokens.now c.args.seen c.in_ok-after_not.after_not c.in_ok-inside.inside around c.args.levels = record { next = c.requires; few = c.in_ok-after_not.ensures.0; is = c.in_ok-after_not.ensures.1; paren = c.in_ok-inside.ensures.0; some = c.in_ok-inside.ensures.1; inside_is = c.in_ok-inside.ensures.2; fits = fits } in i) (c.in_err-condition.ensures.reads (bracket ∷ around) refl (omega (arith, c.in_ok-inside.ensures.1))))
 
 pub negation-returns-in_err-end-clause-reads : goal.negation-returns-in_err-end-clause-reads
-negation-returns-in_err-end-clause-reads t c = λ around base fits. failed_as 3 IsSimple c.args.tokens.now c.args.seen (ready around c.args.seen.operators) around c.from_residual-in_err-end.result c.in_err-end.field-0.0 (Fault.P2 c.in_ok-condition.after.at) c.from_residual-in_err-end.ensures.1 c.in_err-end.ensures.1
+negation-returns-in_err-end-clause-reads t c = λ around base fits. failed_as 3 IsSimple c.args.tokens.now c.args.seen (ready around c.args.seen.operators) around c.from_residual-in_err-end.result c.in_err-end.field-0.0 (Fault.Stopped c.in_ok-condition.after.at) c.from_residual-in_err-end.ensures.1 c.in_err-end.ensures.1
     (negated_stuck c.in_ok-condition.after (let i : InNot c.args.tokens.now c.args.seen c.in_ok-after_not.after_not c.in_ok-inside.inside around c.args.levels = record { next = c.requires; few = c.in_ok-after_not.ensures.0; is = c.in_ok-after_not.ensures.1; paren = c.in_ok-inside.ensures.0; some = c.in_ok-inside.ensures.1; inside_is = c.in_ok-inside.ensures.2; fits = fits } in i) c.in_ok-condition.ensures.moved.1 (c.in_ok-condition.ensures.reads (bracket ∷ around) refl (omega (arith, c.in_ok-inside.ensures.1))) c.in_err-end.ensures.0)
 
 pub negation-returns-clause-reads : goal.negation-returns-clause-reads

@@ -1,4 +1,4 @@
-use Rattle.rn_inscript.specs.declared.fault.InscriptFault.TheVariants as Fault
+use Rattle.rn_reading.specs.declared.fault.ReadFault.TheVariants as Fault
 use Rattle.rn_inscript.specs.Conditions.{IsSimple}
 use Rattle.rn_inscript.specs.link.Stages.{ready}
 use Rattle.rn_inscript.proofs.ConditionPhrases.{left_fails, left_read, bare_read, compare_far, right_fails, right_read}
@@ -10,7 +10,7 @@ returns-in_err-left-clause-reads c = λ around base fits. failed 3 IsSimple c.ar
     (left_fails c.args.tokens.now c.args.seen around c.in_err-left.field-0.0 c.requires.other (c.in_err-left.ensures.reads around base fits))
 
 pub returns-in_err-operand-in-Some-clause-reads : goal.returns-in_err-operand-in-Some-clause-reads
-returns-in_err-operand-in-Some-clause-reads c = λ around base fits. failed_as 3 IsSimple c.args.tokens.now c.args.seen (ready around c.args.seen.operators) around c.from_residual-in_err-operand-in-Some.result c.in_err-operand-in-Some.field-0.0 (Fault.P5 c.in_ok-left.after.at) c.from_residual-in_err-operand-in-Some.ensures.1 c.in_err-operand-in-Some.ensures.1
+returns-in_err-operand-in-Some-clause-reads c = λ around base fits. failed_as 3 IsSimple c.args.tokens.now c.args.seen (ready around c.args.seen.operators) around c.from_residual-in_err-operand-in-Some.result c.in_err-operand-in-Some.field-0.0 (Fault.TooFar c.in_ok-left.after.at) c.from_residual-in_err-operand-in-Some.ensures.1 c.in_err-operand-in-Some.ensures.1
     (compare_far c.args.tokens.now c.args.seen c.in_ok-left.after around c.in_ok-left.left c.in-Some.kind (left_read c.args.tokens.now c.args.seen c.in_ok-left.after around c.in_ok-left.left c.requires.other (c.in_ok-left.ensures.reads around base fits)) c.in-Some.ensures c.in_err-operand-in-Some.ensures.0)
 
 pub returns-in_err-right-in-Some-clause-reads : goal.returns-in_err-right-in-Some-clause-reads

@@ -1,10 +1,11 @@
-use Rattle.std.proofs.Common.{◌≡◌, ◌+◌, List, length, false, [], ◌∷◌, drop, refl, sym, ◌∙◌, ap, subst, arith, Err}
-use Rattle.rn_inscript.specs.declared.fault.InscriptFault.TheVariants as Fault
+use Rattle.std.proofs.Common.{◌≡◌, ◌+◌, length, false, [], ◌∷◌, drop, refl, sym, ◌∙◌, ap, subst, arith, Err}
+use Rattle.rn_reading.specs.declared.fault.ReadFault.TheVariants as Fault
 use Rattle.rn_inscript.specs.declared.exprs.PForm.TheVariants as F
 use Rattle.rn_inscript.specs.Signs.{close_bracket}
 use Rattle.rn_inscript.specs.Expressions.{IsExpr, IsTerms, IsProduct, IsFactors, IsUnary, IsPrimary, IsListed, IsExprs, IsMoreExprs, at_spot}
 use Rattle.rn_inscript.specs.Levels.{bracket, negative}
-use Rattle.rn_inscript.specs.link.Stages.{Done, Reads, ReadsFrom, IsSoFar, IsNextSign, IsNotNextSign, past, ready}
+use Rattle.rn_reading.specs.Phrases.{Done}
+use Rattle.rn_inscript.specs.link.Stages.{Reads, ReadsFrom, IsSoFar, IsNextSign, IsNotNextSign, past, ready}
 use Rattle.rn_inscript.proofs.CountSteps.{times-binary, plus-binary}
 use Rattle.rn_inscript.proofs.Chains.{first_fails, first_read, sign_taken, sign_far, item_fails, item_read, all_read, operator_separates}
 use Rattle.rn_inscript.proofs.OneSign.{next-of, none-of, comma_separates}
@@ -31,7 +32,7 @@ product-loop-op-init t c = record {
 }
 
 pub product-returns-in_err-operand-clause-reads : goal.product-returns-in_err-operand-clause-reads
-product-returns-in_err-operand-clause-reads t c = λ around base fits. failed_as 5 IsProduct c.args.tokens.now c.args.seen (ready around c.args.seen.operators) around c.from_residual-in_err-operand.result c.in_err-operand.field-0.0 (Fault.P5 c.loop-op.seen.at) c.from_residual-in_err-operand.ensures.1 c.in_err-operand.ensures.1
+product-returns-in_err-operand-clause-reads t c = λ around base fits. failed_as 5 IsProduct c.args.tokens.now c.args.seen (ready around c.args.seen.operators) around c.from_residual-in_err-operand.result c.in_err-operand.field-0.0 (Fault.TooFar c.loop-op.seen.at) c.from_residual-in_err-operand.ensures.1 c.in_err-operand.ensures.1
     (sign_far products (c.loop-op.invariant.reads around base fits) c.in-Some.ensures times-binary c.in_err-operand.ensures.0)
 
 pub product-returns-in_err-right-clause-reads : goal.product-returns-in_err-right-clause-reads
@@ -63,7 +64,7 @@ expr-loop-op-init t c = record {
 }
 
 pub expr-returns-in_err-operand-clause-reads : goal.expr-returns-in_err-operand-clause-reads
-expr-returns-in_err-operand-clause-reads t c = λ around base fits. failed_as 4 IsExpr c.args.tokens.now c.args.seen (ready around c.args.seen.operators) around c.from_residual-in_err-operand.result c.in_err-operand.field-0.0 (Fault.P5 c.loop-op.seen.at) c.from_residual-in_err-operand.ensures.1 c.in_err-operand.ensures.1
+expr-returns-in_err-operand-clause-reads t c = λ around base fits. failed_as 4 IsExpr c.args.tokens.now c.args.seen (ready around c.args.seen.operators) around c.from_residual-in_err-operand.result c.in_err-operand.field-0.0 (Fault.TooFar c.loop-op.seen.at) c.from_residual-in_err-operand.ensures.1 c.in_err-operand.ensures.1
     (sign_far sums (c.loop-op.invariant.reads around base fits) c.in-Some.ensures plus-binary c.in_err-operand.ensures.0)
 
 pub expr-returns-in_err-right-clause-reads : goal.expr-returns-in_err-right-clause-reads
@@ -118,7 +119,7 @@ pub exprs-returns-clause-reads : goal.exprs-returns-clause-reads
 exprs-returns-clause-reads t c = λ around base fits. ended_at (c.from_vec.ensures ∙ c.shrink_to_fit.ensures.items) refl (all_read lists (c.loop-after_comma.invariant.reads around base fits) (none-of 6 c.args.tokens.now c.loop-after_comma.seen.at c.in_default.ensures))
 
 pub parenthesised-returns-in_err-inside-clause-reads : goal.parenthesised-returns-in_err-inside-clause-reads
-parenthesised-returns-in_err-inside-clause-reads t c = λ around fits. failed_as 6 IsPrimary c.args.tokens.now c.args.seen (ready around c.args.seen.operators) around c.from_residual.result c.in_err-inside.field-0.0 (Fault.P5 c.args.seen.at) c.from_residual.ensures.1 c.in_err-inside.ensures.1
+parenthesised-returns-in_err-inside-clause-reads t c = λ around fits. failed_as 6 IsPrimary c.args.tokens.now c.args.seen (ready around c.args.seen.operators) around c.from_residual.result c.in_err-inside.field-0.0 (Fault.TooFar c.args.seen.at) c.from_residual.ensures.1 c.in_err-inside.ensures.1
     (paren_far c.args.tokens.now c.args.seen around c.args.levels c.requires.next c.requires.kind fits c.in_err-inside.ensures.0)
 
 pub parenthesised-returns-in_err-inner-clause-reads : goal.parenthesised-returns-in_err-inner-clause-reads
@@ -126,7 +127,7 @@ parenthesised-returns-in_err-inner-clause-reads t c = λ around fits. failed 6 I
     (paren_fails c.args.tokens.now c.args.seen around c.args.levels c.in_err-inner.field-0.0 c.requires.next c.requires.kind fits c.in_ok-inside.ensures.0 (subst (λ s. Reads 4 IsExpr c.args.tokens.now s (bracket ∷ around) (Err c.in_err-inner.field-0.0)) c.in_ok-inside.ensures.1 (c.in_err-inner.ensures.reads (bracket ∷ around) refl (omega (arith, c.in_ok-inside.ensures.0)))))
 
 pub parenthesised-returns-in_err-end-clause-reads : goal.parenthesised-returns-in_err-end-clause-reads
-parenthesised-returns-in_err-end-clause-reads t c = λ around fits. failed_as 6 IsPrimary c.args.tokens.now c.args.seen (ready around c.args.seen.operators) around c.from_residual-in_err-end.result c.in_err-end.field-0.0 (Fault.P2 c.in_ok-inner.after.at) c.from_residual-in_err-end.ensures.1 c.in_err-end.ensures.1
+parenthesised-returns-in_err-end-clause-reads t c = λ around fits. failed_as 6 IsPrimary c.args.tokens.now c.args.seen (ready around c.args.seen.operators) around c.from_residual-in_err-end.result c.in_err-end.field-0.0 (Fault.Stopped c.in_ok-inner.after.at) c.from_residual-in_err-end.ensures.1 c.in_err-end.ensures.1
     (paren_stuck c.args.tokens.now c.args.seen c.in_ok-inner.after around c.args.levels c.in_ok-inner.inner c.requires.next c.requires.kind fits c.in_ok-inside.ensures.0 c.in_ok-inner.ensures.moved.1 (subst (λ s. IsSoFar 4 IsExpr c.args.tokens.now s (ready (bracket ∷ around) s.operators) (bracket ∷ around) (Done c.in_ok-inner.inner) c.in_ok-inner.after) c.in_ok-inside.ensures.1 (c.in_ok-inner.ensures.reads (bracket ∷ around) refl (omega (arith, c.in_ok-inside.ensures.0)))) c.in_err-end.ensures.0)
 
 pub parenthesised-returns-clause-reads : goal.parenthesised-returns-clause-reads
@@ -134,7 +135,7 @@ parenthesised-returns-clause-reads t c = λ around fits. subst (IsSoFar 6 IsPrim
     (paren_read c.args.tokens.now c.args.seen c.in_ok-inner.after around c.args.levels c.in_ok-inner.inner c.requires.next c.requires.kind fits c.in_ok-inside.ensures.0 (subst (λ s. IsSoFar 4 IsExpr c.args.tokens.now s (ready (bracket ∷ around) s.operators) (bracket ∷ around) (Done c.in_ok-inner.inner) c.in_ok-inner.after) c.in_ok-inside.ensures.1 (c.in_ok-inner.ensures.reads (bracket ∷ around) refl (omega (arith, c.in_ok-inside.ensures.0)))) c.in_ok-end.ensures.0)
 
 pub tuple-returns-in_err-inside-clause-reads : goal.tuple-returns-in_err-inside-clause-reads
-tuple-returns-in_err-inside-clause-reads t c = λ around fits. failed_as 6 IsPrimary c.args.tokens.now c.args.seen (ready around c.args.seen.operators) around c.from_residual.result c.in_err-inside.field-0.0 (Fault.P5 c.args.seen.at) c.from_residual.ensures.1 c.in_err-inside.ensures.1
+tuple-returns-in_err-inside-clause-reads t c = λ around fits. failed_as 6 IsPrimary c.args.tokens.now c.args.seen (ready around c.args.seen.operators) around c.from_residual.result c.in_err-inside.field-0.0 (Fault.TooFar c.args.seen.at) c.from_residual.ensures.1 c.in_err-inside.ensures.1
     (tuple_far c.args.tokens.now c.args.seen around c.args.levels c.requires.next c.requires.kind fits c.in_err-inside.ensures.0)
 
 pub tuple-returns-in_err-parts-clause-reads : goal.tuple-returns-in_err-parts-clause-reads
@@ -145,7 +146,7 @@ pub tuple-returns-clause-reads : goal.tuple-returns-clause-reads
 tuple-returns-clause-reads t c = λ around fits. tuple_read c.args.tokens.now c.args.seen c.in_ok-parts.end around c.args.levels c.in_ok-parts.parts c.requires.next c.requires.kind fits c.in_ok-inside.ensures.0 (subst (λ s. IsSoFar 6 (IsListed close_bracket) c.args.tokens.now s (ready (bracket ∷ around) s.operators) around (Done c.in_ok-parts.parts) c.in_ok-parts.end) c.in_ok-inside.ensures.1 (c.in_ok-parts.ensures.reads around (omega (arith, c.in_ok-inside.ensures.0))))
 
 pub list-returns-in_err-inside-clause-reads : goal.list-returns-in_err-inside-clause-reads
-list-returns-in_err-inside-clause-reads t c = λ around fits. failed_as 6 IsPrimary c.args.tokens.now c.args.seen (ready around c.args.seen.operators) around c.from_residual.result c.in_err-inside.field-0.0 (Fault.P5 c.args.seen.at) c.from_residual.ensures.1 c.in_err-inside.ensures.1
+list-returns-in_err-inside-clause-reads t c = λ around fits. failed_as 6 IsPrimary c.args.tokens.now c.args.seen (ready around c.args.seen.operators) around c.from_residual.result c.in_err-inside.field-0.0 (Fault.TooFar c.args.seen.at) c.from_residual.ensures.1 c.in_err-inside.ensures.1
     (list_far c.args.tokens.now c.args.seen around c.args.levels c.requires.next c.requires.kind fits c.in_err-inside.ensures.0)
 
 pub list-returns-in-Some-clause-reads : goal.list-returns-in-Some-clause-reads
@@ -161,7 +162,7 @@ list-returns-in_err-tail-clause-reads t c = λ around fits. failed 6 IsPrimary c
     (tail_fails c.args.token.spot c.in_ok-elements.elements c.in_err-tail.field-0.0 (elements_read (record { next = c.requires.next; kind = c.requires.kind; fits = fits; some = c.in_ok-inside.ensures.0 }) (subst (λ s. IsNotNextSign c.args.tokens.now s.at 1) c.in_ok-inside.ensures.1 c.in_default.ensures) (subst (λ s. IsSoFar 3 IsExprs c.args.tokens.now s (ready (bracket ∷ around) s.operators) (bracket ∷ around) (Done c.in_ok-elements.elements) c.in_ok-elements.after) c.in_ok-inside.ensures.1 (c.in_ok-elements.ensures.reads (bracket ∷ around) refl (omega (arith, c.in_ok-inside.ensures.0))))) c.in-Some-past_sign.ensures.0 (subst (λ s. Reads 4 IsExpr c.args.tokens.now s (bracket ∷ around) (Err c.in_err-tail.field-0.0)) c.in-Some-past_sign.ensures.1 (c.in_err-tail.ensures.reads (bracket ∷ around) refl (omega (arith, c.in_ok-inside.ensures.0)))))
 
 pub list-returns-in_err-end-clause-reads : goal.list-returns-in_err-end-clause-reads
-list-returns-in_err-end-clause-reads t c = λ around fits. failed_as 6 IsPrimary c.args.tokens.now c.args.seen (ready around c.args.seen.operators) around c.from_residual-in_err-end.result c.in_err-end.field-0.0 (Fault.P2 c.in_ok-tail.after_tail.at) c.from_residual-in_err-end.ensures.1 c.in_err-end.ensures.1
+list-returns-in_err-end-clause-reads t c = λ around fits. failed_as 6 IsPrimary c.args.tokens.now c.args.seen (ready around c.args.seen.operators) around c.from_residual-in_err-end.result c.in_err-end.field-0.0 (Fault.Stopped c.in_ok-tail.after_tail.at) c.from_residual-in_err-end.ensures.1 c.in_err-end.ensures.1
     (tail_stuck c.args.token.spot c.in_ok-elements.elements (elements_read (record { next = c.requires.next; kind = c.requires.kind; fits = fits; some = c.in_ok-inside.ensures.0 }) (subst (λ s. IsNotNextSign c.args.tokens.now s.at 1) c.in_ok-inside.ensures.1 c.in_default.ensures) (subst (λ s. IsSoFar 3 IsExprs c.args.tokens.now s (ready (bracket ∷ around) s.operators) (bracket ∷ around) (Done c.in_ok-elements.elements) c.in_ok-elements.after) c.in_ok-inside.ensures.1 (c.in_ok-elements.ensures.reads (bracket ∷ around) refl (omega (arith, c.in_ok-inside.ensures.0))))) c.in-Some-past_sign.ensures.0 c.in_ok-tail.ensures.moved.1 (subst (λ s. IsSoFar 4 IsExpr c.args.tokens.now s (ready (bracket ∷ around) s.operators) (bracket ∷ around) (Done c.in_ok-tail.tail) c.in_ok-tail.after_tail) c.in-Some-past_sign.ensures.1 (c.in_ok-tail.ensures.reads (bracket ∷ around) refl (omega (arith, c.in_ok-inside.ensures.0)))) c.in_err-end.ensures.0)
 
 pub list-returns-in_err-with_tail-clause-reads : goal.list-returns-in_err-with_tail-clause-reads
@@ -173,7 +174,7 @@ list-returns-in-Some-past_sign-clause-reads t c = λ around fits. ended_at c.in_
     (tail_read c.args.token.spot c.in_ok-elements.elements (elements_read (record { next = c.requires.next; kind = c.requires.kind; fits = fits; some = c.in_ok-inside.ensures.0 }) (subst (λ s. IsNotNextSign c.args.tokens.now s.at 1) c.in_ok-inside.ensures.1 c.in_default.ensures) (subst (λ s. IsSoFar 3 IsExprs c.args.tokens.now s (ready (bracket ∷ around) s.operators) (bracket ∷ around) (Done c.in_ok-elements.elements) c.in_ok-elements.after) c.in_ok-inside.ensures.1 (c.in_ok-elements.ensures.reads (bracket ∷ around) refl (omega (arith, c.in_ok-inside.ensures.0))))) c.in-Some-past_sign.ensures.0 (subst (λ s. IsSoFar 4 IsExpr c.args.tokens.now s (ready (bracket ∷ around) s.operators) (bracket ∷ around) (Done c.in_ok-tail.tail) c.in_ok-tail.after_tail) c.in-Some-past_sign.ensures.1 (c.in_ok-tail.ensures.reads (bracket ∷ around) refl (omega (arith, c.in_ok-inside.ensures.0)))) c.in_ok-end.ensures.0)
 
 pub list-returns-in_err-end-2-clause-reads : goal.list-returns-in_err-end-2-clause-reads
-list-returns-in_err-end-2-clause-reads t c = λ around fits. failed_as 6 IsPrimary c.args.tokens.now c.args.seen (ready around c.args.seen.operators) around c.from_residual-in_err-end-2.result c.in_err-end-2.field-0.0 (Fault.P2 c.in_ok-elements.after.at) c.from_residual-in_err-end-2.ensures.1 c.in_err-end-2.ensures.1
+list-returns-in_err-end-2-clause-reads t c = λ around fits. failed_as 6 IsPrimary c.args.tokens.now c.args.seen (ready around c.args.seen.operators) around c.from_residual-in_err-end-2.result c.in_err-end-2.field-0.0 (Fault.Stopped c.in_ok-elements.after.at) c.from_residual-in_err-end-2.ensures.1 c.in_err-end-2.ensures.1
     (list_stuck c.args.token.spot c.in_ok-elements.elements (elements_read (record { next = c.requires.next; kind = c.requires.kind; fits = fits; some = c.in_ok-inside.ensures.0 }) (subst (λ s. IsNotNextSign c.args.tokens.now s.at 1) c.in_ok-inside.ensures.1 c.in_default.ensures) (subst (λ s. IsSoFar 3 IsExprs c.args.tokens.now s (ready (bracket ∷ around) s.operators) (bracket ∷ around) (Done c.in_ok-elements.elements) c.in_ok-elements.after) c.in_ok-inside.ensures.1 (c.in_ok-elements.ensures.reads (bracket ∷ around) refl (omega (arith, c.in_ok-inside.ensures.0))))) c.in_default-past_sign.ensures c.in_ok-elements.ensures.moved.1 c.in_err-end-2.ensures.0)
 
 pub list-returns-clause-reads : goal.list-returns-clause-reads
@@ -188,7 +189,7 @@ listed-returns-in_err-all-clause-reads t c = λ around fits. failed 6 (IsListed 
     (listed_fails c.args.tokens.now c.args.seen (ready (bracket ∷ around) c.args.seen.operators) c.args.close c.in_err-all.field-0.0 c.requires.close c.in_default.ensures (c.in_err-all.ensures.reads (bracket ∷ around) refl fits))
 
 pub listed-returns-in_err-end-clause-reads : goal.listed-returns-in_err-end-clause-reads
-listed-returns-in_err-end-clause-reads t c = λ around fits. failed_as 6 (IsListed (Kind.Sign c.args.close)) c.args.tokens.now c.args.seen (ready (bracket ∷ around) c.args.seen.operators) around c.from_residual-in_err-end.result c.in_err-end.field-0.0 (Fault.P2 c.in_ok-all.after.at) c.from_residual-in_err-end.ensures.1 c.in_err-end.ensures.1
+listed-returns-in_err-end-clause-reads t c = λ around fits. failed_as 6 (IsListed (Kind.Sign c.args.close)) c.args.tokens.now c.args.seen (ready (bracket ∷ around) c.args.seen.operators) around c.from_residual-in_err-end.result c.in_err-end.field-0.0 (Fault.Stopped c.in_ok-all.after.at) c.from_residual-in_err-end.ensures.1 c.in_err-end.ensures.1
     (listed_stuck c.args.tokens.now c.args.seen c.in_ok-all.after around c.args.close c.in_ok-all.all c.requires.close c.in_default.ensures c.in_ok-all.ensures.moved.1 (c.in_ok-all.ensures.reads (bracket ∷ around) refl fits) c.in_err-end.ensures.0)
 
 pub listed-returns-clause-reads : goal.listed-returns-clause-reads
@@ -198,19 +199,19 @@ pub bracketed-returns-else-opening-eq-LEFT_BRACE-clause-reads : goal.bracketed-r
 bracketed-returns-else-opening-eq-LEFT_BRACE-clause-reads t c = λ around fits. let h : begins_primary (Kind.Sign c.args.opening) ≡ false = grind (arith, nat_tests) in none_begins c.args.tokens.now c.args.seen around (Kind.Sign c.args.opening) c.requires.next c.requires.kind h
 
 pub primary-returns-in-Number-clause-reads : goal.primary-returns-in-Number-clause-reads
-primary-returns-in-Number-clause-reads t c = λ around fits. ended_at (search rules) c.past.ensures (leaf_read c.args.tokens.now c.args.seen around (Kind.Number c.in-Number.n) (at_spot c.in-Some.token.spot (F.Int c.in-Number.n)) c.in-Some.ensures c.in-Number.is refl refl (λ rest. IsPrimary.number c.in-Number.is) (λ ts e rest x. number-only c.in-Number.n c.in-Number.is x))
+primary-returns-in-Number-clause-reads t c = λ around fits. ended_at (search rules) c.past.ensures (leaf_read c.args.tokens.now c.args.seen around (Kind.Number c.in-Number.n) (at_spot c.in-Some.token.spot (F.Int c.in-Number.n)) c.in-Some.ensures.next c.in-Number.is refl refl (λ rest. IsPrimary.number c.in-Number.is) (λ ts e rest x. number-only c.in-Number.n c.in-Number.is x))
 
 pub primary-returns-in_ok-copy_text-in-Text-clause-reads : goal.primary-returns-in_ok-copy_text-in-Text-clause-reads
-primary-returns-in_ok-copy_text-in-Text-clause-reads t c = λ around fits. ended_at (ap (λ s. at_spot c.in-Some.token.spot (F.Text s)) c.in_ok-copy_text-in-Text.ensures) c.past-in-Text.ensures (leaf_read c.args.tokens.now c.args.seen around (Kind.Text c.in-Text.text) (at_spot c.in-Some.token.spot (F.Text c.in-Text.text)) c.in-Some.ensures c.in-Text.is refl refl (λ rest. IsPrimary.text c.in-Text.is) (λ ts e rest x. text-only c.in-Text.text c.in-Text.is x))
+primary-returns-in_ok-copy_text-in-Text-clause-reads t c = λ around fits. ended_at (ap (λ s. at_spot c.in-Some.token.spot (F.Text s)) c.in_ok-copy_text-in-Text.ensures) c.past-in-Text.ensures (leaf_read c.args.tokens.now c.args.seen around (Kind.Text c.in-Text.text) (at_spot c.in-Some.token.spot (F.Text c.in-Text.text)) c.in-Some.ensures.next c.in-Text.is refl refl (λ rest. IsPrimary.text c.in-Text.is) (λ ts e rest x. text-only c.in-Text.text c.in-Text.is x))
 
 pub primary-returns-in-Word-clause-reads : goal.primary-returns-in-Word-clause-reads
 primary-returns-in-Word-clause-reads t c = λ around fits. c.this.ensures.reads around
 
 pub primary-returns-in-None-clause-reads : goal.primary-returns-in-None-clause-reads
-primary-returns-in-None-clause-reads t c = λ around fits. none_next c.args.tokens.now c.args.seen around c.requires c.in-None.ensures
+primary-returns-in-None-clause-reads t c = λ around fits. none_next c.args.tokens.now c.args.seen around c.requires c.in-None.ensures.next
 
 pub negative-returns-in_err-operand-clause-reads : goal.negative-returns-in_err-operand-clause-reads
-negative-returns-in_err-operand-clause-reads t c = λ around fits. failed_as 6 IsUnary c.args.tokens.now c.args.seen (ready around c.args.seen.operators) around c.from_residual.result c.in_err-operand.field-0.0 (Fault.P5 c.args.seen.at) c.from_residual.ensures.1 c.in_err-operand.ensures.1
+negative-returns-in_err-operand-clause-reads t c = λ around fits. failed_as 6 IsUnary c.args.tokens.now c.args.seen (ready around c.args.seen.operators) around c.from_residual.result c.in_err-operand.field-0.0 (Fault.TooFar c.args.seen.at) c.from_residual.ensures.1 c.in_err-operand.ensures.1
     (minus_far c.args.tokens.now c.args.seen around c.args.levels c.requires.next c.requires.kind fits c.in_err-operand.ensures.0)
 
 pub negative-returns-in_err-e-clause-reads : goal.negative-returns-in_err-e-clause-reads

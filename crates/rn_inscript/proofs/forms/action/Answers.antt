@@ -1,6 +1,5 @@
 use Rattle.std.proofs.Common.{[], refl, ◌∙◌, ap, subst, arith}
-use Rattle.std.specs.Prelude.{Some}
-use Rattle.rn_inscript.specs.declared.fault.InscriptFault.TheVariants as Fault
+use Rattle.rn_reading.specs.declared.fault.ReadFault.TheVariants as Fault
 use Rattle.rn_inscript.specs.Signs.{print_word}
 use Rattle.rn_inscript.specs.Inscriptions.{IsInscribed}
 use Rattle.rn_inscript.specs.link.Stages.{IsNextKind, past, ready}
@@ -21,7 +20,7 @@ returns-in_err-var-clause-reads c = failed 0 IsInscribed c.args.tokens.now c.arg
     (set_var_fails c.args.tokens.now c.args.seen c.in_err-var.field-0.0 c.requires.next c.requires.kind (subst (λ s. IsNotNextKind c.args.tokens.now s.at print_word) c.past-after.ensures c.in_default.ensures) (subst (λ s. IsNoName c.args.tokens.now s.at c.in_err-var.field-0.0) c.past-after.ensures c.in_err-var.ensures))
 
 pub returns-in_err-start-clause-reads : goal.returns-in_err-start-clause-reads
-returns-in_err-start-clause-reads c = failed_as 0 IsInscribed c.args.tokens.now c.args.seen (ready [] c.args.seen.operators) [] c.from_residual-in_err-start.result c.in_err-start.field-0.0 (Fault.P2 c.in_ok-var.after_var.at) c.from_residual-in_err-start.ensures.1 c.in_err-start.ensures.1
+returns-in_err-start-clause-reads c = failed_as 0 IsInscribed c.args.tokens.now c.args.seen (ready [] c.args.seen.operators) [] c.from_residual-in_err-start.result c.in_err-start.field-0.0 (Fault.Stopped c.in_ok-var.after_var.at) c.from_residual-in_err-start.ensures.1 c.in_err-start.ensures.1
     (set_stuck c.args.tokens.now c.args.seen c.in_ok-var.after_var c.in_ok-var.var (set_var c.args.tokens.now c.args.seen c.in_ok-var.after_var c.in_ok-var.var c.requires.next c.requires.kind (subst (λ s. IsNotNextKind c.args.tokens.now s.at print_word) c.past-after.ensures c.in_default.ensures) (subst (λ s. IsNextName c.args.tokens.now s.at c.in_ok-var.var) c.past-after.ensures c.in_ok-var.ensures.0) (c.in_ok-var.ensures.1 ∙ ap past c.past-after.ensures)) (let h = c.in_ok-var.ensures.0 in omega (arith, h.2.1, ap (λ s. s.at) c.in_ok-var.ensures.1)) c.in_err-start.ensures.0)
 
 pub returns-in_err-value-clause-reads : goal.returns-in_err-value-clause-reads

@@ -1,7 +1,6 @@
 use Rattle.std.proofs.Common.{[], refl, ◌∙◌, ap, subst}
-use Rattle.std.specs.Prelude.{Some, None}
 use Rattle.rn_inscript.specs.declared.inscriptions.PInscribed.TheVariants as I
-use Rattle.rn_inscript.specs.Inscriptions.{IsInscribed, absent}
+use Rattle.rn_inscript.specs.Inscriptions.{IsInscribed}
 use Rattle.rn_inscript.specs.link.Stages.{past, ready}
 use Rattle.rn_inscript.specs.link.NextNames.{IsNextName, IsNoName}
 use Rattle.rn_inscript.proofs.FormReading.{arc_place_fails, arc_place, arc_fails, arc_read, arc_absent}

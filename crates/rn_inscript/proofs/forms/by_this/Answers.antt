@@ -1,8 +1,6 @@
 use Rattle.std.proofs.Common.{ap, subst}
-use Rattle.std.specs.Prelude.{None}
 use Rattle.rn_inscript.specs.declared.exprs.PForm.TheVariants as F
 use Rattle.rn_inscript.specs.Signs.{colon, target_of}
-use Rattle.rn_inscript.specs.link.Stages.{past}
 use Rattle.rn_inscript.specs.link.NextNames.{IsNotNextKind}
 use Rattle.rn_inscript.proofs.LinkReading.{target_reads}
 use Rattle.rn_inscript.proofs.forms.by_this.Goals as goal

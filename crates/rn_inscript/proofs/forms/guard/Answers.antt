@@ -1,6 +1,6 @@
 use Rattle.std.proofs.Common.{[], refl}
 use Rattle.rn_inscript.specs.Inscriptions.{IsInscribed}
-use Rattle.rn_inscript.specs.link.Stages.{past, ready}
+use Rattle.rn_inscript.specs.link.Stages.{ready}
 use Rattle.rn_inscript.proofs.FormReading.{guard_fails, guard_read}
 use Rattle.rn_inscript.proofs.ReaderExits.{failed}
 use Rattle.rn_inscript.proofs.forms.guard.Goals as goal

@@ -1,6 +1,6 @@
 use Rattle.std.proofs.Common.{[]}
 use Rattle.rn_inscript.specs.Inscriptions.{IsInscribed}
-use Rattle.rn_inscript.specs.link.Stages.{past, ready}
+use Rattle.rn_inscript.specs.link.Stages.{ready}
 use Rattle.rn_inscript.proofs.LinkReading.{uplink_fails, uplink_read}
 use Rattle.rn_inscript.proofs.ReaderExits.{failed}
 use Rattle.rn_inscript.proofs.forms.uplink.Goals as goal

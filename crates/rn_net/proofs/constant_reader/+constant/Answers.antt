@@ -1,14 +1,15 @@
-use Rattle.std.proofs.Common.{rules, ◌≡◌, ◌+◌, length, drop, List, [], ◌∷◌, ◌++◌, refl, sym, ◌∙◌, subst, arith}
+use Rattle.std.proofs.Common.{rules, ◌≡◌, ◌+◌, length, drop, [], ◌∷◌, ◌++◌, refl, sym, ◌∙◌, subst, arith}
 use Rattle.rn_notation.specs.declared.token.TokenKind.TheVariants as Kind
-use Rattle.rn_inscript.specs.declared.fault.InscriptFault.TheVariants as Fault
+use Rattle.rn_reading.specs.declared.fault.ReadFault.TheVariants as Fault
+use Rattle.rn_reading.specs.link.Stages.{done}
 use Rattle.rn_inscript.specs.Signs.{close_bracket, close_brace}
 use Rattle.rn_net.specs.declared.constants.PConstForm.TheVariants as C
 use Rattle.rn_net.specs.Constants.{IsConstant, constant_at}
 use Rattle.rn_net.specs.Levels.Region.{declaring}
-use Rattle.rn_net.specs.link.Progress.{Stage, done}
+use Rattle.rn_net.specs.link.Progress.{Stage}
 use Rattle.rn_net.specs.link.Lists.{AreConstantsUpTo}
-use Rattle.rn_net.proofs.Steps.{failed, failed_as, same_end, whole_reads}
-use Rattle.rn_net.proofs.Sorts.{kind_read, kind_stuck, then_read, then_fails}
+use Rattle.rn_net.proofs.Sorts.{kind_read, kind_stuck}
+use Rattle.rn_net.proofs.Steps.{failed, failed_as, same_end, whole_reads, then_read, then_fails}
 use Rattle.rn_net.proofs.Rows.{row_on, row_up_to, row_first, row_comma, row_close, one-less}
 use Rattle.rn_net.proofs.ConstantPhrases.{constants, listed, constant_row, number_leaf, text_leaf, none_next, tuple_open, tuple_deep, list_open, list_deep, listed_none, listed_some, end_small, end-comma}
 use Rattle.rn_net.proofs.constant_reader.+constant.Goals as goal
@@ -54,14 +55,14 @@ constants_up_to-loop-next-preserved t c = record {
 }
 
 pub constants_up_to-returns-in_err-end-clause-reads : goal.constants_up_to-returns-in_err-end-clause-reads
-constants_up_to-returns-in_err-end-clause-reads t c = λ depth fits last there. failed_as (AreConstantsUpTo (Kind.Sign c.args.close)) c.args.tokens.now c.args.at (declaring depth) last c.from_residual-in_err-end.result c.in_err-end.field-0.0 (Fault.P2 c.loop-next.now) c.from_residual-in_err-end.ensures.1 c.in_err-end.ensures.1
+constants_up_to-returns-in_err-end-clause-reads t c = λ depth fits last there. failed_as (AreConstantsUpTo (Kind.Sign c.args.close)) c.args.tokens.now c.args.at (declaring depth) last c.from_residual-in_err-end.result c.in_err-end.field-0.0 (Fault.Stopped c.loop-next.now) c.from_residual-in_err-end.ensures.1 c.in_err-end.ensures.1
     (kind_stuck (λ spot. done c.loop-next.all.items) c.args.tokens.now c.loop-next.now (row_close constant_row (Kind.Sign c.args.close) c.args.tokens.now c.loop-next.now (c.loop-next.invariant.reads depth fits) c.in_default.ensures) c.loop-next.invariant.moved.1 c.in_err-end.ensures.0)
 
 pub constants_up_to-returns-clause-reads : goal.constants_up_to-returns-clause-reads
 constants_up_to-returns-clause-reads t c = λ depth fits last there. same_end (c.from_vec.ensures ∙ c.shrink_to_fit.ensures.items) (kind_read (λ spot. done c.loop-next.all.items) c.args.tokens.now c.loop-next.now _ last (row_close constant_row (Kind.Sign c.args.close) c.args.tokens.now c.loop-next.now (c.loop-next.invariant.reads depth fits) c.in_default.ensures) c.in_ok-end.ensures.0 c.in_ok-end.ensures.1 (end_small c.args.close depth c.requires.close) there)
 
 pub tuple-returns-in_err-levels_inside-clause-reads : goal.tuple-returns-in_err-levels_inside-clause-reads
-tuple-returns-in_err-levels_inside-clause-reads t c = λ depth fits. failed_as IsConstant c.args.tokens.now c.args.at (declaring depth) (declaring depth) c.from_residual.result c.in_err-levels_inside.field-0.0 (Fault.P5 c.args.at) c.from_residual.ensures.1 c.in_err-levels_inside.ensures.1
+tuple-returns-in_err-levels_inside-clause-reads t c = λ depth fits. failed_as IsConstant c.args.tokens.now c.args.at (declaring depth) (declaring depth) c.from_residual.result c.in_err-levels_inside.field-0.0 (Fault.TooFar c.args.at) c.from_residual.ensures.1 c.in_err-levels_inside.ensures.1
     (tuple_deep c.args.tokens.now c.args.at depth c.args.levels c.requires.next c.in_err-levels_inside.ensures.0 fits)
 
 pub tuple-returns-in_err-parts-clause-reads : goal.tuple-returns-in_err-parts-clause-reads
@@ -72,7 +73,7 @@ pub tuple-returns-clause-reads : goal.tuple-returns-clause-reads
 tuple-returns-clause-reads t c = λ depth fits. then_read (listed close_bracket) (λ parts. done (constant_at c.args.spot (C.Tuple parts))) (tuple_open c.args.tokens.now c.args.at c.args.inside depth c.in_ok-levels_inside.levels_inside c.args.levels c.requires.next c.requires.inside c.in_ok-levels_inside.ensures fits) (c.in_ok-parts.ensures.reads (depth + 1) (omega (arith, c.in_ok-levels_inside.ensures)) (declaring depth) (one-less depth 3 refl))
 
 pub list-returns-in_err-levels_inside-clause-reads : goal.list-returns-in_err-levels_inside-clause-reads
-list-returns-in_err-levels_inside-clause-reads t c = λ depth fits. failed_as IsConstant c.args.tokens.now c.args.at (declaring depth) (declaring depth) c.from_residual.result c.in_err-levels_inside.field-0.0 (Fault.P5 c.args.at) c.from_residual.ensures.1 c.in_err-levels_inside.ensures.1
+list-returns-in_err-levels_inside-clause-reads t c = λ depth fits. failed_as IsConstant c.args.tokens.now c.args.at (declaring depth) (declaring depth) c.from_residual.result c.in_err-levels_inside.field-0.0 (Fault.TooFar c.args.at) c.from_residual.ensures.1 c.in_err-levels_inside.ensures.1
     (list_deep c.args.tokens.now c.args.at depth c.args.levels c.requires.next c.in_err-levels_inside.ensures.0 fits)
 
 pub list-returns-in_err-parts-clause-reads : goal.list-returns-in_err-parts-clause-reads

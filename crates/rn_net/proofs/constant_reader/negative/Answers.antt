@@ -1,12 +1,12 @@
-use Rattle.std.proofs.Common.{rules, ◌≤◌, refl, sym, subst, arith, pos}
+use Rattle.std.proofs.Common.{rules, refl, sym, subst, arith, pos}
 use Rattle.std.proofs.lemmas.Int.{ints}
 use Rattle.std.specs.Prelude.{◌≤ℤ◌, neg_ℤ}
+use Rattle.rn_reading.specs.link.Stages.{done}
 use Rattle.rn_net.specs.declared.constants.PConstForm.TheVariants as C
 use Rattle.rn_net.specs.Constants.{constant_at}
 use Rattle.rn_net.specs.Levels.Region.{declaring}
-use Rattle.rn_net.specs.link.Progress.{done}
-use Rattle.rn_net.proofs.Steps.{same_end}
 use Rattle.rn_net.proofs.Sorts.{number_read, number_stuck}
+use Rattle.rn_net.proofs.Steps.{same_end}
 use Rattle.rn_net.proofs.ConstantPhrases.{negative_open}
 use Rattle.rn_net.proofs.constant_reader.negative.Goals as goal
 

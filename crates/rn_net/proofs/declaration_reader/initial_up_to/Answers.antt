@@ -1,5 +1,5 @@
 use Rattle.std.proofs.Common.{refl}
-use Rattle.rn_inscript.specs.declared.fault.InscriptFault.TheVariants as Fault
+use Rattle.rn_reading.specs.declared.fault.ReadFault.TheVariants as Fault
 use Rattle.rn_net.specs.Words.{semicolon}
 use Rattle.rn_net.specs.Levels.Region.{between, declaring}
 use Rattle.rn_net.proofs.Steps.{failed_as, same_end, whole_reads}
@@ -13,7 +13,7 @@ pub returns-in-Some-clause-reads : goal.returns-in-Some-clause-reads
 returns-in-Some-clause-reads c = same_end c.new.ensures (initial_none c.args.tokens.now c.args.at _ c.in-Some.ensures.0 c.in-Some.ensures.1)
 
 pub returns-in_err-start-clause-reads : goal.returns-in_err-start-clause-reads
-returns-in_err-start-clause-reads c = failed_as IsInitialUpTo c.args.tokens.now c.args.at (declaring 0) between c.from_residual.result c.in_err-start.field-0.0 (Fault.P2 c.args.at) c.from_residual.ensures.1 c.in_err-start.ensures.1
+returns-in_err-start-clause-reads c = failed_as IsInitialUpTo c.args.tokens.now c.args.at (declaring 0) between c.from_residual.result c.in_err-start.field-0.0 (Fault.Stopped c.args.at) c.from_residual.ensures.1 c.in_err-start.ensures.1
     (initial_stuck c.args.tokens.now c.args.at c.requires.inside c.in_default.ensures c.in_err-start.ensures.0)
 
 pub returns-clause-reads : goal.returns-clause-reads

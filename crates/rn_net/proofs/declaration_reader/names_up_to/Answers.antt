@@ -1,12 +1,12 @@
-use Rattle.std.proofs.Common.{rules, ◌≡◌, ◌+◌, length, drop, [], ◌∷◌, ◌++◌, refl, sym, subst, arith}
-use Rattle.rn_inscript.specs.declared.fault.InscriptFault.TheVariants as Fault
+use Rattle.std.proofs.Common.{rules, ◌≡◌, length, drop, [], ◌∷◌, ◌++◌, refl, sym, subst, arith}
+use Rattle.rn_reading.specs.declared.fault.ReadFault.TheVariants as Fault
+use Rattle.rn_reading.specs.link.Stages.{done}
 use Rattle.rn_inscript.specs.Signs.{comma, colon}
 use Rattle.rn_net.specs.Levels.Region.{declaring}
-use Rattle.rn_net.specs.link.Progress.{Stage, done}
-use Rattle.rn_net.proofs.Steps.{failed, failed_as, same_end}
-use Rattle.rn_net.proofs.Sorts.{kind_read, kind_stuck, then_read, then_fails}
+use Rattle.rn_net.specs.link.Progress.{Stage}
+use Rattle.rn_net.proofs.Sorts.{kind_read, kind_stuck, tell_apart}
+use Rattle.rn_net.proofs.Steps.{failed, failed_as, same_end, then_read, then_fails}
 use Rattle.rn_net.specs.link.Parts.{AreNamesUpTo}
-use Rattle.rn_net.proofs.Sorts.{tell_apart}
 use Rattle.rn_net.proofs.Rows.{row_on, row_first, row_comma, row_close}
 use Rattle.rn_net.proofs.DeclarationPhrases.{names, name_row}
 use Rattle.rn_net.proofs.declaration_reader.names_up_to.Goals as goal
@@ -37,7 +37,7 @@ loop-next-preserved c = record {
 }
 
 pub returns-in_err-end-clause-reads : goal.returns-in_err-end-clause-reads
-returns-in_err-end-clause-reads c = failed_as AreNamesUpTo c.args.tokens.now c.args.at (declaring 0) (declaring 0) c.from_residual-in_err-end.result c.in_err-end.field-0.0 (Fault.P2 c.loop-next.now) c.from_residual-in_err-end.ensures.1 c.in_err-end.ensures.1
+returns-in_err-end-clause-reads c = failed_as AreNamesUpTo c.args.tokens.now c.args.at (declaring 0) (declaring 0) c.from_residual-in_err-end.result c.in_err-end.field-0.0 (Fault.Stopped c.loop-next.now) c.from_residual-in_err-end.ensures.1 c.in_err-end.ensures.1
     (kind_stuck (λ spot. done c.loop-next.all.items) c.args.tokens.now c.loop-next.now (row_close name_row colon c.args.tokens.now c.loop-next.now c.loop-next.invariant.reads c.in_default.ensures) c.loop-next.invariant.moved.1 c.in_err-end.ensures.0)
 
 pub returns-clause-reads : goal.returns-clause-reads

@@ -1,8 +1,8 @@
 use Rattle.std.proofs.Common.{rules, length, [], refl, arith}
+use Rattle.rn_reading.specs.link.Stages.{done}
 use Rattle.rn_net.specs.Levels.Region.{between}
-use Rattle.rn_net.specs.link.Progress.{done}
-use Rattle.rn_net.proofs.Steps.{failed, same_end}
-use Rattle.rn_net.proofs.Sorts.{name_fails, then_read, then_fails}
+use Rattle.rn_net.proofs.Sorts.{name_fails}
+use Rattle.rn_net.proofs.Steps.{failed, same_end, then_read, then_fails}
 use Rattle.rn_net.proofs.KindPhrases as KP
 use Rattle.rn_net.specs.declared.kinds.PKindForm.TheVariants as K
 use Rattle.rn_net.specs.Kinds.{kind_at}

@@ -1,18 +1,17 @@
 use Rattle.std.proofs.Common.{rules, length, Some, None}
-use Rattle.rn_inscript.specs.declared.fault.InscriptFault.TheVariants as Fault
+use Rattle.rn_reading.specs.declared.fault.ReadFault.TheVariants as Fault
+use Rattle.rn_reading.specs.link.Stages.{done}
 use Rattle.rn_net.specs.Levels.Region.{between, declaring}
 use Rattle.rn_net.specs.Nets.{max_of}
 use Rattle.rn_net.specs.link.Parts.{IsPlaceEnd, end_of}
-use Rattle.rn_net.specs.link.Progress.{done}
-use Rattle.rn_net.proofs.Steps.{failed, failed_as, same_end}
-use Rattle.rn_net.proofs.Sorts.{then_read, then_fails}
+use Rattle.rn_net.proofs.Steps.{failed, failed_as, same_end, then_read, then_fails}
 use Rattle.rn_net.proofs.DeclarationPhrases.{initials, max_given, max_stuck, max_none}
 use Rattle.rn_net.proofs.declaration_reader.place_end.Goals as goal
 
 pub returns-in_err-spot-clause-reads : goal.returns-in_err-spot-clause-reads
 returns-in_err-spot-clause-reads c =
     failed_as IsPlaceEnd c.args.tokens.now c.args.at (declaring 0) between c.from_residual.result
-    c.in_err-spot.field-0.0 (Fault.P2 c.in-Some.after_word) c.from_residual.ensures.1
+    c.in_err-spot.field-0.0 (Fault.Stopped c.in-Some.after_word) c.from_residual.ensures.1
     c.in_err-spot.ensures.1
     (max_stuck c.args.tokens.now c.args.at c.in-Some.after_word c.in-Some.ensures.0
     c.in-Some.ensures.1 c.in_err-spot.ensures.0)

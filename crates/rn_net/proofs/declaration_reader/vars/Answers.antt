@@ -1,10 +1,10 @@
 use Rattle.std.proofs.Common.{length, refl}
-use Rattle.rn_inscript.specs.declared.fault.InscriptFault.TheVariants as Fault
+use Rattle.rn_reading.specs.declared.fault.ReadFault.TheVariants as Fault
+use Rattle.rn_reading.specs.link.Stages.{done}
 use Rattle.rn_inscript.specs.Signs.{colon}
 use Rattle.rn_net.specs.Levels.Region.{between}
-use Rattle.rn_net.specs.link.Progress.{done}
-use Rattle.rn_net.proofs.Steps.{failed, failed_as, same_end}
-use Rattle.rn_net.proofs.Sorts.{kind_read, kind_stuck, then_read, then_fails}
+use Rattle.rn_net.proofs.Sorts.{kind_read, kind_stuck}
+use Rattle.rn_net.proofs.Steps.{failed, failed_as, same_end, then_read, then_fails}
 use Rattle.rn_net.proofs.KindPhrases as KP
 use Rattle.std.specs.Prelude.{map}
 use Rattle.rn_net.specs.Nets.{AreVars, var_of}
@@ -21,7 +21,7 @@ returns-in_err-kind-clause-reads c = failed AreVars c.args.tokens.now c.args.at 
     (then_fails KP.kinds (vars_end c.in_ok-names.names) (length c.args.tokens.now) c.in_err-kind.field-0.0 (then_read (row_up_to name_row colon) vars_kind (vars_begun c.args.tokens.now c.args.at c.args.start c.requires.next c.requires.start) c.in_ok-names.ensures.reads) (c.in_err-kind.ensures.reads 0 refl))
 
 pub returns-in_err-end-clause-reads : goal.returns-in_err-end-clause-reads
-returns-in_err-end-clause-reads c = failed_as AreVars c.args.tokens.now c.args.at between between c.from_residual-in_err-end.result c.in_err-end.field-0.0 (Fault.P2 c.in_ok-kind.after) c.from_residual-in_err-end.ensures.1 c.in_err-end.ensures.1
+returns-in_err-end-clause-reads c = failed_as AreVars c.args.tokens.now c.args.at between between c.from_residual-in_err-end.result c.in_err-end.field-0.0 (Fault.Stopped c.in_ok-kind.after) c.from_residual-in_err-end.ensures.1 c.in_err-end.ensures.1
     (kind_stuck (λ s. done (map (var_of c.in_ok-kind.kind) c.in_ok-names.names)) c.args.tokens.now c.in_ok-kind.after (then_read KP.kinds (vars_end c.in_ok-names.names) (then_read (row_up_to name_row colon) vars_kind (vars_begun c.args.tokens.now c.args.at c.args.start c.requires.next c.requires.start) c.in_ok-names.ensures.reads) (c.in_ok-kind.ensures.reads 0 refl)) c.in_ok-kind.ensures.moved.1 c.in_err-end.ensures.0)
 
 pub returns-clause-reads : goal.returns-clause-reads

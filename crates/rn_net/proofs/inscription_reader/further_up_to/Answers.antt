@@ -1,9 +1,10 @@
 use Rattle.std.proofs.Common.{rules, ◌≡◌, [], ◌∷◌, ◌++◌, arith, drop, refl, subst}
+use Rattle.rn_reading.specs.link.Stages.{done}
 use Rattle.rn_inscript.specs.Levels.{at_first, count_after}
-use Rattle.rn_inscript.specs.declared.fault.InscriptFault.TheVariants as Fault
+use Rattle.rn_reading.specs.declared.fault.ReadFault.TheVariants as Fault
 use Rattle.rn_net.specs.Levels.Region.{between, inscribing}
 use Rattle.rn_net.specs.link.Lists.{AreFurtherUpTo}
-use Rattle.rn_net.specs.link.Progress.{Stage, done}
+use Rattle.rn_net.specs.link.Progress.{Stage}
 use Rattle.rn_net.specs.Words.{semicolon}
 use Rattle.rn_net.proofs.InscriptionReading.{expr_row, further_on, further_read, further_fails, further_comma}
 use Rattle.rn_net.proofs.Openings.{moved}
@@ -63,7 +64,7 @@ returns-in_err-end-clause-reads c = λ count.
     let tokens = c.args.tokens.now in
     let s = c.loop-next.invariant.reads count in
     failed_as AreFurtherUpTo tokens c.args.at (inscribing 0 count) between
-    c.from_residual-in_err-end.result c.in_err-end.field-0.0 (Fault.P2 c.loop-next.now)
+    c.from_residual-in_err-end.result c.in_err-end.field-0.0 (Fault.Stopped c.loop-next.now)
     c.from_residual-in_err-end.ensures.1 c.in_err-end.ensures.1
     (kind_stuck (λ spot. done c.loop-next.all.items) tokens c.loop-next.now
     (row_close expr_row semicolon tokens c.loop-next.now s.1 c.in_default.ensures)

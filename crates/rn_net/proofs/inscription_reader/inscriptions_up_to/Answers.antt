@@ -4,8 +4,7 @@ use Rattle.rn_net.specs.link.Parts.{AreInscriptionsUpTo}
 use Rattle.rn_net.specs.link.Progress.{Stage}
 use Rattle.rn_net.proofs.InscriptionReading.{statement_sort}
 use Rattle.rn_net.proofs.NetPhrases.{inscriptions, many_on, many_next, many_close, with_more}
-use Rattle.rn_net.proofs.Sorts.{then_read, then_fails}
-use Rattle.rn_net.proofs.Steps.{begin, failed, same_end}
+use Rattle.rn_net.proofs.Steps.{then_read, then_fails, begin, failed, same_end}
 use Rattle.rn_net.proofs.inscription_reader.inscriptions_up_to.Goals as goal
 
 pub returns-in-Some-clause-reads : goal.returns-in-Some-clause-reads

@@ -1,14 +1,15 @@
-use Rattle.std.proofs.Common.{rules, ◌≡◌, ◌+◌, length, drop, List, [], ◌∷◌, ◌++◌, refl, sym, subst, arith}
+use Rattle.std.proofs.Common.{rules, ◌≡◌, ◌+◌, length, drop, [], ◌∷◌, ◌++◌, refl, sym, subst, arith}
 use Rattle.rn_notation.specs.declared.token.TokenKind.TheVariants as Kind
-use Rattle.rn_inscript.specs.declared.fault.InscriptFault.TheVariants as Fault
+use Rattle.rn_reading.specs.declared.fault.ReadFault.TheVariants as Fault
+use Rattle.rn_reading.specs.link.Stages.{done}
 use Rattle.rn_inscript.specs.Signs.{close_bracket}
 use Rattle.rn_net.specs.declared.kinds.PKindForm.TheVariants as K
 use Rattle.rn_net.specs.Kinds.{IsKind, kind_at}
 use Rattle.rn_net.specs.Levels.Region.{declaring}
-use Rattle.rn_net.specs.link.Progress.{Stage, done}
+use Rattle.rn_net.specs.link.Progress.{Stage}
 use Rattle.rn_net.specs.link.Lists.{AreKindsUpTo}
-use Rattle.rn_net.proofs.Steps.{failed, failed_as, same_end, whole_reads}
-use Rattle.rn_net.proofs.Sorts.{kind_read, kind_stuck, then_read, then_fails}
+use Rattle.rn_net.proofs.Sorts.{kind_read, kind_stuck}
+use Rattle.rn_net.proofs.Steps.{failed, failed_as, same_end, whole_reads, then_read, then_fails}
 use Rattle.rn_net.proofs.Rows.{row_on, row_first, row_comma, row_close, close_small, close_after, close-comma, one-less, row_up_to}
 use Rattle.rn_net.proofs.KindPhrases.{kinds, listed, kind_row, int_read, text_read, net_read, none_next, tuple_open, tuple_deep, list_open, list_deep, list_end, listed_none, listed_some}
 use Rattle.rn_net.proofs.kind_reader.+kind.Goals as goal
@@ -57,14 +58,14 @@ kinds_up_to-loop-next-preserved t c = record {
 }
 
 pub kinds_up_to-returns-in_err-end-clause-reads : goal.kinds_up_to-returns-in_err-end-clause-reads
-kinds_up_to-returns-in_err-end-clause-reads t c = λ depth fits. failed_as (AreKindsUpTo (Kind.Sign c.args.close)) c.args.tokens.now c.args.at (declaring (depth + 1)) (declaring depth) c.from_residual-in_err-end.result c.in_err-end.field-0.0 (Fault.P2 c.loop-next.now) c.from_residual-in_err-end.ensures.1 c.in_err-end.ensures.1
+kinds_up_to-returns-in_err-end-clause-reads t c = λ depth fits. failed_as (AreKindsUpTo (Kind.Sign c.args.close)) c.args.tokens.now c.args.at (declaring (depth + 1)) (declaring depth) c.from_residual-in_err-end.result c.in_err-end.field-0.0 (Fault.Stopped c.loop-next.now) c.from_residual-in_err-end.ensures.1 c.in_err-end.ensures.1
     (kind_stuck (λ spot. done c.loop-next.all.items) c.args.tokens.now c.loop-next.now (row_close kind_row (Kind.Sign c.args.close) c.args.tokens.now c.loop-next.now (c.loop-next.invariant.reads depth fits) c.in_default.ensures) c.loop-next.invariant.moved.1 c.in_err-end.ensures.0)
 
 pub kinds_up_to-returns-clause-reads : goal.kinds_up_to-returns-clause-reads
 kinds_up_to-returns-clause-reads t c = λ depth fits. same_end c.from_vec.ensures (kind_read (λ spot. done c.loop-next.all.items) c.args.tokens.now c.loop-next.now _ (declaring depth) (row_close kind_row (Kind.Sign c.args.close) c.args.tokens.now c.loop-next.now (c.loop-next.invariant.reads depth fits) c.in_default.ensures) c.in_ok-end.ensures.0 c.in_ok-end.ensures.1 (close_small c.args.close (depth + 1) c.requires.close) (close_after c.args.close depth c.requires.close))
 
 pub list-returns-in_err-levels_inside-clause-reads : goal.list-returns-in_err-levels_inside-clause-reads
-list-returns-in_err-levels_inside-clause-reads t c = λ depth fits. failed_as IsKind c.args.tokens.now c.args.at (declaring depth) (declaring depth) c.from_residual.result c.in_err-levels_inside.field-0.0 (Fault.P5 c.args.at) c.from_residual.ensures.1 c.in_err-levels_inside.ensures.1
+list-returns-in_err-levels_inside-clause-reads t c = λ depth fits. failed_as IsKind c.args.tokens.now c.args.at (declaring depth) (declaring depth) c.from_residual.result c.in_err-levels_inside.field-0.0 (Fault.TooFar c.args.at) c.from_residual.ensures.1 c.in_err-levels_inside.ensures.1
     (list_deep c.args.tokens.now c.args.at depth c.args.levels c.requires.next c.in_err-levels_inside.ensures.0 fits)
 
 pub list-returns-in_err-element-clause-reads : goal.list-returns-in_err-element-clause-reads
@@ -72,7 +73,7 @@ list-returns-in_err-element-clause-reads t c = λ depth fits. failed IsKind c.ar
     (then_fails kinds (list_end c.args.spot) (length c.args.tokens.now) c.in_err-element.field-0.0 (list_open c.args.tokens.now c.args.at c.args.inside depth c.in_ok-levels_inside.levels_inside c.args.levels c.requires.next c.requires.inside c.in_ok-levels_inside.ensures fits) (c.in_err-element.ensures.reads (depth + 1) (omega (arith, c.in_ok-levels_inside.ensures))))
 
 pub list-returns-in_err-end-clause-reads : goal.list-returns-in_err-end-clause-reads
-list-returns-in_err-end-clause-reads t c = λ depth fits. failed_as IsKind c.args.tokens.now c.args.at (declaring depth) (declaring depth) c.from_residual-in_err-end.result c.in_err-end.field-0.0 (Fault.P2 c.in_ok-element.after) c.from_residual-in_err-end.ensures.1 c.in_err-end.ensures.1
+list-returns-in_err-end-clause-reads t c = λ depth fits. failed_as IsKind c.args.tokens.now c.args.at (declaring depth) (declaring depth) c.from_residual-in_err-end.result c.in_err-end.field-0.0 (Fault.Stopped c.in_ok-element.after) c.from_residual-in_err-end.ensures.1 c.in_err-end.ensures.1
     (kind_stuck (λ end. done (kind_at c.args.spot (K.List c.in_ok-element.element))) c.args.tokens.now c.in_ok-element.after (then_read kinds (list_end c.args.spot) (list_open c.args.tokens.now c.args.at c.args.inside depth c.in_ok-levels_inside.levels_inside c.args.levels c.requires.next c.requires.inside c.in_ok-levels_inside.ensures fits) (c.in_ok-element.ensures.reads (depth + 1) (omega (arith, c.in_ok-levels_inside.ensures)))) c.in_ok-element.ensures.moved.1 c.in_err-end.ensures.0)
 
 pub list-returns-clause-reads : goal.list-returns-clause-reads
@@ -80,7 +81,7 @@ list-returns-clause-reads t c = λ depth fits. same_end (search rules)
     (kind_read (λ end. done (kind_at c.args.spot (K.List c.in_ok-element.element))) c.args.tokens.now c.in_ok-element.after _ (declaring depth) (then_read kinds (list_end c.args.spot) (list_open c.args.tokens.now c.args.at c.args.inside depth c.in_ok-levels_inside.levels_inside c.args.levels c.requires.next c.requires.inside c.in_ok-levels_inside.ensures fits) (c.in_ok-element.ensures.reads (depth + 1) (omega (arith, c.in_ok-levels_inside.ensures)))) c.in_ok-end.ensures.0 c.in_ok-end.ensures.1 refl (one-less depth 1 refl))
 
 pub tuple-returns-in_err-levels_inside-clause-reads : goal.tuple-returns-in_err-levels_inside-clause-reads
-tuple-returns-in_err-levels_inside-clause-reads t c = λ depth fits. failed_as IsKind c.args.tokens.now c.args.at (declaring depth) (declaring depth) c.from_residual.result c.in_err-levels_inside.field-0.0 (Fault.P5 c.args.at) c.from_residual.ensures.1 c.in_err-levels_inside.ensures.1
+tuple-returns-in_err-levels_inside-clause-reads t c = λ depth fits. failed_as IsKind c.args.tokens.now c.args.at (declaring depth) (declaring depth) c.from_residual.result c.in_err-levels_inside.field-0.0 (Fault.TooFar c.args.at) c.from_residual.ensures.1 c.in_err-levels_inside.ensures.1
     (tuple_deep c.args.tokens.now c.args.at depth c.args.levels c.requires.next c.in_err-levels_inside.ensures.0 fits)
 
 pub tuple-returns-in_err-parts-clause-reads : goal.tuple-returns-in_err-parts-clause-reads

@@ -1,8 +1,7 @@
 use Rattle.std.proofs.Common.{length}
+use Rattle.rn_reading.specs.link.Stages.{done}
 use Rattle.rn_net.specs.Levels.Region.{between}
-use Rattle.rn_net.specs.link.Progress.{done}
-use Rattle.rn_net.proofs.Steps.{failed}
-use Rattle.rn_net.proofs.Sorts.{then_read, then_fails}
+use Rattle.rn_net.proofs.Steps.{failed, then_read, then_fails}
 use Rattle.rn_net.specs.declared.part.Item.{Item}
 use Rattle.rn_net.specs.link.Parts.{IsItem}
 use Rattle.rn_net.proofs.NetPhrases.{one_channel, one_net, item_channel, item_net, item_none}

@@ -1,11 +1,12 @@
 use Rattle.std.proofs.Common.{◌≡◌, [], ◌∙◌, ap, arith, drop, length, refl, subst, sym}
 use Rattle.std.specs.Prelude.{Ok, Err}
 use Rattle.std.proofs.lemmas.Result.{err_from_is_err_and}
+use Rattle.rn_reading.specs.link.Stages.{done}
 use Rattle.rn_net.specs.link.Answers.{Top, SystemAnswer}
 use Rattle.rn_net.specs.Levels.Region.{between}
 use Rattle.rn_net.specs.Nets.{plain_of}
 use Rattle.rn_net.specs.link.Parts.{IsItem}
-use Rattle.rn_net.specs.link.Progress.{Fails, Stage, done}
+use Rattle.rn_net.specs.link.Progress.{Fails, Stage}
 use Rattle.rn_net.proofs.Systems.{at_end, not_bare, same_notation, top_fails, top_last, top_read}
 use Rattle.rn_net.proofs.system_reader.system.Goals as goal
 
@@ -41,12 +42,13 @@ returns-in_err-more c =
 pub returns-then-after-count : goal.returns-then-after-count
 returns-then-after-count c =
     let tokens = c.args.tokens.now in
-    subst (λ p. SystemAnswer tokens (Ok p)) (sym c.in_ok-plain.ensures)
-    (top_last c.items.invariant.reads
+    let last = top_last c.items.invariant.reads
     (subst (λ n. Stage (IsItem n) (drop c.items.now tokens) between (done c.in_ok-more.more)
     (drop c.in_ok-more.after tokens) between) (sym c.items.invariant.same)
     c.in_ok-more.ensures.reads)
-    (at_end tokens c.in_ok-more.after (omega (arith, c.if-after-count.true, c.len-count.ensures))))
+    (at_end tokens c.in_ok-more.after (omega (arith, c.if-after-count.true, c.len-count.ensures))) in
+    subst (λ p. SystemAnswer tokens (Ok (p, c.len-count.result))) (sym c.in_ok-plain.ensures)
+    (last.0, last.1, omega (arith, c.len-count.ensures))
 
 pub items-preserved : goal.items-preserved
 items-preserved c =

@@ -40,7 +40,10 @@ loop-i-preserved c =
     ap (entry_parts system names (i + 1)) split
     ∙ ap (λ ns. text ∷ entry_parts system ns (i + 1 + 1) rest) (sym next) in (
       subst (λ n. EntriesFit system nets (before + n) rest) (sym count) (fit_next system nets before entry rest fit),
-      (λ short. c.loop-i.invariant.1 (subst AreShort (sym parts_are)
-          (short_first text c.measure_entry.result c.measure_entry.ensures.length c.if-measure_entry.false, short))),
+      (
+        λ short. c.loop-i.invariant.1.0 (subst AreShort (sym parts_are)
+            (short_first text c.measure_entry.result c.measure_entry.ensures.length c.if-measure_entry.false, short)),
+        λ short. (subst AreShort parts_are (c.loop-i.invariant.1.1 short)).1,
+      ),
       c.measure_entry.ensures.room ∙ c.loop-i.invariant.2,
     )

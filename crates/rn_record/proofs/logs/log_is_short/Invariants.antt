@@ -1,4 +1,5 @@
 use Rattle.std.proofs.Common.{◌≡◌, ◌+◌, drop}
+use Rattle.std.specs.Prelude.{◌↔◌}
 use Rattle.rn_record.specs.Nets.{EntriesFit, first_of}
 use Rattle.rn_record.specs.Parts.{entry_parts, AreShort}
 use Rattle.rn_record.proofs.logs.log_is_short.Given as goal
@@ -10,5 +11,5 @@ invariant-loop-i l =
     let nets = l.log.nets.now in
     let entries = l.log.entries.now in
     EntriesFit system nets l.before (drop l.i entries)
-    × (AreShort (entry_parts system (first_of system nets l.before) (l.i + 1) (drop l.i entries)) → AreShort (entry_parts system (first_of system nets 1) 1 entries))
+    × (AreShort (entry_parts system (first_of system nets l.before) (l.i + 1) (drop l.i entries)) ↔ AreShort (entry_parts system (first_of system nets 1) 1 entries))
     × (l.window.room ≡ l.initial.window.room)
