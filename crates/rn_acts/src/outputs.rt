@@ -26,7 +26,7 @@ fn put_by(alloc: Global, kind: ArcKind, value: Value) -> Result<Vals, NoMemory>
             one.push(value)?;
             Ok(one)
         }
-        ArcKind::FlexOutput => Ok(elements_of(alloc, value)),
+        ArcKind::FlexOutput => elements_of(alloc, value),
         _ => Ok(Items::new(alloc)),
     }
 }

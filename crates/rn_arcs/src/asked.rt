@@ -50,9 +50,9 @@ impl Asked {
                 self.put.push(copy(alloc, &value)?)?;
                 self.taken.push(value)?;
             }
-            ArcKind::FlexInput => append(&mut self.taken, elements_of(alloc, value))?,
-            ArcKind::FlexOutput => append(&mut self.put, elements_of(alloc, value))?,
-            ArcKind::Clear => self.cleared.push(elements_of(alloc, value))?,
+            ArcKind::FlexInput => append(&mut self.taken, elements_of(alloc, value)?)?,
+            ArcKind::FlexOutput => append(&mut self.put, elements_of(alloc, value)?)?,
+            ArcKind::Clear => self.cleared.push(elements_of(alloc, value)?)?,
         }
         Ok(())
     }

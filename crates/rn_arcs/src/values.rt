@@ -1,18 +1,18 @@
 //! Lists of values: the elements of one, and more at its end.
-ghost use Rattle.std.specs.Prelude.{◌≡◌, ◌++◌, OnOk};
+ghost use Rattle.std.specs.Prelude.{◌≡◌, ◌++◌, IfOk, OnOk};
 ghost use Rattle.rn_model.specs.Demands.{elements};
 
 use rn_items::{Items, NoMemory};
-use rn_value::{Vals, Value};
+use rn_value::{Vals, Value, own_items};
 use std::alloc::Global;
 
 /// The elements of a list. What is no list has none.
-pub fn elements_of(alloc: Global, value: Value) -> Vals
-    ensures { result ≡ elements value }
+pub fn elements_of(alloc: Global, value: Value) -> Result<Vals, NoMemory>
+    ensures { IfOk result (λ values. values ≡ elements value) }
 {
     match value {
-        Value::List(values) => values,
-        _ => Items::new(alloc),
+        Value::List(values) => own_items(alloc, values),
+        _ => Ok(Items::new(alloc)),
     }
 }
 

@@ -24,7 +24,7 @@ fn has_part(value: &Value, i: usize, part: &Value) -> bool
     ensures { IsTrue result ↔ (part_of i value.now ≡ Some part.now) }
 {
     match value {
-        Value::Tuple(parts) => match parts.get(i) {
+        Value::Tuple(parts) => match parts.get().get(i) {
             Some(other) => are_same(other, part),
             None => false,
         },

@@ -1,3 +1,4 @@
 pub mod FittingLemmas
 pub mod MentionLemmas
 pub mod NodeLookups
+pub mod OneValue

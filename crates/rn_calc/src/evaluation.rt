@@ -11,7 +11,9 @@ use crate::integers::{operate, opposite};
 use crate::values::Values;
 use rn_items::Items;
 use rn_model::{Expr, OpKind};
-use rn_value::{NoMemory, Str, Vals, Value, copy, copy_inst, copy_text};
+use rn_value::{
+    NoMemory, Str, Vals, Value, copy, copy_inst, copy_text, list_value, own_items, tuple_value,
+};
 use std::alloc::Global;
 
 fn int_in(value: &Option<Value>) -> Option<i64>
@@ -41,15 +43,15 @@ fn apply(kind: OpKind, a: Option<i64>, b: Option<i64>) -> Option<Value>
     }
 }
 
-fn put_onto(values: Vals, tail: Option<Value>) -> Result<Option<Value>, NoMemory>
+fn put_onto(alloc: Global, values: Vals, tail: Option<Value>) -> Result<Option<Value>, NoMemory>
     ensures { IfOk result (λ value. value ≡ option_and_then (list_onto values) tail) }
 {
     match tail {
         Some(Value::List(others)) => {
             let mut all = values.into_vec();
-            let mut others = others.into_vec();
+            let mut others = own_items(alloc, others)?.into_vec();
             all.append(&mut others)?;
-            Ok(Some(Value::List(Items::from_vec(all))))
+            Ok(Some(list_value(alloc, Items::from_vec(all))?))
         }
         _ => Ok(None),
     }
@@ -86,21 +88,21 @@ fn step_value<V: Values>(values: &V) -> Option<Value>
     }
 }
 
-fn tuple_of(parts: Option<Vals>) -> Option<Value>
-    ensures { result ≡ option_map (λ parts. Value.Tuple parts) parts }
+fn tuple_of(alloc: Global, parts: Option<Vals>) -> Result<Option<Value>, NoMemory>
+    ensures { IfOk result (λ value. value ≡ option_map (λ parts. Value.Tuple parts) parts) }
 {
     match parts {
-        Some(parts) => Some(Value::Tuple(parts)),
-        None => None,
+        Some(parts) => Ok(Some(tuple_value(alloc, parts)?)),
+        None => Ok(None),
     }
 }
 
-fn list_of(parts: Option<Vals>) -> Option<Value>
-    ensures { result ≡ option_map (λ parts. Value.List parts) parts }
+fn list_of(alloc: Global, parts: Option<Vals>) -> Result<Option<Value>, NoMemory>
+    ensures { IfOk result (λ value. value ≡ option_map (λ parts. Value.List parts) parts) }
 {
     match parts {
-        Some(parts) => Some(Value::List(parts)),
-        None => None,
+        Some(parts) => Ok(Some(list_value(alloc, parts)?)),
+        None => Ok(None),
     }
 }
 
@@ -120,8 +122,8 @@ pub fn evaluate<V: Values>(
         Expr::Var(x) => variable_value(alloc, values, *x),
         Expr::This => this_value(alloc, values),
         Expr::Step => Ok(step_value(values)),
-        Expr::Tuple(parts) => Ok(tuple_of(evaluate_all(alloc, parts.as_slice(), values)?)),
-        Expr::List(parts) => Ok(list_of(evaluate_all(alloc, parts.as_slice(), values)?)),
+        Expr::Tuple(parts) => tuple_of(alloc, evaluate_all(alloc, parts.as_slice(), values)?),
+        Expr::List(parts) => list_of(alloc, evaluate_all(alloc, parts.as_slice(), values)?),
         Expr::Cons(parts, tail) => {
             let parts = evaluate_all(alloc, parts.as_slice(), values)?;
             join_tail(alloc, parts, tail.get(), values)
@@ -147,7 +149,7 @@ fn join_tail<V: Values>(
         (λ vs. option_and_then (list_onto vs) (worth tail.now (V.env values.now))) parts) }
 {
     match parts {
-        Some(parts) => put_onto(parts, evaluate(alloc, tail, values)?),
+        Some(parts) => put_onto(alloc, parts, evaluate(alloc, tail, values)?),
         None => Ok(None),
     }
 }

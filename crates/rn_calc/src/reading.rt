@@ -51,6 +51,17 @@ pub fn read<'a, V: Values>(
     }
 }
 
+// Whether both are there, with one value.
+fn are_one(one: &Option<Reading>, other: &Option<Reading>) -> bool
+    ensures { IsTrue result
+        ↔ HaveOneValue (option_map seen one.now) (option_map seen other.now) }
+{
+    match (one, other) {
+        (Some(v), Some(w)) => same(v.get(), w.get()),
+        _ => false,
+    }
+}
+
 /// Whether two expressions, each read under its own values, have one and the same value.
 pub fn have_one_value<V: Values, W: Values>(
     alloc: Global,
@@ -66,8 +77,5 @@ pub fn have_one_value<V: Values, W: Values>(
 {
     let one = read(alloc, a, values)?;
     let other = read(alloc, b, others)?;
-    match (&one, &other) {
-        (Some(v), Some(w)) => Ok(same(v.get(), w.get())),
-        _ => Ok(false),
-    }
+    Ok(are_one(&one, &other))
 }

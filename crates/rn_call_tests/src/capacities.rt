@@ -5,7 +5,7 @@ use rn_arcs::{demands_of, fits};
 use rn_items::Items;
 use rn_model::{ArcKind, Binding, Expr, Net, NetArc, Node, Place, System, Transition};
 use rn_table::Table;
-use rn_value::{InstRef, Kind, NoMemory, Str, Value};
+use rn_value::{InstRef, Kind, NoMemory, Str, tuple_value};
 use std::alloc::Global;
 use std::test::Fail;
 
@@ -37,7 +37,7 @@ fn expr_of(alloc: Global, inscription: Inscription) -> Result<Expr, NoMemory> {
 fn place_with(alloc: Global, tokens: usize) -> Result<Place, NoMemory> {
     let mut initial = Items::new(alloc);
     for _ in 0..tokens {
-        initial.push(Value::Tuple(Items::new(alloc)))?;
+        initial.push(tuple_value(alloc, Items::new(alloc))?)?;
     }
     Ok(Place {
         name: named(alloc, "p")?,

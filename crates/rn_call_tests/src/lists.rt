@@ -71,6 +71,24 @@ fn handles(rt: HostRuntime) -> Result<(), Fail> {
 }
 
 #[test]
+fn one_handle_gives_up_its_value(rt: HostRuntime) -> Result<(), Fail> {
+    let first = Shared::new(rt.alloc(), 7u32)?;
+    let second = first.share()?;
+    assert!(rt; second.try_unwrap().is_err());
+    assert!(rt; matches!(first.try_unwrap(), Ok(7)));
+    Ok(())
+}
+
+#[test]
+fn handles_are_ordered(rt: HostRuntime) -> Result<(), Fail> {
+    let low = Shared::new(rt.alloc(), 7u32)?;
+    let high = Shared::new(rt.alloc(), 9)?;
+    assert_eq!(rt; low.cmp(&high), Ordering::Less);
+    assert_eq!(rt; high.partial_cmp(&low), Some(Ordering::Greater));
+    Ok(())
+}
+
+#[test]
 fn pairs_are_compared(rt: HostRuntime) -> Result<(), Fail> {
     let number = Shared::new(rt.alloc(), Part::Number(1))?;
     let one = Part::Pair(number.share()?, number.share()?);

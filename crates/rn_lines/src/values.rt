@@ -10,6 +10,7 @@ use crate::numerals::whole_at;
 use crate::quoted::text_at;
 use crate::unread::Unread;
 use rn_items::Items;
+use rn_shared::Shared;
 use rn_value::{InstRef, Vals, Value, is_letter};
 use std::alloc::Global;
 
@@ -94,11 +95,11 @@ fn value_at<'a>(
     };
     if *first == b'[' {
         let (values, rest) = row_at(alloc, depth, b']', rest, mentions)?;
-        return Ok((Value::Tuple(values), rest));
+        return Ok((Value::Tuple(Shared::new(alloc, values)?), rest));
     }
     if *first == b'{' {
         let (values, rest) = row_at(alloc, depth, b'}', rest, mentions)?;
-        return Ok((Value::List(values), rest));
+        return Ok((Value::List(Shared::new(alloc, values)?), rest));
     }
     if *first == b'"' {
         let (text, rest) = text_at(alloc, rest)?;

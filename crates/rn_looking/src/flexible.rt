@@ -47,7 +47,7 @@ fn test_arc(alloc: Global, at: NodeView<'_>, k: usize) -> Result<Verdict, NoMemo
     let Some(list) = known_value(alloc, at.growing, at.head, &arc.inscription)? else {
         return Ok(Verdict::Waits);
     };
-    let values = elements_of(alloc, list);
+    let values = elements_of(alloc, list)?;
     if holds_all(at.problem.table(), &at.head.inst, arc.place, values)? {
         Ok(Verdict::Holds)
     } else {

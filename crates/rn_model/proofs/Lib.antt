@@ -66,6 +66,7 @@ pub mod SoundAfter
 pub mod SoundRuns
 pub mod StandingNodes
 pub mod StandingTables
+pub mod StillValues
 pub mod ThreadSafety
 pub mod TruthLemmas
 pub mod ValueLists

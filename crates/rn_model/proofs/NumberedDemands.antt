@@ -1,22 +1,19 @@
 -- What a binding asks of instances that are there, once its new instances have their numbers.
 use Rattle.std.proofs.Common.{◌≡◌, ℕ, ◌+◌, ◌-◌, ◌<◌, ◌≤◌, Bool, true, false, List, [], ◌∷◌}
-use Rattle.std.proofs.Common.{◌++◌, map, refl, sym, ap, ◌∙◌, subst, inl, inr, arith}
+use Rattle.std.proofs.Common.{◌++◌, map, refl, sym, ap, ◌∙◌, inl, inr, arith}
 use Rattle.std.specs.Prelude.{Option, Some, None, Contains, option_map, unwrap_or, flat_map, nat_eq}
 use Rattle.std.specs.Prelude.{zip, position, if◌then◌else◌, ◌&&◌}
-use Rattle.std.specs.List.{list_any, AllByRecursion}
+use Rattle.std.specs.List.{AllByRecursion}
 use Rattle.std.specs.Ordering.{is_eq}
 use Rattle.std.specs.Option.{option_map_or}
 use Rattle.std.specs.Cmp.{Equal-is}
 use Rattle.std.specs.Cmp.Lexicographic.{pointwise}
 use Rattle.std.proofs.lemmas.List.{map-append, append-nil}
-use Rattle.std.proofs.lemmas.Bool.{or_parts}
 use Rattle.rn_value.specs.Order.{inst_cmp}
 use Rattle.rn_value.specs.declared.value.InstRef.{InstRef}
 use Rattle.rn_value.specs.declared.value.InstRef.TheVariants.{Old, New}
-use Rattle.rn_value.specs.declared.value.Value.{Value, roll-Value, map-Value, fold-roll-Value}
-use Rattle.rn_value.specs.declared.value.Value.{ind-Value}
+use Rattle.rn_value.specs.declared.value.Value.{Value}
 use Rattle.rn_value.specs.declared.value.Value.TheVariants as Value
-use Rattle.rn_value.specs.declared.value.Value.TheOpen as V
 use Rattle.rn_model.specs.declared.system.System.{System}
 use Rattle.rn_model.specs.declared.system.ArcKind.{ArcKind}
 use Rattle.rn_model.specs.declared.system.ArcKind.TheVariants.{Input, Output, Test, Reserve}
@@ -32,7 +29,7 @@ use Rattle.rn_model.specs.Bindings.{env_of}
 use Rattle.rn_model.specs.Demands.{Reading, readings, elements, takes, clears, asked_by_arc}
 use Rattle.rn_model.specs.Demands.{asked_by_node, asked_at, taken_at, cleared_at}
 use Rattle.rn_model.specs.Markings.{Marking, IsMarking, IsThere, tokens_at}
-use Rattle.rn_model.specs.SoundTokens.{HasSoundTokens, holds_new, new_in_step}
+use Rattle.rn_model.specs.SoundTokens.{HasSoundTokens, holds_new}
 use Rattle.rn_model.specs.Enabling.{Enabled, PlaceFits}
 use Rattle.rn_model.specs.Firing.{Made, renamed_node, renamed_value, numbered_inst, named}
 use Rattle.rn_model.specs.Firing.{creations_of}
@@ -42,8 +39,9 @@ use Rattle.rn_model.proofs.AskedValues.{counted, is_counted, in_ordered}
 use Rattle.rn_model.proofs.CountsAfterFiring.{old_tokens_after_firing}
 use Rattle.rn_model.proofs.DeadInstances.{below_next, there_of_net}
 use Rattle.rn_model.proofs.ReplacedReadings.{IsReplaced, worth-replaced}
-use Rattle.rn_model.proofs.ReplacedValues.{replaced, replaced_step, IsPlain, list_of-replaced}
+use Rattle.rn_model.proofs.ReplacedValues.{replaced, IsPlain, list_of-replaced}
 use Rattle.rn_model.proofs.ReplacedValues.{renamed_is_replaced}
+use Rattle.rn_model.proofs.StillValues.{replaced_is_still}
 use Rattle.rn_model.proofs.ReadConditions.{each_in}
 
 module _ (made : List Made) (next : ℕ) where
@@ -63,44 +61,9 @@ module _ (made : List Made) (next : ℕ) where
     lists = λ i. rw (Value.outs-Inst (name i));
   }
 
-  -- A value that holds no new instance stays as it is.
-  abbrev IsStill : Value → Type 0
-  IsStill v = holds_new v ≡ false → rep v ≡ v
-
-  abbrev StillPart : Type 0
-  StillPart = (v : Value) × IsStill v
-
-  abbrev values : List StillPart → List Value
-  values parts = map (λ e. e.0) parts
-
-  parts_still : (parts : List StillPart) →
-      list_any (λ h. h) (map holds_new (values parts)) ≡ false →
-      map rep (values parts) ≡ values parts
-  parts_still [] e = refl
-  parts_still (part ∷ parts) e =
-      let both = or_parts (holds_new part.0) (list_any (λ h. h) (map holds_new (values parts))) e in
-      ap (λ v. v ∷ map rep (values parts)) (part.1 both.0)
-      ∙ ap (λ vs. part.0 ∷ vs) (parts_still parts both.1)
-
-  abbrev LayerIsStill : V.Value-F Value → Type 0
-  LayerIsStill x = new_in_step (map-Value Value Bool holds_new x) ≡ false →
-      replaced_step put (map-Value Value Value rep x) ≡ roll-Value x
-
-  still_layer : (y : V.Value-F StillPart) →
-      LayerIsStill (map-Value StillPart Value (λ e. e.0) y)
-  still_layer (V.Int n) e = sym (Value.rolls-Int n)
-  still_layer (V.Text s) e = sym (Value.rolls-Text s)
-  still_layer (V.Tuple parts) e =
-      ap (λ vs. Value.Tuple vs) (parts_still parts e) ∙ sym (Value.rolls-Tuple (values parts))
-  still_layer (V.List parts) e =
-      ap (λ vs. Value.List vs) (parts_still parts e) ∙ sym (Value.rolls-List (values parts))
-  still_layer (V.Inst (Old n)) e = sym (Value.rolls-Inst (Old n))
-  still_layer (V.Inst (New path j)) e = absurd (let no : ⊥ = cc in no)
-
-  pub old_is_still : (v : Value) → IsStill v
-  old_is_still = ind-Value IsStill (λ x y is e.
-      fold-roll-Value Value (replaced_step put) x
-      ∙ subst LayerIsStill is (still_layer y) (sym (fold-roll-Value Bool new_in_step x) ∙ e))
+  -- a value that holds no new instance stays as it is
+  old_is_still : (v : Value) → holds_new v ≡ false → rep v ≡ v
+  old_is_still = replaced_is_still name (λ n. refl)
 
   -- what a node is read under, once it is renamed
   pairs_named : (xs : List ℕ) (vs : List Value) →

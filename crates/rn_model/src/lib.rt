@@ -10,6 +10,7 @@ mod laws;
 pub mod limits;
 mod live_laws;
 mod log;
+mod new_instances;
 mod node_text;
 mod numbers;
 mod ordering;

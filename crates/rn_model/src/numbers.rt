@@ -7,10 +7,13 @@ ghost use Rattle.rn_model.specs.Firing.{renamed_value, renamed_node};
 ghost use Rattle.rn_model.specs.Numbers.{AreNumbersOf, key_of, makes, number_in, numbered_by};
 
 use crate::binding::{Binding, Node};
+use crate::new_instances::holds_new;
 use crate::parts::find_transition;
 use crate::system::{Creation, System};
 use rn_items::Items;
-use rn_value::{InstRef, NoMemory, Path, Vals, Value, copy_inst, copy_text};
+use rn_value::{
+    InstRef, NoMemory, Path, Vals, Value, copy, copy_inst, copy_text, list_value, tuple_value,
+};
 use std::alloc::Global;
 use std::collections::BTreeMap;
 
@@ -146,16 +149,26 @@ fn numbered(alloc: Global, inst: &InstRef, numbers: &Numbers) -> Result<InstRef,
     copy_inst(alloc, inst)
 }
 
+/// The value with its new instances numbered. A part that holds none shares its insides.
 #[cycle(renaming)]
-#[tactic(auto, using(crate::proofs::NumberedInstances::renaming_rules))]
+#[tactic(auto, using(crate::proofs::NumberedInstances::renaming_rules, crate::proofs::StillValues::numbered_is_still))]
 fn renamed(alloc: Global, value: &Value, numbers: &Numbers) -> Result<Value, NoMemory>
     ensures { IfOk result (λ v. v ≡ renamed_value value.now (numbered_by numbers.now)) }
 {
+    if !holds_new(value) {
+        return Ok(copy(alloc, value)?);
+    }
     match value {
         Value::Int(n) => Ok(Value::Int(*n)),
         Value::Text(text) => Ok(Value::Text(copy_text(alloc, text)?)),
-        Value::Tuple(parts) => Ok(Value::Tuple(all_renamed(alloc, parts.as_slice(), numbers)?)),
-        Value::List(parts) => Ok(Value::List(all_renamed(alloc, parts.as_slice(), numbers)?)),
+        Value::Tuple(parts) => {
+            let parts = all_renamed(alloc, parts.as_slice(), numbers)?;
+            Ok(tuple_value(alloc, parts)?)
+        }
+        Value::List(elements) => {
+            let elements = all_renamed(alloc, elements.as_slice(), numbers)?;
+            Ok(list_value(alloc, elements)?)
+        }
         Value::Inst(inst) => Ok(Value::Inst(numbered(alloc, inst, numbers)?)),
     }
 }

@@ -9,7 +9,7 @@ use rn_items::{Boxed, Items};
 use rn_model::limits::GREATEST_CAPACITY;
 use rn_model::{Expr, Exprs};
 use rn_net::{PConst, PConstForm, PKind, PKindForm, PMax};
-use rn_value::{Kind, Kinds, NoMemory, Vals, Value, copy_text};
+use rn_value::{Kind, Kinds, NoMemory, Vals, Value, copy_text, list_value, tuple_value};
 use std::alloc::Global;
 
 /// The kind without its spots.
@@ -45,8 +45,8 @@ pub(crate) fn value_of(alloc: Global, constant: &PConst) -> Result<Value, NoMemo
     match &constant.form {
         PConstForm::Int(n) => Ok(Value::Int(*n)),
         PConstForm::Text(text) => Ok(Value::Text(copy_text(alloc, text)?)),
-        PConstForm::Tuple(parts) => Ok(Value::Tuple(values_of(alloc, parts.as_slice())?)),
-        PConstForm::List(parts) => Ok(Value::List(values_of(alloc, parts.as_slice())?)),
+        PConstForm::Tuple(parts) => Ok(tuple_value(alloc, values_of(alloc, parts.as_slice())?)?),
+        PConstForm::List(parts) => Ok(list_value(alloc, values_of(alloc, parts.as_slice())?)?),
     }
 }
 

@@ -12,7 +12,7 @@ use crate::nodes::PlacedNode;
 use rn_items::Items;
 use rn_lines::ReadGiven;
 use rn_model::{Binding, Node, System};
-use rn_value::{InstRef, NoMemory, Vals, Value, copy_inst, copy_text};
+use rn_value::{InstRef, NoMemory, Vals, Value, copy_inst, copy_text, list_value, tuple_value};
 use std::alloc::Global;
 
 fn unnumbered(
@@ -42,13 +42,14 @@ fn told_value(
     match value {
         Value::Int(n) => Ok(Value::Int(*n)),
         Value::Text(text) => Ok(Value::Text(copy_text(alloc, text)?)),
-        Value::Tuple(parts) => Ok(Value::Tuple(told_values(
-            alloc,
-            parts.as_slice(),
-            makers,
-            count,
-        )?)),
-        Value::List(parts) => Ok(Value::List(told_values(alloc, parts.as_slice(), makers, count)?)),
+        Value::Tuple(parts) => {
+            let parts = told_values(alloc, parts.as_slice(), makers, count)?;
+            Ok(tuple_value(alloc, parts)?)
+        }
+        Value::List(elements) => {
+            let elements = told_values(alloc, elements.as_slice(), makers, count)?;
+            Ok(list_value(alloc, elements)?)
+        }
         Value::Inst(inst) => Ok(Value::Inst(unnumbered(alloc, inst, makers, count)?)),
     }
 }

@@ -24,7 +24,7 @@ use rn_growing::{Caller, Decision, Head, copy_head, transition_in};
 use rn_items::Items;
 use rn_model::Downlink;
 use rn_shared::Shared;
-use rn_value::{InstRef, NoMemory, Value, copy};
+use rn_value::{InstRef, NoMemory, Value, copy, list_value};
 use std::alloc::Global;
 use std::ops::Range;
 
@@ -176,7 +176,7 @@ impl<'a> Problem<'a> {
             None => Items::new(alloc),
         };
         let head = copy_head(alloc, head)?;
-        Ok(Some(Decision::Found(head, arc, Value::List(tokens))))
+        Ok(Some(Decision::Found(head, arc, list_value(alloc, tokens)?)))
     }
 
     /// The decision that an alternative of a call means, where it is one: the entry of a child.

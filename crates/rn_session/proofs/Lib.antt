@@ -1,8 +1,10 @@
 pub mod AnsweredLines
 pub mod AnsweredRequests
 pub mod Committed
+pub mod FiredBindings
 pub mod KeptTables
 pub mod LastEntries
+pub mod LookedLemmas
 pub mod NamesSoFar
 pub mod NumberedNow
 pub mod SessionStates

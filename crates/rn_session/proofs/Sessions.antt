@@ -1,6 +1,6 @@
 -- What the calls of a session leave: sessions.
 use Rattle.std.proofs.Common.{◌≡◌, ℕ, zero, suc, ◌+◌, ◌-◌, ◌<◌, ◌≤◌, List, [], ◌∷◌, ◌++◌, length, take, refl, sym, ap, ◌∙◌, subst, arith}
-use Rattle.std.specs.Prelude.{None, Result, Ok, drop, true}
+use Rattle.std.specs.Prelude.{None, Option, Result, Ok, drop, true}
 use Rattle.std.proofs.lemmas.List.{take-append-drop}
 use Rattle.rn_items.specs.declared.memory.NoMemory.{NoMemory as Refused}
 use Rattle.rn_model.specs.declared.binding.Binding.{Binding}
@@ -20,10 +20,13 @@ use Rattle.rn_fire.specs.Commits.{Commits}
 use Rattle.rn_fire.specs.States.{State, IsState, logged}
 use Rattle.rn_fire.proofs.EntryLemmas.{count_going}
 use Rattle.rn_fire.proofs.RewindingLemmas.{first_are}
+use Rattle.rn_parted.specs.Parted.{Parted}
+use Rattle.rn_session.specs.declared.session.Looked.{Looked}
 use Rattle.rn_session.specs.link.Keeping.{AreTablesBefore, IsTableAfter, KeepsSession, Tells}
 use Rattle.rn_session.specs.Sessions.{UndoesBy}
 use Rattle.rn_session.proofs.Committed.{grows, kept_more}
 use Rattle.rn_session.proofs.KeptTables.{fewer, table_now, the_table}
+use Rattle.rn_session.proofs.LookedLemmas.{still_kept, still_looked}
 use Rattle.rn_session.proofs.SessionStates.{most_entries}
 
 -- a number other than 0
@@ -33,11 +36,12 @@ not_none (suc k) other = omega arith
 
 -- one entry more
 pub with_one_more : (old new : State) (options : Options) (uplinks : Uplinks) (kept later : List Kept) (t : Kept)
-    (b : Binding) (seen : ℕ) (committed : Commit) (r : Result FireAnswer Refused) (answer : FireAnswer) →
-    KeepsSession old options uplinks kept → old.ended ≡ None → IsState new → t ≡ old.table →
+    (firsts : Option Parted) (looked : Option Looked) (b : Binding) (seen : ℕ) (committed : Commit)
+    (r : Result FireAnswer Refused) (answer : FireAnswer) →
+    KeepsSession old options uplinks kept firsts looked → old.ended ≡ None → IsState new → t ≡ old.table →
     later ≡ kept ++ t ∷ [] → Commits old 1 b seen committed new → Tells committed r → r ≡ Ok answer →
-    KeepsSession new options uplinks later
-with_one_more old new options uplinks kept later t b seen committed r answer keeps going is same more commits tells ok =
+    KeepsSession new options uplinks later firsts looked
+with_one_more old new options uplinks kept later t firsts looked b seen committed r answer keeps going is same more commits tells ok =
     let grown = grows old new b seen committed r answer going keeps.session.all commits tells ok in
     let now = table_now old keeps.session.all keeps.session.state.of_system in
     record {
@@ -46,11 +50,14 @@ with_one_more old new options uplinks kept later t b seen committed r answer kee
       own = subst (λ (x : Setup). AreUplinksOf x.system uplinks) (sym grown.setup) keeps.own;
       before = subst (λ ts. AreTablesBefore new ts) (sym more)
           (kept_more old new kept t grown going (subst (IsTableAfter old (length old.fired)) (sym same) now) keeps.before);
+      at = still_looked old new grown.gs grown.setup grown.more looked keeps.at;
+      since = still_kept old new grown.gs grown.setup grown.more firsts looked keeps.at keeps.since;
     }
 
 -- without the last entries
 module _ (old : State) (options : Options) (uplinks : Uplinks) (kept left : List Kept) (t : Kept)
-    (k count : ℕ) (keeps : KeepsSession old options uplinks kept) (some : 1 ≤ k)
+    (firsts : Option Parted) (looked : Option Looked) (k count : ℕ)
+    (keeps : KeepsSession old options uplinks kept firsts looked) (some : 1 ≤ k)
     (there : k ≤ length (logged old)) (is_count : count ≡ length (logged old) - k)
     (parted : take (count + 1) kept ≡ left ++ t ∷ []) where
   pub within : count ≤ length old.fired
@@ -81,8 +88,9 @@ module _ (old : State) (options : Options) (uplinks : Uplinks) (kept left : List
   pub of_then : IsTableOf old.setup.system t
   of_then = table_is.of_system
 
-  pub with_fewer : (new : State) → Back new → IsState new → KeepsSession new options uplinks left
-  with_fewer new back is =
+  pub with_fewer : (new : State) (forgot : Option Parted) → Back new → IsState new →
+      KeepsSession new options uplinks left forgot None
+  with_fewer new forgot back is =
       let setup = ap (λ (x : State). x.setup) back in
       let fired = ap (λ (x : State). x.fired) back in
       record {
@@ -96,6 +104,8 @@ module _ (old : State) (options : Options) (uplinks : Uplinks) (kept left : List
         before = fewer old new kept left t count setup fired within low
             (ap (λ (x : State). length (logged x)) back ∙ count_going (take count old.fired) ∙ ap length (sym fired))
             parted keeps.before;
+        at = tt;
+        since = tt;
       }
 
   pub undone : (new : State) → Back new → UndoesBy old k (Ok true) new

@@ -1,15 +1,14 @@
 //! Firing the binding with a number.
-ghost use Rattle.std.specs.Prelude.{◌≡◌, ◌<◌, IfOk, IfSome, IfNone, None, length};
+ghost use Rattle.std.specs.Prelude.{◌≡◌, ◌<◌, IfOk, IfSome, IfNone, MatchOption, None, Some, ⊤, length, option_map};
 ghost use Rattle.rn_served.specs.Listed.{IsNumbered, NoneIsNumbered};
 ghost use Rattle.rn_fire.specs.States.{end_marking};
 ghost use Rattle.rn_fire.specs.Commits.{IsEnabledNow};
-ghost use Rattle.rn_session.specs.link.Keeping.{CommitsTo, HasRefusal, IsFirst, Tells};
+ghost use Rattle.rn_session.specs.link.Keeping.{CommitsTo, HasRefusal, HaveChangedSince, IsFirst, Tells, WasLookedAt};
 ghost use Rattle.rn_session.specs.Sessions.{FiresBy};
 
-use crate::session::Session;
+use crate::session::{Looked, Session};
 use rn_binding::Candidate;
-use rn_finder::least;
-use rn_fire::Commit;
+use rn_fire::{Commit, SimState};
 use rn_items::NoMemory;
 use rn_served::FireAnswer;
 use std::alloc::Global;
@@ -45,11 +44,13 @@ impl Session {
     }
 
     /// The binding with this number in the list.
-    fn numbered(&self, alloc: Global, k: u64) -> Result<Option<Candidate>, NoMemory>
-        ensures some { IfOk result (λ o. IfSome o (λ b. IsNumbered self.now.setup.system
-            (end_marking self.now) self.now.setup.options.depth k b)) }
-        ensures none { IfOk result (λ o. IfNone o (NoneIsNumbered self.now.setup.system
-            (end_marking self.now) self.now.setup.options.depth k)) }
+    fn numbered(&mut self, alloc: Global, k: u64) -> Result<Option<Candidate>, NoMemory>
+        requires going { self.old.ended ≡ None }
+        ensures same { self.new ≡ self.old }
+        ensures some { IfOk result (λ o. IfSome o (λ b. IsNumbered self.old.setup.system
+            (end_marking self.old) self.old.setup.options.depth k b)) }
+        ensures none { IfOk result (λ o. IfNone o (NoneIsNumbered self.old.setup.system
+            (end_marking self.old) self.old.setup.options.depth k)) }
     {
         if k == 1 {
             return self.first(alloc);
@@ -61,18 +62,26 @@ impl Session {
         Ok(Some(found.swap_remove(k as usize - 1)))
     }
 
-    /// The first binding of the list.
-    fn first(&self, alloc: Global) -> Result<Option<Candidate>, NoMemory>
-        ensures some { IfOk result (λ o. IfSome o (λ b. IsNumbered self.now.setup.system
-            (end_marking self.now) self.now.setup.options.depth 1 b)) }
-        ensures none { IfOk result (λ o. IfNone o (NoneIsNumbered self.now.setup.system
-            (end_marking self.now) self.now.setup.options.depth 1)) }
+    /// The first binding of the list. What was found for the firing before may tell it.
+    fn first(&mut self, alloc: Global) -> Result<Option<Candidate>, NoMemory>
+        requires going { self.old.ended ≡ None }
+        ensures same { self.new ≡ self.old }
+        ensures some { IfOk result (λ o. IfSome o (λ b. IsNumbered self.old.setup.system
+            (end_marking self.old) self.old.setup.options.depth 1 b)) }
+        ensures none { IfOk result (λ o. IfNone o (NoneIsNumbered self.old.setup.system
+            (end_marking self.old) self.old.setup.options.depth 1)) }
     {
         // For its clause: it is a state of a run (`IsState`), so its tokens fit their places.
-        let _length = self.state.length();
+        let seen = self.state.length();
         let system = self.state.system();
         let table = self.state.table();
-        least(alloc, system, &self.uplinks, table, self.options.depth)
+        let next = table.next();
+        let since = changed_since_look(alloc, &self.state, self.looked)?;
+        self.looked = Some(Looked { seen, next });
+        let changed = slice_of(&since);
+        let depth = self.options.depth;
+        self.firsts
+            .look(alloc, system, &self.uplinks, table, depth, changed)
     }
 
     /// Does the firing of a binding that is enabled, or ends the run with its fault. The table of before
@@ -92,6 +101,32 @@ impl Session {
         // For its clause: what is left is a state of a run (`IsState`).
         let _length = self.state.length();
         Ok(answer)
+    }
+}
+
+// The instances that may have changed since a look, where there was one.
+fn changed_since_look(
+    alloc: Global,
+    state: &SimState,
+    looked: Option<Looked>,
+) -> Result<Option<Vec<u32>>, NoMemory>
+    requires { WasLookedAt state.now looked }
+    ensures { IfOk result (λ changed. HaveChangedSince state.now looked
+        (option_map (λ c. c.items) changed)) }
+{
+    match looked {
+        Some(look) => Ok(Some(state.changed_since(alloc, look.seen, look.next)?)),
+        None => Ok(None),
+    }
+}
+
+// These numbers, where there are some.
+fn slice_of(numbers: &Option<Vec<u32>>) -> Option<&[u32]>
+    ensures { MatchOption result ⊤ (λ c. option_map (λ v. v.items) numbers.now ≡ Some c.now) }
+{
+    match numbers {
+        Some(list) => Some(list.as_slice()),
+        None => None,
     }
 }
 

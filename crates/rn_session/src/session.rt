@@ -11,6 +11,7 @@ use rn_finder::all_bindings;
 use rn_fire::{SimState, open_state};
 use rn_items::NoMemory;
 use rn_model::{Options, System};
+use rn_parted::PartedFirsts;
 use rn_table::Table;
 use std::alloc::Global;
 use std::marker::Model;
@@ -24,6 +25,17 @@ pub struct Session {
     pub(crate) uplinks: Uplinks,
     /// The table before each entry of the log.
     pub(crate) kept: Vec<Table>,
+    /// What finds the first binding, and when it looked last, where no entry was taken back since.
+    pub(crate) firsts: PartedFirsts,
+    pub(crate) looked: Option<Looked>,
+}
+
+/// How many firings there were at a look for the first binding, and which number the next instance
+/// was to get.
+#[derive(Clone, Copy)]
+pub(crate) struct Looked {
+    pub seen: u64,
+    pub next: u32,
 }
 
 impl Model for Session {
@@ -49,7 +61,7 @@ impl Model for Session {
 
     ghost view = { λ s. s.state };
 
-    ghost invariant = { λ s. KeepsSession s.state s.options s.uplinks s.kept.items };
+    ghost invariant = { λ s. KeepsSession s.state s.options s.uplinks s.kept.items s.firsts s.looked };
 }
 
 /// A session with no entries. It takes room for the entries of a longest run and for its end.
@@ -76,6 +88,8 @@ pub fn open_session(
         options,
         uplinks,
         kept: Vec::new(alloc),
+        firsts: PartedFirsts::new(alloc),
+        looked: None,
     })
 }
 

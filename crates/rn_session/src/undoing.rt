@@ -20,6 +20,8 @@ impl Session {
             unreachable!();
         };
         self.state.rewind(count, table);
+        self.firsts.forget();
+        self.looked = None;
         // For its clause: what is left is a state of a run (`IsState`).
         let _length = self.state.length();
         Ok(true)

@@ -2,6 +2,7 @@
 ghost use Rattle.std.specs.Prelude.{◌≡◌, IfOk, IfErr};
 
 use std::alloc::{AllocError, AllocFailed, Global};
+use std::cmp::Ordering;
 use std::marker::Model;
 use std::ops::Deref;
 use std::sync::Arc;
@@ -44,6 +45,18 @@ impl<T> Shared<T> {
         })
     }
 
+    /// The value, where this was its one handle. The error is the handle.
+    pub fn try_unwrap(self) -> Result<T, Shared<T>>
+        ensures alone { IfOk result (λ value. value ≡ self) }
+        ensures shared { IfErr result (λ shared. shared ≡ self) }
+    {
+        let Shared { owner } = self;
+        match Arc::try_unwrap(owner) {
+            Ok(value) => Ok(value),
+            Err(owner) => Err(Shared { owner }),
+        }
+    }
+
     /// The value.
     pub fn get(&self) -> &T
         ensures { result.now ≡ self.now }
@@ -74,4 +87,28 @@ impl<T: PartialEq> PartialEq for Shared<T> {
 
 impl<T: Eq> Eq for Shared<T> {
     ghost laws = { T.Eq.laws };
+}
+
+impl<T: PartialOrd> PartialOrd for Shared<T> {
+    ghost partial_cmp = { T.partial_cmp };
+
+    ghost laws = { T.PartialOrd.laws };
+
+    fn partial_cmp(&self, other: &Self) -> Option<Ordering> {
+        self.get().partial_cmp(other.get())
+    }
+}
+
+impl<T: Ord> Ord for Shared<T> {
+    ghost cmp = { T.cmp };
+
+    ghost total = { T.total };
+
+    ghost matches_partial_cmp = { T.matches_partial_cmp };
+
+    ghost matches_eq = { T.matches_eq };
+
+    fn cmp(&self, other: &Self) -> Ordering {
+        self.get().cmp(other.get())
+    }
 }

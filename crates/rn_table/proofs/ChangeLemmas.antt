@@ -19,7 +19,7 @@ use Rattle.rn_table.specs.declared.change.Row.{Row}
 use Rattle.rn_table.specs.declared.change.Change.{Change}
 use Rattle.rn_table.specs.Changes.{changed, changed_tokens, new_from, values_at}
 use Rattle.rn_table.specs.link.Leaves.{Ascending, HasSortedPlaces}
-use Rattle.rn_table.specs.link.Steps.{Step, AreNet, step_at, after_step, steps_at, after_steps, steps_of, steps_in, all_steps, is_at, step_count}
+use Rattle.rn_table.specs.link.Steps.{Step, AreNet, step_at, after_step, steps_at, after_steps, steps_of, steps_in, all_steps, is_at, step_count, alone_count}
 use Rattle.rn_table.specs.Tables.{started, starting_in}
 use Rattle.rn_model.specs.Systems.{may_start}
 use Rattle.rn_table.proofs.InstanceLemmas.{numbered_at, all_get}
@@ -90,8 +90,9 @@ module _ (n place : ℕ) (z : Value) (s : Step) (vs : List Value) (up : IsSorted
       let one : one_if (same_value z s.value && true) ≡ one_if (same_value z s.value) = ap one_if (and_true (same_value z s.value)) in
       omega (arith, less, none, one, enough)
 
-  count_step : hit false n place z s ≤ count_of z vs → count_of z (step_at s n place vs) + hit false n place z s ≡ count_of z vs + hit true n place z s
-  count_step = count_case (nat_eq n s.inst && nat_eq place s.place) s.puts
+  count_step : s.alone ≡ false → hit false n place z s ≤ count_of z vs → count_of z (step_at s n place vs) + hit false n place z s ≡ count_of z vs + hit true n place z s
+  count_step plain = subst (λ b. hit false n place z s ≤ count_of z vs → count_of z (cond (nat_eq n s.inst && nat_eq place s.place) (cond s.puts (with_value s.value (cond b [] vs)) (without_one (cond b [] vs) s.value)) vs) + hit false n place z s ≡ count_of z vs + hit true n place z s) (sym plain)
+      (count_case (nat_eq n s.inst && nat_eq place s.place) s.puts)
 
 times_more : (puts : Bool) (n place : ℕ) (z : Value) (s : Step) (ss : List Step) → step_count puts n place z (s ∷ ss) ≡ hit puts n place z s + step_count puts n place z ss
 times_more puts n place z s ss = sum_by-cons (hit puts n place z) s ss
@@ -100,13 +101,25 @@ steps_sorted : (ss : List Step) (n place : ℕ) (vs : List Value) → IsSorted v
 steps_sorted [] n place vs up = up
 steps_sorted (s ∷ ss) n place vs up = steps_sorted ss n place (step_at s n place vs) (step_sorted s n place vs up)
 
-count_steps : (ss : List Step) (n place : ℕ) (z : Value) (vs : List Value) → IsSorted value_cmp vs → step_count false n place z ss ≤ count_of z vs → count_of z (steps_at ss n place vs) + step_count false n place z ss ≡ count_of z vs + step_count true n place z ss
-count_steps [] n place z vs up enough = refl
-count_steps (s ∷ ss) n place z vs up enough =
+-- steps of which none empties its place
+abbrev lone_hit : Step → ℕ
+lone_hit s = cond s.alone 1 0
+
+not_alone : (b : Bool) → ◌≡◌ {A = ℕ} (cond b 1 0) 0 → b ≡ false
+not_alone true e = absurd (omega (arith, e))
+not_alone false e = refl
+
+alone_more : (s : Step) (ss : List Step) → alone_count (s ∷ ss) ≡ lone_hit s + alone_count ss
+alone_more s ss = sum_by-cons lone_hit s ss
+
+count_steps : (ss : List Step) (n place : ℕ) (z : Value) (vs : List Value) → alone_count ss ≡ 0 → IsSorted value_cmp vs → step_count false n place z ss ≤ count_of z vs → count_of z (steps_at ss n place vs) + step_count false n place z ss ≡ count_of z vs + step_count true n place z ss
+count_steps [] n place z vs plain up enough = refl
+count_steps (s ∷ ss) n place z vs plain up enough =
+    let lone = alone_more s ss in
     let taken = times_more false n place z s ss in
     let put = times_more true n place z s ss in
-    let here = count_step n place z s vs up (omega (arith, taken, enough)) in
-    let rest = count_steps ss n place z (step_at s n place vs) (step_sorted s n place vs up) (omega (arith, taken, enough, here)) in
+    let here = count_step n place z s vs up (not_alone s.alone (omega (arith, lone, plain))) (omega (arith, taken, enough)) in
+    let rest = count_steps ss n place z (step_at s n place vs) (omega (arith, lone, plain)) (step_sorted s n place vs up) (omega (arith, taken, enough, here)) in
     omega (arith, taken, put, here, rest)
 
 -- the steps of rows
@@ -130,7 +143,7 @@ abbrev matches : Bool → Bool → Bool
 matches puts q = cond puts q (not q)
 
 abbrev one_step : Bool → Row → Value → Step
-one_step q row v = record { inst = row.inst; place = row.place; value = v; puts = q }
+one_step q row v = record { inst = row.inst; place = row.place; value = v; puts = q; alone = false }
 
 module _ (puts q : Bool) (n place : ℕ) (z : Value) where
   abbrev of_row : Row → Bool
@@ -165,6 +178,23 @@ all_times change puts n place z =
     sum_by-append (hit puts n place z) (steps_in false change.taken ++ steps_in false change.cleared) (steps_in true change.put)
     ∙ ap (λ k. k + step_count puts n place z (steps_in true change.put)) (sum_by-append (hit puts n place z) (steps_in false change.taken) (steps_in false change.cleared))
 
+-- none of them empties its place
+values_plain : (q : Bool) (row : Row) (vs : List Value) → alone_count (map (one_step q row) vs) ≡ 0
+values_plain q row [] = refl
+values_plain q row (v ∷ vs) = alone_more (one_step q row v) (map (one_step q row) vs) ∙ ap (λ k. 0 + k) (values_plain q row vs)
+
+rows_plain : (q : Bool) (rows : List Row) → alone_count (steps_in q rows) ≡ 0
+rows_plain q [] = refl
+rows_plain q (row ∷ rows) =
+    sum_by-append lone_hit (steps_of q row) (steps_in q rows) ∙ ap (λ k. k + alone_count (steps_in q rows)) (values_plain q row row.values) ∙ ap (λ k. 0 + k) (rows_plain q rows)
+
+all_plain : (change : Change) → alone_count (all_steps change) ≡ 0
+all_plain change =
+    sum_by-append lone_hit (steps_in false change.taken ++ steps_in false change.cleared) (steps_in true change.put)
+    ∙ ap (λ k. k + alone_count (steps_in true change.put)) (sum_by-append lone_hit (steps_in false change.taken) (steps_in false change.cleared))
+    ∙ ap (λ k. (k + alone_count (steps_in false change.cleared)) + alone_count (steps_in true change.put)) (rows_plain false change.taken)
+    ∙ ap (λ k. (0 + k) + alone_count (steps_in true change.put)) (rows_plain false change.cleared) ∙ ap (λ k. (0 + 0) + k) (rows_plain true change.put)
+
 -- what the net steps of a change make of a place
 place_same : (change : Change) (ss : List Step) (n place : ℕ) (vs : List Value) → AreNet (all_steps change) ss → IsSorted value_cmp vs → IsWithin (values_at change.taken n place ++ values_at change.cleared n place) vs →
     steps_at ss n place vs ≡ changed_tokens change n place vs
@@ -181,7 +211,9 @@ place_same change ss n place vs net up within =
     let both = count_append z t c in
     let fewer = net.fewer n place z in
     let balance = net.balance n place z in
-    let steps = count_steps ss n place z vs up (omega (arith, fewer, taken, inside, both)) in
+    let plain = all_plain change in
+    let lone = net.lone in
+    let steps = count_steps ss n place z vs (omega (arith, plain, lone)) up (omega (arith, fewer, taken, inside, both)) in
     let left = others_are_taken (without_each vs t) c z in
     let first = others_are_taken vs t z in
     let joined = count_append z (without_each (without_each vs t) c) p in
@@ -240,7 +272,7 @@ module _ (system : System) where
     change_case true i r q rest = ap (λ ns. i.number ∷ ns) rest
     change_case false i r q rest = rest
 
-    starts_changed : (is : List Instance) → map (λ (j : Instance). j.number) (filter starts (map (λ i. with_places i (change i)) is)) ≡ map (λ (j : Instance). j.number) (filter starts is)
+    pub starts_changed : (is : List Instance) → map (λ (j : Instance). j.number) (filter starts (map (λ i. with_places i (change i)) is)) ≡ map (λ (j : Instance). j.number) (filter starts is)
     starts_changed [] = refl
     starts_changed (i ∷ is) = change_case (starts i) i (filter starts (map (λ j. with_places j (change j)) is)) (filter starts is) (starts_changed is)
 

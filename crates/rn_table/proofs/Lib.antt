@@ -1,3 +1,4 @@
+pub mod AloneLemmas
 pub mod ChangeLemmas
 pub mod ChunkLemmas
 pub mod CursorLemmas

@@ -17,7 +17,7 @@ use Rattle.rn_bag.specs.Cuts.{Ascends}
 use Rattle.rn_bag.proofs.AscendingLemmas.{sorted_of}
 use Rattle.rn_bag.proofs.CursorLemmas.{ascends_of}
 use Rattle.rn_table.specs.link.Leaves.{Ascending, HasSortedPlaces, numbered}
-use Rattle.rn_table.specs.link.Steps.{Step, stepped, step_at, after_step, with_step}
+use Rattle.rn_table.specs.link.Steps.{Step, moved, stepped, step_at, after_step, with_step}
 use Rattle.rn_table.proofs.InstanceLemmas.{NoneHas, same_number, other_number, all_get}
 
 -- an element that is read through a list of pointers
@@ -27,7 +27,7 @@ read_map f (x ∷ xs) zero a inside is = ap f is
 read_map f (x ∷ xs) (suc i) a inside is = read_map f xs i a (omega arith) is
 
 -- where a token is taken that isn't there, nothing changes
-pub absent_stays : (s : Step) (vs : List Value) → s.puts ≡ false → (0 < count_of s.value vs → ⊥) → vs ≡ stepped s vs
+pub absent_stays : (s : Step) (vs : List Value) → s.puts ≡ false → (0 < count_of s.value vs → ⊥) → vs ≡ moved s vs
 absent_stays s vs takes none = sym (ap (λ b. cond b (with_value s.value vs) (without_one vs s.value)) takes ∙ gone s.value vs none)
   where
     gone : (v : Value) (ws : List Value) → (0 < count_of v ws → ⊥) → without_one ws v ≡ ws
@@ -59,11 +59,17 @@ without_ascends v (w ∷ ws) up = elim (same_value v w) as (λ b. Ascends (cond 
   | false ↦ (all_without (λ u. is_lt (value_cmp u w) ≡ false) v ws up.0, without_ascends v ws up.1)
 ]
 
-pub stepped_sorted : (s : Step) (vs : List Value) → IsSorted value_cmp vs → IsSorted value_cmp (stepped s vs)
-stepped_sorted s vs up = elim (s.puts) as (λ b. IsSorted value_cmp (cond b (with_value s.value vs) (without_one vs s.value))) [
+moved_sorted : (s : Step) (vs : List Value) → IsSorted value_cmp vs → IsSorted value_cmp (moved s vs)
+moved_sorted s vs up = elim (s.puts) as (λ b. IsSorted value_cmp (cond b (with_value s.value vs) (without_one vs s.value))) [
   | true ↦ with_sorted s.value vs up
   | false ↦ sorted_of (without_one vs s.value) (without_ascends s.value vs (ascends_of vs up))
 ]
+
+pub stepped_sorted : (s : Step) (vs : List Value) → IsSorted value_cmp vs → IsSorted value_cmp (stepped s vs)
+stepped_sorted s vs up = moved_sorted s (cond s.alone [] vs) (elim (s.alone) as (λ b. IsSorted value_cmp (cond b [] vs)) [
+  | true ↦ sorted_of [] tt
+  | false ↦ up
+])
 
 pub step_sorted : (s : Step) (n place : ℕ) (vs : List Value) → IsSorted value_cmp vs → IsSorted value_cmp (step_at s n place vs)
 step_sorted s n place vs up = elim (nat_eq n s.inst && nat_eq place s.place) as (λ b. IsSorted value_cmp (cond b (stepped s vs) vs)) [

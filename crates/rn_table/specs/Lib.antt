@@ -1,4 +1,5 @@
 pub mod link
+pub mod Alone
 pub mod Changes
 pub mod Laws
 pub mod Staying

@@ -1,7 +1,7 @@
 //! The bag of a place.
 ghost use Rattle.std.specs.Prelude.{◌≡◌, IfOk, OnOk};
 ghost use Rattle.rn_model.specs.Lists.{ordered_values};
-ghost use Rattle.rn_table.specs.link.Steps.{stepped};
+ghost use Rattle.rn_table.specs.link.Steps.{moved, stepped};
 
 use crate::edits::Edit;
 use rn_bag::Bag;
@@ -23,7 +23,7 @@ pub(crate) fn bag_of(alloc: Global, values: &Vals) -> Result<Bag, NoMemory>
 }
 
 /// One token is taken or put, where it is there: in place where nothing shares the bag, and else in
-/// a copy.
+/// a copy. One that is to be alone gets a bag of its own, and no token is copied.
 pub(crate) fn edit_shared(
     alloc: Global,
     bag: &mut Arc<Bag>,
@@ -31,6 +31,12 @@ pub(crate) fn edit_shared(
 ) -> Result<(), NoMemory>
     ensures { OnOk result (bag.new.value ≡ stepped edit.now bag.old.value) }
 {
+    if edit.alone {
+        let mut empty = Bag::new(alloc);
+        edit_bag(alloc, &mut empty, edit)?;
+        *bag = Arc::new(alloc, empty)?;
+        return Ok(());
+    }
     if let Some(own) = Arc::get_mut(bag) {
         return edit_bag(alloc, own, edit);
     }
@@ -41,7 +47,7 @@ pub(crate) fn edit_shared(
 }
 
 fn edit_bag(alloc: Global, bag: &mut Bag, edit: &Edit<'_>) -> Result<(), NoMemory>
-    ensures { OnOk result (bag.new ≡ stepped edit.now bag.old) }
+    ensures { OnOk result (bag.new ≡ moved edit.now bag.old) }
 {
     if edit.puts {
         return bag.insert(copy(alloc, edit.value)?);

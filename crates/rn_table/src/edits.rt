@@ -1,8 +1,9 @@
 //! A change as single tokens that are taken or put.
-ghost use Rattle.std.specs.Prelude.{◌≡◌, ◌++◌, IfOk, OnOk};
+ghost use Rattle.std.specs.Prelude.{◌≡◌, ◌++◌, [], true, IfOk, OnOk};
 ghost use Rattle.std.specs.Bool.{OnTrue};
+ghost use Rattle.std.specs.Option.{option_copied, option_to_list};
 ghost use Rattle.std.specs.List.Sorted.{IsPermutation};
-ghost use Rattle.rn_table.specs.link.Steps.{AreNet, Cancels, all_steps, steps_in, steps_of};
+ghost use Rattle.rn_table.specs.link.Steps.{AreNet, Cancels, all_steps, moved, steps_in, steps_of};
 
 use crate::change::{Change, Row};
 use rn_items::NoMemory;
@@ -10,13 +11,15 @@ use rn_value::{Value, cmp, same};
 use std::alloc::Global;
 use std::marker::Model;
 
-/// One token that is taken from a place of an instance, or put there.
+/// One token that is taken from a place of an instance, or put there. Where it is `alone`, the place
+/// is emptied first.
 #[derive(Drop)]
 pub(crate) struct Edit<'a> {
     pub(crate) inst: u32,
     pub(crate) place: u32,
     pub(crate) value: &'a Value,
     pub(crate) puts: bool,
+    pub(crate) alone: bool,
 }
 
 impl<'a> Model for Edit<'a> {
@@ -26,10 +29,40 @@ impl<'a> Model for Edit<'a> {
 
     ghost coded = { step_code };
 
-    ghost view = { λ edit. record { inst = edit.inst; place = edit.place; value = edit.value.now; puts = edit.puts } };
+    ghost view = { λ edit. record { inst = edit.inst; place = edit.place; value = edit.value.now; puts = edit.puts; alone = edit.alone } };
 }
 
 impl<'a> Edit<'a> {
+    /// After it the place holds this token alone, or none. Where there is none, any value stands in.
+    pub(crate) fn holding(
+        inst: u32,
+        place: u32,
+        token: Option<&'a Value>,
+        any: &'a Value,
+    ) -> Edit<'a>
+        ensures inst { result.inst ≡ inst }
+        ensures place { result.place ≡ place }
+        ensures alone { result.alone ≡ true }
+        ensures tokens { moved result [] ≡ option_to_list (option_copied token.entry) }
+    {
+        match token {
+            None => Edit {
+                inst,
+                place,
+                value: any,
+                puts: false,
+                alone: true,
+            },
+            Some(value) => Edit {
+                inst,
+                place,
+                value,
+                puts: true,
+                alone: true,
+            },
+        }
+    }
+
     /// The same.
     fn copy(&self) -> Edit<'a>
         ensures { result ≡ self.now }
@@ -39,6 +72,7 @@ impl<'a> Edit<'a> {
             place: self.place,
             value: self.value,
             puts: self.puts,
+            alone: self.alone,
         }
     }
 }
@@ -74,6 +108,7 @@ fn append_row<'a>(edits: &mut Vec<Edit<'a>>, row: &'a Row, puts: bool) -> Result
             place: row.place,
             value,
             puts,
+            alone: false,
         })?;
     }
     Ok(())

@@ -93,7 +93,7 @@ pub(crate) fn add_all(
 }
 
 /// One token is taken from a place of an instance or put there.
-fn edit_one(leaves: &mut Leaves, edit: &Edit<'_>) -> Result<(), NoMemory>
+pub(crate) fn edit_one(leaves: &mut Leaves, edit: &Edit<'_>) -> Result<(), NoMemory>
     requires { (n : ℕ) × IsTable n leaves.old }
     ensures table { OnOk result ((n : ℕ) → IsTable n leaves.old → IsTable n leaves.new) }
     ensures instances { OnOk result (instances_in leaves.new ≡ map (after_step edit.now) (instances_in leaves.old)) }

@@ -1,26 +1,28 @@
 //! The table of instances.
 ghost use Rattle.std.specs.Prelude.{◌≡◌, ◌<◌, ◌≤◌, ◌+◌, ◌*◌, ◌^◌, ◌↔◌, ◌++◌, ℕ, length, map, filter, find, not, nat_eq, nat_le, slice_get, All, Some, IsSome, IfSome, option_and_then, IfOk, OnOk, OnErr};
-ghost use Rattle.std.specs.Option.{option_copied};
+ghost use Rattle.std.specs.Option.{option_copied, option_to_list};
 ghost use Rattle.std.specs.List.Sorted.{IsSorted, IsStrictlyIncreasing};
 ghost use Rattle.rn_value.specs.Order.{value_cmp};
 ghost use Rattle.rn_model.specs.declared.system.System.{System};
 ghost use Rattle.rn_model.specs.Markings.{Instance, IsThere, initial_marking, instance_at, net_of, tokens_at};
 ghost use Rattle.rn_model.specs.Limits.{greatest_instance};
+ghost use Rattle.rn_table.specs.Alone.{alone};
 ghost use Rattle.rn_table.specs.Changes.{MayCome, changed};
 ghost use Rattle.rn_table.specs.Staying.{stays};
 ghost use Rattle.rn_table.specs.Tables.{IsTableOf, started};
 
 use crate::change::Change;
-use crate::edits::edits_of;
+use crate::edits::{Edit, edits_of};
 use crate::instance::Inst;
 use crate::leaves::Leaves;
 use crate::nets::main_net_of;
 use crate::page::Page;
-use crate::pages::{add_all, change_all, first_start, leaf_of};
+use crate::pages::{add_all, change_all, edit_one, first_start, leaf_of};
 use rn_bag::Bag;
 use rn_bag::words::ROOM;
 use rn_items::NoMemory;
 use rn_model::System;
+use rn_value::Value;
 use std::alloc::Global;
 use std::marker::Model;
 use std::sync::Arc;
@@ -69,6 +71,25 @@ impl Table {
         Ok(Table {
             next: self.next,
             leaves: self.leaves.copy()?,
+        })
+    }
+
+    /// An equal table, but that one place of an instance holds this token alone, or none. It shares
+    /// all else with the first, and equals it where that instance isn't kept or has no such place.
+    ///
+    /// What leads to the place is copied, and no token but this one.
+    pub fn with_alone(&self, n: u32, place: u32, token: Option<&Value>) -> Result<Table, NoMemory>
+        ensures marking { IfOk result (λ table. table.marking ≡ alone n place (option_to_list (option_copied token.entry)) self.now.marking) }
+        ensures starting { IfOk result (λ table. table.starting ≡ self.now.starting) }
+        ensures of_system { IfOk result (λ table. (system : System) → IsTableOf system self.now → IsTableOf system table) }
+    {
+        let any = Value::Int(0);
+        let edit = Edit::holding(n, place, token, &any);
+        let mut leaves = self.leaves.copy()?;
+        edit_one(&mut leaves, &edit)?;
+        Ok(Table {
+            next: self.next,
+            leaves,
         })
     }
 

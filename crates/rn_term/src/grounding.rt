@@ -9,7 +9,7 @@ ghost use Rattle.rn_term.specs.Forcing.{IsForced, IsAlwaysList, IsAnswer, AreAns
 use crate::store::Store;
 use crate::term::Term;
 use rn_items::Items;
-use rn_value::{NoMemory, Value, copy};
+use rn_value::{NoMemory, Value, copy, list_value, tuple_value};
 use std::alloc::Global;
 
 impl Store {
@@ -52,7 +52,7 @@ impl Store {
             Term::Tuple(ids) => {
                 let mut values = Vec::new(alloc);
                 if self.values_onto(alloc, ids.as_slice(), &mut values)? {
-                    Ok(Some(Value::Tuple(Items::from_vec(values))))
+                    Ok(Some(tuple_value(alloc, Items::from_vec(values))?))
                 } else {
                     Ok(None)
                 }
@@ -105,7 +105,7 @@ impl Store {
                     if !self.values_onto(alloc, ids.as_slice(), &mut values)? {
                         return Ok(None);
                     }
-                    return Ok(Some(Value::List(Items::from_vec(values))));
+                    return Ok(Some(list_value(alloc, Items::from_vec(values))?));
                 }
                 Term::Atom(value) => return Ok(Some(list_onto(alloc, values, value)?)),
                 Term::Free => return Ok(None),
@@ -127,7 +127,7 @@ fn list_onto(alloc: Global, values: Vec<Value>, list: &Value) -> Result<Value, N
             for item in items.as_slice() {
                 all.push(copy(alloc, item)?)?;
             }
-            Ok(Value::List(Items::from_vec(all)))
+            list_value(alloc, Items::from_vec(all))
         }
         _ => unreachable!(),
     }

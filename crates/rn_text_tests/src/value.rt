@@ -1,8 +1,8 @@
 //! Values of several forms, which no place holds together, and which instances have names.
 use rn_items::Items;
 use rn_value::{
-    InstRef, Names, NoMemory, Path, Str, Value, are_named, cmp, cmp_laws, same, sorting_laws,
-    text_laws,
+    InstRef, Names, NoMemory, Path, Str, Value, are_named, cmp, cmp_laws, copy, copy_text,
+    list_value, own_items, same, sorting_laws, text_laws, tuple_value,
 };
 use std::alloc::Global;
 use std::test::Fail;
@@ -21,8 +21,8 @@ fn ascending(alloc: Global) -> Result<Vec<Value>, NoMemory> {
     let mut values = Vec::new(alloc);
     values.push(Value::Int(7))?;
     values.push(Value::Text(string(alloc, "")?))?;
-    values.push(Value::Tuple(Items::new(alloc)))?;
-    values.push(Value::List(Items::new(alloc)))?;
+    values.push(tuple_value(alloc, Items::new(alloc))?)?;
+    values.push(list_value(alloc, Items::new(alloc))?)?;
     values.push(Value::Inst(InstRef::Old(u32::MAX)))?;
     for (path, index) in [
         ([].as_slice(), 0),
@@ -36,6 +36,39 @@ fn ascending(alloc: Global) -> Result<Vec<Value>, NoMemory> {
     Ok(values)
 }
 
+/// A list of a text and a number.
+fn two_elements(alloc: Global) -> Result<Value, NoMemory> {
+    let mut elements = Vec::new(alloc);
+    elements.push(Value::Text(string(alloc, "a")?))?;
+    elements.push(Value::Int(7))?;
+    list_value(alloc, Items::from_vec(elements))
+}
+
+/// How many elements are taken out of a list.
+fn elements_taken(alloc: Global, list: Value) -> Result<usize, NoMemory> {
+    match list {
+        Value::List(elements) => Ok(own_items(alloc, elements)?.len()),
+        _ => Ok(0),
+    }
+}
+
+/// How many are taken out of a list with a copy of it beside it.
+fn taken_beside_a_copy(alloc: Global) -> Result<usize, NoMemory> {
+    let list = two_elements(alloc)?;
+    let other = copy(alloc, &list)?;
+    let taken = elements_taken(alloc, list)?;
+    drop(other);
+    Ok(taken)
+}
+
+/// A text, a copy of it, and a copy of that.
+fn copies_of_a_text(alloc: Global) -> Result<bool, NoMemory> {
+    let first = string(alloc, "ab")?;
+    let second = copy_text(alloc, &first)?;
+    let third = copy_text(alloc, &second)?;
+    Ok(first == second && third.as_str() == "ab")
+}
+
 /// The first two indices whose order isn't that of their values.
 fn first_out_of_order(values: &[Value]) -> Option<(usize, usize)> {
     for (i, a) in values.iter().enumerate() {
@@ -46,6 +79,15 @@ fn first_out_of_order(values: &[Value]) -> Option<(usize, usize)> {
         }
     }
     None
+}
+
+#[test]
+fn copies(rt: HostRuntime) -> Result<(), Fail> {
+    let list = two_elements(rt.alloc())?;
+    assert_eq!(rt; elements_taken(rt.alloc(), list)?, 2);
+    assert_eq!(rt; taken_beside_a_copy(rt.alloc())?, 2);
+    assert!(rt; copies_of_a_text(rt.alloc())?);
+    Ok(())
 }
 
 #[test]

@@ -15,7 +15,7 @@ use crate::equation::Other;
 use crate::rests::{Rest, items};
 use rn_items::Items;
 use rn_term::{Store, Term};
-use rn_value::{NoMemory, Value, copy_all};
+use rn_value::{NoMemory, Value, copy_all, list_value};
 use std::alloc::Global;
 
 /// How many elements a list may have that is added whole.
@@ -163,7 +163,8 @@ fn add_values(alloc: Global, store: &mut Store, values: Vec<Value>) -> Result<us
         let ids = add_each(alloc, store, values)?;
         add_list(store, ids, None)
     } else {
-        add_term(store, Term::Atom(Value::List(Items::from_vec(values))))
+        let list = list_value(alloc, Items::from_vec(values))?;
+        add_term(store, Term::Atom(list))
     }
 }
 

@@ -1,5 +1,5 @@
 -- What a session keeps beside its state. This only connects the code to the definitions.
-use Rattle.std.specs.Prelude.{ℕ, suc, ◌≡◌, ◌≢◌, ◌<◌, ◌⊎◌, List, length, take, get_or, Option, Some, None, Result, Ok, Err, IfOk, ⊤}
+use Rattle.std.specs.Prelude.{ℕ, suc, ◌≡◌, ◌≢◌, ◌<◌, ◌⊎◌, List, length, take, get_or, Option, Some, None, Result, Ok, Err, IfOk, IfSome, ◌≤◌, ⊤}
 use Rattle.rn_items.specs.declared.memory.NoMemory.{NoMemory as Refused}
 use Rattle.rn_model.specs.declared.binding.Binding.{Binding}
 use Rattle.rn_model.specs.declared.log.FaultKind.{FaultKind}
@@ -15,7 +15,10 @@ use Rattle.rn_model.specs.Runs.{end_of}
 use Rattle.rn_channel.specs.declared.uplinks.Uplinks.{Uplinks}
 use Rattle.rn_channel.specs.link.Uplinks.{AreUplinksOf}
 use Rattle.rn_table.specs.Tables.{Kept, IsTableOf}
-use Rattle.rn_fire.specs.States.{State, logged}
+use Rattle.rn_fire.specs.States.{State, end_marking, logged}
+use Rattle.rn_reach.specs.Reach.{DifferAtMostIn}
+use Rattle.rn_parted.specs.Parted.{IsKept, Parted}
+use Rattle.rn_session.specs.declared.session.Looked.{Looked}
 use Rattle.rn_session.specs.Sessions.{IsSession, so_far}
 
 -- a table is the one after the first so many firings
@@ -28,13 +31,31 @@ pub record AreTablesBefore (s : State) (kept : List Kept) : Type 0 where
   pub count : length kept ≡ length (logged s)
   pub each : (k : ℕ) (d : Kept) → k < length kept → IsTableAfter s k (get_or kept k d)
 
+-- a look for the first binding was at some of the firings, and the next number was that after them
+abbrev pub WasLookedAt : State → Option Looked → Type 0
+WasLookedAt s looked = IfSome looked (λ look. (look.seen ≤ length s.fired)
+    × (look.next ≡ (end_of s.setup.system (take look.seen s.fired)).next))
+
+-- these may have changed since, and where there was no look none are told
+abbrev pub HaveChangedSince : State → Option Looked → Option (List ℕ) → Type 0
+HaveChangedSince s None changed = changed ≡ None
+HaveChangedSince s (Some look) changed = IfSome changed (λ numbers. DifferAtMostIn numbers
+    (end_of s.setup.system (take look.seen s.fired)) (end_marking s))
+
+-- what is kept for the first binding is so after the firings of the last look
+abbrev pub IsKeptSince : State → Option Parted → Option Looked → Type 0
+IsKeptSince s firsts looked = IfSome looked (λ look. IsKept s.setup.system
+    (end_of s.setup.system (take look.seen s.fired)) s.setup.options.depth firsts)
+
 -- what the fields of a session keep
 pub record KeepsSession (s : State) (options : Options) (uplinks : Uplinks) (kept : List Kept)
-    : Type 0 where
+    (firsts : Option Parted) (looked : Option Looked) : Type 0 where
   pub session : IsSession s
   pub options_are : options ≡ s.setup.options
   pub own : AreUplinksOf s.setup.system uplinks
   pub before : AreTablesBefore s kept
+  pub at : WasLookedAt s looked
+  pub since : IsKeptSince s firsts looked
 
 -- why nothing may fire, or that something may
 abbrev pub HasRefusal : State → Option ℕ → Type 0

@@ -13,24 +13,37 @@ use Rattle.rn_model.specs.Firing.{changed_instance}
 use Rattle.rn_table.specs.declared.change.Row.{Row}
 use Rattle.rn_table.specs.declared.change.Change.{Change}
 
--- one token that is taken from a place of an instance, or put there
+-- One token that is taken from a place of an instance, or put there. Where it is alone, the place
+-- is emptied first.
 pub record Step : Type 0 where
   pub inst : ℕ
   pub place : ℕ
   pub value : Value
   pub puts : Bool
+  pub alone : Bool
 
 abbrev pub step_code : Coded Step
 step_code =
-    code_by (ℕ × (ℕ × (Value × Bool)))
-    (coded× coded_ℕ (coded× coded_ℕ (coded× token.the_row.coded coded_bool)))
-    (λ s. (s.inst, (s.place, (s.value, s.puts))))
-    (λ p. record { inst = p.0; place = p.1.0; value = p.1.1.0; puts = p.1.1.1 })
+    code_by (ℕ × (ℕ × (Value × (Bool × Bool))))
+    (coded× coded_ℕ (coded× coded_ℕ (coded× token.the_row.coded (coded× coded_bool coded_bool))))
+    (λ s. (s.inst, (s.place, (s.value, (s.puts, s.alone)))))
+    (λ p.
+    record {
+      inst = p.0;
+      place = p.1.0;
+      value = p.1.1.0;
+      puts = p.1.1.1.0;
+      alone = p.1.1.1.1;
+    })
     (λ _. refl)
+
+-- tokens where the one of a step is taken or put
+abbrev pub moved : Step → List Value → List Value
+moved s vs = if s.puts then with_value s.value vs else without_one vs s.value
 
 -- the tokens of its place after a step
 abbrev pub stepped : Step → List Value → List Value
-stepped s vs = if s.puts then with_value s.value vs else without_one vs s.value
+stepped s vs = moved s (if s.alone then [] else vs)
 
 -- the tokens of places after a step at the place of an index
 abbrev pub with_step : Step → ℕ → List (List Value) → List (List Value)
@@ -58,7 +71,9 @@ after_steps (s ∷ ss) is = after_steps ss (map (after_step s) is)
 -- the steps of a row, and of rows
 abbrev pub steps_of : Bool → Row → List Step
 steps_of puts row =
-    map (λ v. record { inst = row.inst; place = row.place; value = v; puts = puts }) row.values
+    map
+    (λ v. record { inst = row.inst; place = row.place; value = v; puts = puts; alone = false })
+    row.values
 
 abbrev pub steps_in : Bool → List Row → List Step
 steps_in puts = flat_map (steps_of puts)
@@ -78,6 +93,10 @@ is_at puts n place v s =
 abbrev pub step_count : Bool → ℕ → ℕ → Value → List Step → ℕ
 step_count puts n place v = sum_by (λ s. if is_at puts n place v s then 1 else 0)
 
+-- how many steps empty their place first
+abbrev pub alone_count : List Step → ℕ
+alone_count = sum_by (λ s. if s.alone then 1 else 0)
+
 -- one step undoes another
 pub record Cancels (s t : Step) : Type 0 where
   pub inst : s.inst ≡ t.inst
@@ -85,10 +104,11 @@ pub record Cancels (s t : Step) : Type 0 where
   pub value : s.value ≡ t.value
   pub other : s.puts ≡ not t.puts
 
--- steps that come to the same as others, and take no more
+-- steps that come to the same as others, take no more, and empty no more places
 pub record AreNet (before after : List Step) : Type 0 where
   pub balance : (n place : ℕ) (v : Value) →
       step_count false n place v after + step_count true n place v before
       ≡ step_count false n place v before + step_count true n place v after
   pub fewer : (n place : ℕ) (v : Value) →
       step_count false n place v after ≤ step_count false n place v before
+  pub lone : alone_count after ≤ alone_count before

@@ -20,6 +20,6 @@ returns-else-branch c told =
     (λ within.
     false≢true (sym c.if-branch.false ∙ c.in_ok-holds_all.ensures.1
     (subst (λ vs. IsWithin vs (tokens c.table.result.now.marking c.args.at.head.now.inst x.place))
-    (sym c.elements_of-values.ensures)
+    (sym c.in_ok-values.ensures)
     (subst (λ m. IsWithin (elements c.in-Some.list) (tokens m c.args.at.head.now.inst x.place))
     (sym c.table.ensures.same) within))))

@@ -11,5 +11,5 @@ returns-in_ok-ids-clause-added c =
     (IsOther (O.Values c.args.values.items)) (IsOf (T.List c.in_ok-ids.ids.items))
     c.add_list.result c.in_ok-ids.ensures.added c.add_list.ensures.added
 
-pub returns-else-len-gt-WHOLE-clause-added : goal.returns-else-len-gt-WHOLE-clause-added
-returns-else-len-gt-WHOLE-clause-added c = rw c.from_vec.ensures at c.add_term.ensures.added
+pub returns-in_ok-list-clause-added : goal.returns-in_ok-list-clause-added
+returns-in_ok-list-clause-added c = rw (c.in_ok-list.ensures, c.from_vec.ensures) at c.add_term.ensures.added

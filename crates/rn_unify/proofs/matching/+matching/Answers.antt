@@ -84,7 +84,8 @@ match_value-returns-in-Tuple-value t c =
           (λ vs. map (value_at vs) ids ≡ parts) c.args.found.now.items
           c.match_parts.new.found.items c.match_parts.result
           (λ vs sat. as_tuple vs ids (value_at vs c.args.id) c.args.value.now parts (has vs sat)
-          (c.in-Tuple-value.is ∙ ap (λ xs. Value.Tuple xs) (sym c.as_slice.ensures)))
+          (c.in-Tuple-value.is
+          ∙ ap (λ xs. Value.Tuple xs) (sym (c.as_slice.ensures ∙ c.deref.ensures))))
           c.match_parts.ensures.found;
     }
 
@@ -112,7 +113,8 @@ match_value-returns-in-List t c =
     (as_list (value_at vs c.args.id) value parts
     (has_list vs c.term.result.now (value_at vs c.args.id) (has vs sat)
     c.in_default.not-Free c.in_default.not-Atom c.in_default.not-Tuple)
-    (c.in-List.is ∙ ap (λ xs. Value.List xs) (sym c.as_slice-in-List.ensures))) in
+    (c.in-List.is
+    ∙ ap (λ xs. Value.List xs) (sym (c.as_slice-in-List.ensures ∙ c.deref-in-List.ensures)))) in
     record {
       found = finds_same_result s (λ vs. value_at vs c.args.id ≡ value)
           (λ vs. items_of (value_at vs end) ≡ parts) c.args.found.now.items

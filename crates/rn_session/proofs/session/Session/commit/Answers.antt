@@ -13,7 +13,7 @@ invariant_of-self-2 c =
     let going = ap (λ (s : State). s.ended) c.self.view_is ∙ c.requires.going in
     let t = c.in_ok-before.before in
     with_one_more old c.commit-committed.new.self c.self.inside.options c.self.inside.uplinks c.self.inside.kept.items
-    c.push_reserved.new.self.items t c.args.candidate.now c.length-seen.result c.commit-committed.result
+    c.push_reserved.new.self.items t c.self.inside.firsts c.self.inside.looked c.args.candidate.now c.length-seen.result c.commit-committed.result
     c.told.result c.in_ok-answer.answer c.self.invariant going c.length-length.ensures.state
     (c.in_ok-before.ensures ∙ c.table.ensures.table)
     (c.push_reserved.ensures.items ∙ ap (λ ts. ts ++ t ∷ []) c.reserve.ensures.items)

@@ -12,7 +12,7 @@ rewind-requires-clause-stands c =
     let k = c.args.k in
     let count = c.length-length.ensures.length in
     stands_then old c.self.inside.options c.self.inside.uplinks c.self.inside.kept.items c.pop.new.self.items
-    c.in-Some.table k (c.length-length.result - k) c.self.invariant (not_none k c.if-k-eq0.false)
+    c.in-Some.table c.self.inside.firsts c.self.inside.looked k (c.length-length.result - k) c.self.invariant (not_none k c.if-k-eq0.false)
     (subst (λ n. k ≤ n) count c.if-length-k.false) (ap (λ n. n - k) count)
     (sym c.truncate.ensures.items ∙ c.in-Some.ensures.items)
 
@@ -22,7 +22,7 @@ rewind-requires-clause-of_system c =
     let k = c.args.k in
     let count = c.length-length.ensures.length in
     of_then old c.self.inside.options c.self.inside.uplinks c.self.inside.kept.items c.pop.new.self.items
-    c.in-Some.table k (c.length-length.result - k) c.self.invariant (not_none k c.if-k-eq0.false)
+    c.in-Some.table c.self.inside.firsts c.self.inside.looked k (c.length-length.result - k) c.self.invariant (not_none k c.if-k-eq0.false)
     (subst (λ n. k ≤ n) count c.if-length-k.false) (ap (λ n. n - k) count)
     (sym c.truncate.ensures.items ∙ c.in-Some.ensures.items)
 
@@ -32,9 +32,9 @@ invariant_of-self c =
     let k = c.args.k in
     let count = c.length-length.ensures.length in
     with_fewer old c.self.inside.options c.self.inside.uplinks c.self.inside.kept.items c.pop.new.self.items
-    c.in-Some.table k (c.length-length.result - k) c.self.invariant (not_none k c.if-k-eq0.false)
+    c.in-Some.table c.self.inside.firsts c.self.inside.looked k (c.length-length.result - k) c.self.invariant (not_none k c.if-k-eq0.false)
     (subst (λ n. k ≤ n) count c.if-length-k.false) (ap (λ n. n - k) count)
-    (sym c.truncate.ensures.items ∙ c.in-Some.ensures.items) c.rewind.new.self c.rewind.ensures
+    (sym c.truncate.ensures.items ∙ c.in-Some.ensures.items) c.rewind.new.self c.forget.new.self c.rewind.ensures
     c.length-length-2.ensures.state
 
 pub returns : goal.returns
@@ -44,6 +44,6 @@ returns c =
     let count = c.length-length.ensures.length in
     subst (λ x. UndoesBy x k (Ok true) c.rewind.new.self) c.self.view_is
     (undone old c.self.inside.options c.self.inside.uplinks c.self.inside.kept.items c.pop.new.self.items
-    c.in-Some.table k (c.length-length.result - k) c.self.invariant (not_none k c.if-k-eq0.false)
+    c.in-Some.table c.self.inside.firsts c.self.inside.looked k (c.length-length.result - k) c.self.invariant (not_none k c.if-k-eq0.false)
     (subst (λ n. k ≤ n) count c.if-length-k.false) (ap (λ n. n - k) count)
     (sym c.truncate.ensures.items ∙ c.in-Some.ensures.items) c.rewind.new.self c.rewind.ensures)

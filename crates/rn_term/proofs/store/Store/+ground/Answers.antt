@@ -67,7 +67,7 @@ list_value-returns-then-not-branch-2 t c = record {
 pub list_value-returns-in-List : goal.list_value-returns-in-List
 list_value-returns-in-List t c =
     let to = c.follow-end.ensures in
-    rw c.from_vec.ensures
+    rw (c.in_ok-list_value-in-List.ensures, c.from_vec.ensures)
     (record {
       answer = read_all _ _ _ _ _ c.in-List.ids _ c.loop-ids.invariant to.leads to.within
           (sym c.in-List.is ∙ c.term.ensures)
@@ -154,10 +154,11 @@ value_of-returns-in_ok-copy-in-Atom-clause-answer t c =
     atom_is_forced _ _ _ _ _ to.leads to.within (sym c.in-Atom.is ∙ c.term.ensures)
     c.in_ok-copy-in-Atom.ensures
 
-pub value_of-returns-then-branch-clause-answer : goal.value_of-returns-then-branch-clause-answer
-value_of-returns-then-branch-clause-answer t c =
+pub value_of-returns-in_ok-tuple_value-in-Tuple-clause-answer :
+    goal.value_of-returns-in_ok-tuple_value-in-Tuple-clause-answer
+value_of-returns-in_ok-tuple_value-in-Tuple-clause-answer t c =
     let to = c.follow-end.ensures in
-    rw c.from_vec.ensures
+    rw (c.in_ok-tuple_value-in-Tuple.ensures, c.from_vec.ensures)
     (tuple_is_forced _ _ _ c.in-Tuple.ids _ _ to.leads to.within
     (sym c.in-Tuple.is ∙ c.term.ensures) c.new-values.ensures.items
     (answer_all _ _ _ _ _ _ c.in_ok-values_onto-in-Tuple.ensures.answer c.as_slice.ensures

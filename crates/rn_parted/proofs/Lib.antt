@@ -1,0 +1,13 @@
+pub mod AloneLemmas
+pub mod AskLemmas
+pub mod AvoidLemmas
+pub mod CutLemmas
+pub mod Demanded
+pub mod FollowLemmas
+pub mod LeastLemmas
+pub mod NearLemmas
+pub mod PartingLemmas
+pub mod PlaceLemmas
+pub mod ShareLemmas
+pub mod StayLemmas
+pub mod WalkLemmas
