@@ -5,6 +5,7 @@ use Rattle.std.specs.Prelude.{Option, Some, None, option_map, option_and_then, i
 use Rattle.std.specs.Prelude.{flat_map, IfSome}
 use Rattle.std.proofs.lemmas.Option.{same_Some}
 use Rattle.rn_value.specs.declared.value.InstRef.TheVariants.{Old}
+use Rattle.rn_value.specs.declared.value.Value.{Value}
 use Rattle.rn_model.specs.declared.system.System.{System}
 use Rattle.rn_model.specs.declared.system.Action.{Action}
 use Rattle.rn_model.specs.declared.system.Action.TheVariants.{Set, Print}
@@ -17,8 +18,28 @@ use Rattle.rn_model.specs.Systems.{transition_of}
 use Rattle.rn_table.specs.Changes.{values_at}
 use Rattle.rn_acts.specs.Acted.{ArePut}
 use Rattle.rn_acts.specs.link.Acted.{node_rows, nothing, with_acts, with_node, with_effects}
+use Rattle.rn_acts.specs.link.Acting.{action_of}
 use Rattle.rn_acts.specs.declared.acts.Acted.{Acted}
 use Rattle.rn_acts.proofs.RowLemmas.{OwnThis, rows_are}
+
+-- one action, and then the others
+pub one_action : (action : Action) (actions : List Action) (acts next : Acts) →
+    action_of action acts ≡ Some next →
+    after_actions (action ∷ actions) acts ≡ after_actions actions next
+one_action (Set x e) actions acts next is = by_value (worth e acts.env) is
+  where
+    by_value : (o : Option Value) → option_map (λ v. with_set x v acts) o ≡ Some next →
+        option_and_then (λ v. after_actions actions (with_set x v acts)) o
+        ≡ after_actions actions next
+    by_value None is = absurd (let no : ⊥ = cc in no)
+    by_value (Some v) is = ap (after_actions actions) (same_Some (with_set x v acts) next is)
+one_action (Print e) actions acts next is = by_value (worth e acts.env) is
+  where
+    by_value : (o : Option Value) → option_map (λ v. with_out v acts) o ≡ Some next →
+        option_and_then (λ v. after_actions actions (with_out v acts)) o
+        ≡ after_actions actions next
+    by_value None is = absurd (let no : ⊥ = cc in no)
+    by_value (Some v) is = ap (after_actions actions) (same_Some (with_out v acts) next is)
 
 -- no action changes the instance
 keeps_this : (actions : List Action) (so_far acts : Acts) →

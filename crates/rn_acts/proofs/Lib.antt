@@ -2,6 +2,7 @@ pub mod ActLemmas
 pub mod AskedFrom
 pub mod ChangeLemmas
 pub mod CreationLemmas
+pub mod FitNodes
 pub mod MayComeLemmas
 pub mod NewAskNothing
 pub mod NumberingLemmas

@@ -12,6 +12,7 @@ use Rattle.rn_model.specs.Limits.{greatest_instance}
 use Rattle.rn_model.specs.Liveness.{Stands}
 use Rattle.rn_model.specs.Markings.{Marking, IsMarking}
 use Rattle.rn_model.specs.SoundTokens.{HasSoundTokens}
+use Rattle.rn_calc.specs.OwnKinds.{HaveOwnKinds}
 use Rattle.rn_table.specs.Changes.{MayCome, values_at}
 use Rattle.rn_table.specs.Laws.{LeavesNew}
 use Rattle.rn_table.specs.declared.change.Change.{Change}
@@ -26,6 +27,11 @@ NumberingKeepsCreations = (system : System) (b : Binding) (next : ℕ) →
 abbrev pub NumberingKeepsNodes : Type 0
 NumberingKeepsNodes = (system : System) (b : Binding) (next : ℕ) →
     All (IsNodeOf system) b.nodes → All (IsNodeOf system) (named system b next).nodes
+
+-- and each value in them still has its variable's kind
+abbrev pub NumberingKeepsKinds : Type 0
+NumberingKeepsKinds = (system : System) (b : Binding) (next : ℕ) →
+    All (HaveOwnKinds system) b.nodes → All (HaveOwnKinds system) (named system b next).nodes
 
 -- A change of a binding's firing: under the numbers from next, it takes and clears what the binding
 -- does, its rows stand at places that the binding's arcs name, and it makes the same instances.

@@ -1,6 +1,8 @@
 //! A node after some of its actions.
 ghost use Rattle.std.specs.Prelude.{◌≡◌, ◌≤◌, IfOk};
 ghost use Rattle.rn_model.specs.Firing.{acts_before, after_actions};
+ghost use Rattle.rn_model.specs.ExpressionLaws.{OperandsAreFit};
+ghost use Rattle.rn_model.specs.Good.{action_expr};
 ghost use Rattle.rn_model.specs.Limits.{greatest_step};
 
 use rn_calc::{NodeValues, Values, VarVals, evaluate};
@@ -21,7 +23,8 @@ pub(crate) struct Acting<'a> {
 }
 
 impl<'a> Acting<'a> {
-    ghost use Rattle.rn_acts.specs.link.Acting.{acts_of, action_of, if_done};
+    ghost use Rattle.rn_acts.specs.link.Acting.{acts_of, action_of, env_acting, if_done};
+    ghost use Rattle.rn_acts.specs.link.Acting.{AreFitActions};
 
     /// A node before its actions, in the firing with this number.
     pub(crate) fn new(alloc: Global, system: &'a System, node: &'a Node, step: u64) -> Acting<'a>
@@ -38,6 +41,7 @@ impl<'a> Acting<'a> {
 
     /// Takes one action, where its expression has a value.
     fn take(&mut self, alloc: Global, action: &Action) -> Result<bool, NoMemory>
+        requires fit { OperandsAreFit (env_acting self.old) (action_expr action.now) }
         ensures { IfOk result (λ done. action_of action.now (acts_of self.old)
             ≡ if_done done (acts_of self.new)) }
     {
@@ -61,6 +65,7 @@ impl<'a> Acting<'a> {
 
     /// Takes one action after another, as long as they have values.
     pub(crate) fn take_all(&mut self, alloc: Global, actions: &[Action]) -> Result<bool, NoMemory>
+        requires fit { AreFitActions actions.now (acts_of self.old) }
         ensures { IfOk result (λ done. after_actions actions.now (acts_of self.old)
             ≡ if_done done (acts_of self.new)) }
     {

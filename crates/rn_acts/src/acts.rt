@@ -2,7 +2,9 @@
 ghost use Rattle.std.specs.Prelude.{◌≡◌, ◌≤◌, All, IfOk, IfSome, Some, option_map};
 ghost use Rattle.rn_model.specs.Bindings.{IsNodeOf};
 ghost use Rattle.rn_model.specs.Firing.{Effects, all_effects};
+ghost use Rattle.rn_model.specs.Good.{Good};
 ghost use Rattle.rn_model.specs.Limits.{greatest_step};
+ghost use Rattle.rn_calc.specs.OwnKinds.{HaveOwnKinds};
 ghost use Rattle.rn_acts.specs.link.Acting.{if_done};
 ghost use Rattle.rn_acts.specs.Acted.{AreOfArcs, ArePut};
 ghost use Rattle.rn_acts.specs.link.Acted.{nothing, with_node, with_effects};
@@ -33,7 +35,9 @@ fn add_node(
     node: &Node,
     step: u64,
 ) -> Result<bool, NoMemory>
+    requires good { Good system.now }
     requires own { IsNodeOf system.now node.now }
+    requires kinds { HaveOwnKinds system.now node.now }
     requires step { step ≤ greatest_step }
     ensures { IfOk result (λ done. with_node system.now step acted.old node.now
         ≡ if_done done acted.new) }
@@ -57,7 +61,9 @@ pub(crate) fn act_on(
     nodes: &[Node],
     step: u64,
 ) -> Result<Option<Acted>, NoMemory>
+    requires good { Good system.now }
     requires nodes { All (IsNodeOf system.now) nodes.now }
+    requires kinds { All (HaveOwnKinds system.now) nodes.now }
     requires step { step ≤ greatest_step }
     ensures { IfOk result (λ acted. acted
         ≡ option_map (with_effects system.now nothing) (all_effects system.now step nodes.now)) }
@@ -84,7 +90,9 @@ pub fn act(
     binding: &Binding,
     step: u64,
 ) -> Result<Option<Acted>, NoMemory>
+    requires good { Good system.now }
     requires nodes { All (IsNodeOf system.now) binding.now.nodes }
+    requires kinds { All (HaveOwnKinds system.now) binding.now.nodes }
     requires step { step ≤ greatest_step }
     ensures outs { IfOk result (λ acted. option_map (λ a. a.outs) acted
         ≡ option_map (λ fx. fx.outs) (all_effects system.now step binding.now.nodes)) }

@@ -4,7 +4,9 @@ ghost use Rattle.rn_value.specs.declared.value.InstRef.TheVariants.{Old as Numbe
 ghost use Rattle.rn_model.specs.Bindings.{IsNodeOf};
 ghost use Rattle.rn_model.specs.Demands.{cleared_at, taken_at};
 ghost use Rattle.rn_model.specs.Firing.{Effects, creations_of, marking_after};
+ghost use Rattle.rn_model.specs.Good.{Good};
 ghost use Rattle.rn_model.specs.Markings.{Marking};
+ghost use Rattle.rn_calc.specs.OwnKinds.{HaveOwnKinds};
 ghost use Rattle.rn_table.specs.Changes.{changed, values_at};
 ghost use Rattle.rn_table.specs.Laws.{LeavesNew};
 ghost use Rattle.rn_acts.specs.Acted.{AreOfArcs, ArePut};
@@ -48,7 +50,9 @@ pub fn change_of(
     binding: &Binding,
     put: Rows,
 ) -> Result<Change, NoMemory>
+    requires good { Good system.now }
     requires nodes { All (IsNodeOf system.now) binding.now.nodes }
+    requires kinds { All (HaveOwnKinds system.now) binding.now.nodes }
     ensures taken { IfOk result (λ change. (n place : ℕ) → values_at change.taken n place
         ≡ taken_at system.now binding.now (Numbered n) place) }
     ensures cleared { IfOk result (λ change. (n place : ℕ) → values_at change.cleared n place

@@ -11,4 +11,6 @@ mod outputs;
 pub use acts::{Acted, act};
 pub use changes::change_of;
 pub use creations::{gives_too_many, nets_made};
-pub use laws::{firings_may_come, numbering_keeps_creations, numbering_keeps_nodes};
+pub use laws::{
+    firings_may_come, numbering_keeps_creations, numbering_keeps_kinds, numbering_keeps_nodes,
+};

@@ -1,8 +1,9 @@
 //! What the arcs of a node put after its actions.
-ghost use Rattle.std.specs.Prelude.{◌≡◌, ◌++◌, IfOk, IsTrue, OnOk, flat_map};
+ghost use Rattle.std.specs.Prelude.{◌≡◌, ◌++◌, All, IfOk, IsTrue, OnOk, flat_map};
 ghost use Rattle.std.specs.List.{list_all};
 ghost use Rattle.rn_model.specs.Demands.{puts};
 ghost use Rattle.rn_model.specs.Firing.{output_defined};
+ghost use Rattle.rn_arcs.specs.FitInscriptions.{IsFitArc};
 ghost use Rattle.rn_acts.specs.link.Acting.{env_acting};
 ghost use Rattle.rn_acts.specs.link.Acted.{row_of, arc_rows};
 
@@ -55,6 +56,7 @@ fn put_arc(
     arc: &NetArc,
     put: &mut Rows,
 ) -> Result<bool, NoMemory>
+    requires fit { IsFitArc (env_acting acting.now) arc.now }
     ensures defined { IfOk result (λ done. done
         ≡ output_defined transition.now (env_acting acting.now) arc.now) }
     ensures rows { IfOk result (λ done. IsTrue done →
@@ -81,6 +83,7 @@ pub(crate) fn put_outputs(
     transition: &Transition,
     put: &mut Rows,
 ) -> Result<bool, NoMemory>
+    requires fit { All (IsFitArc (env_acting acting.now)) transition.now.arcs }
     ensures defined { IfOk result (λ done. done
         ≡ list_all (output_defined transition.now (env_acting acting.now)) transition.now.arcs) }
     ensures rows { IfOk result (λ done. IsTrue done →

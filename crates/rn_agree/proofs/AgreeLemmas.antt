@@ -17,7 +17,8 @@ use Rattle.rn_model.specs.Systems.{net_at, transition_of, var_kind_in, uplink_ar
 use Rattle.rn_model.specs.Evaluation.{Env, worth, IsTrueUnder}
 use Rattle.rn_model.specs.Bindings.{env_of}
 use Rattle.rn_model.specs.Agreement.{CallAgrees}
-use Rattle.rn_agree.specs.link.Agreeing.{AreCreated, ArcHasValue, HaveOwnKinds, HoldUnder, IsEqual}
+use Rattle.rn_calc.specs.OwnKinds.{HaveOwnKinds}
+use Rattle.rn_agree.specs.link.Agreeing.{AreCreated, ArcHasValue, HoldUnder, IsEqual}
 
 -- the kind of a variable of a net
 pub kind_at : (net : Net) (vars : List Var) (x : ℕ) (var : Var) → vars ≡ net.vars →

@@ -1,5 +1,6 @@
 mod AgreeLemmas
 mod EachLemmas
+mod FitNodes
 mod LinkLemmas
 mod PathLemmas
 mod PartsAgree

@@ -3,7 +3,8 @@ ghost use Rattle.std.specs.Prelude.{◌↔◌, All, IfOk, IsTrue};
 ghost use Rattle.rn_model.specs.Agreement.{Agrees};
 ghost use Rattle.rn_model.specs.Bindings.{Shape};
 ghost use Rattle.rn_model.specs.Good.{Good};
-ghost use Rattle.rn_agree.specs.link.Agreeing.{AgreesInParts, CallsAgree, IsReadable, NodeHolds};
+ghost use Rattle.rn_agree.specs.link.Agreeing.{AgreesInParts, CallsAgree, IsFitNode, IsReadable};
+ghost use Rattle.rn_agree.specs.link.Agreeing.{NodeHolds};
 ghost use Rattle.rn_agree.specs.Paths.{AscendByPath};
 
 use crate::calls::calls_agree;
@@ -13,7 +14,8 @@ use rn_value::NoMemory;
 use std::alloc::Global;
 
 fn nodes_hold(alloc: Global, system: &System, binding: &Binding) -> Result<bool, NoMemory>
-    requires { All (IsReadable system.now) binding.now.nodes }
+    requires good { Good system.now }
+    requires nodes { All (IsReadable system.now) binding.now.nodes }
     ensures { IfOk result (λ yes. IsTrue yes ↔ All (NodeHolds system.now) binding.now.nodes) }
 {
     let nodes = binding.nodes.as_slice();
@@ -28,6 +30,7 @@ fn nodes_hold(alloc: Global, system: &System, binding: &Binding) -> Result<bool,
 fn all_calls_agree(alloc: Global, system: &System, binding: &Binding) -> Result<bool, NoMemory>
     requires ascending { AscendByPath binding.now.nodes }
     requires nodes { All (IsReadable system.now) binding.now.nodes }
+    requires fit { All (IsFitNode system.now) binding.now.nodes }
     ensures { IfOk result
         (λ yes. IsTrue yes ↔ All (CallsAgree system.now binding.now) binding.now.nodes) }
 {
@@ -46,6 +49,7 @@ pub(crate) fn agrees_in_parts(
     system: &System,
     binding: &Binding,
 ) -> Result<bool, NoMemory>
+    requires good { Good system.now }
     requires ascending { AscendByPath binding.now.nodes }
     requires nodes { All (IsReadable system.now) binding.now.nodes }
     ensures { IfOk result (λ yes. IsTrue yes ↔ AgreesInParts system.now binding.now) }

@@ -6,8 +6,11 @@ ghost use Rattle.rn_model.specs.Lists.{HaveOneValue};
 ghost use Rattle.rn_model.specs.Systems.{uplink_args};
 ghost use Rattle.rn_model.specs.Evaluation.{worth};
 ghost use Rattle.rn_model.specs.Agreement.{CallAgrees};
+ghost use Rattle.rn_model.specs.Bindings.{env_of};
+ghost use Rattle.rn_model.specs.ExpressionLaws.{OperandsAreFit};
 ghost use Rattle.rn_calc.specs.link.NodeValues.{lent_env};
-ghost use Rattle.rn_agree.specs.link.Agreeing.{CallAgreesAt, CallsAgree, IsReadable};
+ghost use Rattle.rn_agree.specs.link.Agreeing.{CallAgreesAt, CallsAgree, IsFitCall, IsFitNode};
+ghost use Rattle.rn_agree.specs.link.Agreeing.{IsReadable};
 ghost use Rattle.rn_agree.specs.Paths.{AscendByPath};
 
 use crate::lookup::child_on;
@@ -42,6 +45,7 @@ fn leads_to(
     values: &NodeValues<'_>,
     inst: &InstRef,
 ) -> Result<bool, NoMemory>
+    requires fit { OperandsAreFit (lent_env values.now) target.now }
     ensures { IfOk result
         (λ yes. IsTrue yes ↔ (worth target.now (lent_env values.now) ≡ Some (Of.Inst inst.now))) }
 {
@@ -59,6 +63,8 @@ fn args_agree(
     others: &[Expr],
     other_values: &NodeValues<'_>,
 ) -> Result<bool, NoMemory>
+    requires fit { All (OperandsAreFit (lent_env values.now)) args.now }
+    requires other_fit { All (OperandsAreFit (lent_env other_values.now)) others.now }
     ensures { IfOk result (λ yes. IsTrue yes ↔ AllZip
         (λ e f. HaveOneValue (worth e (lent_env values.now)) (worth f (lent_env other_values.now)))
         args.now others.now) }
@@ -92,6 +98,8 @@ fn call_agrees(
 ) -> Result<bool, NoMemory>
     requires caller { IsReadable system.now caller.now }
     requires child { IsReadable system.now child.now }
+    requires fit { IsFitCall (env_of system.now caller.now) downlink.now }
+    requires child_fit { IsFitNode system.now child.now }
     ensures { IfOk result
         (λ yes. IsTrue yes ↔ CallAgrees system.now caller.now downlink.now child.now) }
 {
@@ -122,6 +130,8 @@ fn call_agrees_at(
     requires ascending { AscendByPath binding.now.nodes }
     requires nodes { All (IsReadable system.now) binding.now.nodes }
     requires own { IsReadable system.now caller.now }
+    requires fit { All (IsFitNode system.now) binding.now.nodes }
+    requires own_fit { IsFitCall (env_of system.now caller.now) downlink.now }
     ensures { IfOk result
         (λ yes. IsTrue yes ↔ CallAgreesAt system.now binding.now caller.now i downlink.now) }
 {
@@ -141,6 +151,8 @@ pub(crate) fn calls_agree(
     requires ascending { AscendByPath binding.now.nodes }
     requires nodes { All (IsReadable system.now) binding.now.nodes }
     requires own { IsReadable system.now caller.now }
+    requires fit { All (IsFitNode system.now) binding.now.nodes }
+    requires own_fit { IsFitNode system.now caller.now }
     ensures { IfOk result (λ yes. IsTrue yes ↔ CallsAgree system.now binding.now caller.now) }
 {
     let downlinks = transition_of(system, caller).downlinks.as_slice();

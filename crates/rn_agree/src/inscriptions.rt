@@ -7,9 +7,13 @@ ghost use Rattle.rn_value.specs.declared.value.Value.TheVariants as Of;
 ghost use Rattle.rn_model.specs.Lists.{value_beside};
 ghost use Rattle.rn_model.specs.Systems.{var_kind_in};
 ghost use Rattle.rn_model.specs.Evaluation.{IsTrueUnder};
+ghost use Rattle.rn_model.specs.ExpressionLaws.{OperandsAreFit};
+ghost use Rattle.rn_model.specs.Good.{Good};
+ghost use Rattle.rn_calc.specs.FitComparisons.{ComparisonsAreFit};
+ghost use Rattle.rn_calc.specs.OwnKinds.{HaveOwnKinds};
 ghost use Rattle.rn_calc.specs.link.NodeValues.{lent_env};
-ghost use Rattle.rn_agree.specs.link.Agreeing.{AreCreated, ArcHasValue, HaveOwnKinds, HoldUnder};
-ghost use Rattle.rn_agree.specs.link.Agreeing.{IsEqual};
+ghost use Rattle.rn_agree.specs.link.Agreeing.{AreCreated, ArcHasValue, HoldUnder};
+ghost use Rattle.rn_agree.specs.link.Agreeing.{AreFitSides, IsEqual, IsFitArc, IsFitAt};
 ghost use Rattle.rn_agree.specs.link.Agreeing.{IsReadable, NodeHolds};
 
 use crate::mentions::awaits_action;
@@ -37,6 +41,8 @@ fn have_kinds(net: &Net, vars: &[u32], values: &[Value]) -> bool
 }
 
 fn is_equal(alloc: Global, sides: &(Expr, Expr), values: &NodeValues<'_>) -> Result<bool, NoMemory>
+    requires left { OperandsAreFit (lent_env values.now) sides.now.0 }
+    requires right { OperandsAreFit (lent_env values.now) sides.now.1 }
     ensures { IfOk result (λ yes. IsTrue yes ↔ IsEqual (lent_env values.now) sides.now) }
 {
     let same = *values;
@@ -48,6 +54,7 @@ fn equalities_hold(
     equalities: &[(Expr, Expr)],
     values: &NodeValues<'_>,
 ) -> Result<bool, NoMemory>
+    requires fit { All (AreFitSides (lent_env values.now)) equalities.now }
     ensures { IfOk result (λ yes. IsTrue yes ↔ All (IsEqual (lent_env values.now)) equalities.now) }
 {
     for sides in equalities {
@@ -83,6 +90,7 @@ fn are_created(values: &NodeValues<'_>, path: &[u32], creations: &[Creation]) ->
 }
 
 fn guards_hold(alloc: Global, guards: &[Cond], values: &NodeValues<'_>) -> Result<bool, NoMemory>
+    requires fit { All (ComparisonsAreFit (lent_env values.now)) guards.now }
     ensures { IfOk result (λ yes. IsTrue yes ↔ All (IsTrueUnder (lent_env values.now)) guards.now) }
 {
     for guard in guards {
@@ -100,6 +108,7 @@ fn arc_has_value(
     arc: &NetArc,
     values: &NodeValues<'_>,
 ) -> Result<bool, NoMemory>
+    requires fit { OperandsAreFit (lent_env values.now) arc.now.inscription }
     ensures { IfOk result
         (λ yes. IsTrue yes ↔ ArcHasValue transition.now (lent_env values.now) arc.now) }
 {
@@ -115,6 +124,7 @@ fn arcs_have_values(
     transition: &Transition,
     values: &NodeValues<'_>,
 ) -> Result<bool, NoMemory>
+    requires fit { All (IsFitArc (lent_env values.now)) transition.now.arcs }
     ensures { IfOk result (λ yes. IsTrue yes
         ↔ All (ArcHasValue transition.now (lent_env values.now)) transition.now.arcs) }
 {
@@ -142,6 +152,7 @@ fn inscriptions_hold(
     path: &[u32],
     values: &NodeValues<'_>,
 ) -> Result<bool, NoMemory>
+    requires fit { IsFitAt (lent_env values.now) transition.now }
     ensures { IfOk result
         (λ yes. IsTrue yes ↔ HoldUnder transition.now path.now (lent_env values.now)) }
 {
@@ -160,7 +171,8 @@ fn inscriptions_hold(
 /// Whether a node's values have their variables' kinds and its inscriptions hold at them. Kinds of
 /// other values follow in a good system.
 pub(crate) fn node_holds(alloc: Global, system: &System, node: &Node) -> Result<bool, NoMemory>
-    requires { IsReadable system.now node.now }
+    requires good { Good system.now }
+    requires readable { IsReadable system.now node.now }
     ensures { IfOk result (λ yes. IsTrue yes ↔ NodeHolds system.now node.now) }
 {
     if !have_own_kinds(system, node) {

@@ -2,6 +2,7 @@ pub mod AsksOfBindings
 pub mod CountLemmas
 pub mod EachIndex
 pub mod FillLemmas
+pub mod FitInscriptions
 pub mod FittingLemmas
 pub mod Gathering
 pub mod JoiningItems

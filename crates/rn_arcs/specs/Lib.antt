@@ -1,3 +1,4 @@
 pub mod link
 pub mod Demanded
+pub mod FitInscriptions
 pub mod Places

@@ -1,5 +1,6 @@
 //! The walk over the nodes and arcs of a binding.
 ghost use Rattle.std.specs.Prelude.{◌≡◌, ◌++◌, IfOk, OnOk};
+ghost use Rattle.rn_arcs.specs.FitInscriptions.{InscriptionsAreFit, IsFitArc, IsFitNode};
 ghost use Rattle.rn_arcs.specs.link.Asks.{arc_asks, node_asks, binding_asks};
 
 use crate::ask::Ask;
@@ -19,6 +20,7 @@ fn add_ask<V: Values>(
     outputs: bool,
 ) -> Result<(), NoMemory>
     requires step { (V.env values.now).step ≡ None }
+    requires fit { IsFitArc (V.env values.now) arc.now }
     ensures ok { OnOk result (asks.new.items
         ≡ asks.old.items ++ arc_asks outputs (V.env values.now) inst.now arc.now) }
 {
@@ -44,6 +46,7 @@ fn add_node(
     node: &Node,
     outputs: bool,
 ) -> Result<(), NoMemory>
+    requires fit { IsFitNode system.now node.now }
     ensures ok { OnOk result
         (asks.new.items ≡ asks.old.items ++ node_asks outputs system.now node.now) }
 {
@@ -64,6 +67,7 @@ pub(crate) fn asks_of(
     binding: &Binding,
     outputs: bool,
 ) -> Result<Vec<Ask>, NoMemory>
+    requires fit { InscriptionsAreFit system.now binding.now }
     ensures { IfOk result (λ asks. asks.items ≡ binding_asks outputs system.now binding.now) }
 {
     let mut asks = Vec::new(alloc);

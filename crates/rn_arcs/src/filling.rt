@@ -5,6 +5,7 @@ ghost use Rattle.std.specs.List.{sum_by};
 ghost use Rattle.std.specs.List.Sorted.{IsPermutation, IsSortedByKey};
 ghost use Rattle.rn_model.specs.Demands.{puts, filled_at};
 ghost use Rattle.rn_model.specs.Systems.{puts_awaited};
+ghost use Rattle.rn_arcs.specs.FitInscriptions.{InscriptionsAreFit, IsFitArc, IsFitNode};
 ghost use Rattle.rn_arcs.specs.Demanded.{HasFills, fill_place};
 ghost use Rattle.rn_arcs.specs.link.Fillings.{may_put, known_count, pours_of, arc_pours, node_pours};
 ghost use Rattle.rn_arcs.specs.link.Fillings.{binding_pours, pour_place, fill_of, joined_pour};
@@ -62,6 +63,7 @@ fn put_count(kind: ArcKind, value: &Value) -> usize
 /// The same, where it has a value.
 fn known_count<V: Values>(alloc: Global, values: &V, arc: &NetArc) -> Result<usize, NoMemory>
     requires step { (V.env values.now).step ≡ None }
+    requires fit { IsFitArc (V.env values.now) arc.now }
     ensures { IfOk result (λ n. n ≡ known_count (V.env values.now) arc.now) }
 {
     if !may_put(arc.kind) {
@@ -100,6 +102,7 @@ fn add_arc<V: Values>(
     arc: &NetArc,
 ) -> Result<(), NoMemory>
     requires step { (V.env values.now).step ≡ None }
+    requires fit { IsFitArc (V.env values.now) arc.now }
     ensures { OnOk result (pours.new.items
         ≡ pours.old.items ++ arc_pours transition.now (V.env values.now) inst.now arc.now) }
 {
@@ -116,6 +119,7 @@ fn add_node(
     system: &System,
     node: &Node,
 ) -> Result<(), NoMemory>
+    requires fit { IsFitNode system.now node.now }
     ensures { OnOk result
         (pours.new.items ≡ pours.old.items ++ node_pours system.now node.now) }
 {
@@ -131,6 +135,7 @@ fn add_node(
 
 /// What all arcs of a binding put, node by node.
 fn pours_of(alloc: Global, system: &System, binding: &Binding) -> Result<Vec<Pour>, NoMemory>
+    requires fit { InscriptionsAreFit system.now binding.now }
     ensures { IfOk result (λ pours. pours.items ≡ binding_pours system.now binding.now) }
 {
     let mut pours = Vec::new(alloc);
@@ -214,6 +219,7 @@ fn joined(alloc: Global, pours: &[Pour]) -> Result<Vec<Fill>, NoMemory>
 
 /// How many tokens a binding puts at each place, those too whose values its actions give.
 pub(crate) fn fills_of(alloc: Global, system: &System, binding: &Binding) -> Result<Fills, NoMemory>
+    requires fit { InscriptionsAreFit system.now binding.now }
     ensures exact { IfOk result (λ fills. HasFills fills (filled_at system.now binding.now)) }
     ensures rises { IfOk result (λ fills. Rising fill_place fills) }
 {

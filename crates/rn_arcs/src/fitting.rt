@@ -6,6 +6,7 @@ ghost use Rattle.rn_value.specs.Order.{value_cmp};
 ghost use Rattle.rn_value.specs.declared.value.InstRef.TheVariants.{Old};
 ghost use Rattle.rn_model.specs.Enabling.{Fits};
 ghost use Rattle.rn_model.specs.Markings.{net_of, tokens};
+ghost use Rattle.rn_arcs.specs.FitInscriptions.{InscriptionsAreFit};
 ghost use Rattle.rn_arcs.specs.link.Meeting.{AreAbsent, AreLeft, IsWhole, Meets};
 
 use crate::asked::Asked;
@@ -143,6 +144,7 @@ pub fn fits(
     table: &Table,
     binding: &Binding,
 ) -> Result<bool, NoMemory>
+    requires fit { InscriptionsAreFit system.now binding.now }
     ensures exact { IfOk result
         (λ yes. IsTrue yes ↔ Fits system.now table.now.marking binding.now) }
 {

@@ -2,6 +2,7 @@
 ghost use Rattle.std.specs.Prelude.{◌≡◌, IfOk, OnOk, All, map};
 ghost use Rattle.std.specs.List.Sorted.{IsSorted};
 ghost use Rattle.rn_value.specs.Order.{value_cmp};
+ghost use Rattle.rn_arcs.specs.FitInscriptions.{InscriptionsAreFit};
 ghost use Rattle.rn_arcs.specs.link.Groups.{with_ask, groups_of, in_order, AreAsked};
 
 use crate::ask::{Ask, compare_places, sort_asks};
@@ -64,6 +65,7 @@ pub(crate) fn asked_of(
     binding: &Binding,
     outputs: bool,
 ) -> Result<Vec<Asked>, NoMemory>
+    requires fit { InscriptionsAreFit system.now binding.now }
     ensures asked { IfOk result (λ places. AreAsked outputs system.now binding.now places.items) }
     ensures sorted { IfOk result (λ places. All (λ g. IsSorted value_cmp g.taken) places.items) }
 {

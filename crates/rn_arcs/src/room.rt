@@ -2,6 +2,7 @@
 ghost use Rattle.std.specs.Prelude.{◌≡◌, ◌≤◌, ◌+◌, ◌-◌, ◌↔◌, ℕ, false, All, IsTrue, IfOk, length};
 ghost use Rattle.std.specs.List.{flat_map, list_any};
 ghost use Rattle.rn_value.specs.declared.value.InstRef.TheVariants.{Old};
+ghost use Rattle.rn_arcs.specs.FitInscriptions.{InscriptionsAreFit};
 ghost use Rattle.rn_arcs.specs.link.Groups.{AreAsked};
 ghost use Rattle.rn_arcs.specs.link.Room.{net_is_limited, node_is_limited, remaining_in, filled_in};
 ghost use Rattle.rn_arcs.specs.link.Room.{IsInOrder, staying, PlaceHasRoom, EachHasRoom};
@@ -216,7 +217,8 @@ pub(crate) fn has_room(
     binding: &Binding,
     asked: &[Asked],
 ) -> Result<bool, NoMemory>
-    requires { AreAsked false system.now binding.now asked.now }
+    requires asked { AreAsked false system.now binding.now asked.now }
+    requires fit { InscriptionsAreFit system.now binding.now }
     ensures { IfOk result
         (λ yes. IsTrue yes ↔ AllHaveRoom system.now table.now.marking binding.now) }
 {

@@ -1,5 +1,6 @@
 //! The demands of a binding, as rows.
 ghost use Rattle.std.specs.Prelude.{◌≡◌, ◌++◌, IfOk, OnOk, flat_map};
+ghost use Rattle.rn_arcs.specs.FitInscriptions.{InscriptionsAreFit};
 ghost use Rattle.rn_arcs.specs.Demanded.{AreDemandsOf, AreTakingsOf, one_row};
 ghost use Rattle.rn_arcs.specs.link.Rows.{rows_of, taken_rows, tested_rows, inhibited_rows};
 ghost use Rattle.rn_arcs.specs.link.Rows.{cleared_rows, put_rows};
@@ -17,6 +18,7 @@ use std::alloc::Global;
 ///
 /// Its work is near linear in the number of arcs.
 pub fn demands_of(alloc: Global, system: &System, binding: &Binding) -> Result<Demands, NoMemory>
+    requires fit { InscriptionsAreFit system.now binding.now }
     ensures { IfOk result (λ demands. AreDemandsOf system.now binding.now demands) }
 {
     let filled = fills_of(alloc, system, binding)?;
@@ -29,6 +31,7 @@ pub fn demands_of(alloc: Global, system: &System, binding: &Binding) -> Result<D
 ///
 /// Its work is near linear in the number of arcs.
 pub fn takings_of(alloc: Global, system: &System, binding: &Binding) -> Result<Takings, NoMemory>
+    requires fit { InscriptionsAreFit system.now binding.now }
     ensures { IfOk result (λ takings. AreTakingsOf system.now binding.now takings) }
 {
     let places = asked_of(alloc, system, binding, false)?;

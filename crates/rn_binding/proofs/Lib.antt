@@ -4,6 +4,7 @@ pub mod ComingValues
 pub mod Deciding
 pub mod Ending
 pub mod EnteringNodes
+pub mod FitOperands
 pub mod ForcedVariables
 pub mod HoleForms
 pub mod Later

@@ -128,7 +128,7 @@ module _ (sought : Sought) (inside self : Grown) (view : inside ≡ self)
         it_is : offered sought inside.decisions point a ≡ Some d
         it_is = offered_inside ∙ some
 
-        made_inside : MayBeMade sought.system sought.depth inside.decisions d
+        made_inside : MayBeMade sought.system sought.marking sought.depth inside.decisions d
         made_inside =
             subst (λ g. Allows sought g.decisions point a) (sym view) allows d it_is
 

@@ -12,5 +12,6 @@ mod Passing
 mod Pushing
 mod Settled
 mod TakenTokens
+mod TrialKinds
 mod VainTokens
 mod Whole

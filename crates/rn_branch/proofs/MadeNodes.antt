@@ -19,6 +19,7 @@ use Rattle.std.proofs.lemmas.Option.{slice_get-get_or}
 use Rattle.rn_items.proofs.Numbers.{same_numbers, numbers_themselves}
 use Rattle.rn_model.specs.declared.binding.Node.{Node}
 use Rattle.rn_model.specs.Bindings.{IsNodeOf}
+use Rattle.rn_model.specs.Markings.{Marking}
 use Rattle.rn_model.specs.Order.{node_cmp}
 use Rattle.rn_model.specs.Systems.{transition_of}
 use Rattle.rn_model.proofs.AskedValues.{contained_flat, later}
@@ -139,7 +140,7 @@ is_below x y Greater e apart low =
     let under : is_lt (node_cmp y x) ≡ true = rw back refl in
     absurd (true≢false (sym under ∙ low))
 
-module _ (g : Grown) (depth : ℕ) (sound : AreSound g.system depth g.decisions)
+module _ (g : Grown) (m : Marking) (depth : ℕ) (sound : AreSound g.system m depth g.decisions)
     (made sorted : List Node) (are : AreMadeNodes g g.decisions made)
     (ordered : IsSorted node_cmp sorted) (same : IsPermutation made sorted) where
   distinct : IsDistinct on_one_path sorted

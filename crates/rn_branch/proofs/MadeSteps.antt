@@ -125,6 +125,7 @@ pub binding_made : (sought : Sought) (g : Grown) → IsBranchOf sought g →
     IsPermutation made sorted → IsMadeOf sought.system g.decisions (record { nodes = sorted })
 binding_made sought g branch made sorted are ordered same =
     subst (λ s. IsMadeOf s g.decisions (record { nodes = sorted })) branch.system
-    (made_of_them g sought.depth
-    (subst (λ s. AreSound s sought.depth g.decisions) (sym branch.system) branch.sound)
+    (made_of_them g sought.marking sought.depth
+    (subst (λ s. AreSound s sought.marking sought.depth g.decisions) (sym branch.system)
+    branch.sound)
     made sorted are ordered same)

@@ -41,7 +41,7 @@ use Rattle.rn_branch.specs.GoingOn.{AreHeadsIn}
 -- each decision, and the start, is on a node of the system
 pub heads_in : (sought : Sought) (ds : List Decision) →
     MayStart sought.system sought.marking sought.start →
-    AreSound sought.system sought.depth ds → AreHeadsIn sought ds
+    AreSound sought.system sought.marking sought.depth ds → AreHeadsIn sought ds
 heads_in sought ds may sound node = by (slice_get ds node) refl
   where
     by : (o : Option Decision) → slice_get ds node ≡ o →
@@ -119,9 +119,10 @@ module _ (sought : Sought) (old : Grown) (branch : IsBranchOf sought old) where
 
   module _ (point : Point) (a : ℕ) (d : Decision)
       (is : offered sought old.decisions point a ≡ Some d)
-      (may : MayBeMade sought.system sought.depth old.decisions d) where
-    more_sound : AreSound sought.system sought.depth (old.decisions ++ d ∷ [])
-    more_sound = sound_by_one sought.system sought.depth old.decisions d branch.sound may
+      (may : MayBeMade sought.system sought.marking sought.depth old.decisions d) where
+    more_sound : AreSound sought.system sought.marking sought.depth (old.decisions ++ d ∷ [])
+    more_sound =
+        sound_by_one sought.system sought.marking sought.depth old.decisions d branch.sound may
 
     with_one : IsSolvable old.system (old.decisions ++ d ∷ []) →
         IsBranchOf sought (with_decision old d)
@@ -183,7 +184,8 @@ pub stands_before : (sought : Sought) (g : Grown) (n : ℕ) → n ≤ length g.d
     IsBranchOf sought g → IsBranchOf sought (first_decisions n g)
 stands_before sought g n within branch = record {
   system = branch.system;
-  sound = sound_by_fewer sought.system sought.depth n g.decisions within branch.sound;
+  sound =
+      sound_by_fewer sought.system sought.marking sought.depth n g.decisions within branch.sound;
   solvable = (
     branch.solvable.0,
     λ d there. branch.solvable.1 d

@@ -96,7 +96,7 @@ module _ (sought : Sought) (g : Grown) (branch : IsBranchOf sought g) (node k fr
       sym w.2 ∙ ap (λ h. Found h k w.0) head_is ∙ ap (λ u. Found o.head.now k u) same
 
   -- So nothing goes on by it where nothing follows that.
-  by_decision : (MayBeMade sought.system sought.depth g.decisions d →
+  by_decision : (MayBeMade sought.system sought.marking sought.depth g.decisions d →
       offered sought g.decisions point a ≡ Some d → (b : Binding) → Leads sought more b → ⊥) →
       NoneLeadBy sought g.decisions point a
   by_decision never = by (offered sought g.decisions point a) refl
@@ -110,9 +110,10 @@ module _ (sought : Sought) (g : Grown) (branch : IsBranchOf sought g) (node k fr
           (subst (λ f. Leads sought (g.decisions ++ f ∷ []) b)
           (ap (λ t. unwrap_or t (nowhere sought.system)) it) leads)
 
-  sound_with : MayBeMade sought.system sought.depth g.decisions d →
-      AreSound sought.system sought.depth more
-  sound_with may = sound_by_one sought.system sought.depth g.decisions d branch.sound may
+  sound_with : MayBeMade sought.system sought.marking sought.depth g.decisions d →
+      AreSound sought.system sought.marking sought.depth more
+  sound_with may =
+      sound_by_one sought.system sought.marking sought.depth g.decisions d branch.sound may
 
   -- What takes more than is there leads to nothing.
   abbrev taking : List Decision → List Value

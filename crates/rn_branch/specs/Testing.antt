@@ -3,7 +3,7 @@ use Rattle.std.specs.Prelude.{ℕ, ◌≡◌, ◌≤◌, List, ◌∷◌, Option
 use Rattle.std.specs.Prelude.{length, Contains, All}
 use Rattle.rn_value.specs.declared.value.Value.{Value}
 use Rattle.rn_model.specs.declared.expr.Cond.{Cond}
-use Rattle.rn_model.specs.Evaluation.{Env, IsTrueUnder}
+use Rattle.rn_model.specs.Evaluation.{IsTrueUnder}
 use Rattle.rn_growing.specs.declared.decision.Head.{Head}
 use Rattle.rn_growing.specs.declared.decision.Caller.{Caller}
 use Rattle.rn_growing.specs.declared.decision.Decision.TheVariants.{Entered}
@@ -12,7 +12,6 @@ use Rattle.rn_growing.specs.Grown.{Grown, first_decisions}
 use Rattle.rn_branch.specs.declared.offer.Offer.{Offer}
 use Rattle.rn_branch.specs.declared.testing.Test.{Test}
 use Rattle.rn_branch.specs.declared.testing.Tests.{Tests}
-use Rattle.rn_branch.specs.declared.trial.Trial.{Trial}
 use Rattle.rn_looking.specs.Guards.{vars_of_guard}
 use Rattle.rn_looking.specs.Knowing.{AreOthersOf}
 
@@ -38,11 +37,6 @@ AreKept g (Some tests) = AreTests g tests
 abbrev pub RestOn : Option Tests → ℕ → Type 0
 RestOn None n = Unit
 RestOn (Some tests) n = tests.count ≤ n
-
--- how a guard is read where its variable is the token
-abbrev pub trial_env : Trial → Env
-trial_env t =
-    record { this = t.this.now; step = None; pairs = (t.var, t.token.now) ∷ t.others.now }
 
 -- A guard isn't true where its variable is the token.
 pub record FailsGuard (g : Grown) (o : Offer) (x : ℕ) : Type 0 where

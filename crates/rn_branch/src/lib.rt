@@ -20,7 +20,6 @@ mod taking;
 mod takings;
 mod testing;
 mod token_key;
-mod trial;
 mod tried;
 mod trying;
 mod vain;

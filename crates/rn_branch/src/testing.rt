@@ -7,13 +7,14 @@ ghost use Rattle.std.specs.Prelude.{false, slice_get};
 ghost use Rattle.rn_growing.specs.declared.decision.Caller.{Caller};
 ghost use Rattle.rn_growing.specs.declared.decision.Decision.TheVariants as D;
 ghost use Rattle.rn_growing.specs.Decisions.{transition_in};
+ghost use Rattle.rn_value.specs.Kinds.{HasKind};
+ghost use Rattle.rn_looking.specs.NodeKinds.{IsKindedNode, kinds_at};
 ghost use Rattle.rn_branch.specs.Testing.{AreKept, FailsGuard, IsTest, RestOn};
 
 use crate::offer::Offer;
-use crate::trial::Trial;
 use rn_calc::is_true;
 use rn_growing::{Growing, Head};
-use rn_looking::{put_guard, values_but};
+use rn_looking::{Trial, put_guard, values_but};
 use rn_model::Transition;
 use rn_value::{NoMemory, Value};
 use std::alloc::Global;
@@ -133,6 +134,8 @@ fn fails(
 ) -> Result<bool, NoMemory>
     requires of { offer.now.transition.now ≡ transition_in growing.now.system offer.now.head.now }
     requires test { IsTest growing.now offer.now.head.now var test.now }
+    requires node { IsKindedNode growing.now offer.now.head.now offer.now.transition.now }
+    requires token { HasKind offer.now.token.now (kinds_at growing.now offer.now.head.now var) }
     ensures { IfOk result (λ yes. IsTrue yes → FailsGuard growing.now offer.now var) }
 {
     // Only a clause speaks of it.
@@ -159,6 +162,8 @@ fn fails_one(
 ) -> Result<bool, NoMemory>
     requires of { offer.now.transition.now ≡ transition_in growing.now.system offer.now.head.now }
     requires tests { All (IsTest growing.now offer.now.head.now var) tests.now }
+    requires node { IsKindedNode growing.now offer.now.head.now offer.now.transition.now }
+    requires token { HasKind offer.now.token.now (kinds_at growing.now offer.now.head.now var) }
     ensures { IfOk result (λ yes. IsTrue yes → FailsGuard growing.now offer.now var) }
 {
     for test in tests {
@@ -182,6 +187,8 @@ pub(crate) fn fails_kept(
     requires entered { (caller : Option Caller)
         × (slice_get growing.now.decisions node ≡ Some (D.Entered offer.now.head.now caller)) }
     requires of { offer.now.transition.now ≡ transition_in growing.now.system offer.now.head.now }
+    requires node { IsKindedNode growing.now offer.now.head.now offer.now.transition.now }
+    requires token { HasKind offer.now.token.now (kinds_at growing.now offer.now.head.now var) }
     ensures { IfOk result (λ yes. IsTrue yes → FailsGuard growing.now offer.now var) }
 {
     let Some(tests) = kept else {

@@ -16,7 +16,7 @@ use crate::takings::TakingCounts;
 use crate::testing::{Tests, fails_kept, keep_tests};
 use crate::tried::{Tried, TriedToken};
 use rn_growing::Growing;
-use rn_model::Expr;
+use rn_model::{Expr, finds_token};
 use rn_search::{Point, Problem};
 use rn_value::NoMemory;
 use std::alloc::Global;
@@ -53,6 +53,9 @@ fn is_vain_token(
     };
     if is_taken_up(alloc, problem, growing, takings, &offer)? {
         return Ok(true);
+    }
+    if !finds_token(offer.arc.kind) {
+        return Ok(false);
     }
     let Expr::Var(var) = &offer.arc.inscription else {
         return Ok(false);

@@ -1,9 +1,13 @@
 //! The truth of a condition.
-ghost use Rattle.std.specs.Prelude.{◌≡◌, ◌↔◌, ◌≤◌, IfOk, IfSome, IsTrue, map, option_and_then, option_map};
+ghost use Rattle.std.specs.Prelude.{◌≡◌, ◌↔◌, ◌≤◌, IfOk, IfSome, IsTrue, flat_map, map};
+ghost use Rattle.std.specs.Prelude.{option_and_then, option_map};
 ghost use Rattle.rn_model.specs.Evaluation.{IsTrueUnder, all_true, comparison_of};
 ghost use Rattle.rn_model.specs.Evaluation.{simple_truth, truth};
+ghost use Rattle.rn_model.specs.AgreementLaws.{MayCompare};
+ghost use Rattle.rn_value.specs.declared.value.Value.TheVariants as Value;
 ghost use Rattle.rn_model.specs.Limits.{greatest_step};
 ghost use Rattle.rn_calc.specs.link.Given.{env_given};
+ghost use Rattle.rn_calc.specs.FitComparisons.{AreFit, AreNumbers, ComparisonsAreFit, comparisons_of};
 ghost use Rattle.rn_calc.specs.Readings.{seen};
 
 use crate::given::Given;
@@ -13,37 +17,52 @@ use rn_model::{CompareKind, Cond, Simple};
 use rn_value::{NoMemory, Value, cmp};
 use std::alloc::Global;
 
-fn compare(kind: CompareKind, v: &Value, w: &Value) -> Option<bool>
-    ensures { result ≡ comparison_of kind v.now w.now }
+fn whole_numbers(v: &Value, w: &Value) -> (i64, i64)
+    requires fit { AreNumbers v.now w.now }
+    ensures left { v.now ≡ Value.Int result.0 }
+    ensures right { w.now ≡ Value.Int result.1 }
+{
+    match (v, w) {
+        (Value::Int(x), Value::Int(y)) => (*x, *y),
+        _ => unreachable!(),
+    }
+}
+
+#[tactic(auto, using(rn_model::proofs::EvaluationLemmas::worth_rules))]
+fn compare(kind: CompareKind, v: &Value, w: &Value) -> bool
+    requires fit { MayCompare kind v.now w.now }
+    ensures { comparison_of kind v.now w.now ≡ Some result }
 {
     match kind {
-        CompareKind::Same => Some(cmp(v, w).is_eq()),
-        CompareKind::Differs => Some(!cmp(v, w).is_eq()),
-        CompareKind::Less => match (v, w) {
-            (Value::Int(x), Value::Int(y)) => Some(*x < *y),
-            _ => None,
-        },
-        CompareKind::AtMost => match (v, w) {
-            (Value::Int(x), Value::Int(y)) => Some(*x <= *y),
-            _ => None,
-        },
-        CompareKind::Greater => match (v, w) {
-            (Value::Int(x), Value::Int(y)) => Some(*y < *x),
-            _ => None,
-        },
-        CompareKind::AtLeast => match (v, w) {
-            (Value::Int(x), Value::Int(y)) => Some(*y <= *x),
-            _ => None,
-        },
+        CompareKind::Same => cmp(v, w).is_eq(),
+        CompareKind::Differs => !cmp(v, w).is_eq(),
+        CompareKind::Less => {
+            let (x, y) = whole_numbers(v, w);
+            x < y
+        }
+        CompareKind::AtMost => {
+            let (x, y) = whole_numbers(v, w);
+            x <= y
+        }
+        CompareKind::Greater => {
+            let (x, y) = whole_numbers(v, w);
+            y < x
+        }
+        CompareKind::AtLeast => {
+            let (x, y) = whole_numbers(v, w);
+            y <= x
+        }
     }
 }
 
 fn compare_readings(kind: CompareKind, a: &Option<Reading>, b: &Option<Reading>) -> Option<bool>
+    requires fit { (v w : Value) → option_map seen a.now ≡ Some v
+        → option_map seen b.now ≡ Some w → MayCompare kind v w }
     ensures { result ≡ option_and_then
         (λ v. option_and_then (comparison_of kind v) (option_map seen b.now)) (option_map seen a.now) }
 {
     match (a, b) {
-        (Some(v), Some(w)) => compare(kind, v.get(), w.get()),
+        (Some(v), Some(w)) => Some(compare(kind, v.get(), w.get())),
         _ => None,
     }
 }
@@ -52,6 +71,7 @@ fn compare_readings(kind: CompareKind, a: &Option<Reading>, b: &Option<Reading>)
 #[tactic(auto, using(rn_model::proofs::TruthLemmas::cond_rules))]
 fn truth_in<V: Values>(alloc: Global, cond: &Cond, values: &V) -> Result<Option<bool>, NoMemory>
     requires step { IfSome (V.env values.now).step (λ n. n ≤ greatest_step) }
+    requires fit { ComparisonsAreFit (V.env values.now) cond.now }
     ensures { IfOk result (λ t. t ≡ truth cond.now (V.env values.now)) }
 {
     let mut some = false;
@@ -72,6 +92,7 @@ fn all_of<V: Values>(
     values: &V,
 ) -> Result<Option<bool>, NoMemory>
     requires step { IfSome (V.env values.now).step (λ n. n ≤ greatest_step) }
+    requires fit { AreFit (V.env values.now) (flat_map comparisons_of simples.now) }
     ensures { IfOk result (λ t. t ≡ all_true (map simple_truth simples.now) (V.env values.now)) }
 {
     let mut all = true;
@@ -87,6 +108,7 @@ fn all_of<V: Values>(
 #[cycle(condition)]
 fn one<V: Values>(alloc: Global, simple: &Simple, values: &V) -> Result<Option<bool>, NoMemory>
     requires step { IfSome (V.env values.now).step (λ n. n ≤ greatest_step) }
+    requires fit { AreFit (V.env values.now) (comparisons_of simple.now) }
     ensures { IfOk result (λ t. t ≡ simple_truth simple.now (V.env values.now)) }
 {
     match simple {
@@ -107,6 +129,7 @@ fn one<V: Values>(alloc: Global, simple: &Simple, values: &V) -> Result<Option<b
 /// Values of variables are compared where they stand.
 pub fn is_true<V: Values>(alloc: Global, cond: &Cond, values: &V) -> Result<bool, NoMemory>
     requires step { IfSome (V.env values.now).step (λ n. n ≤ greatest_step) }
+    requires fit { ComparisonsAreFit (V.env values.now) cond.now }
     ensures exact { IfOk result (λ yes. IsTrue yes ↔ IsTrueUnder (V.env values.now) cond.now) }
 {
     match truth_in(alloc, cond, values)? {
@@ -120,6 +143,7 @@ pub fn is_true<V: Values>(alloc: Global, cond: &Cond, values: &V) -> Result<bool
 /// `1 < 2 || 1 / 0 == 0` isn't true, since not all of it is defined.
 pub fn holds(alloc: Global, cond: &Cond, given: &Given) -> Result<bool, NoMemory>
     requires step { given.now.step ≤ greatest_step }
+    requires fit { ComparisonsAreFit (env_given given.now) cond.now }
     ensures exact { IfOk result (λ yes. IsTrue yes ↔ IsTrueUnder (env_given given.now) cond.now) }
 {
     is_true(alloc, cond, given)

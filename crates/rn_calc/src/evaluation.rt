@@ -3,29 +3,32 @@ ghost use Rattle.std.specs.Prelude.{◌≡◌, ◌≤◌, IfOk, IfSome, Some, ma
 ghost use Rattle.rn_model.specs.Lists.{value_beside};
 ghost use Rattle.rn_value.specs.declared.value.Value.TheVariants as Value;
 ghost use Rattle.rn_model.specs.Evaluation.{int_of, int_result, list_onto, neg_value, worth, worths};
+ghost use Rattle.rn_model.specs.ExpressionLaws.{OperandsAreFit};
 ghost use Rattle.rn_model.specs.Limits.{greatest_step};
 ghost use Rattle.rn_calc.specs.link.Given.{env_given};
+ghost use Rattle.rn_calc.specs.FitOperands.{IsNumberIfAny, IsListIfAny, PartsAreFit};
 
 use crate::given::Given;
 use crate::integers::{operate, opposite};
 use crate::values::Values;
 use rn_items::Items;
 use rn_model::{Expr, OpKind};
-use rn_value::{
-    NoMemory, Str, Vals, Value, copy, copy_inst, copy_text, list_value, own_items, tuple_value,
-};
+use rn_value::{NoMemory, Vals, Value, copy, copy_inst, list_value, own_items, tuple_value};
 use std::alloc::Global;
 
 fn int_in(value: &Option<Value>) -> Option<i64>
+    requires fit { IsNumberIfAny value.now }
     ensures { result ≡ option_and_then int_of value.now }
 {
     match value {
         Some(Value::Int(n)) => Some(*n),
-        _ => None,
+        Some(_) => unreachable!(),
+        None => None,
     }
 }
 
 fn negate(value: &Option<Value>) -> Option<Value>
+    requires fit { IsNumberIfAny value.now }
     ensures { result ≡ neg_value value.now }
 {
     match int_in(value) {
@@ -44,6 +47,7 @@ fn apply(kind: OpKind, a: Option<i64>, b: Option<i64>) -> Option<Value>
 }
 
 fn put_onto(alloc: Global, values: Vals, tail: Option<Value>) -> Result<Option<Value>, NoMemory>
+    requires fit { IsListIfAny tail }
     ensures { IfOk result (λ value. value ≡ option_and_then (list_onto values) tail) }
 {
     match tail {
@@ -53,14 +57,9 @@ fn put_onto(alloc: Global, values: Vals, tail: Option<Value>) -> Result<Option<V
             all.append(&mut others)?;
             Ok(Some(list_value(alloc, Items::from_vec(all))?))
         }
-        _ => Ok(None),
+        Some(_) => unreachable!(),
+        None => Ok(None),
     }
-}
-
-fn text_value(alloc: Global, text: &Str) -> Result<Option<Value>, NoMemory>
-    ensures { IfOk result (λ value. value ≡ Some (Value.Text text.now)) }
-{
-    Ok(Some(Value::Text(copy_text(alloc, text)?)))
 }
 
 fn variable_value<V: Values>(alloc: Global, values: &V, x: u32) -> Result<Option<Value>, NoMemory>
@@ -114,11 +113,12 @@ pub fn evaluate<V: Values>(
     values: &V,
 ) -> Result<Option<Value>, NoMemory>
     requires step { IfSome (V.env values.now).step (λ n. n ≤ greatest_step) }
+    requires fit { OperandsAreFit (V.env values.now) expr.now }
     ensures value { IfOk result (λ value. value ≡ worth expr.now (V.env values.now)) }
 {
     match expr {
         Expr::Int(n) => Ok(Some(Value::Int(*n))),
-        Expr::Text(text) => text_value(alloc, text),
+        Expr::Text(text) => Ok(Some(Value::Text(text.share()?))),
         Expr::Var(x) => variable_value(alloc, values, *x),
         Expr::This => this_value(alloc, values),
         Expr::Step => Ok(step_value(values)),
@@ -145,6 +145,8 @@ fn join_tail<V: Values>(
     values: &V,
 ) -> Result<Option<Value>, NoMemory>
     requires step { IfSome (V.env values.now).step (λ n. n ≤ greatest_step) }
+    requires fit { OperandsAreFit (V.env values.now) tail.now }
+    requires list { IsListIfAny (worth tail.now (V.env values.now)) }
     ensures { IfOk result (λ value. value ≡ option_and_then
         (λ vs. option_and_then (list_onto vs) (worth tail.now (V.env values.now))) parts) }
 {
@@ -161,6 +163,7 @@ fn evaluate_all<V: Values>(
     values: &V,
 ) -> Result<Option<Vals>, NoMemory>
     requires step { IfSome (V.env values.now).step (λ n. n ≤ greatest_step) }
+    requires fit { PartsAreFit (V.env values.now) exprs.now }
     ensures { IfOk result (λ found. found ≡ worths (map worth exprs.now) (V.env values.now)) }
 {
     let mut found = Vec::with_capacity(alloc, exprs.len())?;
@@ -178,6 +181,7 @@ fn evaluate_all<V: Values>(
 /// `(0 - 7) / 2` is -3, `(0 - 7) % 2` is -1, and `1 / 0` has none.
 pub fn calc(alloc: Global, expr: &Expr, given: &Given) -> Result<Option<Value>, NoMemory>
     requires step { given.now.step ≤ greatest_step }
+    requires fit { OperandsAreFit (env_given given.now) expr.now }
     ensures value { IfOk result (λ value. value ≡ worth expr.now (env_given given.now)) }
 {
     evaluate(alloc, expr, given)

@@ -1,6 +1,7 @@
 //! Values of expressions that are lent where they stand already.
 ghost use Rattle.std.specs.Prelude.{◌≡◌, ◌≤◌, ◌↔◌, IfOk, IfSome, IsTrue, option_map, Some};
 ghost use Rattle.rn_model.specs.Evaluation.{worth};
+ghost use Rattle.rn_model.specs.ExpressionLaws.{OperandsAreFit};
 ghost use Rattle.rn_model.specs.Limits.{greatest_step};
 ghost use Rattle.rn_model.specs.Lists.{HaveOneValue};
 ghost use Rattle.rn_calc.specs.Readings.{seen};
@@ -37,6 +38,7 @@ pub fn read<'a, V: Values>(
     values: &'a V,
 ) -> Result<Option<Reading<'a>>, NoMemory>
     requires step { IfSome (V.env values.now).step (λ n. n ≤ greatest_step) }
+    requires fit { OperandsAreFit (V.env values.now) expr.now }
     ensures { IfOk result (λ r. option_map seen r ≡ worth expr.now (V.env values.now)) }
 {
     match expr {
@@ -72,6 +74,8 @@ pub fn have_one_value<V: Values, W: Values>(
 ) -> Result<bool, NoMemory>
     requires step { IfSome (V.env values.now).step (λ n. n ≤ greatest_step) }
     requires other_step { IfSome (W.env others.now).step (λ n. n ≤ greatest_step) }
+    requires fit { OperandsAreFit (V.env values.now) a.now }
+    requires other_fit { OperandsAreFit (W.env others.now) b.now }
     ensures { IfOk result (λ yes. IsTrue yes
         ↔ HaveOneValue (worth a.now (V.env values.now)) (worth b.now (W.env others.now))) }
 {

@@ -1,5 +1,7 @@
 //! How many tokens a binding puts at a place, and whether a capacity of 1 has room for them.
-ghost use Rattle.std.specs.Prelude.{◌≡◌, IfOk, length};
+ghost use Rattle.std.specs.Prelude.{◌≡◌, [], All, IfOk, length};
+ghost use Rattle.rn_model.specs.ExpressionLaws.{operands_in};
+ghost use Rattle.rn_model.specs.Systems.{transition_at};
 
 use rn_arcs::{demands_of, fits};
 use rn_items::Items;
@@ -21,7 +23,9 @@ fn named(alloc: Global, name: &str) -> Result<Str, NoMemory> {
     Ok(Str::from_string(String::from_str(alloc, name)?))
 }
 
-fn expr_of(alloc: Global, inscription: Inscription) -> Result<Expr, NoMemory> {
+fn expr_of(alloc: Global, inscription: Inscription) -> Result<Expr, NoMemory>
+    ensures { IfOk result (λ e. operands_in e ≡ []) }
+{
     match inscription {
         Inscription::One => Ok(Expr::Tuple(Items::new(alloc))),
         Inscription::Listed => {
@@ -48,13 +52,16 @@ fn place_with(alloc: Global, tokens: usize) -> Result<Place, NoMemory> {
 }
 
 // A transition with these arcs at place 0, whose variable 0 an action sets.
-fn transition_with(alloc: Global, arcs: &[(ArcKind, Inscription)]) -> Result<Transition, NoMemory> {
+fn transition_with(alloc: Global, arcs: &[(ArcKind, Inscription)]) -> Result<Transition, NoMemory>
+    ensures { IfOk result (λ t. All (λ a. operands_in a.inscription ≡ []) t.arcs) }
+{
     let mut made = Items::new(alloc);
     for (kind, inscription) in arcs {
+        let inscribed = expr_of(alloc, *inscription)?;
         made.push(NetArc {
             kind: *kind,
             place: 0,
-            inscription: expr_of(alloc, *inscription)?,
+            inscription: inscribed,
         })?;
     }
     Ok(Transition {
@@ -76,23 +83,31 @@ fn system_with(
     tokens: usize,
     arcs: &[(ArcKind, Inscription)],
 ) -> Result<System, NoMemory>
-    ensures { IfOk result (λ system. length system.nets ≡ 1) }
+    ensures one { IfOk result (λ system. length system.nets ≡ 1) }
+    ensures plain { IfOk result
+        (λ system. All (λ a. operands_in a.inscription ≡ []) (transition_at system 0 0).arcs) }
 {
     let place = place_with(alloc, tokens)?;
     let transition = transition_with(alloc, arcs)?;
+    let one = Vec::from_array(alloc, [transition])?;
+    let transitions = Items::from_vec(one);
     let net = Net {
         name: named(alloc, "main")?,
         vars: Items::new(alloc),
         places: Items::from_vec(Vec::from_array(alloc, [place])?),
-        transitions: Items::from_vec(Vec::from_array(alloc, [transition])?),
+        transitions,
     };
+    let main = Vec::from_array(alloc, [net])?;
+    let nets = Items::from_vec(main);
     Ok(System {
-        nets: Items::from_vec(Vec::from_array(alloc, [net])?),
+        nets,
         channels: Items::new(alloc),
     })
 }
 
-fn binding(alloc: Global) -> Result<Binding, NoMemory> {
+fn binding(alloc: Global) -> Result<Binding, NoMemory>
+    ensures { IfOk result (λ b. All (λ node. (node.net ≡ 0) × (node.transition ≡ 0)) b.nodes) }
+{
     let node = Node {
         path: Items::new(alloc),
         inst: InstRef::Old(1),

@@ -24,7 +24,7 @@ pub opened : (sought : Sought) →
     IsBranchOf sought (record { system = sought.system; decisions = [] })
 opened sought = record {
   system = refl;
-  sound = none_are_sound sought.system sought.depth;
+  sound = none_are_sound sought.system sought.marking sought.depth;
   solvable = (any_assignment, λ d there. absurd (not_in_nil d there));
   start = λ d at. absurd (let no : ⊥ = cc in no);
 }

@@ -4,6 +4,7 @@ ghost use Rattle.rn_model.specs.Bindings.{IsNodeOf};
 ghost use Rattle.rn_model.specs.Firing.{creations_of};
 ghost use Rattle.rn_model.specs.Good.{Good};
 ghost use Rattle.rn_model.specs.Limits.{greatest_instance, greatest_step};
+ghost use Rattle.rn_calc.specs.OwnKinds.{HaveOwnKinds};
 ghost use Rattle.rn_fire.specs.link.Outcomes.{IsOutcome};
 
 use rn_acts::{Acted, act, change_of, gives_too_many};
@@ -31,6 +32,7 @@ pub(crate) fn outcome_of(
 ) -> Result<Outcome, NoMemory>
     requires good { Good system.now }
     requires nodes { All (IsNodeOf system.now) binding.now.nodes }
+    requires kinds { All (HaveOwnKinds system.now) binding.now.nodes }
     requires numbers { next + length (creations_of system.now binding.now) ≤ 2 ^ 32 }
     requires next { next ≤ greatest_instance + 1 }
     requires step { step ≤ greatest_step }

@@ -13,7 +13,7 @@ use crate::slot::Unknown;
 use rn_items::Items;
 use rn_model::Expr;
 use rn_term::Ids;
-use rn_value::{NoMemory, Value, copy_inst, copy_text};
+use rn_value::{NoMemory, Value, copy_inst};
 use std::alloc::Global;
 
 /// Builds an expression that stands at a site of a node, or says that it has no value under any
@@ -42,7 +42,7 @@ pub(crate) fn build(
             Ok(Some(id))
         }
         Expr::Text(text) => {
-            let text = copy_text(alloc, text)?;
+            let text = text.share()?;
             let id = laid.atom(Value::Text(text))?;
             Ok(Some(id))
         }

@@ -103,7 +103,7 @@ fn value_at<'a>(
     }
     if *first == b'"' {
         let (text, rest) = text_at(alloc, rest)?;
-        return Ok((Value::Text(text), rest));
+        return Ok((Value::Text(Shared::new(alloc, text)?), rest));
     }
     if is_letter(*first) {
         let (mention, rest) = inst_at(bytes)?;

@@ -200,7 +200,7 @@ module _ (sought : Sought) (g : Grown) (node : ℕ) (head : Head) (t : Transitio
         forced_are_made sought.system g.decisions head (target i) open_call.downlink.target inst
         looked.branch.sound.turns
         looked.branch.solvable
-        (sound_are_right sought.system sought.depth g.decisions looked.branch.sound).0
+        (sound_are_right sought.system sought.marking sought.depth g.decisions looked.branch.sound).0
         (entered sought g node head t looked) forced
 
     pub is_unmade : (told : Option Value) (v : Value) (inst : InstRef) → told ≡ Some v →

@@ -47,7 +47,7 @@ part_sides guard simples one e any there side =
     contained_flat sides_of (comparisons_in guard) from.0 e
     (subst (λ cs. Contains cs from.0) all among) from.2
 
-comparison_itself : (kind : CompareKind) (left right : Expr) →
+pub comparison_itself : (kind : CompareKind) (left right : Expr) →
     comparisons_of (Simple.Compare kind left right)
     ≡ (record { kind = kind; left = left; right = right }) ∷ []
 comparison_itself kind left right =

@@ -18,6 +18,7 @@ use Rattle.rn_growing.proofs.Growth.{only_one}
 use Rattle.rn_looking.specs.Forced.{IsVarForcedTo, Knows}
 use Rattle.rn_looking.specs.Knowing.{ArePairsOf}
 use Rattle.rn_looking.specs.Knowing.{AreOthersOf}
+use Rattle.rn_looking.specs.NodeKinds.{AreForced}
 
 -- one more variable
 pub pair_more : (g : Grown) (path vars : List ℕ) (i x : ℕ) (v : Value)
@@ -68,6 +69,12 @@ knows_by g head e env path vars pairs this step pairs_are path_is vars_are so = 
         subst (λ p. IsVarForcedTo g p x v.0) path_is v.2,
       );
 }
+
+-- and each stands beside what it is forced to
+pub forced_by : (g : Grown) (head : Head) (path vars : List ℕ) (pairs : List (ℕ × Value)) →
+    path ≡ head.path → ArePairsOf g path vars pairs → AreForced g head pairs
+forced_by g head path vars pairs is so =
+    subst (λ p. All (λ q. IsVarForcedTo g p q.0 q.1) pairs) is so.1
 
 -- variables but one, one after another
 module _ (g : Grown) (path : List ℕ) (but : ℕ) (vars : List ℕ) (i x : ℕ)

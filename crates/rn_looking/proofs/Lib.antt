@@ -5,6 +5,9 @@ mod EquatedTokens
 mod FlexibleLooks
 pub mod GuardLooks
 mod InhibitorLooks
+pub mod KindedAnswers
+pub mod KindedNodes
+pub mod KindedValues
 pub mod KnownValues
 mod LevelLooks
 pub mod ListsBeside

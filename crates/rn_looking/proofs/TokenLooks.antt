@@ -142,6 +142,7 @@ module _ (sought : Sought) (g : Grown) (node : ℕ) (head : Head) (t : Transitio
       arc = x;
       there = arc_there x at;
       finds = values;
+      tokens = looked.tokens;
       fresh = λ v. (new_finds g.decisions itself k v).1
           (ap (λ h. list_any (finds h.path k) g.decisions) (node_is sought g node head t looked)
           ∙ none);
@@ -153,8 +154,9 @@ module _ (sought : Sought) (g : Grown) (node : ℕ) (head : Head) (t : Transitio
 
     -- a clear arc finds the list of its place
     pub forces_list : finds_token x.kind ≡ false → GoesOn sought g.decisions (Forced (P.List node k))
+    unfolding is_open
     forces_list list = (
-      lists_are_allowed sought g.decisions node k 0 is_open,
+      lists_are_allowed sought g.decisions node k 0 is_open list,
       λ b leads. lists_are_offered sought g.decisions b node k x leads (arc_there x at)
           (is_clear x.kind values list),
     )
@@ -177,8 +179,9 @@ module _ (sought : Sought) (g : Grown) (node : ℕ) (head : Head) (t : Transitio
     -- each token of the place may be tried
     pub chooses_token : (of first : ℕ) → of ≡ alternatives sought g.decisions (P.Token node k 0) →
         GoesOn sought g.decisions (Choose (P.Token node k 0) of first)
+    unfolding may_find is_open
     chooses_token of first is = (
-      λ a less. tokens_are_allowed sought g.decisions node k 0 a may_find,
+      λ a less. tokens_are_allowed sought g.decisions node k 0 a may_find open_arc.token,
       λ b leads.
           let by = tokens_are_offered sought g.decisions b node k x leads
           (arc_there x open_arc.there) open_arc.token in
@@ -269,8 +272,9 @@ module _ (sought : Sought) (g : Grown) (node : ℕ) (head : Head) (t : Transitio
         ((i : ℕ) (w : Value) → slice_get held_there i ≡ Some w → has_first v w ≡ true →
         (start ≤ i) × (i < end)) → of ≡ end - start →
         GoesOn sought g.decisions (Choose (P.Token node k start) of first)
+    unfolding may_find is_open
     chooses_first v start end of first known within is = (
-      λ a less. tokens_are_allowed sought g.decisions node k start a may_find,
+      λ a less. tokens_are_allowed sought g.decisions node k start a may_find open_arc.token,
       λ b leads.
           let by = tokens_are_offered sought g.decisions b node k x leads
           (arc_there x open_arc.there) open_arc.token in
@@ -289,8 +293,9 @@ module _ (sought : Sought) (g : Grown) (node : ℕ) (head : Head) (t : Transitio
     pub forces_token : (v : Value) (from : ℕ) → IsKnownToken g head t k (Some v) →
         first_token held_there from ≡ Some v →
         GoesOn sought g.decisions (Forced (P.Token node k from))
+    unfolding may_find is_open
     forces_token v from known first = (
-      tokens_are_allowed sought g.decisions node k from 0 may_find,
+      tokens_are_allowed sought g.decisions node k from 0 may_find open_arc.token,
       λ b leads.
           let by = tokens_are_offered sought g.decisions b node k x leads
           (arc_there x open_arc.there) open_arc.token in

@@ -18,7 +18,7 @@ use Rattle.rn_growing.specs.declared.decision.Decision.{Decision}
 -- satisfied, and begin with the start.
 pub record IsBranchOf (sought : Sought) (g : Grown) : Type 0 where
   pub system : g.system ≡ sought.system
-  pub sound : AreSound sought.system sought.depth g.decisions
+  pub sound : AreSound sought.system sought.marking sought.depth g.decisions
   pub solvable : IsSolvable sought.system g.decisions
   pub start : (d : Decision) → slice_get g.decisions 0 ≡ Some d → node_on d ≡ sought.start
 

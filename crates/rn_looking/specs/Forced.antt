@@ -34,6 +34,10 @@ IsKnownWorth g head e w = (env : Env) × Knows g head e env × (worth e env ≡ 
 abbrev pub IsKnownValue : Grown → Head → Expr → Value → Type 0
 IsKnownValue g head e v = IsKnownWorth g head e (Some v)
 
+-- an expression is a tuple with this first part
+abbrev pub IsFirstPart : Expr → Expr → Type 0
+IsFirstPart e part = (parts : List Expr) × (e ≡ Expr.Tuple (part ∷ parts))
+
 -- an expression is a tuple, and the value of its first part is known
 abbrev pub IsKnownFirst : Grown → Head → Expr → Value → Type 0
 IsKnownFirst g head e v = (part : Expr) × ((parts : List Expr) × (e ≡ Expr.Tuple (part ∷ parts))

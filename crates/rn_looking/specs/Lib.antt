@@ -1,4 +1,5 @@
 pub mod link
+pub mod AnswerKinds
 pub mod Applying
 pub mod Branches
 pub mod Calling
@@ -7,6 +8,8 @@ pub mod Forced
 pub mod Guards
 pub mod Knowing
 pub mod Looks
+pub mod NodeKinds
 pub mod Settling
 pub mod Things
+pub mod Trials
 pub mod UntrueParts

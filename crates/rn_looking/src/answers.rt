@@ -1,6 +1,13 @@
 //! Which answers of a call may lead to a binding, as far as it is seen at once: by arguments that
 //! are known, guards over them, and places without a token. It only decides what is tried first:
 //! whatever it says, each answer is tried (`docs/SEARCH.md`, 'What it does next').
+ghost use Rattle.std.specs.Prelude.{◌≡◌, All, IfOk, OnOk, Some, [], slice_get};
+ghost use Rattle.std.specs.Option.{option_map_or};
+ghost use Rattle.rn_looking.specs.AnswerKinds.{FitAnswer, FitAnswers, HaveKindsOfArgs, KnowsAnswer};
+ghost use Rattle.rn_looking.specs.AnswerKinds.{PutsArg, PutsArgs, PutsKnown, PutsVar};
+ghost use Rattle.rn_looking.specs.link.Views.{IsNodeView};
+ghost use Rattle.rn_looking.specs.NodeKinds.{IsKindedAt};
+
 use crate::arcs::known_value;
 use crate::guard_vars::put_guard;
 use crate::known::Known;
@@ -36,7 +43,10 @@ fn known_args(
     growing: &Growing<'_>,
     head: &Head,
     args: &[Expr],
-) -> Result<Vec<Option<Value>>, NoMemory> {
+) -> Result<Vec<Option<Value>>, NoMemory>
+    requires { All (IsKindedAt growing.now head.now) args.now }
+    ensures { IfOk result (λ values. HaveKindsOfArgs growing.now head.now args.now values.items) }
+{
     let mut values = Vec::with_capacity(alloc, args.len())?;
     for arg in args {
         values.push(known_value(alloc, growing, head, arg)?)?;
@@ -60,7 +70,9 @@ fn differs_from(
     x: u32,
     value: &Value,
     pairs: &mut Vec<(u32, Value)>,
-) -> Result<bool, NoMemory> {
+) -> Result<bool, NoMemory>
+    ensures { OnOk result (PutsVar x value.now pairs.old.items pairs.new.items) }
+{
     if let Some(other) = beside(pairs.as_slice(), x) {
         return Ok(!same(other, value));
     }
@@ -74,7 +86,9 @@ fn differs(
     arg: &Expr,
     value: &Value,
     pairs: &mut Vec<(u32, Value)>,
-) -> Result<bool, NoMemory> {
+) -> Result<bool, NoMemory>
+    ensures { OnOk result (PutsArg arg.now value.now pairs.old.items pairs.new.items) }
+{
     match arg {
         Expr::Var(x) => differs_from(alloc, *x, value, pairs),
         Expr::Int(n) => Ok(match value {
@@ -89,21 +103,52 @@ fn differs(
     }
 }
 
+// Whether an argument can't have the value that is known of it, if one is.
+fn arg_differs(
+    alloc: Global,
+    arg: &Expr,
+    value: &Option<Value>,
+    pairs: &mut Vec<(u32, Value)>,
+) -> Result<bool, NoMemory>
+    ensures { OnOk result (PutsKnown arg.now value.now pairs.old.items pairs.new.items) }
+{
+    match value {
+        Some(value) => differs(alloc, arg, value, pairs),
+        None => Ok(false),
+    }
+}
+
 // Whether an argument of an uplink can't have its known value. The values of variables are put.
 fn args_differ(
     alloc: Global,
     args: &[Expr],
     values: &[Option<Value>],
     pairs: &mut Vec<(u32, Value)>,
-) -> Result<bool, NoMemory> {
+) -> Result<bool, NoMemory>
+    ensures { OnOk result (PutsArgs args.now values.now pairs.old.items pairs.new.items) }
+{
     for k in 0..args.len().min(values.len()) {
-        if let Some(value) = &values[k] {
-            if differs(alloc, &args[k], value, pairs)? {
-                return Ok(true);
-            }
+        if arg_differs(alloc, &args[k], &values[k], pairs)? {
+            return Ok(true);
         }
     }
     Ok(false)
+}
+
+// Whether an argument of a transition's uplink can't. Without an uplink there is none.
+fn uplink_differs(
+    alloc: Global,
+    uplink: &Option<Uplink>,
+    values: &[Option<Value>],
+    pairs: &mut Vec<(u32, Value)>,
+) -> Result<bool, NoMemory>
+    ensures { OnOk result (PutsArgs (option_map_or (λ u. u.args) uplink.now []) values.now
+        pairs.old.items pairs.new.items) }
+{
+    match uplink {
+        Some(uplink) => args_differ(alloc, uplink.args.as_slice(), values, pairs),
+        None => Ok(false),
+    }
 }
 
 // Whether the values of these variables are known.
@@ -117,11 +162,9 @@ fn are_known(vars: &[u32], known: &Known<'_>) -> bool {
 }
 
 // Whether a guard of a transition isn't true by what is known.
-fn fails_guard(
-    alloc: Global,
-    transition: &Transition,
-    known: &Known<'_>,
-) -> Result<bool, NoMemory> {
+fn fails_guard(alloc: Global, transition: &Transition, known: &Known<'_>) -> Result<bool, NoMemory>
+    requires { KnowsAnswer transition.now known.now.pairs.items }
+{
     for guard in transition.guards.as_slice() {
         let mut vars = Vec::new(alloc);
         put_guard(guard, &mut vars)?;
@@ -176,12 +219,12 @@ fn is_excluded(
     inst: &InstRef,
     transition: &Transition,
     values: &[Option<Value>],
-) -> Result<bool, NoMemory> {
+) -> Result<bool, NoMemory>
+    requires { FitAnswer transition.now values.now }
+{
     let mut pairs = Vec::new(alloc);
-    if let Some(uplink) = &transition.uplink {
-        if args_differ(alloc, uplink.args.as_slice(), values, &mut pairs)? {
-            return Ok(true);
-        }
+    if uplink_differs(alloc, &transition.uplink, values, &mut pairs)? {
+        return Ok(true);
     }
     let known = Known::of(inst, pairs);
     if fails_guard(alloc, transition, &known)? {
@@ -256,7 +299,9 @@ fn left_among(
     net: u32,
     answers: &[u32],
     values: &[Option<Value>],
-) -> Result<Left, NoMemory> {
+) -> Result<Left, NoMemory>
+    requires { FitAnswers problem.now.system net answers.now values.now }
+{
     let mut left = Left {
         count: 0,
         first: 0,
@@ -288,7 +333,10 @@ pub(crate) fn answers_left(
     downlink: &Downlink,
     inst: &InstRef,
     called: Called,
-) -> Result<Left, NoMemory> {
+) -> Result<Left, NoMemory>
+    requires at { IsNodeView at }
+    requires link { slice_get at.transition.now.downlinks i ≡ Some downlink.now }
+{
     let decisions = at.growing.decisions();
     let answers = at.problem.answers(decisions, at.node, i, called);
     if answers.len() < 2 || answers.len() > FEW {

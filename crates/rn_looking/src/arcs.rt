@@ -7,6 +7,7 @@ ghost use Rattle.rn_looking.specs.link.Views.{IsNodeView, NodeLooked};
 ghost use Rattle.rn_looking.specs.Equating.{IsKnownToken, IsTokenOf};
 ghost use Rattle.rn_looking.specs.Knowing.{IsKnownFirst, IsKnownTokenFirst, IsKnownValue};
 ghost use Rattle.rn_looking.specs.Looks.{Urges};
+ghost use Rattle.rn_looking.specs.NodeKinds.{HasItsKinds, IsKindedAt, IsKindedNode};
 ghost use Rattle.rn_looking.specs.Things.{IsOnArc, IsOnArcs, FindsToken};
 
 use crate::among::among;
@@ -15,6 +16,7 @@ use crate::equated::{equated, known_worth};
 use crate::known::known_in;
 use crate::look::Look;
 use crate::narrowed::narrowed;
+use crate::parts::first_part;
 use crate::views::NodeView;
 use rn_calc::evaluate;
 use rn_choices::Next;
@@ -31,7 +33,11 @@ pub(crate) fn known_value(
     head: &Head,
     expr: &Expr,
 ) -> Result<Option<Value>, NoMemory>
-    ensures { IfOk result (λ value. IfSome value (λ v. IsKnownValue growing.now head.now expr.now v)) }
+    requires kinds { IsKindedAt growing.now head.now expr.now }
+    ensures value { IfOk result (λ value. IfSome value
+        (λ v. IsKnownValue growing.now head.now expr.now v)) }
+    ensures kind { IfOk result (λ value. IfSome value
+        (HasItsKinds growing.now head.now expr.now)) }
 {
     let Some(known) = known_in(alloc, growing, head, expr)? else {
         return Ok(None);
@@ -47,14 +53,12 @@ fn known_first_part(
     head: &Head,
     expr: &Expr,
 ) -> Result<Option<Value>, NoMemory>
+    requires kinds { IsKindedAt growing.now head.now expr.now }
     ensures { IfOk result (λ value. IfSome value (λ v. IsKnownFirst growing.now head.now expr.now v)) }
 {
-    let Expr::Tuple(parts) = expr else {
-        return Ok(None);
-    };
-    match parts.as_slice() {
-        [part, ..] => known_value(alloc, growing, head, part),
-        [] => Ok(None),
+    match first_part(expr) {
+        Some(part) => known_value(alloc, growing, head, part),
+        None => Ok(None),
     }
 }
 
@@ -76,6 +80,8 @@ fn known_token(
     transition: &Transition,
     expr: &Expr,
 ) -> Result<Option<Option<Value>>, NoMemory>
+    requires node { IsKindedNode growing.now head.now transition.now }
+    requires kinds { IsKindedAt growing.now head.now expr.now }
     ensures { IfOk result (λ told. IfSome told
         (λ w. IsTokenOf growing.now head.now transition.now expr.now w)) }
 {

@@ -6,8 +6,10 @@ ghost use Rattle.std.specs.Prelude.{◌≡◌, IfOk, IfSome, IsTrue};
 ghost use Rattle.rn_model.specs.declared.expr.Expr.TheVariants as E;
 ghost use Rattle.rn_looking.specs.Equating.{IsSide, IsEquatedIn, IsEquatedBy, IsEquated};
 ghost use Rattle.rn_looking.specs.Forced.{IsKnownWorth};
+ghost use Rattle.rn_looking.specs.NodeKinds.{ArePartsAt, IsGuardAt, IsKindedAt, IsKindedNode};
 
 use crate::known::known_in;
+use crate::parts::only_list;
 use rn_calc::evaluate;
 use rn_growing::{Growing, Head};
 use rn_model::{CompareKind, Cond, Expr, Simple, Transition};
@@ -47,6 +49,7 @@ pub(crate) fn known_worth(
     head: &Head,
     expr: &Expr,
 ) -> Result<Option<Option<Value>>, NoMemory>
+    requires kinds { IsKindedAt growing.now head.now expr.now }
     ensures { IfOk result (λ told. IfSome told (λ w. IsKnownWorth growing.now head.now expr.now w)) }
 {
     match known_in(alloc, growing, head, expr)? {
@@ -63,6 +66,7 @@ fn equated_in(
     simples: &[Simple],
     x: u32,
 ) -> Result<Option<Option<Value>>, NoMemory>
+    requires kinds { ArePartsAt growing.now head.now simples.now }
     ensures { IfOk result (λ told. IfSome told (λ w. IsEquatedIn growing.now head.now simples.now x w)) }
 {
     for simple in simples {
@@ -84,11 +88,12 @@ fn equated_by(
     guard: &Cond,
     x: u32,
 ) -> Result<Option<Option<Value>>, NoMemory>
+    requires kinds { IsGuardAt growing.now head.now guard.now }
     ensures { IfOk result (λ told. IfSome told (λ w. IsEquatedBy growing.now head.now guard.now x w)) }
 {
-    match guard.any.as_slice() {
-        [simples] => equated_in(alloc, growing, head, simples.as_slice(), x),
-        _ => Ok(None),
+    match only_list(guard) {
+        Some(simples) => equated_in(alloc, growing, head, simples, x),
+        None => Ok(None),
     }
 }
 
@@ -102,6 +107,7 @@ pub(crate) fn equated(
     transition: &Transition,
     x: u32,
 ) -> Result<Option<Option<Value>>, NoMemory>
+    requires node { IsKindedNode growing.now head.now transition.now }
     ensures { IfOk result (λ told. IfSome told (λ w. IsEquated growing.now head.now transition.now x w)) }
 {
     for guard in transition.guards.as_slice() {

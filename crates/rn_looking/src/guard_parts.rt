@@ -4,10 +4,12 @@
 ghost use Rattle.std.specs.Prelude.{◌≡◌, ◌↔◌, IfOk, IsTrue, Some, true};
 ghost use Rattle.rn_model.specs.declared.expr.Simple.TheVariants as S;
 ghost use Rattle.rn_search.specs.Parting.{answer_of};
+ghost use Rattle.rn_looking.specs.NodeKinds.{ArePartsAt, IsGuardAt, IsKindedAt};
 ghost use Rattle.rn_looking.specs.UntrueParts.{IsUntrue, HasUntrue, IsPartlyUntrue};
 
 use crate::equated::known_worth;
 use crate::known::known_in_guard;
+use crate::parts::only_list;
 use rn_calc::is_true;
 use rn_growing::{Growing, Head};
 use rn_model::{CompareKind, Cond, Expr, Simple};
@@ -41,6 +43,8 @@ fn is_untrue_comparison(
     left: &Expr,
     right: &Expr,
 ) -> Result<bool, NoMemory>
+    requires left { IsKindedAt growing.now head.now left.now }
+    requires right { IsKindedAt growing.now head.now right.now }
     ensures { IfOk result (λ yes. IsTrue yes
         → IsUntrue growing.now head.now (S.Compare kind left.now right.now)) }
 {
@@ -60,6 +64,7 @@ fn is_known_true(
     head: &Head,
     cond: &Cond,
 ) -> Result<bool, NoMemory>
+    requires kinds { IsGuardAt growing.now head.now cond.now }
     ensures { IfOk result (λ yes. IsTrue yes → IsUntrue growing.now head.now (S.Not cond.now)) }
 {
     match known_in_guard(alloc, growing, head, cond)? {
@@ -75,6 +80,7 @@ fn has_untrue(
     head: &Head,
     simples: &[Simple],
 ) -> Result<bool, NoMemory>
+    requires kinds { ArePartsAt growing.now head.now simples.now }
     ensures { IfOk result (λ yes. IsTrue yes → HasUntrue growing.now head.now simples.now) }
 {
     for simple in simples {
@@ -98,10 +104,11 @@ pub(crate) fn is_partly_untrue(
     head: &Head,
     guard: &Cond,
 ) -> Result<bool, NoMemory>
+    requires kinds { IsGuardAt growing.now head.now guard.now }
     ensures { IfOk result (λ yes. IsTrue yes → IsPartlyUntrue growing.now head.now guard.now) }
 {
-    match guard.any.as_slice() {
-        [simples] => has_untrue(alloc, growing, head, simples.as_slice()),
-        _ => Ok(false),
+    match only_list(guard) {
+        Some(simples) => has_untrue(alloc, growing, head, simples),
+        None => Ok(false),
     }
 }

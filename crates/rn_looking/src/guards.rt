@@ -5,6 +5,7 @@ ghost use Rattle.std.specs.Prelude.{◌≡◌, ◌⊎◌, IfOk};
 ghost use Rattle.rn_looking.specs.declared.told.Verdict.TheVariants.{Fails};
 ghost use Rattle.rn_looking.specs.link.Views.{IsNodeStuck, IsNodeView};
 ghost use Rattle.rn_looking.specs.Guards.{IsKnownUntrue};
+ghost use Rattle.rn_looking.specs.NodeKinds.{IsGuardAt};
 ghost use Rattle.rn_looking.specs.UntrueParts.{IsPartlyUntrue};
 
 use crate::guard_parts::is_partly_untrue;
@@ -25,6 +26,7 @@ fn test_guard(
     head: &Head,
     guard: &Cond,
 ) -> Result<Verdict, NoMemory>
+    requires kinds { IsGuardAt growing.now head.now guard.now }
     ensures { IfOk result (λ told. told ≡ Fails → IsKnownUntrue growing.now head.now guard.now
         ⊎ IsPartlyUntrue growing.now head.now guard.now) }
 {

@@ -1,11 +1,12 @@
 //! What is known of the variables of an expression, or of a guard: the values to which they are
 //! forced. Where one isn't forced nothing is known: it is never guessed, since a value that nothing
 //! forces belongs to no enabled binding (`docs/SEARCH.md`, 'A binding grows by decisions').
-ghost use Rattle.std.specs.Prelude.{IfOk, IfSome, MatchOption, All};
+ghost use Rattle.std.specs.Prelude.{◌≡◌, IfOk, IfSome, MatchOption, All};
 ghost use Rattle.rn_model.specs.Systems.{vars_in};
 ghost use Rattle.rn_looking.specs.Forced.{IsVarForcedIn};
 ghost use Rattle.rn_looking.specs.Knowing.{ArePairsOf, KnowsVars, KnowsGuardVars};
 ghost use Rattle.rn_looking.specs.Knowing.{AreOthersOf};
+ghost use Rattle.rn_looking.specs.NodeKinds.{KnowsForced};
 
 use crate::guard_vars::put_guard;
 use rn_calc::Values;
@@ -23,14 +24,10 @@ pub(crate) struct Known<'a> {
 
 impl<'a> Known<'a> {
     /// An instance, and values of variables.
-    pub(crate) fn of(this: &'a InstRef, pairs: Vec<(u32, Value)>) -> Known<'a> {
+    pub(crate) fn of(this: &'a InstRef, pairs: Vec<(u32, Value)>) -> Known<'a>
+        ensures { result.pairs ≡ pairs }
+    {
         Known { this, pairs }
-    }
-
-    /// The values of variables.
-    pub(crate) fn into_pairs(self) -> Vec<(u32, Value)> {
-        let Known { this: _, pairs } = self;
-        pairs
     }
 }
 
@@ -128,7 +125,8 @@ pub(crate) fn known_in<'a>(
     head: &'a Head,
     expr: &Expr,
 ) -> Result<Option<Known<'a>>, NoMemory>
-    ensures { IfOk result (λ known. KnowsVars growing.now head.now expr.now known) }
+    ensures knows { IfOk result (λ known. KnowsVars growing.now head.now expr.now known) }
+    ensures forced { IfOk result (λ known. KnowsForced growing.now head.now known) }
 {
     match values_in(alloc, growing, head.path.as_slice(), expr)? {
         Some(pairs) => Ok(Some(Known {
@@ -146,7 +144,8 @@ pub(crate) fn known_in_guard<'a>(
     head: &'a Head,
     guard: &Cond,
 ) -> Result<Option<Known<'a>>, NoMemory>
-    ensures { IfOk result (λ known. KnowsGuardVars growing.now head.now guard.now known) }
+    ensures knows { IfOk result (λ known. KnowsGuardVars growing.now head.now guard.now known) }
+    ensures forced { IfOk result (λ known. KnowsForced growing.now head.now known) }
 {
     let mut vars = Vec::new(alloc);
     put_guard(guard, &mut vars)?;

@@ -24,6 +24,7 @@ mod parts;
 mod results;
 mod tested;
 mod told;
+mod trial;
 mod views;
 
 pub use among::SHARES;
@@ -33,3 +34,4 @@ pub use look::Look;
 pub use looking::look_at_all;
 pub use parts::transition_in;
 pub use tested::{Remembered, Tested, TextChoice};
+pub use trial::Trial;

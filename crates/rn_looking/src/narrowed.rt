@@ -2,20 +2,30 @@
 //! counts as those, so the order of arcs in the text decides little. It only decides what is tried
 //! first: a token that doesn't pass is given up when it is tried (`docs/SEARCH.md`, 'What it does
 //! next').
-ghost use Rattle.std.specs.Prelude.{IfOk};
+ghost use Rattle.std.specs.Prelude.{◌≡◌, Contains, IfOk, IfSome, [], unwrap_or};
+ghost use Rattle.std.specs.Option.{option_copied};
+ghost use Rattle.rn_value.specs.Kinds.{HasKind};
+ghost use Rattle.rn_value.specs.declared.value.Value.{Value as Token};
+ghost use Rattle.rn_model.specs.Markings.{tokens};
+ghost use Rattle.rn_looking.specs.link.Views.{IsNodeView};
+ghost use Rattle.rn_looking.specs.Guards.{vars_of_guard};
+ghost use Rattle.rn_looking.specs.Knowing.{AreOthersOf};
 ghost use Rattle.rn_looking.specs.Looks.{IsNarrowed};
+ghost use Rattle.rn_looking.specs.NodeKinds.{kinds_at};
+ghost use Rattle.rn_looking.specs.Trials.{IsOpenTo};
 
 use crate::guard_vars::put_guard;
-use crate::known::{Known, values_but};
+use crate::known::values_but;
 use crate::look::Look;
+use crate::trial::Trial;
 use crate::views::NodeView;
 use rn_bag::Bag;
 use rn_calc::is_true;
 use rn_choices::Next;
 use rn_growing::{Growing, Head};
-use rn_model::{Cond, Expr, NetArc};
+use rn_model::{Cond, Expr, NetArc, finds_token};
 use rn_search::{Point, Problem};
-use rn_value::{InstRef, NoMemory, Value, copy};
+use rn_value::{InstRef, NoMemory, Value};
 use std::alloc::Global;
 
 /// Which tokens of a choice pass a guard: how many, or about how many, and the first of them.
@@ -36,7 +46,7 @@ const COUNTED: usize = 1024;
 /// A guard of a node of which all variables but one are forced: that one, and the values of the
 /// others.
 #[derive(Drop)]
-struct OpenGuard<'a> {
+pub(crate) struct OpenGuard<'a> {
     inst: &'a InstRef,
     guard: &'a Cond,
     var: u32,
@@ -50,7 +60,10 @@ fn others_of(
     head: &Head,
     guard: &Cond,
     var: u32,
-) -> Result<Option<Vec<(u32, Value)>>, NoMemory> {
+) -> Result<Option<Vec<(u32, Value)>>, NoMemory>
+    ensures { IfOk result (λ others. IfSome others (λ ps. AreOthersOf growing.now head.now.path var
+        (vars_of_guard guard.now) ps.items)) }
+{
     let mut vars = Vec::new(alloc);
     put_guard(guard, &mut vars)?;
     if !vars.contains(&var) {
@@ -60,15 +73,16 @@ fn others_of(
 }
 
 // Whether a guard is true where its variable is a token.
-fn is_passed(alloc: Global, open: &mut OpenGuard<'_>, token: &Value) -> Result<bool, NoMemory> {
-    let mut pairs = Vec::new(alloc);
-    std::mem::swap(&mut pairs, &mut open.others);
-    pairs.push((open.var, copy(alloc, token)?))?;
-    let known = Known::of(open.inst, pairs);
-    let yes = is_true(alloc, open.guard, &known)?;
-    open.others = known.into_pairs();
-    open.others.pop();
-    Ok(yes)
+fn is_passed(alloc: Global, open: &OpenGuard<'_>, token: &Value) -> Result<bool, NoMemory>
+    requires { IsOpenTo open.now token.now }
+{
+    let trial = Trial {
+        this: open.inst,
+        var: open.var,
+        token,
+        others: open.others.as_slice(),
+    };
+    is_true(alloc, open.guard, &trial)
 }
 
 // About how many of all tokens pass, where so many of the first ones do.
@@ -83,10 +97,12 @@ fn about(count: usize, tried: usize, all: usize) -> usize {
 // many pass.
 fn count_passing(
     alloc: Global,
-    open: &mut OpenGuard<'_>,
+    open: &OpenGuard<'_>,
     bag: &Bag,
     most: usize,
-) -> Result<Option<Passing>, NoMemory> {
+) -> Result<Option<Passing>, NoMemory>
+    requires { (v : Token) → Contains bag.now v → IsOpenTo open.now v }
+{
     let mut count = 0usize;
     let mut first = 0;
     let all = bag.len();
@@ -117,7 +133,10 @@ fn count_passing(
 }
 
 // The tokens of the place of a node's arc.
-fn tokens_at<'a>(problem: &'a Problem<'_>, head: &Head, arc: &NetArc) -> Option<&'a Bag> {
+fn tokens_at<'a>(problem: &'a Problem<'_>, head: &Head, arc: &NetArc) -> Option<&'a Bag>
+    ensures { unwrap_or (option_copied result) []
+        ≡ tokens problem.now.marking head.now.inst arc.now.place }
+{
     match &head.inst {
         InstRef::Old(number) => problem.table().bag(*number, arc.place),
         InstRef::New(_, _) => None,
@@ -131,20 +150,24 @@ fn fewest_passing(
     var: u32,
     bag: &Bag,
     most: usize,
-) -> Result<Option<Passing>, NoMemory> {
+) -> Result<Option<Passing>, NoMemory>
+    requires at { IsNodeView at }
+    requires tokens { (v : Token) → Contains bag.now v
+        → HasKind v (kinds_at at.growing.now at.head.now var) }
+{
     let mut fewest = None;
     let mut most = most;
     for guard in at.transition.guards.as_slice() {
         let Some(others) = others_of(alloc, at.growing, at.head, guard, var)? else {
             continue;
         };
-        let mut open = OpenGuard {
+        let open = OpenGuard {
             inst: &at.head.inst,
             guard,
             var,
             others,
         };
-        if let Some(passing) = count_passing(alloc, &mut open, bag, most)? {
+        if let Some(passing) = count_passing(alloc, &open, bag, most)? {
             if passing.count < most {
                 most = passing.count;
                 fewest = Some(passing);
@@ -175,8 +198,13 @@ pub(crate) fn narrowed(
     look: Look,
     most: usize,
 ) -> Result<Look, NoMemory>
+    requires at { IsNodeView at }
+    requires there { Contains at.transition.now.arcs arc.now }
     ensures { IfOk result (IsNarrowed look) }
 {
+    if !finds_token(arc.kind) {
+        return Ok(look);
+    }
     let Expr::Var(var) = &arc.inscription else {
         return Ok(look);
     };

@@ -4,6 +4,7 @@
 ghost use Rattle.std.specs.Prelude.{◌≡◌, ◌↔◌, ℤ, IfOk, IfSome, Some, length, map, slice_get};
 ghost use Rattle.rn_value.specs.declared.value.Value.TheVariants as V;
 ghost use Rattle.rn_model.specs.Evaluation.{worth};
+ghost use Rattle.rn_model.specs.ExpressionLaws.{OperandsAreFit};
 ghost use Rattle.rn_looking.specs.Knowing.{known_env};
 ghost use Rattle.rn_search.specs.Points.{holes_of};
 ghost use Rattle.rn_binding.specs.link.Applications.{application_of};
@@ -34,6 +35,7 @@ fn number_in(value: Value) -> Option<i64>
 
 // The whole number that an expression is, by what is known.
 fn number_of(alloc: Global, form: &Expr, known: &Known<'_>) -> Result<Option<i64>, NoMemory>
+    requires { OperandsAreFit (known_env known.now) form.now }
     ensures { IfOk result (λ found. (n : ℤ) → (found ≡ Some n)
         ↔ (worth form.now (known_env known.now) ≡ Some (V.Int n))) }
 {

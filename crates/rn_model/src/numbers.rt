@@ -11,9 +11,7 @@ use crate::new_instances::holds_new;
 use crate::parts::find_transition;
 use crate::system::{Creation, System};
 use rn_items::Items;
-use rn_value::{
-    InstRef, NoMemory, Path, Vals, Value, copy, copy_inst, copy_text, list_value, tuple_value,
-};
+use rn_value::{InstRef, NoMemory, Path, Vals, Value, copy, copy_inst, list_value, tuple_value};
 use std::alloc::Global;
 use std::collections::BTreeMap;
 
@@ -160,7 +158,7 @@ fn renamed(alloc: Global, value: &Value, numbers: &Numbers) -> Result<Value, NoM
     }
     match value {
         Value::Int(n) => Ok(Value::Int(*n)),
-        Value::Text(text) => Ok(Value::Text(copy_text(alloc, text)?)),
+        Value::Text(text) => Ok(Value::Text(text.share()?)),
         Value::Tuple(parts) => {
             let parts = all_renamed(alloc, parts.as_slice(), numbers)?;
             Ok(tuple_value(alloc, parts)?)

@@ -96,6 +96,7 @@ module _ (system : System) (depth last : ℕ) (good : Good system) where
       record {
         defined = record {
           nodes = fires.enabled.shape.nodes;
+          kinds = λ k d h. (fires.enabled.agrees.nodes k d h).kinds;
           low = stays_within m.next (length (creations_of system b)) low few;
           in_time = steps;
           acts = as_fired.acts;

@@ -9,7 +9,7 @@ use rn_items::{Boxed, Items};
 use rn_model::limits::GREATEST_CAPACITY;
 use rn_model::{Expr, Exprs};
 use rn_net::{PConst, PConstForm, PKind, PKindForm, PMax};
-use rn_value::{Kind, Kinds, NoMemory, Vals, Value, copy_text, list_value, tuple_value};
+use rn_value::{Kind, Kinds, NoMemory, Vals, Value, list_value, shared_text, tuple_value};
 use std::alloc::Global;
 
 /// The kind without its spots.
@@ -44,7 +44,7 @@ pub(crate) fn value_of(alloc: Global, constant: &PConst) -> Result<Value, NoMemo
 {
     match &constant.form {
         PConstForm::Int(n) => Ok(Value::Int(*n)),
-        PConstForm::Text(text) => Ok(Value::Text(copy_text(alloc, text)?)),
+        PConstForm::Text(text) => Ok(Value::Text(shared_text(alloc, text)?)),
         PConstForm::Tuple(parts) => Ok(tuple_value(alloc, values_of(alloc, parts.as_slice())?)?),
         PConstForm::List(parts) => Ok(list_value(alloc, values_of(alloc, parts.as_slice())?)?),
     }
@@ -79,7 +79,7 @@ pub(crate) fn expr_of(alloc: Global, e: &PExpr, vars: &NameNumbers) -> Result<Ex
 {
     match &e.form {
         PForm::Int(n) => Ok(Expr::Int(*n)),
-        PForm::Text(text) => Ok(Expr::Text(copy_text(alloc, text)?)),
+        PForm::Text(text) => Ok(Expr::Text(shared_text(alloc, text)?)),
         PForm::Name(name) => Ok(Expr::Var(vars.number(name))),
         PForm::This => Ok(Expr::This),
         PForm::Step => Ok(Expr::Step),

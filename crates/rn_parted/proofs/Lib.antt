@@ -5,7 +5,6 @@ pub mod CutLemmas
 pub mod Demanded
 pub mod FollowLemmas
 pub mod LeastLemmas
-pub mod NearLemmas
 pub mod PartingLemmas
 pub mod PlaceLemmas
 pub mod ShareLemmas

@@ -12,7 +12,7 @@ use crate::nodes::PlacedNode;
 use rn_items::Items;
 use rn_lines::ReadGiven;
 use rn_model::{Binding, Node, System};
-use rn_value::{InstRef, NoMemory, Vals, Value, copy_inst, copy_text, list_value, tuple_value};
+use rn_value::{InstRef, NoMemory, Vals, Value, copy_inst, list_value, tuple_value};
 use std::alloc::Global;
 
 fn unnumbered(
@@ -41,7 +41,7 @@ fn told_value(
 {
     match value {
         Value::Int(n) => Ok(Value::Int(*n)),
-        Value::Text(text) => Ok(Value::Text(copy_text(alloc, text)?)),
+        Value::Text(text) => Ok(Value::Text(text.share()?)),
         Value::Tuple(parts) => {
             let parts = told_values(alloc, parts.as_slice(), makers, count)?;
             Ok(tuple_value(alloc, parts)?)

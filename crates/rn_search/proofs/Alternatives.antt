@@ -137,7 +137,7 @@ least_of true k zero t rest above e = let same : k ≡ t = some_equal k t e in o
 least_of true k (suc i) t rest above e = let low = above i e in omega (arith, low)
 least_of false k i t rest above e = let low = above i e in omega (arith, low)
 
-at_least : (channel k : ℕ) (ts : List Transition) (i t : ℕ) →
+pub at_least : (channel k : ℕ) (ts : List Transition) (i t : ℕ) →
     slice_get (answering_from channel k ts) i ≡ Some t → k ≤ t
 at_least channel k [] i t e = absurd (let no : ⊥ = cc in no)
 at_least channel k (x ∷ ts) i t e =

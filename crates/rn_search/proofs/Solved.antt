@@ -38,7 +38,7 @@ module _ (sought : Sought) (ds : List Decision) (b : Binding) (whole : IsWhole s
   they_lead passes =
       let system = sought.system in
       let turns = whole.sound.turns in
-      let right = (sound_are_right system sought.depth ds whole.sound).1 in
+      let right = (sound_are_right system sought.marking sought.depth ds whole.sound).1 in
       found_is_so sought ds b turns whole.some whole.done (made_forces system ds b whole.made)
       passes.shape passes.agrees passes.fits whole.starts
       (made_follows system ds b sought.depth whole.good turns whole.done right whole.solvable

@@ -12,7 +12,8 @@ use Rattle.rn_model.proofs.EnablingLemmas.{not_in_nil}
 use Rattle.rn_search.specs.Points.{node_on}
 use Rattle.rn_search.specs.Making.{NamesMade}
 use Rattle.rn_search.specs.Ending.{IsRight}
-use Rattle.rn_search.specs.Standing.{IsHead, NoneAreSound, SoundByOne}
+use Rattle.rn_growing.specs.Kinded.{IsKinded}
+use Rattle.rn_search.specs.Standing.{IsHead, IsOfItsNet, NoneAreSound, SoundByOne}
 use Rattle.rn_search.specs.Standing.{SoundByFewer, SoundAreRight}
 use Rattle.rn_search.proofs.Made.{names_by_more}
 use Rattle.rn_search.proofs.Built.{right_by_more}
@@ -21,7 +22,7 @@ use Rattle.rn_search.proofs.Built.{right_by_more}
 abbrev Each : (List Decision → Decision → Type 0) → List Decision → Type 0
 Each P ds = (k : ℕ) (d : Decision) → slice_get ds k ≡ Some d → P (take k ds) d
 
-before_or_last : {X : Type 0} (xs : List X) (y : X) (k : ℕ) (x : X) →
+pub before_or_last : {X : Type 0} (xs : List X) (y : X) (k : ℕ) (x : X) →
     slice_get (xs ++ y ∷ []) k ≡ Some x →
     ((k < length xs) × (slice_get xs k ≡ Some x)) ⊎ ((k ≡ length xs) × (x ≡ y))
 before_or_last [] y zero x at = inr (refl, let e : x ≡ y = cc in e)
@@ -61,25 +62,33 @@ module _ (P : List Decision → Decision → Type 0) (ds : List Decision) where
 
 -- the empty list of decisions is sound
 pub none_are_sound : NoneAreSound
-none_are_sound system depth = record {
+none_are_sound system m depth = record {
   turns = record {
     came = λ k d at. absurd (let no : ⊥ = cc in no);
     once = λ j k d e less at other. absurd (let no : ⊥ = cc in no);
   };
   heads = λ d there. absurd (not_in_nil d there);
+  placed = λ d there. absurd (not_in_nil d there);
+  kinded = λ d there. absurd (not_in_nil d there);
   made = λ k d at. absurd (let no : ⊥ = cc in no);
   right = λ k d at. absurd (let no : ⊥ = cc in no);
 }
 
+-- what holds of each, and of one more, holds of all of them
+by_last : (P : Decision → Type 0) (ds : List Decision) (d : Decision) →
+    ((e : Decision) → Contains ds e → P e) → P d → (e : Decision) → Contains (ds ++ d ∷ []) e → P e
+by_last P ds d each last e there = elim (Contains-append_cases ds (d ∷ []) e there) as (λ _. P e) [
+  | inl before ↦ each e before
+  | inr end ↦ subst P (only_one d e end) last
+]
+
 -- sound decisions stay so with one more that may be made
 pub sound_by_one : SoundByOne
-sound_by_one system depth ds d sound may = record {
+sound_by_one system m depth ds d sound may = record {
   turns = turns_more system ds d sound.turns may.may may.fresh;
-  heads = λ e there. elim (Contains-append_cases ds (d ∷ []) e there) as
-      (λ _. IsHead system depth (node_on e)) [
-        | inl before ↦ sound.heads e before
-        | inr last ↦ subst (λ f. IsHead system depth (node_on f)) (only_one d e last) may.head
-      ];
+  heads = by_last (λ e. IsHead system depth (node_on e)) ds d sound.heads may.head;
+  placed = by_last (λ e. IsOfItsNet m (node_on e)) ds d sound.placed may.placed;
+  kinded = by_last (IsKinded system) ds d sound.kinded may.kinded;
   made = each_more (NamesMade system) ds d sound.made may.made;
   right = each_more (IsRight system) ds d sound.right may.right;
 }
@@ -91,16 +100,18 @@ in_front_in n ds d there =
 
 -- and where the last ones are taken back
 pub sound_by_fewer : SoundByFewer
-sound_by_fewer system depth n ds room sound = record {
+sound_by_fewer system m depth n ds room sound = record {
   turns = turns_front system ds n room sound.turns;
   heads = λ d there. sound.heads d (in_front_in n ds d there);
+  placed = λ d there. sound.placed d (in_front_in n ds d there);
+  kinded = λ d there. sound.kinded d (in_front_in n ds d there);
   made = each_front (NamesMade system) ds n room sound.made;
   right = each_front (IsRight system) ds n room sound.right;
 }
 
 -- all of them name what was made, and are right
 pub sound_are_right : SoundAreRight
-sound_are_right system depth ds sound = (
+sound_are_right system m depth ds sound = (
   each_whole (NamesMade system) ds (names_by_more system) sound.made,
   each_whole (IsRight system) ds (right_by_more system) sound.right,
 )

@@ -6,7 +6,7 @@ use Rattle.rn_model.specs.declared.system.NetArc.{NetArc}
 use Rattle.rn_model.specs.declared.system.Downlink.{Downlink}
 use Rattle.rn_model.specs.Evaluation.{Env, worth}
 use Rattle.rn_model.specs.SoundTokens.{holds_new}
-use Rattle.rn_model.specs.Derivation.{Hole, finds_values, target}
+use Rattle.rn_model.specs.Derivation.{Hole, finds_values, finds_token, target}
 use Rattle.rn_model.specs.Derivation as D
 use Rattle.rn_growing.specs.declared.decision.Decision.{Decision}
 use Rattle.rn_growing.specs.declared.decision.Decision.TheVariants.{Found, Computed}
@@ -22,41 +22,45 @@ use Rattle.rn_search.specs.Sought.{Sought}
 use Rattle.rn_search.specs.Points.{node_of, tokens_of, holes_of, instance_of, child, offered}
 use Rattle.rn_search.specs.Missing.{MayStart, IsKnown}
 use Rattle.rn_search.specs.Making.{is_made}
+use Rattle.rn_search.specs.Problems.{HasFitTokens}
 use Rattle.rn_search.specs.Standing.{AreSound, MayBeMade}
 
 -- an alternative may be tried after decisions
 abbrev pub Allows : Sought → List Decision → Point → ℕ → Type 0
 Allows sought ds point a = (d : Decision) → offered sought ds point a ≡ Some d →
-    MayBeMade sought.system sought.depth ds d
+    MayBeMade sought.system sought.marking sought.depth ds d
 
 abbrev pub StartIsAllowed : Type 0
 StartIsAllowed = (sought : Sought) (a : ℕ) →
     MayStart sought.system sought.marking sought.start → Allows sought [] P.Start a
 
 -- An arc of a node that was entered, of which nothing is decided yet, and whose place holds no new
--- instance.
+-- instance. Each token of the marking has its place's kind.
 pub record IsOpen (sought : Sought) (ds : List Decision) (node k : ℕ) : Type 0 where
-  pub sound : AreSound sought.system sought.depth ds
+  pub sound : AreSound sought.system sought.marking sought.depth ds
   pub entered : IsEntered ds (node_of sought ds node)
   pub arc : NetArc
   pub there : slice_get (transition_in sought.system (node_of sought ds node)).arcs k ≡ Some arc
   pub finds : finds_values arc.kind ≡ true
   pub fresh : (v : Value) → IsNew ds (Found (node_of sought ds node) k v)
+  pub tokens : HasFitTokens sought.system sought.marking
   pub old : (v : Value) → Contains (tokens_of sought (node_of sought ds node) k) v →
       holds_new v ≡ false
 
 abbrev pub TokensAreAllowed : Type 0
 TokensAreAllowed = (sought : Sought) (ds : List Decision) (node k from a : ℕ) →
-    IsOpen sought ds node k → Allows sought ds (P.Token node k from) a
+    (opened : IsOpen sought ds node k) → finds_token opened.arc.kind ≡ true →
+    Allows sought ds (P.Token node k from) a
 
 abbrev pub ListsAreAllowed : Type 0
 ListsAreAllowed = (sought : Sought) (ds : List Decision) (node k a : ℕ) →
-    IsOpen sought ds node k → Allows sought ds (P.List node k) a
+    (opened : IsOpen sought ds node k) → finds_token opened.arc.kind ≡ false →
+    Allows sought ds (P.List node k) a
 
 -- The value of an operator application of such a node, by what is known of its variables.
 abbrev pub ResultsAreAllowed : Type 0
 ResultsAreAllowed = (sought : Sought) (ds : List Decision) (node k a : ℕ) (n : ℤ)
-    (hole : D.Site × Hole) (env : Env) → AreSound sought.system sought.depth ds →
+    (hole : D.Site × Hole) (env : Env) → AreSound sought.system sought.marking sought.depth ds →
     IsEntered ds (node_of sought ds node) →
     slice_get (holes_of (transition_in sought.system (node_of sought ds node))) k ≡ Some hole →
     IsKnown sought.system ds (node_of sought ds node) hole.1.form env →
@@ -68,7 +72,7 @@ ResultsAreAllowed = (sought : Sought) (ds : List Decision) (node k a : ℕ) (n :
 -- The child of such a node at a downlink whose target is forced, where that isn't too deep.
 abbrev pub CallsAreAllowed : Type 0
 CallsAreAllowed = (sought : Sought) (ds : List Decision) (node i a : ℕ) (downlink : Downlink)
-    (called : Called) → AreSound sought.system sought.depth ds →
+    (called : Called) → AreSound sought.system sought.marking sought.depth ds →
     IsEntered ds (node_of sought ds node) →
     slice_get (transition_in sought.system (node_of sought ds node)).downlinks i
     ≡ Some downlink →

@@ -15,7 +15,7 @@ use Rattle.rn_search.specs.Standing.{AreSound}
 -- Nothing is left to be decided, and a binding from the start is made of the decisions.
 pub record IsWhole (sought : Sought) (ds : List Decision) (b : Binding) : Type 0 where
   pub good : Good sought.system
-  pub sound : AreSound sought.system sought.depth ds
+  pub sound : AreSound sought.system sought.marking sought.depth ds
   pub some : 0 < length ds
   pub solvable : IsSolvable sought.system ds
   pub done : AreDone sought.system ds

@@ -23,7 +23,7 @@ pub fn put_value<N: Naming>(value: &Value, naming: &N, window: &mut Window)
 {
     match value {
         Value::Int(n) => put_int(*n, window),
-        Value::Text(text) => put_quoted(text, window),
+        Value::Text(text) => put_quoted(text.get(), window),
         Value::Tuple(values) => put_row(b'[', values.as_slice(), b']', naming, window),
         Value::List(values) => put_row(b'{', values.as_slice(), b'}', naming, window),
         Value::Inst(inst) => put_inst(inst, naming, window),

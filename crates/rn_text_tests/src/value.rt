@@ -2,7 +2,7 @@
 use rn_items::Items;
 use rn_value::{
     InstRef, Names, NoMemory, Path, Str, Value, are_named, cmp, cmp_laws, copy, copy_text,
-    list_value, own_items, same, sorting_laws, text_laws, tuple_value,
+    list_value, own_items, same, shared_text, sorting_laws, text_laws, tuple_value,
 };
 use std::alloc::Global;
 use std::test::Fail;
@@ -20,7 +20,7 @@ fn made(alloc: Global, path: &[u32], index: u8) -> Result<Value, NoMemory> {
 fn ascending(alloc: Global) -> Result<Vec<Value>, NoMemory> {
     let mut values = Vec::new(alloc);
     values.push(Value::Int(7))?;
-    values.push(Value::Text(string(alloc, "")?))?;
+    values.push(Value::Text(shared_text(alloc, &string(alloc, "")?)?))?;
     values.push(tuple_value(alloc, Items::new(alloc))?)?;
     values.push(list_value(alloc, Items::new(alloc))?)?;
     values.push(Value::Inst(InstRef::Old(u32::MAX)))?;
@@ -39,7 +39,7 @@ fn ascending(alloc: Global) -> Result<Vec<Value>, NoMemory> {
 /// A list of a text and a number.
 fn two_elements(alloc: Global) -> Result<Value, NoMemory> {
     let mut elements = Vec::new(alloc);
-    elements.push(Value::Text(string(alloc, "a")?))?;
+    elements.push(Value::Text(shared_text(alloc, &string(alloc, "a")?)?))?;
     elements.push(Value::Int(7))?;
     list_value(alloc, Items::from_vec(elements))
 }
@@ -61,11 +61,11 @@ fn taken_beside_a_copy(alloc: Global) -> Result<usize, NoMemory> {
     Ok(taken)
 }
 
-/// A text, a copy of it, and a copy of that.
+/// A text, a copy of it, and one that values may share.
 fn copies_of_a_text(alloc: Global) -> Result<bool, NoMemory> {
     let first = string(alloc, "ab")?;
     let second = copy_text(alloc, &first)?;
-    let third = copy_text(alloc, &second)?;
+    let third = shared_text(alloc, &second)?;
     Ok(first == second && third.as_str() == "ab")
 }
 

@@ -1,12 +1,20 @@
-//! Making tuples and lists of values, and taking them apart.
+//! Making texts, tuples and lists of values, and taking lists apart.
 ghost use Rattle.std.specs.Prelude.{◌≡◌, IfOk};
 ghost use Rattle.rn_value.specs.declared.value.Value.TheVariants as Value;
 
-use crate::copying::copy_all;
+use crate::copying::{copy_all, copy_text};
+use crate::text::Str;
 use crate::value::{Vals, Value};
 use rn_items::NoMemory;
 use rn_shared::Shared;
 use std::alloc::Global;
+
+/// The same text, which values may share.
+pub fn shared_text(alloc: Global, text: &Str) -> Result<Shared<Str>, NoMemory>
+    ensures { IfOk result (λ t. t ≡ text.now) }
+{
+    Ok(Shared::new(alloc, copy_text(alloc, text)?)?)
+}
 
 /// The tuple of these parts.
 pub fn tuple_value(alloc: Global, parts: Vals) -> Result<Value, NoMemory>

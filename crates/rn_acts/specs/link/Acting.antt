@@ -1,9 +1,12 @@
 -- What a node after some of its actions is read as. This only connects the code to the definitions.
-use Rattle.std.specs.Prelude.{Bool, Option, Some, None, option_map, reverse, ◌++◌, if◌then◌else◌}
+use Rattle.std.specs.Prelude.{◌≡◌, Bool, List, [], ◌∷◌, Option, Some, None, option_map, reverse}
+use Rattle.std.specs.Prelude.{◌++◌, if◌then◌else◌, ⊤}
 use Rattle.rn_model.specs.declared.system.Action.{Action}
 use Rattle.rn_model.specs.declared.system.Action.TheVariants.{Set, Print}
 use Rattle.rn_model.specs.Evaluation.{Env, worth}
+use Rattle.rn_model.specs.ExpressionLaws.{OperandsAreFit}
 use Rattle.rn_model.specs.Firing.{Acts, with_set, with_out}
+use Rattle.rn_model.specs.Good.{action_expr}
 use Rattle.rn_calc.specs.link.NodeValues.{lent_env}
 use Rattle.rn_acts.specs.declared.acting.Acting.{Acting}
 
@@ -22,6 +25,13 @@ acts_of a = record { env = env_acting a; outs = a.outs }
 abbrev pub action_of : Action → Acts → Option Acts
 action_of (Set x e) acts = option_map (λ v. with_set x v acts) (worth e acts.env)
 action_of (Print e) acts = option_map (λ v. with_out v acts) (worth e acts.env)
+
+-- Each of these actions computes with fit operands, whatever those before it have set.
+abbrev pub AreFitActions : List Action → Acts → Type 0
+AreFitActions [] acts = ⊤
+AreFitActions (action ∷ actions) acts =
+    OperandsAreFit acts.env (action_expr action)
+    × ((next : Acts) → action_of action acts ≡ Some next → AreFitActions actions next)
 
 -- what there is where all was done, and else nothing
 abbrev pub if_done : {A : Type 0} → Bool → A → Option A

@@ -2,8 +2,6 @@
 -- definitions.
 use Rattle.std.specs.Prelude.{ℕ, ◌≡◌, ◌<◌, ◌≤◌, false, List, [], ◌∷◌, ◌++◌, length, Some, slice_get}
 use Rattle.std.specs.Prelude.{All}
-use Rattle.std.specs.List.{AllZip}
-use Rattle.rn_value.specs.Kinds.{HasKind}
 use Rattle.rn_value.specs.declared.value.InstRef.TheVariants.{New}
 use Rattle.rn_value.specs.declared.value.Value.{Value}
 use Rattle.rn_model.specs.declared.expr.Expr.{Expr}
@@ -16,10 +14,14 @@ use Rattle.rn_model.specs.declared.binding.Node.{Node}
 use Rattle.rn_model.specs.declared.binding.Binding.{Binding}
 use Rattle.rn_model.specs.Limits.{most_nodes}
 use Rattle.rn_model.specs.Lists.{HaveOneValue, value_beside}
-use Rattle.rn_model.specs.Systems.{net_at, transition_of, var_kind, awaits_action}
+use Rattle.rn_model.specs.Systems.{net_at, transition_of, awaits_action}
+use Rattle.rn_model.specs.Systems.{uplink_args}
 use Rattle.rn_model.specs.Evaluation.{Env, worth, IsTrueUnder}
 use Rattle.rn_model.specs.Bindings.{IsNodeOf, node_at, env_of}
 use Rattle.rn_model.specs.Agreement.{CallAgrees}
+use Rattle.rn_model.specs.ExpressionLaws.{OperandsAreFit}
+use Rattle.rn_calc.specs.FitComparisons.{ComparisonsAreFit}
+use Rattle.rn_calc.specs.OwnKinds.{HaveOwnKinds}
 
 -- a node of the system, with variables of its net
 pub record IsReadable (system : System) (node : Node) : Type 0 where
@@ -49,16 +51,35 @@ pub record HoldUnder (t : Transition) (path : List ℕ) (env : Env) : Type 0 whe
   pub guards : All (IsTrueUnder env) t.guards
   pub arcs : All (ArcHasValue t env) t.arcs
 
--- each value of a node has its variable's kind
-abbrev pub HaveOwnKinds : System → Node → Type 0
-HaveOwnKinds system node =
-    AllZip (λ x v. HasKind v (var_kind system node.net x))
-    (transition_of system node).vars node.values
-
 -- what a node's own inscriptions ask, but for the kinds of what isn't a variable
 pub record NodeHolds (system : System) (node : Node) : Type 0 where
   pub kinds : HaveOwnKinds system node
   pub inscriptions : HoldUnder (transition_of system node) node.path (env_of system node)
+
+-- the operands in both sides of an equality are fit
+abbrev pub AreFitSides : Env → Expr × Expr → Type 0
+AreFitSides env e = OperandsAreFit env e.0 × OperandsAreFit env e.1
+
+-- those in an arc's inscription
+abbrev pub IsFitArc : Env → NetArc → Type 0
+IsFitArc env arc = OperandsAreFit env arc.inscription
+
+-- those in the target and the arguments of a downlink
+pub record IsFitCall (env : Env) (downlink : Downlink) : Type 0 where
+  pub target : OperandsAreFit env downlink.target
+  pub args : All (OperandsAreFit env) downlink.args
+
+-- Nothing that is evaluated before the actions of a transition meets a value of a wrong kind.
+pub record IsFitAt (env : Env) (t : Transition) : Type 0 where
+  pub equalities : All (AreFitSides env) t.equalities
+  pub guards : All (ComparisonsAreFit env) t.guards
+  pub arcs : All (IsFitArc env) t.arcs
+  pub uplink : All (OperandsAreFit env) (uplink_args t)
+  pub downlinks : All (IsFitCall env) t.downlinks
+
+-- so at the values of a node
+abbrev pub IsFitNode : System → Node → Type 0
+IsFitNode system node = IsFitAt (env_of system node) (transition_of system node)
 
 -- the call by a downlink agrees with the child that is there
 abbrev pub CallAgreesAt : System → Binding → Node → ℕ → Downlink → Type 0

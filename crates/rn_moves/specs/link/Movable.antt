@@ -8,6 +8,7 @@ use Rattle.rn_model.specs.declared.log.Entry.{Entry}
 use Rattle.rn_model.specs.declared.log.Entry.TheVariants.{Fire, End}
 use Rattle.rn_model.specs.Bindings.{IsNodeOf}
 use Rattle.rn_model.specs.Firing.{Effects, creations_of, effects}
+use Rattle.rn_calc.specs.OwnKinds.{HaveOwnKinds}
 use Rattle.rn_model.specs.Limits.{greatest_instance, greatest_step}
 use Rattle.rn_moves.specs.declared.token.Token.{Token}
 use Rattle.rn_moves.specs.declared.token.Moves.{Moves}
@@ -21,6 +22,7 @@ AreWithin last tokens = All (λ t. IsTrue (instances_within t.value last)) token
 -- the numbers from next, is defined.
 pub record IsDefined (system : System) (next step : ℕ) (b : Binding) : Type 0 where
   pub nodes : All (IsNodeOf system) b.nodes
+  pub kinds : All (HaveOwnKinds system) b.nodes
   pub low : next + length (creations_of system b) ≤ greatest_instance + 1
   pub in_time : step ≤ greatest_step
   pub acts : Effects

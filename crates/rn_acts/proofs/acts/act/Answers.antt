@@ -1,12 +1,17 @@
 -- By the rows of all nodes.
-use Rattle.std.proofs.Common.{◌∙◌, ap}
-use Rattle.std.specs.Prelude.{option_map}
+use Rattle.std.proofs.Common.{◌∙◌, ap, sym, subst}
+use Rattle.std.specs.Prelude.{All, option_map}
 use Rattle.std.proofs.lemmas.Result.{IfOk-weaker}
 use Rattle.rn_model.specs.Firing.{all_effects}
 use Rattle.rn_acts.specs.link.Acted.{nothing, with_effects}
 use Rattle.rn_acts.proofs.ActLemmas.{rows_put}
 use Rattle.rn_acts.proofs.RowsOfArcs.{put_of_arcs}
+use Rattle.rn_calc.specs.OwnKinds.{HaveOwnKinds}
 use Rattle.rn_acts.proofs.acts.act.Goals as goal
+
+pub act_on-requires-clause-kinds : goal.act_on-requires-clause-kinds
+act_on-requires-clause-kinds c =
+    subst (All (HaveOwnKinds c.args.system.now)) (sym c.as_slice.ensures) c.requires.kinds
 
 pub returns-clause-put : goal.returns-clause-put
 returns-clause-put c =

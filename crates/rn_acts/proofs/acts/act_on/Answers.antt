@@ -1,12 +1,18 @@
 -- Node by node.
-use Rattle.std.proofs.Common.{◌≡◌, ◌∷◌, ◌+◌, ◌∙◌, ap, sym, drop}
+use Rattle.std.proofs.Common.{◌≡◌, ◌∷◌, ◌+◌, ◌∙◌, ap, sym, subst, drop}
 use Rattle.std.specs.Prelude.{Some, option_and_then, option_map}
 use Rattle.std.proofs.lemmas.List.{drop_more}
 use Rattle.rn_model.specs.Firing.{all_effects}
 use Rattle.rn_acts.specs.link.Acted.{with_effects, with_node}
 use Rattle.rn_acts.specs.link.Acting.{if_done}
 use Rattle.rn_acts.proofs.ActLemmas.{one_node}
+use Rattle.rn_calc.specs.OwnKinds.{HaveOwnKinds}
 use Rattle.rn_acts.proofs.acts.act_on.Goals as goal
+
+pub add_node-requires-clause-kinds : goal.add_node-requires-clause-kinds
+add_node-requires-clause-kinds c =
+    subst (HaveOwnKinds c.args.system.now) (sym c.node-item.is)
+    (c.requires.kinds c.loop-node.node-index c.node-item.result c.loop-node-test.true)
 
 pub loop-node-preserved : goal.loop-node-preserved
 loop-node-preserved c =

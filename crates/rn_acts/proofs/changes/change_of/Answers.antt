@@ -2,7 +2,14 @@
 use Rattle.rn_table.specs.declared.change.Change.{Change}
 use Rattle.rn_acts.proofs.ChangeLemmas.{taken_are, cleared_are, leads_after}
 use Rattle.rn_acts.proofs.RowsOfArcs.{taken_of_arcs, cleared_of_arcs}
+use Rattle.rn_acts.proofs.FitNodes.{fit_nodes}
 use Rattle.rn_acts.proofs.changes.change_of.Goals as goal
+
+pub takings_of-requires : goal.takings_of-requires
+takings_of-requires c =
+    let fit = fit_nodes c.args.system.now c.args.binding.now c.requires.good c.requires.nodes
+    c.requires.kinds in
+    record { fit = fit }
 
 pub returns-clause-taken : goal.returns-clause-taken
 returns-clause-taken c =

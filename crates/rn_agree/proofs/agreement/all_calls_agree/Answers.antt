@@ -2,7 +2,14 @@
 use Rattle.std.proofs.Common.{◌∙◌, sym}
 use Rattle.rn_agree.specs.link.Agreeing.{CallsAgree}
 use Rattle.rn_agree.proofs.EachLemmas.{each_more, each_at, each_all}
+use Rattle.rn_agree.specs.link.Agreeing.{IsFitNode}
 use Rattle.rn_agree.proofs.agreement.all_calls_agree.Goals as goal
+
+pub calls_agree-requires-clause-own_fit : goal.calls_agree-requires-clause-own_fit
+calls_agree-requires-clause-own_fit c =
+    each_at (IsFitNode c.args.system.now) c.as_slice-nodes.result.now c.args.binding.now.nodes
+    c.loop-node.node-index c.node-item.result c.as_slice-nodes.ensures c.loop-node-test.true
+    c.node-item.is c.requires.fit
 
 pub returns-then-not-branch : goal.returns-then-not-branch
 returns-then-not-branch c = (

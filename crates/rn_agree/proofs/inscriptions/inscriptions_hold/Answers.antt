@@ -6,7 +6,21 @@ use Rattle.rn_model.specs.Evaluation.{IsTrueUnder}
 use Rattle.rn_agree.specs.link.Agreeing.{AreCreated, IsEqual}
 use Rattle.rn_calc.specs.link.NodeValues.{lent_env}
 use Rattle.rn_agree.proofs.AgreeLemmas.{hold_by_arcs}
+use Rattle.rn_calc.specs.FitComparisons.{ComparisonsAreFit}
+use Rattle.rn_agree.specs.link.Agreeing.{AreFitSides}
 use Rattle.rn_agree.proofs.inscriptions.inscriptions_hold.Goals as goal
+
+pub equalities_hold-requires : goal.equalities_hold-requires
+equalities_hold-requires c =
+    let fit = subst (All (AreFitSides (lent_env c.args.values.now))) (sym c.as_slice-2.ensures)
+    c.requires.fit.equalities in
+    record { fit = fit }
+
+pub guards_hold-requires : goal.guards_hold-requires
+guards_hold-requires c =
+    let fit = subst (All (ComparisonsAreFit (lent_env c.args.values.now))) (sym c.as_slice-3.ensures)
+    c.requires.fit.guards in
+    record { fit = fit }
 
 pub returns-then-not-branch : goal.returns-then-not-branch
 returns-then-not-branch c = (

@@ -7,8 +7,8 @@ use Rattle.rn_arcs.specs.link.Groups.{AreAsked}
 use Rattle.rn_arcs.proofs.FittingLemmas.{fits_exactly, fits_fails}
 use Rattle.rn_arcs.proofs.fitting.fits.Goals as goal
 
-pub has_room-requires : goal.has_room-requires
-has_room-requires c =
+pub has_room-requires-clause-asked : goal.has_room-requires-clause-asked
+has_room-requires-clause-asked c =
     subst (AreAsked false c.args.system.now c.args.binding.now) (sym c.as_slice-asked.ensures.value)
     c.in_ok-places.ensures.asked
 

@@ -11,7 +11,7 @@ use Rattle.rn_arcs.proofs.room.has_room.Goals as goal
 
 pub nodes_have_room-requires : goal.nodes_have_room-requires
 nodes_have_room-requires c = (
-  c.requires.rises,
+  c.requires.asked.rises,
   subst (Rising fill_place) (sym c.as_slice-fills.ensures) c.in_ok-filled.ensures.rises,
 )
 
@@ -31,7 +31,7 @@ returns c =
       asked = c.args.asked;
       fills = c.as_slice-fills.result;
     } in
-    room_exactly firing c.args.binding.now c.requires
+    room_exactly firing c.args.binding.now c.requires.asked
     (subst (λ fs. HasFills fs (filled_at c.args.system.now c.args.binding.now))
     (sym c.as_slice-fills.ensures) c.in_ok-filled.ensures.exact)
     c.nodes_have_room.result

@@ -3,16 +3,19 @@ use Rattle.std.proofs.Common.{◌≡◌, ◌∙◌, ap, sym, subst, rules, true,
 use Rattle.std.proofs.lemmas.Result.{IfOk-weaker}
 use Rattle.rn_model.specs.Evaluation.{worth}
 use Rattle.rn_model.specs.Bindings.{env_of}
+use Rattle.rn_model.specs.ExpressionLaws.{OperandsAreFit}
 use Rattle.std.specs.Prelude.{All}
 use Rattle.rn_model.specs.Systems.{vars_in}
 use Rattle.rn_growing.specs.declared.decision.Decision.TheVariants.{Computed}
 use Rattle.rn_growing.specs.Decided.{enters, computes}
+use Rattle.rn_growing.specs.Decisions.{site_of}
 use Rattle.rn_binding.specs.link.Parts.{computed_by}
 use Rattle.rn_binding.specs.link.Passing.{IsVarForcedOn}
 use Rattle.rn_binding.proofs.Coming.{Comes}
 use Rattle.rn_binding.proofs.ComingValues.{tested, tested_along, computed_already, computed_early}
 use Rattle.rn_binding.proofs.ComingValues.{computed_unforced}
 use Rattle.rn_binding.proofs.ComingValues.{computed_has_value, computed_comes}
+use Rattle.rn_binding.proofs.FitOperands.{computed_fits}
 use Rattle.rn_binding.proofs.bringing.bring_computed.Goals as goal
 use Rattle.rn_binding.proofs.bringing.bring_computed.Goals.{After-from_vec-way}
 
@@ -98,3 +101,12 @@ pub returns-clause-followed : goal.returns-clause-followed
 returns-clause-followed c =
     IfOk-weaker _ _ _ (λ yes tries. ((comes (goal.at.returns-clause-followed c).After-from_vec-way).2 c.compute.new.self yes tries).1)
     c.compute.ensures.tries
+
+pub evaluate-requires-clause-fit : goal.evaluate-requires-clause-fit
+evaluate-requires-clause-fit c =
+    let a = c.args.application.now in
+    subst (λ env. OperandsAreFit env a.form.now)
+    (sym (c.new-values.ensures ∙ ap (env_of c.args.subject.system.now) c.node-node.ensures))
+    (computed_fits c.args.subject.system.now c.args.subject.binding.now c.requires.given
+    c.args.headed.now (site_of a.site) (record { way = a.way; form = a.form.now })
+    c.requires.item)

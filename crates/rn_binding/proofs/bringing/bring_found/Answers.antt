@@ -1,14 +1,16 @@
 -- By the node's entry, and the value under the node.
-use Rattle.std.proofs.Common.{◌∙◌, ap, sym, true, false}
+use Rattle.std.proofs.Common.{◌∙◌, ap, sym, subst, true, false}
 use Rattle.std.proofs.lemmas.Result.{IfOk-weaker}
 use Rattle.rn_model.specs.Evaluation.{worth}
 use Rattle.rn_model.specs.Bindings.{env_of}
 use Rattle.rn_model.specs.Derivation.{found}
+use Rattle.rn_model.specs.ExpressionLaws.{OperandsAreFit}
 use Rattle.rn_growing.specs.declared.decision.Decision.TheVariants.{Found}
 use Rattle.rn_growing.specs.Decided.{enters, finds}
 use Rattle.rn_binding.proofs.Coming.{Comes}
 use Rattle.rn_binding.proofs.ComingValues.{tested, found_already, found_early, found_has_value}
 use Rattle.rn_binding.proofs.ComingValues.{found_comes}
+use Rattle.rn_binding.proofs.FitOperands.{found_fits}
 use Rattle.rn_binding.proofs.bringing.bring_found.Goals as goal
 use Rattle.rn_binding.proofs.bringing.bring_found.Goals.{In_ok-head}
 
@@ -70,3 +72,10 @@ pub returns-clause-followed : goal.returns-clause-followed
 returns-clause-followed c =
     IfOk-weaker _ _ _ (λ yes tries. ((comes (goal.at.returns-clause-followed c).In_ok-head).2 c.find.new.self yes tries).1)
     c.find.ensures.tries
+
+pub evaluate-requires-clause-fit : goal.evaluate-requires-clause-fit
+evaluate-requires-clause-fit c =
+    subst (λ env. OperandsAreFit env c.args.arc.now.inscription)
+    (sym (c.new-values.ensures ∙ ap (env_of c.args.subject.system.now) c.node-node.ensures))
+    (found_fits c.args.subject.system.now c.args.subject.binding.now c.requires.given
+    c.args.headed.now c.args.k c.args.arc.now c.requires.item)

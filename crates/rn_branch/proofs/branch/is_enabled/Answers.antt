@@ -4,6 +4,7 @@ use Rattle.std.specs.Prelude.{IsTrue, ◌↔◌}
 use Rattle.std.proofs.lemmas.Result.{IfOk-weaker}
 use Rattle.rn_model.specs.Enabling.{Fits}
 use Rattle.rn_model.specs.Good.{Good}
+use Rattle.rn_arcs.proofs.FitInscriptions.{agreeing_fit}
 use Rattle.rn_search.specs.Solving.{Passes}
 use Rattle.rn_branch.proofs.Passing.{fails_agreeing, fails_shape, passes_fitting}
 use Rattle.rn_branch.proofs.branch.is_enabled.Goals as goal
@@ -11,6 +12,14 @@ use Rattle.rn_branch.proofs.branch.is_enabled.Goals as goal
 pub does_agree-requires-clause-good : goal.does_agree-requires-clause-good
 does_agree-requires-clause-good c =
     subst Good (sym c.system-system.ensures.same) c.system-system.ensures.good
+
+pub fits-requires : goal.fits-requires
+fits-requires c = record {
+  fit = agreeing_fit c.system-system.result.now c.args.binding.now c.depth-depth.result
+      (subst Good (sym c.system-system.ensures.same) c.system-system.ensures.good)
+      (c.has_shape.ensures.0 c.if-not-has_shape.false)
+      (c.in_ok-does_agree.ensures.0 c.if-not-branch.false);
+}
 
 pub returns-then-not-has_shape : goal.returns-then-not-has_shape
 returns-then-not-has_shape c =

@@ -4,7 +4,8 @@ use Rattle.std.specs.Prelude.{All, IfSome, Some, option_map}
 use Rattle.rn_model.specs.Bindings.{IsNodeOf}
 use Rattle.rn_model.specs.Firing.{Effects, all_effects, too_many}
 use Rattle.rn_acts.specs.Acted.{AreOfArcs, ArePut}
-use Rattle.rn_acts.proofs.NumberingLemmas.{nodes_kept}
+use Rattle.rn_calc.specs.OwnKinds.{HaveOwnKinds}
+use Rattle.rn_acts.proofs.NumberingLemmas.{kinds_kept, nodes_kept}
 use Rattle.rn_fire.proofs.OutcomeLemmas.{MadeFor, fires_by, is_over}
 use Rattle.rn_fire.proofs.outcome.outcome_of.Goals as goal
 use Rattle.rn_fire.proofs.outcome.outcome_of.Goals.{After-gives_too_many}
@@ -30,11 +31,20 @@ act-requires-clause-nodes c =
     subst (λ b. All (IsNodeOf c.args.system.now) b.nodes) (sym c.in_ok-numbered.ensures)
     (nodes_kept c.args.system.now c.args.binding.now c.args.next c.requires.nodes)
 
-pub change_of-requires : goal.change_of-requires
-change_of-requires c = record {
-  nodes = subst (λ b. All (IsNodeOf c.args.system.now) b.nodes) (sym c.in_ok-numbered.ensures)
-      (nodes_kept c.args.system.now c.args.binding.now c.args.next c.requires.nodes);
-}
+pub act-requires-clause-kinds : goal.act-requires-clause-kinds
+act-requires-clause-kinds c =
+    subst (λ b. All (HaveOwnKinds c.args.system.now) b.nodes) (sym c.in_ok-numbered.ensures)
+    (kinds_kept c.args.system.now c.args.binding.now c.args.next c.requires.kinds)
+
+pub change_of-requires-clause-nodes : goal.change_of-requires-clause-nodes
+change_of-requires-clause-nodes c =
+    subst (λ b. All (IsNodeOf c.args.system.now) b.nodes) (sym c.in_ok-numbered.ensures)
+    (nodes_kept c.args.system.now c.args.binding.now c.args.next c.requires.nodes)
+
+pub change_of-requires-clause-kinds : goal.change_of-requires-clause-kinds
+change_of-requires-clause-kinds c =
+    subst (λ b. All (HaveOwnKinds c.args.system.now) b.nodes) (sym c.in_ok-numbered.ensures)
+    (kinds_kept c.args.system.now c.args.binding.now c.args.next c.requires.kinds)
 
 pub returns-then-gives_too_many : goal.returns-then-gives_too_many
 returns-then-gives_too_many c =

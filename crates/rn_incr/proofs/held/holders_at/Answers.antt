@@ -1,11 +1,12 @@
 use Rattle.std.proofs.Common.{◌∙◌}
-use Rattle.rn_incr.proofs.PlaceLemmas.{fit_near}
+use Rattle.rn_holders.proofs.NearMentions.{kinds_near}
 use Rattle.rn_incr.proofs.RefreshLemmas.{all_held}
 use Rattle.rn_incr.proofs.held.holders_at.Goals as goal
 
 pub hold_all-requires : goal.hold_all-requires
 hold_all-requires c =
-    fit_near c.args.system.now c.args.table.now.marking c.requires.good c.requires.tokens
+    kinds_near c.args.system.now c.args.table.now.marking c.requires.good
+    (λ h net place v of has. (c.requires.tokens h net place v of has).0)
 
 pub returns : goal.returns
 returns c =

@@ -3,14 +3,16 @@ use Rattle.std.specs.Prelude.{AllPairs, Contains}
 use Rattle.std.proofs.lemmas.Bool.Decides.{Decides-eqb}
 use Rattle.std.proofs.lemmas.Map.Made.{AllPairs-from_IsDistinct}
 use Rattle.rn_incr.specs.Lists.{IsListOf, IsTouched, MayStartIn}
-use Rattle.rn_incr.proofs.PlaceLemmas.{fit_near, none_past}
+use Rattle.rn_holders.proofs.NearMentions.{kinds_near}
+use Rattle.rn_incr.proofs.PlaceLemmas.{none_past}
 use Rattle.rn_incr.proofs.PutLemmas.{all_put}
 use Rattle.rn_incr.proofs.RefreshLemmas.{list_stays, number_as}
 use Rattle.rn_incr.proofs.refreshing.remake.Goals as goal
 
 pub reaching-requires-clause-near : goal.reaching-requires-clause-near
 reaching-requires-clause-near c =
-    fit_near c.args.system.now c.args.table.now.marking c.requires.good c.requires.tokens
+    kinds_near c.args.system.now c.args.table.now.marking c.requires.good
+    (λ h net place v of has. (c.requires.tokens h net place v of has).0)
 
 pub count_starting-count-requires : goal.count_starting-count-requires
 count_starting-count-requires c =

@@ -1,5 +1,6 @@
 -- A look at one arc more, which may count as another number.
 use Rattle.std.proofs.Common.{length}
+use Rattle.rn_growing.proofs.Growth.{at_in}
 use Rattle.rn_looking.specs.Looks.{Looked}
 use Rattle.rn_looking.specs.Things.{IsOnArc, IsOnArcs}
 use Rattle.rn_looking.proofs.LookSteps.{looked_narrowed, looked_urged, still_urges}
@@ -26,3 +27,7 @@ loop-k-preserved c = record {
 
 pub returns-then-is_best : goal.returns-then-is_best
 returns-then-is_best c = both (goal.at.returns-then-is_best c).After-better-best
+
+pub narrowed-requires-clause-there : goal.narrowed-requires-clause-there
+narrowed-requires-clause-there c =
+    at_in c.args.at.transition.now.arcs c.loop-k.k c.arc_at-arc.result.now c.arc_at-arc.ensures

@@ -10,6 +10,7 @@ use Rattle.rn_looking.specs.Equating.{IsTokenOf}
 use Rattle.rn_looking.specs.Knowing.{IsKnownFirst}
 use Rattle.rn_looking.proofs.LookSteps.{goes_on_among}
 use Rattle.rn_looking.proofs.TokenLooks.{chooses_token}
+use Rattle.rn_looking.proofs.KindedNodes.{inscription_kinded, kinded_node}
 use Rattle.rn_looking.proofs.arcs.look_for_token.Goals as goal
 
 pub arc_at-arc-requires : goal.arc_at-arc-requires
@@ -44,3 +45,21 @@ returns c =
     (λ first. chooses_token c.args.at.problem.now c.args.at.growing.now c.args.at.node
     c.args.at.head.now c.args.at.transition.now c.requires.at c.args.k c.requires.token
     c.alternatives-of.result first count) c.among.ensures
+
+pub known_token-requires-clause-node : goal.known_token-requires-clause-node
+known_token-requires-clause-node c =
+    kinded_node c.args.at.problem.now c.args.at.growing.now c.args.at.node
+    c.args.at.head.now c.args.at.transition.now c.requires.at
+
+pub known_token-requires-clause-kinds : goal.known_token-requires-clause-kinds
+known_token-requires-clause-kinds c =
+    inscription_kinded c.args.at.problem.now c.args.at.growing.now c.args.at.node
+    c.args.at.head.now c.args.at.transition.now c.requires.at
+    c.args.k c.arc_at-arc.result.now c.arc_at-arc.ensures
+
+pub known_first_part-requires : goal.known_first_part-requires
+known_first_part-requires c = record {
+  kinds = inscription_kinded c.args.at.problem.now c.args.at.growing.now c.args.at.node
+      c.args.at.head.now c.args.at.transition.now c.requires.at c.args.k c.arc_at-arc.result.now
+      c.arc_at-arc.ensures;
+}

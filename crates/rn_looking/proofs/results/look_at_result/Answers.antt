@@ -1,10 +1,14 @@
 -- By what is decided of it, and what is known of its variables.
-use Rattle.std.proofs.Common.{◌∙◌, true, false, sym, subst, rules, SFits, w64, to_z-of_z}
+use Rattle.std.proofs.Common.{◌∙◌, true, false, refl, sym, subst, rules, SFits, w64, to_z-of_z}
 use Rattle.rn_choices.specs.declared.next.Next.TheVariants.{Forced}
 use Rattle.rn_search.specs.declared.point.Point.TheVariants as P
+use Rattle.rn_binding.specs.link.Applications.{application_of}
 use Rattle.rn_looking.specs.Knowing.{KnowsVars, known_env}
 use Rattle.rn_looking.specs.Looks.{GoesOn}
 use Rattle.rn_looking.proofs.LookedResults.{answers, is_done, waits, goes, stuck}
+use Rattle.rn_looking.specs.NodeKinds.{KnowsForced}
+use Rattle.rn_looking.proofs.KindedNodes.{hole_kinded}
+use Rattle.rn_looking.proofs.KindedValues.{known_fits}
 use Rattle.rn_looking.proofs.results.look_at_result.Goals as goal
 
 pub returns-then-was_computed : goal.returns-then-was_computed
@@ -27,7 +31,7 @@ returns-in_default c =
     c.args.application.now.site c.was_computed.ensures (c.as_slice-path.ensures ∙ c.deref.ensures)
     c.as_slice-way.ensures c.if-was_computed.false)
     (subst (KnowsVars c.args.at.growing.now c.args.at.head.now c.args.application.now.form.now)
-    c.in_default.is c.in_ok-known.ensures)
+    c.in_default.is c.in_ok-known.ensures.knows)
 
 pub returns-in-Some-2 : goal.returns-in-Some-2
 returns-in-Some-2 c =
@@ -44,7 +48,7 @@ returns-in-Some-2 c =
     c.as_slice-way.ensures c.if-was_computed.false)
     (known_env c.in-Some.known)
     (subst (KnowsVars c.args.at.growing.now c.args.at.head.now c.args.application.now.form.now)
-    c.in-Some.is c.in_ok-known.ensures) c.in-Some-2.n
+    c.in-Some.is c.in_ok-known.ensures.knows) c.in-Some-2.n
     ((c.in_ok-n.ensures c.in-Some-2.n).0 c.in-Some-2.is))
 
 pub returns : goal.returns
@@ -58,7 +62,17 @@ returns c =
     c.as_slice-way.ensures c.if-was_computed.false)
     (known_env c.in-Some.known)
     (subst (KnowsVars c.args.at.growing.now c.args.at.head.now c.args.application.now.form.now)
-    c.in-Some.is c.in_ok-known.ensures)
+    c.in-Some.is c.in_ok-known.ensures.knows)
     (λ n value.
     let told = (c.in_ok-n.ensures n).1 value in
     let no : ⊥ = cc (told, c.in-None.is) in no)
+
+pub number_of-requires : goal.number_of-requires
+number_of-requires c =
+    known_fits c.args.at.growing.now c.args.at.head.now c.args.application.now.form.now
+    (known_env c.in-Some.known) c.in-Some.known.pairs.items refl
+    (hole_kinded c.args.at.problem.now c.args.at.growing.now c.args.at.node c.args.at.head.now
+    c.args.at.transition.now c.requires.at c.args.k (application_of c.args.application.now)
+    c.requires.is)
+    (subst (KnowsForced c.args.at.growing.now c.args.at.head.now) c.in-Some.is
+    c.in_ok-known.ensures.forced)

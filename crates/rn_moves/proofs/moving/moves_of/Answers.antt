@@ -7,7 +7,8 @@ use Rattle.rn_model.specs.declared.binding.Binding.{Binding}
 use Rattle.rn_model.specs.Demands.{cleared_at, taken_at}
 use Rattle.rn_model.specs.Firing.{Effects, Made, all_effects, creations_of}
 use Rattle.rn_acts.specs.Acted.{ArePut}
-use Rattle.rn_acts.proofs.NumberingLemmas.{nodes_kept}
+use Rattle.rn_calc.specs.OwnKinds.{HaveOwnKinds}
+use Rattle.rn_acts.proofs.NumberingLemmas.{kinds_kept, nodes_kept}
 use Rattle.rn_moves.specs.Moves.{AreMovesOf}
 use Rattle.rn_moves.proofs.FiringMoves.{both_ok, made_low, moves_are}
 use Rattle.rn_moves.proofs.moving.moves_of.Goals as goal
@@ -17,11 +18,20 @@ act-requires-clause-nodes c =
     subst (λ b. All (IsNodeOf c.args.system.now) b.nodes) (sym c.in_ok-numbered.ensures)
     (nodes_kept c.args.system.now c.args.binding.now c.args.next c.requires.moves.nodes)
 
-pub change_of-requires : goal.change_of-requires
-change_of-requires c = record {
-  nodes = subst (λ b. All (IsNodeOf c.args.system.now) b.nodes) (sym c.in_ok-numbered.ensures)
-      (nodes_kept c.args.system.now c.args.binding.now c.args.next c.requires.moves.nodes);
-}
+pub act-requires-clause-kinds : goal.act-requires-clause-kinds
+act-requires-clause-kinds c =
+    subst (λ b. All (HaveOwnKinds c.args.system.now) b.nodes) (sym c.in_ok-numbered.ensures)
+    (kinds_kept c.args.system.now c.args.binding.now c.args.next c.requires.moves.kinds)
+
+pub change_of-requires-clause-nodes : goal.change_of-requires-clause-nodes
+change_of-requires-clause-nodes c =
+    subst (λ b. All (IsNodeOf c.args.system.now) b.nodes) (sym c.in_ok-numbered.ensures)
+    (nodes_kept c.args.system.now c.args.binding.now c.args.next c.requires.moves.nodes)
+
+pub change_of-requires-clause-kinds : goal.change_of-requires-clause-kinds
+change_of-requires-clause-kinds c =
+    subst (λ b. All (HaveOwnKinds c.args.system.now) b.nodes) (sym c.in_ok-numbered.ensures)
+    (kinds_kept c.args.system.now c.args.binding.now c.args.next c.requires.moves.kinds)
 
 pub tokens_of-requires-clause-numbers : goal.tokens_of-requires-clause-numbers
 tokens_of-requires-clause-numbers c =

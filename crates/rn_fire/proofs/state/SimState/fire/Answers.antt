@@ -1,6 +1,8 @@
 -- What the firing comes to at this state.
 use Rattle.std.proofs.Common.{ap, sym, subst, ◌∙◌, refl}
+use Rattle.std.specs.Prelude.{All}
 use Rattle.rn_model.specs.Bindings.{Shape}
+use Rattle.rn_calc.specs.OwnKinds.{HaveOwnKinds}
 use Rattle.rn_model.specs.declared.log.Reason.TheVariants.{Fault}
 use Rattle.rn_fire.specs.Commits.{IsEnabledNow}
 use Rattle.rn_fire.specs.Ends.{with_end}
@@ -14,6 +16,11 @@ outcome_of-requires-clause-numbers c =
     few_creations c.system.result.now c.args.binding.now s.setup.options.depth c.next.result c.system.ensures.good
     (subst (λ x. Shape x c.args.binding.now s.setup.options.depth) (sym c.system.ensures.system) c.requires.enabled.shape)
     c.next.ensures.most
+
+pub outcome_of-requires-clause-kinds : goal.outcome_of-requires-clause-kinds
+outcome_of-requires-clause-kinds c =
+    subst (λ x. All (HaveOwnKinds x) c.args.binding.now.nodes) (sym c.system.ensures.system)
+    (λ k d h. (c.requires.enabled.agrees.nodes k d h).kinds)
 
 pub end_by_fault-requires-clause-true_end : goal.end_by_fault-requires-clause-true_end
 end_by_fault-requires-clause-true_end c =

@@ -1,10 +1,23 @@
 -- The table decides.
-use Rattle.std.proofs.Common.{subst}
+use Rattle.std.proofs.Common.{subst, sym}
 use Rattle.std.specs.Prelude.{◌↔◌, IsTrue}
 use Rattle.std.proofs.lemmas.Result.{IfOk-weaker}
 use Rattle.rn_model.specs.Enabling.{Fits}
+use Rattle.rn_model.specs.Good.{Good}
+use Rattle.rn_arcs.specs.FitInscriptions.{InscriptionsAreFit}
+use Rattle.rn_arcs.proofs.FitInscriptions.{agreeing_fit}
 use Rattle.rn_fire.proofs.OutcomeLemmas.{fits_decides}
 use Rattle.rn_fire.proofs.state.SimState.is_still_enabled.Goals as goal
+
+pub fits-requires : goal.fits-requires
+fits-requires c = record {
+  fit =
+      let s = c.args.self.now in
+      subst (λ x. InscriptionsAreFit x c.args.binding.now) (sym c.system.ensures.system)
+      (agreeing_fit s.setup.system c.args.binding.now s.setup.options.depth
+      (subst Good c.system.ensures.system c.system.ensures.good)
+      c.requires.sound.shape c.requires.sound.agrees);
+}
 
 pub returns-clause-exact : goal.returns-clause-exact
 returns-clause-exact c =

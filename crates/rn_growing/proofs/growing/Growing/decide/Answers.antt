@@ -7,9 +7,9 @@ use Rattle.rn_growing.specs.link.Laid.{Grows}
 use Rattle.rn_growing.proofs.Growth.{decided_now, tries_yes, tries_no, tries_tells}
 use Rattle.rn_growing.proofs.ThingKeys.{keys_pushed}
 use Rattle.rn_growing.proofs.growing.Growing.decide.Goals as goal
-use Rattle.rn_growing.proofs.growing.Growing.decide.Goals.{In_ok-push-2, Joined-decision-31}
+use Rattle.rn_growing.proofs.growing.Growing.decide.Goals.{In_ok-push-2, Joined-decision-25}
 
-not_taken : (c : Joined-decision-31) →
+not_taken : (c : Joined-decision-25) →
     Tries c.args.self.now c.args.decision
     (record { system = c.self.inside.system.now; decisions = c.reserve.new.self.items }) false
 not_taken c =

@@ -4,13 +4,14 @@ use Rattle.rn_table.specs.Tables.{Kept}
 use Rattle.rn_reach.specs.Reach.{DifferAtMostIn}
 use Rattle.rn_holders.specs.Holders.{HaveHolders}
 use Rattle.rn_incr.specs.Lists.{IsListOf, AreListsOf, Listed}
-use Rattle.rn_incr.proofs.PlaceLemmas.{fit_near}
+use Rattle.rn_holders.proofs.NearMentions.{kinds_near}
 use Rattle.rn_incr.proofs.RefreshLemmas.{holders_after}
 use Rattle.rn_incr.proofs.lists.Lists.refresh.Goals as goal
 
 pub hold_all-requires : goal.hold_all-requires
 hold_all-requires c =
-    fit_near c.args.system.now c.args.table.now.marking c.requires.good c.requires.tokens
+    kinds_near c.args.system.now c.args.table.now.marking c.requires.good
+    (λ h net place v of has. (c.requires.tokens h net place v of has).0)
 
 pub remake-requires-clause-held : goal.remake-requires-clause-held
 remake-requires-clause-held c =

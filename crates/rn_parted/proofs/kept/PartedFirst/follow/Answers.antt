@@ -6,13 +6,13 @@ use Rattle.rn_reach.specs.Reach.{DifferAtMostIn}
 use Rattle.rn_table.specs.Tables.{Kept}
 use Rattle.rn_parted.specs.Parted.{IsParted, Parted}
 use Rattle.rn_parted.proofs.FollowLemmas.{follows}
-use Rattle.rn_parted.proofs.NearLemmas.{fit_near}
+use Rattle.rn_holders.proofs.NearMentions.{kinds_near}
 use Rattle.rn_parted.proofs.kept.PartedFirst.follow.Goals as goal
 
 pub hold_all-requires : goal.hold_all-requires
 hold_all-requires c =
-    fit_near c.args.marked.system.now c.args.marked.table.now.marking c.requires.searched.good
-    c.requires.searched.tokens
+    kinds_near c.args.marked.system.now c.args.marked.table.now.marking c.requires.searched.good
+    (λ h net place v of has. (c.requires.searched.tokens h net place v of has).0)
 
 pub settle_bag-requires-clause-bag : goal.settle_bag-requires-clause-bag
 settle_bag-requires-clause-bag c =

@@ -3,14 +3,14 @@ use Rattle.std.specs.Prelude.{[], Some, option_and_then, slice_get, unwrap_or}
 use Rattle.rn_model.specs.Markings.{instance_at}
 use Rattle.rn_table.specs.Tables.{Kept}
 use Rattle.rn_parted.specs.Parted.{AreShares}
-use Rattle.rn_parted.proofs.NearLemmas.{fit_near}
+use Rattle.rn_holders.proofs.NearMentions.{kinds_near}
 use Rattle.rn_parted.proofs.ShareLemmas.{opened}
 use Rattle.rn_parted.proofs.kept.PartedFirst.open.Goals as goal
 
 pub holders_but-requires : goal.holders_but-requires
 holders_but-requires c =
-    fit_near c.args.marked.system.now c.args.marked.table.now.marking c.requires.searched.good
-    c.requires.searched.tokens
+    kinds_near c.args.marked.system.now c.args.marked.table.now.marking c.requires.searched.good
+    (λ h net place v of has. (c.requires.searched.tokens h net place v of has).0)
 
 pub shares_of-requires-clause-bag : goal.shares_of-requires-clause-bag
 shares_of-requires-clause-bag c =

@@ -8,15 +8,15 @@ use rn_value::{InstRef, Value};
 /// The values of a guard's variables, of which one is a token that wasn't taken yet. Nothing is
 /// copied.
 #[derive(Drop)]
-pub(crate) struct Trial<'a> {
-    pub(crate) this: &'a InstRef,
-    pub(crate) var: u32,
-    pub(crate) token: &'a Value,
-    pub(crate) others: &'a [(u32, Value)],
+pub struct Trial<'a> {
+    pub this: &'a InstRef,
+    pub var: u32,
+    pub token: &'a Value,
+    pub others: &'a [(u32, Value)],
 }
 
 impl Values for Trial<'_> {
-    ghost use Rattle.rn_branch.specs.Testing.{trial_env};
+    ghost use Rattle.rn_looking.specs.Trials.{trial_env};
 
     ghost env = { trial_env };
 

@@ -1,4 +1,4 @@
--- What fit tokens don't mention.
+-- What tokens of their places' kinds don't mention.
 use Rattle.std.proofs.Common.{◌≡◌, ◌≤◌, ℕ, zero, suc, Bool, true, false, List, [], ◌∷◌, length}
 use Rattle.std.proofs.Common.{refl, sym, ap, ◌∙◌, subst, arith}
 use Rattle.std.specs.Prelude.{All, Contains, Option, Some, None, slice_get, unwrap_or, option_map, option_and_then}
@@ -16,10 +16,9 @@ use Rattle.rn_model.specs.declared.system.Place.{Place}
 use Rattle.rn_model.specs.declared.system.System.{System}
 use Rattle.rn_model.specs.Good.{Good, IsGoodNet}
 use Rattle.rn_model.specs.Liveness.{mentions, mentions_step}
-use Rattle.rn_model.specs.Markings.{Marking, Instance, instance_at, net_of}
+use Rattle.rn_model.specs.Markings.{Marking, Instance, instance_at, net_of, tokens_at}
 use Rattle.rn_model.specs.Systems.{empty_net, net_at, place_kind, unkinded}
 use Rattle.rn_model.proofs.EnablingLemmas.{not_in_nil}
-use Rattle.rn_search.specs.Problems.{HasFitTokens}
 use Rattle.rn_holders.specs.Holders.{MentionNear}
 
 empty_layer : (y : V.Value-F Value) (n : ℕ) →
@@ -54,8 +53,10 @@ few_at system (net ∷ nets) (suc k) all =
     few_at system nets k (All-tail (IsGoodNet system) net nets all)
 
 -- past the places of a net a token could be the empty tuple alone
-pub fit_near : (system : System) (m : Marking) → Good system → HasFitTokens system m → MentionNear m
-fit_near system m good fit holder n place v far has = by_there (instance_at m holder) refl
+pub kinds_near : (system : System) (m : Marking) → Good system →
+    ((n net place : ℕ) (v : Value) → net_of m n ≡ Some net → Contains (tokens_at m n place) v →
+    HasKind v (place_kind system net place)) → MentionNear m
+kinds_near system m good fit holder n place v far has = by_there (instance_at m holder) refl
   where
     by_there : (o : Option Instance) → instance_at m holder ≡ o → mentions v n ≡ false
     by_there None e = absurd (not_in_nil v
@@ -67,4 +68,4 @@ fit_near system m good fit holder n place v far has = by_there (instance_at m ho
         let kind : place_kind system i.net place ≡ unkinded =
         ap (λ (o : Option Place). option_map_or (λ place. place.kind) o unkinded) past in
         false_unless (mentions v n) (λ mention. empty_mentions v n
-        (subst (HasKind v) kind (fit holder i.net place v net has).0) mention)
+        (subst (HasKind v) kind (fit holder i.net place v net has)) mention)

@@ -1,0 +1,10 @@
+use Rattle.rn_calc.specs.link.NodeValues.{lent_env}
+use Rattle.rn_arcs.proofs.FitInscriptions.{fit_on}
+use Rattle.rn_arcs.proofs.collecting.add_node.Goals as goal
+
+pub add_ask-requires-clause-fit : goal.add_ask-requires-clause-fit
+add_ask-requires-clause-fit c =
+    fit_on c.args.system.now c.args.node.now c.in-Some.transition.now
+    (lent_env c.new-values.result) c.as_slice-arc-items.result.now c.arc-item.result
+    c.loop-arc.arc-index c.requires.fit c.in-Some.ensures c.new-values.ensures
+    c.as_slice-arc-items.ensures c.loop-arc-test.true c.arc-item.is
