@@ -1,5 +1,5 @@
 -- Sorted values are the ordered ones.
-use Rattle.std.proofs.Common.{◌≡◌, List, sym, ◌∙◌}
+use Rattle.std.proofs.Common.{◌≡◌, ◌<◌, List, [], ◌∷◌, length, refl, sym, ◌∙◌, arith}
 use Rattle.std.specs.List.Sorted.{IsSorted, IsPermutation}
 use Rattle.std.proofs.lemmas.List.Sorted.{sum_by-IsPermutation}
 use Rattle.rn_value.specs.Order.{value_cmp}
@@ -14,3 +14,8 @@ sorted_is_ordered vs ws sorted moved =
     values_by_counts ws (ordered_values vs) sorted (ordered_values_ascend vs)
     (λ v. sum_by-IsPermutation (λ w. one_if (same_value v w)) vs ws moved
     ∙ sym (ordered_values_stay vs v))
+
+pub short_is_ordered : (vs : List Value) → length vs < 2 → vs ≡ ordered_values vs
+short_is_ordered [] short = refl
+short_is_ordered (v ∷ []) short = refl
+short_is_ordered (v ∷ w ∷ vs) short = absurd (let no : ⊥ = omega (arith, short) in no)

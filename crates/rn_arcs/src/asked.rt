@@ -1,5 +1,5 @@
 //! What a binding asks of one place of an instance.
-ghost use Rattle.std.specs.Prelude.{◌≡◌, IfOk, OnOk};
+ghost use Rattle.std.specs.Prelude.{◌≡◌, OnOk};
 ghost use Rattle.rn_model.specs.Lists.{ordered_values};
 ghost use Rattle.rn_arcs.specs.link.Groups.{with_arc, fresh, in_order};
 
@@ -8,6 +8,7 @@ use rn_items::{Items, NoMemory};
 use rn_model::ArcKind;
 use rn_value::{InstRef, Vals, Value, copy, sort};
 use std::alloc::Global;
+use std::mem;
 
 /// What is asked of a place, each list in the order in which the arcs came until it is sorted.
 #[derive(Debug, Drop)]
@@ -57,36 +58,26 @@ impl Asked {
         Ok(())
     }
 
-    /// The same with its values in ascending order, but for the lists of clear arcs.
-    pub(crate) fn sorted(self) -> Result<Asked, NoMemory>
-        ensures { IfOk result (λ asked. asked ≡ in_order self) }
+    /// Its values come in ascending order, but for the lists of clear arcs.
+    pub(crate) fn sort(&mut self, alloc: Global) -> Result<(), NoMemory>
+        ensures { OnOk result (self.new ≡ in_order self.old) }
     {
-        let Asked {
-            inst,
-            place,
-            taken,
-            tested,
-            inhibited,
-            cleared,
-            put,
-        } = self;
-        Ok(Asked {
-            inst,
-            place,
-            taken: ascending(taken)?,
-            tested: ascending(tested)?,
-            inhibited: ascending(inhibited)?,
-            cleared,
-            put: ascending(put)?,
-        })
+        ascend(alloc, &mut self.taken)?;
+        ascend(alloc, &mut self.tested)?;
+        ascend(alloc, &mut self.inhibited)?;
+        ascend(alloc, &mut self.put)
     }
 }
 
-/// The values in ascending order.
-fn ascending(values: Vals) -> Result<Vals, NoMemory>
-    ensures { IfOk result (λ sorted. sorted ≡ ordered_values values) }
+/// The values come in ascending order.
+fn ascend(alloc: Global, values: &mut Vals) -> Result<(), NoMemory>
+    ensures { OnOk result (values.new ≡ ordered_values values.old) }
 {
-    let mut sorted = values.into_vec();
+    if values.len() < 2 {
+        return Ok(());
+    }
+    let mut sorted = mem::replace(values, Items::new(alloc)).into_vec();
     sort(&mut sorted)?;
-    Ok(Items::from_vec(sorted))
+    *values = Items::from_vec(sorted);
+    Ok(())
 }

@@ -47,15 +47,14 @@ fn grouped(alloc: Global, asks: Vec<Ask>) -> Result<Vec<Asked>, NoMemory>
     Ok(places)
 }
 
-/// The same places with ascending values.
-fn sorted_each(alloc: Global, places: Vec<Asked>) -> Result<Vec<Asked>, NoMemory>
-    ensures { IfOk result (λ sorted. sorted.items ≡ map in_order places.items) }
+/// The values of each place come in ascending order.
+fn sort_each(alloc: Global, places: &mut Vec<Asked>) -> Result<(), NoMemory>
+    ensures { OnOk result (places.new.items ≡ map in_order places.old.items) }
 {
-    let mut sorted = Vec::with_capacity(alloc, places.len())?;
-    for place in places {
-        sorted.push(place.sorted()?)?;
+    for k in 0..places.len() {
+        places[k].sort(alloc)?;
     }
-    Ok(sorted)
+    Ok(())
 }
 
 /// What a binding asks of each place, in the order of places. Outputs are left out at will.
@@ -71,5 +70,7 @@ pub(crate) fn asked_of(
 {
     let mut asks = asks_of(alloc, system, binding, outputs)?;
     sort_asks(&mut asks)?;
-    sorted_each(alloc, grouped(alloc, asks)?)
+    let mut places = grouped(alloc, asks)?;
+    sort_each(alloc, &mut places)?;
+    Ok(places)
 }

@@ -191,6 +191,28 @@ within_each ws bag all v = elim (each_or_none (λ w. count_of w ws ≤ count_of 
   | inr here ↦ here
 ]
 
+-- of ascending values one is there just where it stands at its cut
+pub there_at_cut : (v : Value) (xs : List Value) (i : ℕ) → Ascends xs → AllBelow v (take i xs) → NoneBelow v (drop i xs) → (slice_get xs i ≡ Some v) ↔ (0 < count_of v xs)
+there_at_cut v [] i up low high = (λ is. absurd (let no : ⊥ = cc in no), λ some. absurd (let no : ⊥ = omega (arith, some) in no))
+there_at_cut v (x ∷ xs) zero up low high = (
+  λ is. let e : x ≡ v = cc in let here : one_if (same_value v x) ≡ 1 = ap (λ z. one_if (same_value z x)) (sym e) ∙ ap one_if (same_itself x) in omega (arith, here, count_of-cons v x xs),
+  λ some. elim (each_or_none (λ z. below z x ≡ false) v (x ∷ xs) (not_itself x, up.0)) [
+    | inl none ↦ absurd (let no : ⊥ = omega (arith, none, some) in no)
+    | inr past ↦ ap (λ z. Some z) (same_value_is v x high.0 past)
+  ],
+)
+there_at_cut v (x ∷ xs) (suc i) up low high =
+    let other : one_if (same_value v x) ≡ 0 = ap one_if (below_differs v x low.0) in
+    let rest = there_at_cut v xs i up.1 low.1 high in
+    (λ is. omega (arith, rest.0 is, other, count_of-cons v x xs), λ some. rest.1 (omega (arith, some, other, count_of-cons v x xs)))
+
+-- one value is there as often as by itself just where it is there
+pub one_within : (v : Value) (bag : List Value) → (0 < count_of v bag) ↔ IsWithin (v ∷ []) bag
+one_within v bag =
+    let here : one_if (same_value v v) ≡ 1 = ap one_if (same_itself v) in
+    let one : count_of v (v ∷ []) ≡ 1 = omega (arith, here, count_of-cons v v []) in
+    (λ some. within_each (v ∷ []) bag (omega (arith, one, some), tt), λ all. omega (arith, one, all v))
+
 -- one more token of a part of the list
 pub copied_more : (xs : List Value) (s i : ℕ) (v : Value) → s ≤ i → slice_get xs i ≡ Some v → take (i + 1 - s) (drop s xs) ≡ take (i - s) (drop s xs) ++ v ∷ []
 copied_more xs zero i v order_is at =

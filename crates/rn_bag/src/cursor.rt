@@ -29,12 +29,25 @@ impl Bag {
         (self.cut_at(value, Cut::UpTo) - self.cut_at(value, Cut::Below)) as u64
     }
 
+    /// Whether a value is in the bag. It looks it up once.
+    pub fn contains(&self, value: &Value) -> bool
+        ensures { IsTrue result ↔ (0 < count_of value.now self.now) }
+    {
+        match self.get(self.cut_at(value, Cut::Below)) {
+            Some(other) => same(other, value),
+            None => false,
+        }
+    }
+
     /// Whether each value is in the bag as often as it is among these, which ascend.
     pub fn has_all(&self, sorted: &Vals) -> bool
         requires { IsSorted value_cmp sorted.now }
         ensures { IsTrue result ↔ IsWithin sorted.now self.now }
     {
         let values = sorted.as_slice();
+        if let [value] = values {
+            return self.contains(value);
+        }
         for (i, value) in values.iter().enumerate() {
             if i > 0 && same(&values[i - 1], value) {
                 continue;

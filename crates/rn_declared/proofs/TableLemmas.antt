@@ -25,3 +25,25 @@ declared_found old new name key number copied absent updates other =
     ∙ ap (λ b. cond b (Some number) (old other)) (sym (texts_ties name other))
     ∙ found_after (old other) (same_name name other) number
     (λ same. subst (λ n. is_some (old n) ≡ false) (same_text name other (sym same)) absent)
+
+found_again : (first number : ℕ) (old : Option ℕ) (same : Bool) → (same ≡ true → old ≡ Some first) →
+    cond same (Some first) (cond same (Some number) old) ≡ or_number old same number
+found_again first number old true h = ap (λ o. or_number o true number) (sym (h refl))
+found_again first number None false h = refl
+found_again first number (Some n) false h = refl
+
+-- where a name had a number, which it is given back, each finds what it found
+pub declared_again : (old mid new : List ℕ → Option ℕ) (name key other_key : List ℕ)
+    (number first : ℕ) → key ≡ name → other_key ≡ name → Some first ≡ old key →
+    ((other : List ℕ) → mid other ≡ cond (is_eq (slice_cmp nat_cmp key other)) (Some number) (old other)) →
+    ((other : List ℕ) → new other ≡ cond (is_eq (slice_cmp nat_cmp other_key other)) (Some first) (mid other)) →
+    (other : List ℕ) → new other ≡ or_number (old other) (same_name name other) number
+declared_again old mid new name key other_key number first copied again had updates restores other =
+    restores other
+    ∙ ap (λ k. cond (is_eq (slice_cmp nat_cmp k other)) (Some first) (mid other)) again
+    ∙ ap (λ o. cond (is_eq (slice_cmp nat_cmp name other)) (Some first) o)
+    (updates other ∙ ap (λ k. cond (is_eq (slice_cmp nat_cmp k other)) (Some number) (old other)) copied)
+    ∙ ap (λ b. cond b (Some first) (cond b (Some number) (old other))) (sym (texts_ties name other))
+    ∙ found_again first number (old other) (same_name name other)
+    (λ same. subst (λ n. old n ≡ Some first) (same_text name other (sym same))
+    (ap old (sym copied) ∙ sym had))

@@ -31,17 +31,20 @@ impl NameTable {
         self.numbers.get(name).copied()
     }
 
-    /// Declares a name under this number, and says whether it is new.
+    /// Declares a name under this number, and says whether it is new. A name that is declared again
+    /// keeps its first number. A new one is looked up once.
     pub fn declare(&mut self, alloc: Global, name: &Str, number: usize) -> Result<bool, NoMemory>
         ensures new { IfOk result (λ new. new ≡ is_none (found_in self.old name.now)) }
         ensures found { OnOk result ((other : List ℕ) →
             found_in self.new other ≡ with_name (found_in self.old) name.now number other) }
     {
-        if self.numbers.contains_key(name) {
-            return Ok(false);
+        match self.numbers.insert(copy_text(alloc, name)?, number)? {
+            None => Ok(true),
+            Some(first) => {
+                self.numbers.insert(copy_text(alloc, name)?, first)?;
+                Ok(false)
+            }
         }
-        self.numbers.insert(copy_text(alloc, name)?, number)?;
-        Ok(true)
     }
 }
 

@@ -1,6 +1,7 @@
 pub mod BringingSteps
 pub mod BuildingLists
 pub mod BuildingSteps
+pub mod ChildPaths
 pub mod Followers
 pub mod ForcedInstances
 pub mod GoodSystems

@@ -12,6 +12,7 @@ use Rattle.rn_growing.specs.link.Layouts.{same_site}
 use Rattle.rn_growing.specs.link.Keys.{stirred, path_key, hole_key}
 use Rattle.rn_growing.specs.Decided.{is_on}
 use Rattle.rn_growing.specs.link.DecisionKeys.{decision_key, thing_key}
+use Rattle.rn_growing.proofs.ChildPaths.{key_of_more}
 use Rattle.rn_growing.proofs.SameUnknowns.{site_is}
 use Rattle.rn_items.proofs.Numbers.{same_numbers}
 use Rattle.rn_items.proofs.Bools.{both_true}
@@ -20,6 +21,9 @@ pub thing_alike : (thing : Thing) (d : Decision) → is_on thing d ≡ true →
     decision_key d ≡ thing_key thing
 thing_alike (T.Entry path) (Entered head caller) e =
     ap (λ p. stirred (path_key p) 8) (same_numbers head.path path.now e)
+thing_alike (T.Called path i) (Entered head caller) e =
+    ap (λ p. stirred (path_key p) 8) (same_numbers head.path (path.now ++ i ∷ []) e)
+    ∙ ap (λ key. stirred key 8) (key_of_more path.now i)
 thing_alike (T.Found path k) (Found head j v) e =
     let both = both_true (pointwise nat_eq head.path path.now) (nat_eq j k) e in
     ap (λ p. stirred (stirred (path_key p) 9) j) (same_numbers head.path path.now both.0)
@@ -32,6 +36,7 @@ thing_alike (T.Computed path site way) (Computed head at along v) e =
     ∙ ap (λ s. hole_key path.now s along) (site_is at site rest.0)
     ∙ ap (hole_key path.now site) (same_numbers along way.now rest.1)
 thing_alike (T.Entry path) _ e = absurd (let no : ⊥ = cc in no)
+thing_alike (T.Called path i) _ e = absurd (let no : ⊥ = cc in no)
 thing_alike (T.Found path k) _ e = absurd (let no : ⊥ = cc in no)
 thing_alike (T.Computed path site way) _ e = absurd (let no : ⊥ = cc in no)
 

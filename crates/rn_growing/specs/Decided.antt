@@ -1,5 +1,5 @@
 -- Whether a decision is on a thing, as a test.
-use Rattle.std.specs.Prelude.{ℕ, Bool, false, ◌&&◌, List, nat_eq}
+use Rattle.std.specs.Prelude.{ℕ, Bool, false, ◌&&◌, List, [], ◌∷◌, ◌++◌, nat_eq}
 use Rattle.std.specs.Cmp.Lexicographic.{pointwise}
 use Rattle.rn_growing.specs.declared.decision.Site.{Site}
 use Rattle.rn_growing.specs.declared.decision.Decision.{Decision}
@@ -27,5 +27,6 @@ computes path site way _ = false
 -- it is on this thing
 abbrev pub is_on : Thing → Decision → Bool
 is_on (T.Entry path) = enters path.now
+is_on (T.Called path i) = enters (path.now ++ i ∷ [])
 is_on (T.Found path k) = finds path.now k
 is_on (T.Computed path site way) = computes path.now site way.now

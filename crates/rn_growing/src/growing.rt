@@ -244,6 +244,15 @@ impl<'a> Growing<'a> {
         is_decided(self.decisions.as_slice(), &self.keys, &thing)
     }
 
+    /// Whether the node that a downlink of the node on a path calls was entered. It takes no
+    /// memory.
+    pub fn was_called(&self, path: &[u32], i: u32) -> bool
+        ensures { result ≡ list_any (enters (path.now ++ i ∷ [])) self.now.decisions }
+    {
+        let thing = Thing::Called(path, i);
+        is_decided(self.decisions.as_slice(), &self.keys, &thing)
+    }
+
     /// Whether an arc of the node on a path found its value.
     pub fn was_found(&self, path: &[u32], arc: usize) -> bool
         ensures { result ≡ list_any (finds path.now arc) self.now.decisions }

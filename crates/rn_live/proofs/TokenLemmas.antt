@@ -1,5 +1,6 @@
 -- What values in a list mention, as far as one has come in it.
 use Rattle.std.proofs.Common.{◌≡◌, ℕ, zero, suc, ◌+◌, ◌-◌, ◌<◌, ◌≤◌, Bool, true, false, ◌||◌, List, [], ◌∷◌, length, map, take, get_or, refl, sym, ap, ◌∙◌, arith}
+use Rattle.std.proofs.Math.Bool.{or-false, or_assoc}
 use Rattle.std.proofs.lemmas.List.Folds.{list_any_more}
 use Rattle.std.specs.List.{list_any}
 use Rattle.std.specs.Prelude.{Some, slice_get}
@@ -52,3 +53,16 @@ module _ {X : Type 0} (p : X → Bool) (xs : List X) (x : X) where
       let at : i + 1 + (j - (i + 1)) ≡ j = omega (arith, h) in
       ap (λ k. list_any p (take k xs)) (sym at)
       ∙ equal_run i (j - (i + 1)) (λ k low high. same k low (omega (arith, high, at)) ∙ first)
+
+-- elements that stand side by side from an index on
+pub run_got : {X : Type 0} (p : X → Bool) (xs run : List X) (i : ℕ) → ((k : ℕ) → k < length run → slice_get xs (i + k) ≡ slice_get run k) → list_any p (take (i + length run) xs) ≡ (list_any p (take i xs) || list_any p run)
+run_got p xs [] i same =
+    let at : i + 0 ≡ i = omega arith in
+    ap (λ j. list_any p (take j xs)) at ∙ sym (or-false (list_any p (take i xs)))
+run_got p xs (x ∷ run) i same =
+    let at : i + suc (length run) ≡ i + 1 + length run = omega arith in
+    let first : i ≡ i + 0 = omega arith in
+    ap (λ j. list_any p (take j xs)) at
+    ∙ run_got p xs run (i + 1) (λ k h. let next : i + 1 + k ≡ i + suc k = omega arith in ap (slice_get xs) next ∙ same (suc k) (omega (arith, h)))
+    ∙ ap (λ b. b || list_any p run) (one_got p xs x i (ap (slice_get xs) first ∙ same 0 (omega arith)))
+    ∙ or_assoc (list_any p (take i xs)) (p x) (list_any p run)

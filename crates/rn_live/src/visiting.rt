@@ -24,9 +24,10 @@ pub(crate) fn visit(value: &Value, table: &Table, found: &mut Found)
     }
 }
 
+/// Finds each kept instance that occurs in one of these values.
 #[cycle(visit)]
 #[tactic(auto, using(crate::proofs::FindLemmas::still_room))]
-fn visit_all(values: &[Value], table: &Table, found: &mut Found)
+pub(crate) fn visit_all(values: &[Value], table: &Table, found: &mut Found)
     requires { HasRoom found.old }
     ensures { FindsIn table.now.marking
         (λ n. list_any (λ test. test n) (map mentions values.now)) found.old found.new }

@@ -187,7 +187,7 @@ fn is_lacking(problem: &Problem<'_>, number: u32, arc: &NetArc, known: &Known<'_
         return false;
     };
     match known.value(*x) {
-        Some(value) => bag.count(value) == 0,
+        Some(value) => !bag.contains(value),
         None => false,
     }
 }

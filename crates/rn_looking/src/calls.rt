@@ -2,7 +2,7 @@
 //! force it; then one of its answers is to be chosen. As how many it counts decides when, so that
 //! answers which a token would decide aren't tried before that token (`docs/SEARCH.md`, 'What it
 //! does next').
-ghost use Rattle.std.specs.Prelude.{◌≡◌, ◌<◌, ◌^◌, ◌++◌, ◌∷◌, [], ℕ, IfOk, IfSome, Some, length, nat_lt};
+ghost use Rattle.std.specs.Prelude.{◌≡◌, ◌<◌, ℕ, IfOk, IfSome, Some, length, nat_lt};
 ghost use Rattle.std.specs.Prelude.{IsTrue, slice_get};
 ghost use Rattle.rn_growing.specs.Decisions.{transition_in};
 ghost use Rattle.rn_model.specs.Derivation.{target};
@@ -23,7 +23,7 @@ use rn_choices::Next;
 use rn_growing::{Decision, Growing, Head, transition_in};
 use rn_model::{Downlink, Expr, System, Transition};
 use rn_search::{Called, Point, what_may_be_cut};
-use rn_value::{InstRef, NoMemory, Path, Value, copy_inst};
+use rn_value::{InstRef, NoMemory, Value, copy_inst};
 use std::alloc::Global;
 
 // Whether the transition of a node has a creation of this index.
@@ -175,17 +175,6 @@ pub(crate) fn lacks_levels(at: NodeView<'_>) -> bool
     !at.problem.has_levels(at.head)
 }
 
-// The path of the child at a downlink.
-fn child_path(alloc: Global, head: &Head, i: usize) -> Result<Path, NoMemory>
-    requires { i < 2 ^ 32 }
-    ensures { IfOk result (λ path. path ≡ head.now.path ++ i ∷ []) }
-{
-    let mut path = Vec::with_capacity(alloc, head.path.len().saturating_add(1))?;
-    path.extend_from_slice(head.path.as_slice())?;
-    path.push(i as u32)?;
-    Ok(Path::from_vec(path))
-}
-
 // Looks at one of them.
 fn look_at_call(
     alloc: Global,
@@ -197,8 +186,7 @@ fn look_at_call(
     requires within { i < length at.transition.now.downlinks }
     ensures { IfOk result (NodeLooked at.entry (IsOnCall at.entry.head.now i)) }
 {
-    let path = child_path(alloc, at.head, i)?;
-    if at.growing.was_entered(path.as_slice()) {
+    if at.growing.was_called(at.head.path.as_slice(), i as u32) {
         return Ok(Look::Done);
     }
     look_for_answer(alloc, at, i, kept)

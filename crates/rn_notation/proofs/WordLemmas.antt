@@ -15,7 +15,7 @@ use Rattle.rn_value.specs.Characters.{is_letter, is_name_byte}
 use Rattle.rn_value.specs.Words.{begins_with, is_identifier, index_of, reserved_words}
 use Rattle.rn_notation.specs.Words.{is_prefix_of, signs, begins_with_sign, opens_comment}
 use Rattle.rn_notation.specs.Tokens.{IsToken}
-use Rattle.rn_notation.specs.link.Scanning.{Cuts, token, long_sign}
+use Rattle.rn_notation.specs.link.Scanning.{Cuts, token, long_sign, ends_in_letter}
 use Rattle.rn_notation.specs.declared.token.TokenKind.TheVariants.{Name, Word, Sign}
 use Rattle.rn_value.proofs.WordLemmas.{name_byte-letter, identifier-utf8}
 use Rattle.rn_notation.proofs.NumberLemmas.{longest_prefix, prefix_begins}
@@ -79,6 +79,19 @@ passes test (v ∷ words) w k all e = by (bytes_eq v w) (index_of words w) refl 
     by true p same at more e = ap test (sym (same_numbers v w same)) ∙ both.0
     by false (Some j) same at more e = more j at
     by false None same at more e = absurd (let no : ⊥ = cc in no)
+
+-- each reserved word ends in a letter
+reserved_ends : list_all ends_in_letter reserved_words ≡ true
+unfolding reserved_words
+reserved_ends = refl
+
+-- a word that doesn't end in a letter is none of them
+pub isnt_reserved : (w : List ℕ) → ends_in_letter w ≡ false → None ≡ index_of reserved_words w
+isnt_reserved w other = by (index_of reserved_words w) refl
+  where
+    by : (p : Option ℕ) → index_of reserved_words w ≡ p → None ≡ p
+    by None at = refl
+    by (Some k) at = absurd (true≢false (sym (passes ends_in_letter reserved_words w k reserved_ends at) ∙ other))
 
 pub prefix_of_itself : (w rest : List ℕ) → is_prefix_of w (w ++ rest) ≡ true
 prefix_of_itself [] rest = refl

@@ -1,5 +1,5 @@
 -- Blanks, digits, and signs.
-use Rattle.std.specs.Prelude.{ℕ, ◌+◌, ◌-◌, ◌*◌, Bool, true, false, not, ◌&&◌, ◌||◌, List, []}
+use Rattle.std.specs.Prelude.{ℕ, Bool, true, false, not, ◌&&◌, ◌||◌, List, []}
 use Rattle.std.specs.Prelude.{◌∷◌, length, nat_eq, nat_le, codes}
 use Rattle.std.specs.List.{list_any, list_all}
 use Rattle.rn_notation.specs.Bytes.{slash}

@@ -1,24 +1,20 @@
 //! Blanks, words and signs.
-ghost use Rattle.std.specs.Prelude.{◌≡◌, ◌<◌, length};
+ghost use Rattle.std.specs.Prelude.{◌≡◌, ◌<◌, ◌∷◌, [], length};
 ghost use Rattle.std.specs.Prelude.{IsTrue, IfOk, IfSome, IfNone, false};
 ghost use Rattle.std.specs.List.{prefix_len};
 ghost use Rattle.rn_value.specs.Characters.{is_letter, is_name_byte};
-ghost use Rattle.rn_value.specs.Words.{begins_with, index_of};
+ghost use Rattle.rn_value.specs.Words.{begins_with, index_of, reserved_words};
 ghost use Rattle.rn_notation.specs.Words.{is_blank, signs, begins_with_sign, opens_comment};
-ghost use Rattle.rn_notation.specs.link.Scanning.{IsFirstPiece, Cuts, long_sign};
+ghost use Rattle.rn_notation.specs.link.Scanning.{IsFirstPiece, Cuts, long_sign, ends_in_letter};
 ghost use Rattle.rn_notation.specs.link.Scanning.{token as a_token};
 ghost use Rattle.rn_notation.specs.declared.token.TokenKind.TheVariants.{Sign as SignToken};
 
 use crate::chars::ascii_text;
 use crate::piece::Piece;
+use crate::sign;
 use crate::token::TokenKind;
-use rn_value::{NoMemory, index_of, is_name_byte, reserved_word};
+use rn_value::{NoMemory, is_letter, is_name_byte, reserved_word};
 use std::alloc::Global;
-
-const SIGNS: [&str; 24] = [
-    "{", "}", "[", "]", "(", ")", ",", ";", ":", "=", "==", "!=", "<", "<=", ">", ">=", "+", "-",
-    "*", "/", "%", "&&", "||", "!",
-];
 
 pub(crate) fn is_blank(byte: u8) -> bool
     ensures { result ≡ is_blank byte }
@@ -38,12 +34,82 @@ fn word_length(text: &[u8]) -> usize
     text.len()
 }
 
+/// The sign that a byte is. Most bytes of a text are signs, so they aren't looked up in a list.
+#[tactic(auto, unfolding(crate::specs::Words::signs))]
+fn lone_sign(byte: u8) -> Option<u32>
+    ensures { result ≡ index_of signs (byte ∷ []) }
+{
+    match byte {
+        b'{' => Some(sign::LEFT_BRACE),
+        b'}' => Some(sign::RIGHT_BRACE),
+        b'[' => Some(sign::LEFT_BRACKET),
+        b']' => Some(sign::RIGHT_BRACKET),
+        b'(' => Some(sign::LEFT_PAREN),
+        b')' => Some(sign::RIGHT_PAREN),
+        b',' => Some(sign::COMMA),
+        b';' => Some(sign::SEMICOLON),
+        b':' => Some(sign::COLON),
+        b'=' => Some(sign::EQUALS),
+        b'<' => Some(sign::LESS),
+        b'>' => Some(sign::GREATER),
+        b'+' => Some(sign::PLUS),
+        b'-' => Some(sign::MINUS),
+        b'*' => Some(sign::STAR),
+        b'/' => Some(sign::SLASH),
+        b'%' => Some(sign::PERCENT),
+        b'!' => Some(sign::NOT),
+        _ => None,
+    }
+}
+
+/// The sign that two bytes are.
+#[tactic(auto, unfolding(crate::specs::Words::signs))]
+fn pair_sign(first: u8, second: u8) -> Option<u32>
+    ensures { result ≡ index_of signs (first ∷ second ∷ []) }
+{
+    match (first, second) {
+        (b'=', b'=') => Some(sign::SAME),
+        (b'!', b'=') => Some(sign::DIFFERS),
+        (b'<', b'=') => Some(sign::AT_MOST),
+        (b'>', b'=') => Some(sign::AT_LEAST),
+        (b'&', b'&') => Some(sign::AND),
+        (b'|', b'|') => Some(sign::OR),
+        _ => None,
+    }
+}
+
+/// The sign that a text is.
 #[tactic(auto, unfolding(crate::specs::Words::signs))]
 fn sign_index(sign: &[u8]) -> Option<u32>
     ensures { result ≡ index_of signs sign.now }
 {
-    let words: [&str; 24] = SIGNS;
-    index_of(words.as_slice(), sign)
+    match sign {
+        [byte] => lone_sign(*byte),
+        [first, second] => pair_sign(*first, *second),
+        _ => None,
+    }
+}
+
+/// Whether a word ends in a letter, as each reserved word does.
+fn ends_in_letter(word: &[u8]) -> bool
+    ensures { result ≡ ends_in_letter word.now }
+{
+    match word.last() {
+        Some(byte) => is_letter(*byte),
+        None => false,
+    }
+}
+
+/// The number of a reserved word. Many names end in a digit, and aren't looked up.
+#[tactic(auto, using(crate::proofs::WordLemmas::isnt_reserved))]
+fn reserved_at(word: &[u8]) -> Option<u32>
+    ensures { result ≡ index_of reserved_words word.now }
+{
+    if ends_in_letter(word) {
+        reserved_word(word)
+    } else {
+        None
+    }
 }
 
 /// The name or reserved word at the start of a text that begins with a letter.
@@ -53,7 +119,7 @@ pub(crate) fn word_piece(alloc: Global, text: &[u8]) -> Result<Piece, NoMemory>
 {
     let length = word_length(text);
     let (word, _) = text.split_at(length);
-    if let Some(index) = reserved_word(word) {
+    if let Some(index) = reserved_at(word) {
         return Ok(Piece::Token(TokenKind::Word(index), length));
     }
     Ok(Piece::Token(TokenKind::Name(ascii_text(alloc, word)?), length))

@@ -4,3 +4,4 @@ pub mod ConditionLemmas
 pub mod CallLemmas
 pub mod TransitionLemmas
 pub mod NetLemmas
+pub mod CountedLemmas

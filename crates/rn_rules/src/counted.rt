@@ -41,7 +41,8 @@ fn any_holds_set(exprs: &[PExpr], setters: &NameTable) -> bool
     false
 }
 
-fn is_flex_output(kind: ArcKind) -> bool
+/// Whether an arc puts the elements of a list.
+pub(crate) fn is_flex_output(kind: ArcKind) -> bool
     ensures { result ≡ is_flex_output kind }
 {
     matches!(kind, ArcKind::FlexOutput)

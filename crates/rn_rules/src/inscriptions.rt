@@ -1,7 +1,9 @@
 //! Inscriptions: what is broken in them is reported.
-ghost use Rattle.std.specs.Prelude.{◌≡◌, OnOk, if◌then◌else◌};
+ghost use Rattle.std.specs.Prelude.{◌≡◌, OnOk, if◌then◌else◌, is_some};
 ghost use Rattle.rn_model.specs.Systems.{is_output};
 ghost use Rattle.rn_declared.specs.Faults.{first_from};
+ghost use Rattle.rn_declared.specs.link.Tables.{found_in};
+ghost use Rattle.rn_rules.specs.Counted.{counted_faults};
 ghost use Rattle.rn_rules.specs.Transitions.{inscription_faults, in_action, in_output, elsewhere};
 ghost use Rattle.rn_rules.specs.Transitions.{set_action_faults, channel_faults, uplink_faults, downlink_faults};
 ghost use Rattle.rn_rules.specs.link.Scopes.{scope_in, progress_of};
@@ -10,7 +12,7 @@ ghost use Rattle.rn_rules.specs.link.Sights.{where_of};
 use crate::arcs::see_arc;
 use crate::calls::{see_call, see_creation, see_left, see_target, see_value};
 use crate::conditions::{see_condition, see_sides};
-use crate::counted::see_counted;
+use crate::counted::{is_flex_output, see_counted};
 use crate::scope::{KnownNames, Stand};
 use crate::seeing::see;
 use crate::sight::Here;
@@ -148,6 +150,27 @@ fn see_downlink<N: Numbers>(
     Ok(())
 }
 
+/// Reports an arc that puts the elements of a list that an action gives, where its place has a
+/// capacity. Of other arcs the place isn't looked up.
+#[tactic(auto, using(crate::proofs::CountedLemmas::none_uncounted))]
+fn see_count<N: Numbers>(
+    kind: ArcKind,
+    place: &PName,
+    inscription: &Option<PExpr>,
+    known: &KnownNames<N>,
+    stand: &Stand,
+    first: &mut First,
+)
+    ensures { first.new.fault ≡ first_from first.old.fault (counted_faults kind
+        ((scope_in known.now).has_capacity place.now.text) inscription.now
+        (λ name. is_some (found_in stand.now.setters.now name))) }
+{
+    if is_flex_output(kind) {
+        let capped = known.places.is_capped(&place.text);
+        see_counted(kind, capped, inscription, stand.setters, first);
+    }
+}
+
 /// Reports what is broken in an inscription.
 pub(crate) fn see_inscription<N: Numbers>(
     alloc: Global,
@@ -168,8 +191,7 @@ pub(crate) fn see_inscription<N: Numbers>(
             let here = of_arc(*kind, known, stand);
             let pattern = known.places.pattern(&place.text);
             see_arc(alloc, *kind, pattern, place, inscription, &here, first)?;
-            let capped = known.places.is_capped(&place.text);
-            see_counted(*kind, capped, inscription, stand.setters, first);
+            see_count(*kind, place, inscription, known, stand, first);
             Ok(())
         }
         PInscribed::Guard(cond) => {

@@ -36,8 +36,11 @@ pub(crate) struct Plan {
 // One for an instance and one for each of its tokens.
 fn size_of(table: &Table, n: u32) -> u64 {
     let mut size: u64 = 1;
+    let Some(inst) = table.find(n) else {
+        return size;
+    };
     for place in 0..u32::MAX {
-        let Some(bag) = table.bag(n, place) else {
+        let Some(bag) = inst.bag(place) else {
             break;
         };
         size = size.saturating_add(bag.len() as u64);

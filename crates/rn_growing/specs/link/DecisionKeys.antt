@@ -9,6 +9,7 @@ use Rattle.rn_growing.specs.link.Keys.{stirred, path_key, hole_key}
 -- the key of a thing
 abbrev pub thing_key : Thing → ℕ
 thing_key (T.Entry path) = stirred (path_key path.now) 8
+thing_key (T.Called path i) = stirred (stirred (path_key path.now) i) 8
 thing_key (T.Found path k) = stirred (stirred (path_key path.now) 9) k
 thing_key (T.Computed path site way) = hole_key path.now site way.now
 

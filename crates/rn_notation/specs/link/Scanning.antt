@@ -1,7 +1,9 @@
 -- What stands first in a text: a blank or comment, a token, or a fault.
 use Rattle.std.specs.Prelude.{◌≡◌, ℕ, ◌+◌, List, [], ◌∷◌, ◌++◌, length, nat_lt, encode_utf8}
-use Rattle.std.specs.Prelude.{encode_utf8_all, if◌then◌else◌, take, Option, None}
+use Rattle.std.specs.Prelude.{encode_utf8_all, if◌then◌else◌, take, Option, None, Some}
+use Rattle.std.specs.Prelude.{◌-◌, Bool, false, slice_get}
 use Rattle.std.specs.List.{AllByRecursion}
+use Rattle.rn_value.specs.Characters.{is_letter}
 use Rattle.rn_value.specs.Words.{index_of}
 use Rattle.rn_notation.specs.Words.{signs}
 use Rattle.rn_notation.specs.Texts.{Part, itself, IsPart, spelled, meaning}
@@ -75,6 +77,15 @@ pub record IsRun (text run rest : List ℕ) : Type 0 where
   pub are : AllByRecursion (λ c. IsPart (itself c)) cs
   pub spells : run ≡ encode_utf8_all cs
   pub whole : text ≡ run ++ rest
+
+-- whether a byte is there and is a letter
+abbrev pub is_some_letter : Option ℕ → Bool
+is_some_letter None = false
+is_some_letter (Some c) = is_letter c
+
+-- whether a text ends in a letter
+abbrev pub ends_in_letter : List ℕ → Bool
+ends_in_letter text = is_some_letter (slice_get text (length text - 1))
 
 -- the sign that the first two bytes are
 abbrev pub long_sign : List ℕ → Option ℕ

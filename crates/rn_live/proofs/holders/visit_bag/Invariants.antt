@@ -4,11 +4,11 @@ use Rattle.rn_model.specs.Liveness.{mentions}
 use Rattle.rn_live.specs.link.Marks.{FindsIn}
 use Rattle.rn_live.proofs.holders.visit_bag.Given as goal
 
-abbrev pub invariant-loop-token : goal.invariant-loop-token
-invariant-loop-token l = record {
+abbrev pub invariant-runs : goal.invariant-runs
+invariant-runs l = record {
   within : l.index ≤ length l.bag;
   finds : FindsIn l.table.marking (λ n. list_any (λ token. mentions token n) (take l.index l.bag)) l.initial.found l.found;
 }
 
-abbrev pub decreases-loop-token : goal.decreases-loop-token
-decreases-loop-token l = length l.bag - l.index
+abbrev pub decreases-runs : goal.decreases-runs
+decreases-runs l = length l.bag - l.index

@@ -27,12 +27,11 @@ returns-in_ok-see_arc-in-Arc g c =
     let arc : List Fault =
     arc_faults kind (s.pattern_of_place place.text) place e
     (if is_output kind then in_output s p else elsewhere s p) in
-    c.see_counted.ensures
-    ∙ ap (λ k. first_from k (counted c.is_capped-capped.result))
+    c.see_count.ensures
+    ∙ ap (λ k. first_from k (counted (s.has_capacity place.text)))
     (c.in_ok-see_arc-in-Arc.ensures
     ∙ ap (λ o. first_from known (arc_faults kind o place e (where_of c.of_arc-here.result))) c.pattern-pattern.ensures
     ∙ ap (λ w. first_from known (arc_faults kind (s.pattern_of_place place.text) place e w)) c.of_arc-here.ensures)
-    ∙ ap (λ b. first_from (first_from known arc) (counted b)) c.is_capped-capped.ensures
     ∙ sym (first_from-append arc (counted (s.has_capacity place.text)) known)
     ∙ ap (λ f. first_from known (inscription_faults s p c.args.i.now f)) (sym c.in-Arc.is)
 

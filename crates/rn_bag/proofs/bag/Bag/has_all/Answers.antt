@@ -1,12 +1,20 @@
-use Rattle.std.proofs.Common.{◌≤◌, ◌-◌, refl, ap, subst, arith}
-use Rattle.std.proofs.lemmas.List.{take_all}
+use Rattle.std.proofs.Common.{◌≡◌, ◌≤◌, ◌-◌, ◌∙◌, ◌↔◌, [], ◌∷◌, IsTrue, refl, sym, ap, subst, arith}
+use Rattle.std.proofs.lemmas.List.{take_all, take_more}
 use Rattle.std.proofs.lemmas.Bool.{false≢true}
 use Rattle.std.specs.List.{AllByRecursion}
 use Rattle.rn_value.specs.declared.value.Value.{Value}
 use Rattle.rn_model.specs.Lists.{count_of, IsWithin}
 use Rattle.rn_bag.proofs.SlotLemmas.{all_more}
-use Rattle.rn_bag.proofs.CursorLemmas.{all_read, within_each}
+use Rattle.rn_bag.proofs.CursorLemmas.{all_read, within_each, one_within}
 use Rattle.rn_bag.proofs.bag.Bag.has_all.Goals as goal
+
+pub returns-in-len1 : goal.returns-in-len1
+returns-in-len1 c =
+    let values = c.as_slice-values.result.now in
+    let v = c.value-item.result in
+    let one : values ≡ v ∷ [] = sym (take_all 1 values (omega (arith, c.in-len1.len_below))) ∙ take_more values 0 v (omega (arith, c.in-len1.len_at_least)) ∙ ap (λ w. w ∷ []) (sym c.value-item.is) in
+    let there = one_within v c.args.self.now in
+    subst (λ ws. IsTrue c.contains.result ↔ IsWithin ws c.args.self.now) (sym one ∙ c.as_slice-values.ensures) (λ yes. there.0 (c.contains.ensures.0 yes), λ within. c.contains.ensures.1 (there.1 within))
 
 pub loop-i-preserved-then-same : goal.loop-i-preserved-then-same
 loop-i-preserved-then-same c =
