@@ -1,19 +1,9 @@
 -- Brackets are passed: levels open and close.
-use Rattle.std.proofs.Common.{◌≡◌, ℕ, ◌+◌, ◌<◌, true, false, Bool, ◌||◌, List, [], ◌∷◌, ◌++◌, length, drop, refl, sym, ◌∙◌, ap, subst, append_assoc, arith, nat_le}
-use Rattle.std.specs.Prelude.{Result, Ok, Err}
-use Rattle.rn_notation.specs.declared.token.Token.{Token}
-use Rattle.rn_notation.specs.declared.token.TokenKind.{TokenKind}
-use Rattle.rn_notation.specs.declared.token.TokenKind.TheVariants.{Sign}
-use Rattle.rn_inscript.specs.declared.cursor.Seen.{Seen}
-use Rattle.rn_reading.specs.declared.fault.ReadFault.{ReadFault}
+use Rattle.rn_inscript.proofs.Names.{◌≡◌, ℕ, ◌+◌, ◌<◌, ◌≤◌, false, List, [], ◌∷◌, ◌++◌, length, drop, refl, sym, ◌∙◌, ap, subst, append_assoc, arith, nat_le, Result, Ok, Err, or-false, Token, TokenKind, Sign, Seen, ReadFault, Level, bracket, Count, without_minuses, levels_at, goes_too_far, after_token, Phrases, Then, Done, CanEnd, IsNext, Takes, Ends, Stage, Fails, IsSoFar, ReadsFrom, IsNextSign, IsNotNextSign, strength, ready, ended, past}
 use Rattle.rn_reading.specs.declared.fault.ReadFault.TheVariants as Fault
-use Rattle.rn_inscript.specs.Levels.{Level, bracket, Count, without_minuses, levels_at, goes_too_far, after_token}
-use Rattle.rn_reading.specs.Phrases.{Phrases, Then, Done}
-use Rattle.rn_reading.specs.link.Stages.{CanEnd, IsNext}
-use Rattle.rn_inscript.specs.link.Stages.{Takes, Ends, Stage, Fails, IsSoFar, ReadsFrom, IsNextSign, strength, ready, ended}
-use Rattle.rn_inscript.proofs.StageLemmas.{change, inner, inner_fails}
+use Rattle.rn_inscript.proofs.StageLemmas.{change, inner, inner_fails, inner_read, so_far, weaker}
 use Rattle.rn_inscript.proofs.CountSteps.{le-false, le-true}
-use Rattle.rn_inscript.proofs.Passing.{pass, far_next}
+use Rattle.rn_inscript.proofs.Passing.{pass, far_next, stuck_sign}
 
 -- a token of a kind, wherever it stands
 abbrev pub any : TokenKind → Token
@@ -37,6 +27,16 @@ takes_follow m small ts e rest y = subst (Ends m) (sym y.1) (subst (λ k. streng
 pub done_follow : {A : Type 0} {a : A} (n : ℕ) (ts : List Token) (e : A) (rest : List Token) → Ends n rest → Done a ts e rest → Ends n ts
 done_follow n ts e rest ends d = subst (Ends n) d.1 ends
 
+-- the last phrase of another fails, or is read
+pub done_fails : {A B : Type 0} {n m : ℕ} {X : Phrases A} {Z : Phrases B} {f : A → B} {start mid : List Token} {first now : Count} (total : ℕ) (e : ReadFault) →
+    n ≤ m → Stage n Z start first (Then X (λ a. Done (f a))) mid now → Fails m X mid now total e → Fails n Z start first total e
+done_fails {n = n} {m = m} {f = f} total e le s p = inner_fails total e s (λ a ts e rest ends d. weaker n m ts le (done_follow n ts e rest ends d)) (λ a. can_end_done (f a)) p
+
+pub done_read : {A B : Type 0} {n m : ℕ} {X : Phrases A} {Z : Phrases B} {f : A → B} {tokens : List Token} {before then after : Seen} {first now : Count} {around : List Level} {a : A} →
+    n ≤ m → Stage n Z (drop before.at tokens) first (Then X (λ a. Done (f a))) (drop then.at tokens) now → IsSoFar m X tokens then now around (Done a) after →
+    IsSoFar n Z tokens before first around (Done (f a)) after
+done_read {n = n} {m = m} {f = f} le s p = inner_read (λ a. Done (f a)) s (λ a ts e rest ends d. weaker n m ts le (done_follow n ts e rest ends d)) p
+
 -- a reader that is another's whole answer
 pub whole_reads : {A : Type 0} {n : ℕ} {X Z : Phrases A} (tokens : List Token) (before : Seen) (first : Count) (around : List Level) (r : Result (A × Seen) ReadFault) →
     Stage n Z (drop before.at tokens) first (Then X Done) (drop before.at tokens) first →
@@ -48,10 +48,6 @@ whole_reads {n = n} tokens before first around (Err e) s p = inner_fails (length
 abbrev pub IsOpening : ℕ → Type 0
 IsOpening k = (c : Count) →
     (goes_too_far c (Sign k) ≡ nat_le 64 (length (levels_at c (Sign k)))) × (after_token c (Sign k) ≡ ready (bracket ∷ levels_at c (Sign k)) c.operators)
-
-or-false : (b : Bool) → (b || false) ≡ b
-or-false true = refl
-or-false false = refl
 
 pub opening-brace : IsOpening 0
 opening-brace c = (or-false _, refl)
@@ -104,25 +100,20 @@ taken {kind = kind} {t = t} {a = a} is s = change (Done a) s
     (λ ts e rest d. (t, ap (λ us. t ∷ us) (sym d.1), is, d.0))
     (λ ts e rest alike ends y. (y.3, let h = y.1 in cc))
 
-pub close_read : {A : Type 0} {n k : ℕ} {X : Phrases A} (tokens : List Token) (before seen : Seen) {first : Count} {around levels : List Level} {a : A} →
-    IsClosing k → Stage n X (drop before.at tokens) first (Takes (Sign k) a) (drop seen.at tokens) (ended levels seen.operators) →
-    without_minuses levels ≡ bracket ∷ around → IsNextSign tokens seen.at k →
-    IsSoFar n X tokens before first around (Done a) (record { at = seen.at + 1; operators = seen.operators })
-close_read {k = k} tokens before seen {around = around} {levels = levels} closing s here next = record {
-  open_now = around;
-  closed = refl;
-  stage = taken next.2 (pass tokens seen.at (Sign k) (ended around seen.operators) s next.1 next.2 (closing.small levels seen.operators) (closing.after levels seen.operators ∙ ap (λ ls. ended (drop 1 ls) seen.operators) here));
-}
+pub close_read : {A : Type 0} {n k : ℕ} {X : Phrases A} {tokens : List Token} {before seen : Seen} {first : Count} {around : List Level} {a : A} →
+    IsClosing k → IsSoFar n X tokens before first (bracket ∷ around) (Takes (Sign k) a) seen → IsNextSign tokens seen.at k → IsSoFar n X tokens before first around (Done a) (past seen)
+close_read {k = k} {tokens = tokens} {seen = seen} closing s next =
+    so_far (taken next.2 (pass tokens seen.at (Sign k) _ s.stage next.1 next.2 (closing.small s.open_now seen.operators) (closing.after s.open_now seen.operators ∙ ap (λ ls. ended (drop 1 ls) seen.operators) s.closed)))
+
+pub close_stuck : {A : Type 0} {n k : ℕ} {X : Phrases A} {tokens : List Token} {before seen : Seen} {first : Count} {around : List Level} {a : A} →
+    IsSoFar n X tokens before first around (Takes (Sign k) a) seen → seen.at ≤ length tokens → IsNotNextSign tokens seen.at k → Fails n X (drop before.at tokens) first (length tokens) (Fault.Stopped seen.at)
+close_stuck {k = k} {tokens = tokens} {seen = seen} {a = a} s inside other = stuck_sign tokens seen.at k s.stage inside (can_end_takes (Sign k) a) other
 
 pub close_first : {A : Type 0} {n k : ℕ} {X : Phrases A} (tokens : List Token) (before seen : Seen) {first : Count} {around : List Level} {a : A} →
     IsClosing k → Stage n X (drop before.at tokens) first (Takes (Sign k) a) (drop seen.at tokens) (ready (bracket ∷ around) seen.operators) →
-    IsNextSign tokens seen.at k →
-    IsSoFar n X tokens before first around (Done a) (record { at = seen.at + 1; operators = seen.operators })
-close_first {k = k} tokens before seen {around = around} closing s next = record {
-  open_now = around;
-  closed = refl;
-  stage = taken next.2 (pass tokens seen.at (Sign k) (ended around seen.operators) s next.1 next.2 (closing.small_first (bracket ∷ around) seen.operators) (closing.after_first (bracket ∷ around) seen.operators));
-}
+    IsNextSign tokens seen.at k → IsSoFar n X tokens before first around (Done a) (past seen)
+close_first {k = k} tokens before seen {around = around} closing s next =
+    so_far (taken next.2 (pass tokens seen.at (Sign k) _ s next.1 next.2 (closing.small_first (bracket ∷ around) seen.operators) (closing.after_first (bracket ∷ around) seen.operators)))
 
 -- what is in brackets fails, or is read
 pub inside_fails : {A B : Type 0} {n m k : ℕ} {X : Phrases A} {Z : Phrases B} {f : A → B} {start mid : List Token} {first now : Count} (total : ℕ) (e : ReadFault) →
@@ -130,22 +121,8 @@ pub inside_fails : {A B : Type 0} {n m k : ℕ} {X : Phrases A} {Z : Phrases B} 
 inside_fails {m = m} {k = k} {f = f} total e closing some s p =
     inner_fails total e s (λ b ts e rest ends y. takes_follow m (subst (λ x. x < m) (sym closing.weak) some) ts e rest y) (λ b. can_end_takes (Sign k) (f b)) p
 
-pub inside_read : {A B : Type 0} {n m k : ℕ} {X : Phrases A} {Z : Phrases B} (f : A → B) {start mid left : List Token} {first now then : Count} {a : A} →
-    IsClosing k → 0 < m → Stage n Z start first (Then X (λ a. Takes (Sign k) (f a))) mid now → Stage m X mid now (Done a) left then →
-    Stage n Z start first (Takes (Sign k) (f a)) left then
-inside_read {m = m} {k = k} f closing some s p =
-    inner (λ a. Takes (Sign k) (f a)) s p (λ b ts e rest ends y. takes_follow m (subst (λ x. x < m) (sym closing.weak) some) ts e rest y)
-
--- the sign that separates, as a comma, a colon or `=`, closes minuses alone
-abbrev pub IsNeutral : ℕ → Type 0
-IsNeutral k = (levels : List Level) (operators : ℕ) →
-    (goes_too_far (ended levels operators) (Sign k) ≡ false) × (after_token (ended levels operators) (Sign k) ≡ ready (without_minuses levels) operators)
-
-pub neutral-colon : IsNeutral 8
-neutral-colon levels operators = (refl, refl)
-
-pub neutral_passed : {A : Type 0} {n k operators : ℕ} {X Y : Phrases A} {start : List Token} {first : Count} {levels around : List Level} (tokens : List Token) (at : ℕ) {t : Token} →
-    IsNeutral k → Stage n X start first Y (drop at tokens) (ended levels operators) → IsNext tokens at t → t.kind ≡ Sign k → without_minuses levels ≡ around →
-    Stage n X start first (λ ts. Y (t ∷ ts)) (drop (at + 1) tokens) (ready around operators)
-neutral_passed {k = k} {operators = operators} {levels = levels} {around = around} tokens at neutral s next is here =
-    pass tokens at (Sign k) (ready around operators) s next is (neutral levels operators).0 ((neutral levels operators).1 ∙ ap (λ ls. ready ls operators) here)
+pub inside_read : {A B : Type 0} {n m k : ℕ} {X : Phrases A} {Z : Phrases B} {f : A → B} {tokens : List Token} {before then after : Seen} {first now : Count} {around : List Level} {a : A} →
+    IsClosing k → 0 < m → Stage n Z (drop before.at tokens) first (Then X (λ a. Takes (Sign k) (f a))) (drop then.at tokens) now → IsSoFar m X tokens then now around (Done a) after →
+    IsSoFar n Z tokens before first around (Takes (Sign k) (f a)) after
+inside_read {m = m} {k = k} {f = f} closing some s p =
+    inner_read (λ a. Takes (Sign k) (f a)) s (λ b ts e rest ends y. takes_follow m (subst (λ x. x < m) (sym closing.weak) some) ts e rest y) p

@@ -1,19 +1,9 @@
 -- Phrases between which signs of one sort stand, the first phrase having been taken: sums, products,
 -- lists of expressions, and conditions.
-use Rattle.std.proofs.Common.{◌≡◌, ℕ, ◌+◌, ◌<◌, ◌≤◌, ◌⊎◌, inl, inr, false, List, [], ◌∷◌, length, drop, refl, sym, ◌∙◌, subst, arith}
-use Rattle.std.specs.Prelude.{Option, Some, None}
-use Rattle.rn_notation.specs.declared.token.Token.{Token}
-use Rattle.rn_notation.specs.declared.token.TokenKind.{TokenKind}
-use Rattle.rn_inscript.specs.Levels.{Level, Count, without_minuses, goes_too_far, after_token}
-use Rattle.rn_inscript.specs.declared.cursor.Seen.{Seen}
-use Rattle.rn_reading.specs.declared.fault.ReadFault.{ReadFault}
+use Rattle.rn_inscript.proofs.Names.{◌≡◌, ℕ, ◌+◌, ◌<◌, ◌≤◌, ◌⊎◌, inl, inr, false, List, [], ◌∷◌, length, drop, refl, sym, ◌∙◌, ap, subst, arith, Option, Some, None, Token, TokenKind, Level, Count, without_minuses, goes_too_far, after_token, Seen, ReadFault, Phrases, Then, Done, BeginAlike, CanEnd, IsNextOne, IsNotNext, Ends, Stage, Fails, IsSoFar, strength, ready, ended, alike-cons}
 use Rattle.rn_reading.specs.declared.fault.ReadFault.TheVariants as Fault
-use Rattle.rn_reading.specs.Phrases.{Phrases, Then, Done}
-use Rattle.rn_reading.specs.link.Stages.{BeginAlike, CanEnd, IsNextOne, IsNotNext}
-use Rattle.rn_inscript.specs.link.Stages.{Ends, Stage, Fails, IsSoFar, strength, ready, ended}
-use Rattle.rn_inscript.proofs.StageLemmas.{begin, change, inner, inner_fails}
+use Rattle.rn_inscript.proofs.StageLemmas.{begin, change, inner_fails, inner_read, weaker}
 use Rattle.rn_inscript.proofs.CountSteps.{IsBinary, binary-small, binary-after, binary-far}
-use Rattle.rn_reading.proofs.Steps.{alike-cons}
 use Rattle.rn_inscript.proofs.Passing.{pass, far_next}
 
 -- what goes on with a sign of the sort
@@ -33,13 +23,17 @@ pub record Chain {A B S : Type 0} (n : ℕ) (Item : Phrases B) (sort : TokenKind
 pub chain_follow : {A B S : Type 0} {n : ℕ} {Item : Phrases B} {sort : TokenKind → Option S} {add : S → A → B → A} {Tail : A → Phrases A} →
     Chain n Item sort add Tail → (a : A) (ts : List Token) (e : A) (rest : List Token) → Ends n rest → Tail a ts e rest → Ends (n + 1) ts
 chain_follow {n = n} c a ts e rest ends x = elim (c.split x) as (λ w. Ends (n + 1) ts) [
-  | inl d ↦ subst (Ends (n + 1)) d.1 (weaker n rest ends)
+  | inl d ↦ subst (Ends (n + 1)) d.1 (weaker n (n + 1) rest (omega arith) ends)
   | inr g ↦ subst (Ends (n + 1)) (sym g.3) (let is : strength g.0.kind ≡ n = c.binds g.0.kind g.2 g.4 in omega (arith, is))
 ]
-  where
-    weaker : (n : ℕ) (rest : List Token) → Ends n rest → Ends (n + 1) rest
-    weaker n [] ends = tt
-    weaker n (t ∷ ts) ends = omega (arith, ends)
+
+-- an item that no sign of the sort follows is the whole chain
+pub one-item : {A B S : Type 0} {n : ℕ} {Item : Phrases B} {sort : TokenKind → Option S} {add : S → A → B → A} {Tail : A → Phrases A} {u : Token} {mid us rest : List Token} {a e : A} →
+    Chain n Item sort add Tail → mid ≡ u ∷ us → sort u.kind ≡ None → Tail a mid e rest → rest ≡ u ∷ us
+one-item {sort = sort} {u = u} c is none x = elim (c.split x) [
+  | inl d ↦ d.1 ∙ is
+  | inr g ↦ absurd (let same : g.0 ≡ u = let a = g.3 in cc in let yes : sort u.kind ≡ Some g.2 = ap (λ v. sort v.kind) (sym same) ∙ g.4 in cc)
+]
 
 pub chain_can_end : {A B S : Type 0} {n : ℕ} {Item : Phrases B} {sort : TokenKind → Option S} {add : S → A → B → A} {Tail : A → Phrases A} →
     Chain n Item sort add Tail → (a : A) → CanEnd (Tail a)
@@ -94,11 +88,7 @@ first_fails j start first total e f = inner_fails total e (joined_begins j start
 pub first_read : {A B S : Type 0} {n : ℕ} {X : Phrases A} {Item : Phrases B} {sort : TokenKind → Option S} {add : S → A → B → A} {Tail : A → Phrases A} {one : B → A} →
     Joined n X Item sort add Tail one → {tokens : List Token} {before after : Seen} {first : Count} {around : List Level} {b : B} →
     IsSoFar (n + 1) Item tokens before first around (Done b) after → IsSoFar n X tokens before first around (Tail (one b)) after
-first_read {Tail = Tail} {one = one} j {tokens = tokens} {before = before} {first = first} s = record {
-  open_now = s.open_now;
-  closed = s.closed;
-  stage = inner (λ b. Tail (one b)) (joined_begins j (drop before.at tokens) first) s.stage (λ b. chain_follow j.chain _);
-}
+first_read {Tail = Tail} {one = one} j {tokens = tokens} {before = before} {first = first} s = inner_read (λ b. Tail (one b)) (joined_begins j (drop before.at tokens) first) (λ b. chain_follow j.chain _) s
 
 -- what the sign between two items does to the count
 abbrev pub Separates : {S : Type 0} → (TokenKind → Option S) → List Level → ℕ → ℕ → Type 0
@@ -112,8 +102,7 @@ pub sign_taken : {A B S : Type 0} {n : ℕ} {X : Phrases A} {Item : Phrases B} {
     Stage n X (drop before.at tokens) first (Then Item (λ b. Tail (add sign a b))) (drop then.at tokens) (ready around then.operators)
 sign_taken {n = n} {X = X} {Item = Item} {add = add} {Tail = Tail} j {tokens = tokens} {before = before} {now = now} {first = first} {around = around} {a = a} {sign = sign} after then s base next separates is =
     let both = separates next.0.kind sign s.open_now next.2 (s.closed ∙ base) in
-    subst (λ t. Stage n X (drop before.at tokens) first (Then Item (λ b. Tail (add sign a b))) (drop t.at tokens) (ready around t.operators)) (sym is)
-    (chain_on j.chain next.2 (pass tokens now.at next.0.kind (ready around after) s.stage next.1 refl both.0 both.1))
+    rw is (chain_on j.chain next.2 (pass tokens now.at next.0.kind (ready around after) s.stage next.1 refl both.0 both.1))
 
 pub operator_separates : {S : Type 0} {sort : TokenKind → Option S} {around : List Level} {operators : ℕ} → ((kind : TokenKind) (sign : S) → sort kind ≡ Some sign → IsBinary kind) → operators < 256 → Separates sort around operators (operators + 1)
 operator_separates {operators = operators} binary few = λ kind sign levels is here. (binary-small levels operators (binary kind sign is) few, binary-after levels operators (binary kind sign is) here)
@@ -137,11 +126,7 @@ pub item_read : {A B S : Type 0} {n : ℕ} {X : Phrases A} {Item : Phrases B} {s
     Stage n X (drop before.at tokens) first (Then Item (λ b. Tail (add sign a b))) (drop then.at tokens) (ready around then.operators) →
     IsSoFar (n + 1) Item tokens then (ready around then.operators) around (Done b) after →
     IsSoFar n X tokens before first around (Tail (add sign a b)) after
-item_read {add = add} {Tail = Tail} j {a = a} {sign = sign} s p = record {
-  open_now = p.open_now;
-  closed = p.closed;
-  stage = inner (λ b. Tail (add sign a b)) s p.stage (λ b. chain_follow j.chain _);
-}
+item_read {add = add} {Tail = Tail} j {a = a} {sign = sign} s p = inner_read (λ b. Tail (add sign a b)) s (λ b. chain_follow j.chain _) p
 
 pub all_read : {A B S : Type 0} {n : ℕ} {X : Phrases A} {Item : Phrases B} {sort : TokenKind → Option S} {add : S → A → B → A} {Tail : A → Phrases A} {one : B → A} →
     Joined n X Item sort add Tail one → {tokens : List Token} {before now : Seen} {first : Count} {around : List Level} {a : A} →

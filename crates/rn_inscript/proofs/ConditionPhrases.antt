@@ -1,29 +1,10 @@
 -- What the productions of conditions say of a next token.
-use Rattle.std.proofs.Common.{◌≡◌, ℕ, ◌+◌, ◌<◌, ◌≤◌, ◌⊎◌, inl, inr, List, [], ◌∷◌, ◌++◌, length, drop, refl, sym, ◌∙◌, ap, subst, arith}
-use Rattle.std.specs.Prelude.{Some, ⊤, Err}
-use Rattle.std.proofs.lemmas.Bool.Decides.{nat_tests}
-use Rattle.std.proofs.lemmas.Grind.{common_steps}
-use Rattle.rn_notation.specs.declared.token.Token.{Token}
-use Rattle.rn_notation.specs.declared.token.TokenKind.{TokenKind}
-use Rattle.rn_notation.specs.declared.token.TokenKind.TheVariants.{Name, Word, Number, Text, Sign}
-use Rattle.rn_model.specs.declared.expr.CompareKind.{CompareKind}
-use Rattle.rn_inscript.specs.declared.cursor.Seen.{Seen}
-use Rattle.rn_reading.specs.declared.fault.ReadFault.{ReadFault}
+use Rattle.rn_inscript.proofs.Names.{◌≡◌, ℕ, ◌+◌, ◌<◌, ◌≤◌, ◌⊎◌, inl, inr, List, [], ◌∷◌, ◌++◌, length, drop, refl, sym, ◌∙◌, ap, subst, arith, Some, ⊤, Err, nat_tests, common_steps, Token, TokenKind, Name, Word, Number, Text, Sign, CompareKind, Seen, ReadFault, PExpr, PCond, PSimple, compare_of, IsExpr, IsCond, IsAlternatives, IsMoreAlternatives, IsBoth, IsMoreBoth, IsSimple, any_of, Level, Count, without_minuses, Phrases, Then, Done, BeginAlike, CanEnd, IsNextOne, IsNotNext, Ends, Stage, Fails, IsSoFar, Reads, IsNotNextSign, strength, ready, ended, past_operator, alike-cons}
 use Rattle.rn_reading.specs.declared.fault.ReadFault.TheVariants as Fault
-use Rattle.rn_inscript.specs.declared.exprs.PExpr.{PExpr}
-use Rattle.rn_inscript.specs.declared.conds.PCond.{PCond}
-use Rattle.rn_inscript.specs.declared.conds.PSimple.{PSimple}
 use Rattle.rn_inscript.specs.declared.conds.PSimple.TheVariants as S
-use Rattle.rn_inscript.specs.Signs.{not_sign, compare_of}
-use Rattle.rn_inscript.specs.Expressions.{IsExpr}
-use Rattle.rn_inscript.specs.Conditions.{IsCond, IsAlternatives, IsMoreAlternatives, IsBoth, IsMoreBoth, IsSimple, any_of}
-use Rattle.rn_inscript.specs.Levels.{Level, Count, without_minuses}
-use Rattle.rn_reading.specs.Phrases.{Phrases, Then, Done}
-use Rattle.rn_reading.specs.link.Stages.{BeginAlike, CanEnd, IsNextOne, IsNotNext}
-use Rattle.rn_inscript.specs.link.Stages.{Ends, Stage, Fails, IsSoFar, Reads, IsNotNextSign, strength, ready, past_operator}
+use Rattle.rn_inscript.specs.Signs.{not_sign}
 use Rattle.rn_inscript.proofs.StageLemmas.{begin, change, inner, inner_fails}
 use Rattle.rn_inscript.proofs.CountSteps.{IsBinary, binary-sign, binary-small, binary-after, binary-far}
-use Rattle.rn_reading.proofs.Steps.{alike-cons}
 use Rattle.rn_inscript.proofs.Passing.{pass, far_next}
 use Rattle.rn_inscript.proofs.BracketSteps.{can_end_then, can_end_done, can_end_by, done_follow}
 use Rattle.rn_inscript.proofs.Chains.{Joined}
@@ -59,67 +40,66 @@ zero-alternatives = (zero-both.0, zero-both.1 ∷ [], λ rest. IsAlternatives.al
 pub zero-cond : CanEnd IsCond
 zero-cond = (zero-alternatives.0, any_of zero-alternatives.1, λ rest. IsCond.any (zero-alternatives.2 rest))
 
-more_both-split : {all es : List PSimple} {ts rest : List Token} → IsMoreBoth all ts es rest →
-    ((es ≡ all) × (rest ≡ ts)) ⊎ ((t : Token) × (us : List Token) × (sign : ⊤) × (ts ≡ t ∷ us) × (sign_of 21 t.kind ≡ Some sign) × Then IsSimple (λ e. IsMoreBoth (all ++ e ∷ [])) us es rest)
-more_both-split (IsMoreBoth.no_more_both) = inl (refl, refl)
-more_both-split (IsMoreBoth.more_both is item more) = inr (_, _, tt, refl, sign-some 21 _ is, (_, _, item, more))
-
-both-part : {ts rest : List Token} {es : List PSimple} → IsBoth ts es rest → Then IsSimple (λ e. IsMoreBoth (e ∷ [])) ts es rest
-both-part (IsBoth.both item more) = (_, _, item, more)
-
 pub conjunctions : Joined 2 IsBoth IsSimple (sign_of 21) (λ sign all e. all ++ e ∷ []) IsMoreBoth (λ e. e ∷ [])
 conjunctions = record {
   chain = record {
     nothing = λ all ts. IsMoreBoth.no_more_both;
     on = λ {t = t} is item more. IsMoreBoth.more_both (sign-is 21 t.kind tt is) item more;
-    split = more_both-split;
+    split = elim [ IsMoreBoth.no_more_both ↦ inl (refl, refl) | IsMoreBoth.more_both is item more ↦ inr (_, _, tt, refl, sign-some 21 _ is, (_, _, item, more)) ];
     binds = λ kind sign is. ap strength (sign-is 21 kind sign is);
   };
   join = λ item more. IsBoth.both item more;
-  part = both-part;
+  part = elim [ IsBoth.both item more ↦ (_, _, item, more) ];
   item = zero-simple;
 }
-
-more_alternatives-split : {all es : List (List PSimple)} {ts rest : List Token} → IsMoreAlternatives all ts es rest →
-    ((es ≡ all) × (rest ≡ ts)) ⊎ ((t : Token) × (us : List Token) × (sign : ⊤) × (ts ≡ t ∷ us) × (sign_of 22 t.kind ≡ Some sign) × Then IsBoth (λ e. IsMoreAlternatives (all ++ e ∷ [])) us es rest)
-more_alternatives-split (IsMoreAlternatives.no_more_alternatives) = inl (refl, refl)
-more_alternatives-split (IsMoreAlternatives.more_alternatives is item more) = inr (_, _, tt, refl, sign-some 22 _ is, (_, _, item, more))
-
-alternatives-part : {ts rest : List Token} {es : List (List PSimple)} → IsAlternatives ts es rest → Then IsBoth (λ e. IsMoreAlternatives (e ∷ [])) ts es rest
-alternatives-part (IsAlternatives.alternatives item more) = (_, _, item, more)
 
 pub disjunctions : Joined 1 IsAlternatives IsBoth (sign_of 22) (λ sign all e. all ++ e ∷ []) IsMoreAlternatives (λ e. e ∷ [])
 disjunctions = record {
   chain = record {
     nothing = λ all ts. IsMoreAlternatives.no_more_alternatives;
     on = λ {t = t} is item more. IsMoreAlternatives.more_alternatives (sign-is 22 t.kind tt is) item more;
-    split = more_alternatives-split;
+    split = elim [ IsMoreAlternatives.no_more_alternatives ↦ inl (refl, refl) | IsMoreAlternatives.more_alternatives is item more ↦ inr (_, _, tt, refl, sign-some 22 _ is, (_, _, item, more)) ];
     binds = λ kind sign is. ap strength (sign-is 22 kind sign is);
   };
   join = λ item more. IsAlternatives.alternatives item more;
-  part = alternatives-part;
+  part = elim [ IsAlternatives.alternatives item more ↦ (_, _, item, more) ];
   item = zero-both;
 }
+
+-- what a phrase of another sort stands for is made of what it is read as
+wider : {n m : ℕ} → n ≤ m → (ts : List Token) → Ends n ts → Ends m ts
+wider few [] h = tt
+wider few (t ∷ ts) h = omega (arith, few, h)
+
+made_follow : {A B : Type 0} (f : A → B) {n m : ℕ} → n ≤ m → (a : A) (ts : List Token) (e : B) (rest : List Token) → Ends n rest → Done (f a) ts e rest → Ends m ts
+made_follow f {n = n} few a ts e rest ends d = wider few ts (done_follow n ts e rest ends d)
+
+made_fails : {A B : Type 0} (f : A → B) {n m : ℕ} {X : Phrases A} {Z : Phrases B} {start mid : List Token} {first now : Count} (total : ℕ) (e : ReadFault) → n ≤ m →
+    Stage n Z start first (Then X (λ a. Done (f a))) mid now → Fails m X mid now total e → Fails n Z start first total e
+made_fails f total e few s x = inner_fails total e s (made_follow f few) (λ a. can_end_done (f a)) x
+
+-- a phrase was read inside another
+so_far : {A B : Type 0} {n m : ℕ} {X Y : Phrases A} {Z W : Phrases B} {tokens : List Token} {before then after : Seen} {first now : Count} {around : List Level} (p : IsSoFar m X tokens then now around Y after) →
+    Stage n Z (drop before.at tokens) first W (drop after.at tokens) (ended p.open_now after.operators) → IsSoFar n Z tokens before first around W after
+so_far p s = record { open_now = p.open_now; closed = p.closed; stage = s }
+
+made_read : {A B : Type 0} (f : A → B) {n m : ℕ} {X : Phrases A} {Z : Phrases B} {tokens : List Token} {before then after : Seen} {first now : Count} {around : List Level} {a : A} → n ≤ m →
+    Stage n Z (drop before.at tokens) first (Then X (λ a. Done (f a))) (drop then.at tokens) now → IsSoFar m X tokens then now around (Done a) after → IsSoFar n Z tokens before first around (Done (f a)) after
+made_read f {before = before} few s p = so_far {before = before} p (inner (λ a. Done (f a)) s p.stage (made_follow f few))
 
 -- the whole condition
 pub cond-part : {ts rest : List Token} {c : PCond} → IsCond ts c rest → Then IsAlternatives (λ all. Done (any_of all)) ts c rest
 cond-part (IsCond.any x) = (_, _, x, (refl, refl))
 
 cond_stage : (start : List Token) (first : Count) → Stage 1 IsCond start first (Then IsAlternatives (λ all. Done (any_of all))) start first
-cond_stage start first = change (Then IsAlternatives (λ all. Done (any_of all))) (begin 1 IsCond start first)
-    (λ ts e rest y. subst (λ c. IsCond ts c rest) (sym y.3.0) (IsCond.any (subst (λ us. IsAlternatives ts y.0 us) (sym y.3.1) y.2)))
-    (λ ts e rest alike ends x. cond-part x)
+cond_stage start first = change (Then IsAlternatives (λ all. Done (any_of all))) (begin 1 IsCond start first) (λ ts e rest y. rw (y.3.0, y.3.1) (IsCond.any y.2)) (λ ts e rest alike ends x. cond-part x)
 
 pub cond_fails : (tokens : List Token) (seen : Seen) (around : List Level) (e : ReadFault) → Reads 1 IsAlternatives tokens seen around (Err e) → Reads 1 IsCond tokens seen around (Err e)
-cond_fails tokens seen around e f = inner_fails (length tokens) e (cond_stage (drop seen.at tokens) (ready around seen.operators)) (λ all. done_follow 1) (λ all. can_end_done (any_of all)) f
+cond_fails tokens seen around e f = made_fails any_of (length tokens) e (omega arith) (cond_stage (drop seen.at tokens) (ready around seen.operators)) f
 
 pub cond_read : (tokens : List Token) (seen after : Seen) (around : List Level) (all : List (List PSimple)) →
     IsSoFar 1 IsAlternatives tokens seen (ready around seen.operators) around (Done all) after → IsSoFar 1 IsCond tokens seen (ready around seen.operators) around (Done (any_of all)) after
-cond_read tokens seen after around all p = record {
-  open_now = p.open_now;
-  closed = p.closed;
-  stage = inner (λ all. Done (any_of all)) (cond_stage (drop seen.at tokens) (ready around seen.operators)) p.stage (λ all. done_follow 1);
-}
+cond_read tokens seen after around all p = made_read any_of (omega arith) (cond_stage (drop seen.at tokens) (ready around seen.operators)) p
 
 -- an expression, and what can follow it in a simple condition
 abbrev pub SimpleEnd : PExpr → Phrases PSimple
@@ -127,9 +107,9 @@ SimpleEnd a ts e rest = Done (S.Bare a) ts e rest
     ⊎ ((t : Token) × (us : List Token) × (kind : CompareKind) × (ts ≡ t ∷ us) × (compare_of t.kind ≡ Some kind) × Then IsExpr (λ b. Done (S.Compare kind a b)) us e rest)
 
 simple-on : {ts rest : List Token} {e : PSimple} → Then IsExpr SimpleEnd ts e rest → IsSimple ts e rest
-simple-on {ts = ts} {rest = rest} {e = e} y = elim y.3 [
-  | inl d ↦ subst (λ s. IsSimple ts s rest) (sym d.0) (IsSimple.bare (subst (λ us. IsExpr ts y.0 us) (sym d.1) y.2))
-  | inr z ↦ subst (λ s. IsSimple ts s rest) (sym z.5.3.0) (IsSimple.compare (subst (λ us. IsExpr ts y.0 us) z.3 y.2) z.4 (subst (λ us. IsExpr z.1 z.5.0 us) (sym z.5.3.1) z.5.2))
+simple-on y = elim y.3 [
+  | inl d ↦ rw (d.0, d.1) (IsSimple.bare y.2)
+  | inr z ↦ rw (z.5.3.0, z.5.3.1) (IsSimple.compare (rw z.3 at y.2) z.4 z.5.2)
 ]
 
 pub simple-only : {ts rest : List Token} {e : PSimple} → ((t : Token) (us : List Token) → ts ≡ t ∷ us → t.kind ≡ not_sign → ⊥) → IsSimple ts e rest → Then IsExpr SimpleEnd ts e rest
@@ -144,13 +124,9 @@ simple_stage tokens seen first other = change (Then IsExpr SimpleEnd) (begin 3 I
 
 pub end-follow : (a : PExpr) (ts : List Token) (e : PSimple) (rest : List Token) → Ends 3 rest → SimpleEnd a ts e rest → Ends 4 ts
 end-follow a ts e rest ends x = elim x [
-  | inl d ↦ subst (Ends 4) d.1 (wider rest ends)
+  | inl d ↦ subst (Ends 4) d.1 (wider (omega arith) rest ends)
   | inr z ↦ subst (Ends 4) (sym z.3) (let h : strength z.0.kind ≡ 3 = compare-strength z.0.kind z.2 z.4 in omega (arith, h))
 ]
-  where
-    wider : (us : List Token) → Ends 3 us → Ends 4 us
-    wider [] h = tt
-    wider (u ∷ us) h = omega (arith, h)
 
 end-ends : (a : PExpr) → CanEnd (SimpleEnd a)
 end-ends a = ([], S.Bare a, λ rest. inl (refl, refl))
@@ -162,22 +138,14 @@ left_fails tokens seen around e other f = inner_fails (length tokens) e (simple_
 -- an expression was read
 pub left_read : (tokens : List Token) (seen after : Seen) (around : List Level) (a : PExpr) → IsNotNextSign tokens seen.at 23 →
     IsSoFar 4 IsExpr tokens seen (ready around seen.operators) around (Done a) after → IsSoFar 3 IsSimple tokens seen (ready around seen.operators) around (SimpleEnd a) after
-left_read tokens seen after around a other p = record {
-  open_now = p.open_now;
-  closed = p.closed;
-  stage = inner SimpleEnd (simple_stage tokens seen (ready around seen.operators) other) p.stage end-follow;
-}
+left_read tokens seen after around a other p = so_far {before = seen} p (inner SimpleEnd (simple_stage tokens seen (ready around seen.operators) other) p.stage end-follow)
 
 pub bare_read : (tokens : List Token) (seen after : Seen) (around : List Level) (a : PExpr) → IsSoFar 3 IsSimple tokens seen (ready around seen.operators) around (SimpleEnd a) after → IsNotNext (λ t. compare_of t.kind) tokens after.at →
     IsSoFar 3 IsSimple tokens seen (ready around seen.operators) around (Done (S.Bare a)) after
-bare_read tokens seen after around a p none = record {
-  open_now = p.open_now;
-  closed = p.closed;
-  stage = change (Done (S.Bare a)) p.stage (λ ts e rest d. inl d) (λ ts e rest alike ends x. elim x [
-    | inl d ↦ d
-    | inr z ↦ absurd (let next = alike-cons (drop after.at tokens) z.0 z.1 (subst (λ us. BeginAlike (drop after.at tokens) us) z.3 alike) in let no = none z.0 next.0 next.1 in let yes = z.4 in cc)
-  ]);
-}
+bare_read tokens seen after around a p none = so_far {before = seen} p (change (Done (S.Bare a)) p.stage (λ ts e rest d. inl d) (λ ts e rest alike ends x. elim x [
+  | inl d ↦ d
+  | inr z ↦ absurd (let next = alike-cons (drop after.at tokens) z.0 z.1 (rw z.3 at alike) in let no = none z.0 next.0 next.1 in let yes = z.4 in cc)
+]))
 
 compare-on : {t : Token} (a : PExpr) (kind : CompareKind) → compare_of t.kind ≡ Some kind → (ts : List Token) (e : PSimple) (rest : List Token) → Then IsExpr (λ b. Done (S.Compare kind a b)) ts e rest → SimpleEnd a (t ∷ ts) e rest
 compare-on {t = t} a kind is ts e rest y = inr (t, ts, kind, refl, is, y)
@@ -206,22 +174,9 @@ compare_stage tokens seen after then around a kind p base next few is =
 
 pub right_fails : (tokens : List Token) (seen after then : Seen) (around : List Level) (a : PExpr) (kind : CompareKind) (e : ReadFault) → IsSoFar 3 IsSimple tokens seen (ready around seen.operators) around (SimpleEnd a) after → without_minuses around ≡ around →
     IsNextOne (λ t. compare_of t.kind) tokens after.at kind → after.operators < 256 → then ≡ past_operator after → Reads 4 IsExpr tokens then around (Err e) → Reads 3 IsSimple tokens seen around (Err e)
-right_fails tokens seen after then around a kind e p base next few is f =
-    inner_fails (length tokens) e (compare_stage tokens seen after then around a kind p base next few is) (λ b ts e rest ends d. wider ts (done_follow 3 ts e rest ends d)) (λ b. can_end_done (S.Compare kind a b)) f
-  where
-    wider : (us : List Token) → Ends 3 us → Ends 4 us
-    wider [] h = tt
-    wider (u ∷ us) h = omega (arith, h)
+right_fails tokens seen after then around a kind e p base next few is f = made_fails (S.Compare kind a) (length tokens) e (omega arith) (compare_stage tokens seen after then around a kind p base next few is) f
 
 pub right_read : (tokens : List Token) (seen after then end : Seen) (around : List Level) (a b : PExpr) (kind : CompareKind) → IsSoFar 3 IsSimple tokens seen (ready around seen.operators) around (SimpleEnd a) after → without_minuses around ≡ around →
     IsNextOne (λ t. compare_of t.kind) tokens after.at kind → after.operators < 256 → then ≡ past_operator after → IsSoFar 4 IsExpr tokens then (ready around then.operators) around (Done b) end →
     IsSoFar 3 IsSimple tokens seen (ready around seen.operators) around (Done (S.Compare kind a b)) end
-right_read tokens seen after then end around a b kind p base next few is q = record {
-  open_now = q.open_now;
-  closed = q.closed;
-  stage = inner (λ b. Done (S.Compare kind a b)) (compare_stage tokens seen after then around a kind p base next few is) q.stage (λ b ts e rest ends d. wider ts (done_follow 3 ts e rest ends d));
-}
-  where
-    wider : (us : List Token) → Ends 3 us → Ends 4 us
-    wider [] h = tt
-    wider (u ∷ us) h = omega (arith, h)
+right_read tokens seen after then end around a b kind p base next few is q = made_read (S.Compare kind a) (omega arith) (compare_stage tokens seen after then around a kind p base next few is) q

@@ -1,15 +1,5 @@
 -- What one token does to the levels and operators.
-use Rattle.std.proofs.Common.{◌≡◌, ℕ, ◌+◌, ◌<◌, ◌≤◌, true, false, List, nat_le, arith}
-use Rattle.std.specs.Prelude.{Some}
-use Rattle.std.proofs.lemmas.Bool.Decides.{nat_tests}
-use Rattle.std.proofs.lemmas.Grind.{common_steps}
-use Rattle.std.proofs.Math.Bool.{and-false}
-use Rattle.rn_notation.specs.declared.token.TokenKind.{TokenKind}
-use Rattle.rn_notation.specs.declared.token.TokenKind.TheVariants.{Name, Word, Number, Text, Sign}
-use Rattle.rn_model.specs.declared.expr.OpKind.{OpKind}
-use Rattle.rn_inscript.specs.Signs.{plus_of, times_of}
-use Rattle.rn_inscript.specs.Levels.{Level, after_token, goes_too_far, without_minuses, opens, closes, is_operator, is_minus, is_paren, ends_operand}
-use Rattle.rn_inscript.specs.link.Stages.{ready, ended, strength}
+use Rattle.rn_inscript.proofs.Names.{◌≡◌, ℕ, ◌+◌, ◌<◌, ◌≤◌, true, false, List, nat_le, arith, Some, nat_tests, common_steps, and-false, TokenKind, Sign, OpKind, plus_of, times_of, Level, after_token, goes_too_far, without_minuses, opens, closes, is_operator, is_minus, is_paren, ends_operand, ready, ended, strength}
 
 pub le-false : (m n : ℕ) → n < m → nat_le m n ≡ false
 le-false m n h = grind (arith, nat_tests)
@@ -26,41 +16,23 @@ pub record IsBinary (kind : TokenKind) : Type 0 where
   pub no_end : ends_operand kind ≡ false
 
 pub binary-sign : (k : ℕ) → 10 ≤ k → IsBinary (Sign k)
-binary-sign k h = record {
-  opens_none = grind (arith, nat_tests);
-  closes_none = grind (arith, nat_tests);
-  no_paren = grind (arith, nat_tests);
-  operator = grind (arith, nat_tests);
-  no_end = grind (arith, nat_tests);
-}
+binary-sign k h = grind (arith, nat_tests)
 
 pub times-binary : (kind : TokenKind) (op : OpKind) → times_of kind ≡ Some op → IsBinary kind
 times-binary (Sign k) op h = binary-sign k (grind (arith, nat_tests, common_steps))
-times-binary (Name s) op h = cc
-times-binary (Number n) op h = cc
-times-binary (Text s) op h = cc
-times-binary (Word k) op h = cc
+times-binary _ op h = cc
 
 pub plus-binary : (kind : TokenKind) (op : OpKind) → plus_of kind ≡ Some op → IsBinary kind
 plus-binary (Sign k) op h = binary-sign k (grind (arith, nat_tests, common_steps))
-plus-binary (Name s) op h = cc
-plus-binary (Number n) op h = cc
-plus-binary (Text s) op h = cc
-plus-binary (Word k) op h = cc
+plus-binary _ op h = cc
 
 pub times-strength : (kind : TokenKind) (op : OpKind) → times_of kind ≡ Some op → strength kind ≡ 5
 times-strength (Sign k) op h = grind (arith, nat_tests, common_steps)
-times-strength (Name s) op h = cc
-times-strength (Number n) op h = cc
-times-strength (Text s) op h = cc
-times-strength (Word k) op h = cc
+times-strength _ op h = cc
 
 pub plus-strength : (kind : TokenKind) (op : OpKind) → plus_of kind ≡ Some op → strength kind ≡ 4
 plus-strength (Sign k) op h = grind (arith, nat_tests, common_steps)
-plus-strength (Name s) op h = cc
-plus-strength (Number n) op h = cc
-plus-strength (Text s) op h = cc
-plus-strength (Word k) op h = cc
+plus-strength _ op h = cc
 
 pub binary-small : {kind : TokenKind} (levels : List Level) (operators : ℕ) → IsBinary kind → operators < 256 →
     goes_too_far (ended levels operators) kind ≡ false

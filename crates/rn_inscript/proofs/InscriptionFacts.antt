@@ -1,15 +1,6 @@
 -- From the form of an inscription to the inscription.
-use Rattle.std.proofs.Common.{◌≡◌, ℕ, List, [], ◌∷◌, ◌++◌, drop, sym, ◌∙◌, ap, subst}
-use Rattle.std.specs.Prelude.{Result, Ok, Err}
-use Rattle.std.specs.Result.{IsErrAnd}
-use Rattle.std.proofs.lemmas.Result.{err_from_is_err_and}
-use Rattle.rn_notation.specs.declared.token.Token.{Token}
-use Rattle.rn_inscript.specs.declared.fault.InscriptFault.{InscriptFault}
+use Rattle.rn_inscript.proofs.Names.{◌≡◌, ℕ, List, [], ◌∷◌, ◌++◌, drop, sym, ◌∙◌, ap, subst, Ok, Token, InscriptFault, PInscribed, PInscription, IsInscribed, IsInscription, Wholes, IsPrefix, IsLongest, IsReading, IsRefusal, IsAnswer}
 use Rattle.rn_inscript.specs.declared.fault.InscriptFault.TheVariants as Fault
-use Rattle.rn_inscript.specs.declared.inscriptions.PInscribed.{PInscribed}
-use Rattle.rn_inscript.specs.declared.inscriptions.PInscription.{PInscription}
-use Rattle.rn_inscript.specs.Inscriptions.{IsInscribed, IsInscription}
-use Rattle.rn_inscript.specs.Readings.{Wholes, IsPrefix, IsLongest, IsReading, IsRefusal, IsAnswer}
 use Rattle.rn_inscript.proofs.ReadingFacts.{wholes}
 use Rattle.rn_inscript.proofs.InscriptionPhrases.{inscribed-some}
 
@@ -91,6 +82,3 @@ not_empty r none = empty r.taken (sym none ∙ r.longest.parts) r.whole
     empty : (taken : List Token) {form : PInscribed} → [] ≡ taken ++ r.longest.left → IsForm taken form → ⊥
     empty [] e x = inscribed-some x
     empty (t ∷ ts) e x = cc
-
-pub refused_to : (tokens : List Token) (at : ℕ) (q : Result (PInscription × ℕ) InscriptFault) (e : InscriptFault) → IsErrAnd q (λ y. y ≡ e) → IsRefusal IsForm tokens at e → IsAnswer IsInscription tokens at q
-refused_to tokens at q e is s = let p = err_from_is_err_and q is in subst (IsAnswer IsInscription tokens at) (sym (p.1 ∙ ap Err p.2)) (refusal_to tokens at e s)

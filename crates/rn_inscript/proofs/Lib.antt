@@ -1,3 +1,4 @@
+pub mod Names
 mod StageLemmas
 mod CountSteps
 mod Chains

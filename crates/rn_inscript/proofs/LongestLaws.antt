@@ -1,9 +1,6 @@
 -- The longest prefix is one, and the token after it decides.
-use Rattle.std.proofs.Common.{◌≡◌, ◌<◌, inl, inr, List, [], ◌∷◌, ◌++◌, length, refl, sym, ◌∙◌, ap, subst, append_assoc, arith}
-use Rattle.std.proofs.Math.ListN.{length-append}
-use Rattle.rn_notation.specs.declared.token.Token.{Token}
-use Rattle.rn_inscript.specs.Readings.{Wholes, IsPrefix, IsLongest}
-use Rattle.rn_inscript.proofs.ReadingFacts.{longer, or_more}
+use Rattle.rn_inscript.proofs.Names.{◌≡◌, ◌<◌, List, [], ◌∷◌, ◌++◌, length, refl, sym, ◌∙◌, ap, subst, append_assoc, arith, length-append, Token, Wholes, IsPrefix, IsLongest}
+use Rattle.rn_inscript.proofs.ReadingFacts.{longer}
 
 -- the next token can't follow, whatever comes after it
 pub next_decides : {A : Type 0} (Whole : Wholes A) (taken left others : List Token) (t : Token) → IsLongest Whole (taken ++ t ∷ left) taken → IsLongest Whole (taken ++ t ∷ others) taken
@@ -11,10 +8,7 @@ next_decides Whole taken left others t l = record {
   left = t ∷ others;
   parts = refl;
   prefix = l.prefix;
-  longest = λ us rest e p. elim (or_more (length us) (length taken)) [
-    | inl le ↦ le
-    | inr lt ↦ absurd (grown us rest e p lt)
-  ];
+  longest = λ us rest e p. let shorter = grown us rest e p in omega (arith, shorter);
 }
   where
     grown : (us rest : List Token) → taken ++ t ∷ others ≡ us ++ rest → IsPrefix Whole us → length taken < length us → ⊥

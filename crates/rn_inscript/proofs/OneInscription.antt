@@ -1,37 +1,17 @@
 -- A list of tokens is one condition, and one inscription, at most.
-use Rattle.std.proofs.Common.{◌≡◌, ◌<◌, inl, inr, true, false, List, [], ◌∷◌, ◌++◌, refl, sym, ◌∙◌, ap, subst, arith}
-use Rattle.std.specs.Prelude.{Some}
-use Rattle.rn_notation.specs.declared.token.Token.{Token}
-use Rattle.rn_notation.specs.declared.token.TokenKind.TheVariants.{Name}
-use Rattle.rn_model.specs.declared.expr.CompareKind.{CompareKind}
-use Rattle.rn_inscript.specs.declared.exprs.PExpr.{PExpr}
-use Rattle.rn_inscript.specs.declared.exprs.PForm.{PForm}
+use Rattle.rn_inscript.proofs.Names.{◌≡◌, ◌<◌, inl, inr, true, false, List, [], ◌∷◌, refl, sym, ◌∙◌, ap, subst, arith, Some, Token, Name, CompareKind, PExpr, PForm, PCond, PSimple, PName, PInscribed, PInscription, colon, close_paren, compare_of, target_of, IsExpr, IsListed, at_spot, IsCond, IsAlternatives, IsMoreAlternatives, IsBoth, IsMoreBoth, IsSimple, any_of, IsInscribed, IsInscription, IsCall, name_at, absent, Then, Ends, strength, IsEquality}
 use Rattle.rn_inscript.specs.declared.exprs.PForm.TheVariants as F
-use Rattle.rn_inscript.specs.declared.conds.PCond.{PCond}
-use Rattle.rn_inscript.specs.declared.conds.PSimple.{PSimple}
 use Rattle.rn_inscript.specs.declared.conds.PSimple.TheVariants as S
-use Rattle.rn_inscript.specs.declared.inscriptions.PName.{PName}
-use Rattle.rn_inscript.specs.declared.inscriptions.PInscribed.{PInscribed}
 use Rattle.rn_inscript.specs.declared.inscriptions.PInscribed.TheVariants as I
-use Rattle.rn_inscript.specs.declared.inscriptions.PInscription.{PInscription}
-use Rattle.rn_inscript.specs.Signs.{colon, not_sign, close_paren, compare_of, target_of}
-use Rattle.rn_inscript.specs.Expressions.{IsExpr, IsListed, at_spot}
-use Rattle.rn_inscript.specs.Conditions.{IsCond, IsAlternatives, IsMoreAlternatives, IsBoth, IsMoreBoth, IsSimple, any_of}
-use Rattle.rn_inscript.specs.Inscriptions.{IsInscribed, IsInscription, IsCall, name_at, absent}
-use Rattle.rn_reading.specs.Phrases.{Then}
-use Rattle.rn_inscript.specs.link.Stages.{Ends, strength}
-use Rattle.rn_inscript.specs.link.NextNames.{IsEquality}
-use Rattle.rn_inscript.proofs.Chains.{chain_follow}
+use Rattle.rn_inscript.specs.Signs.{not_sign}
+use Rattle.rn_inscript.proofs.OneSign.{sign-some}
+use Rattle.rn_inscript.proofs.StageLemmas.{weaker}
 use Rattle.rn_inscript.proofs.ConditionPhrases.{conjunctions, disjunctions, SimpleEnd, cond-part, simple-only, end-follow, compare-strength}
 use Rattle.rn_inscript.proofs.NegationReading.{not-only}
 use Rattle.rn_inscript.proofs.OperandPhrases.{begins_expr, expr-begins}
 use Rattle.rn_inscript.proofs.InscriptionPhrases.{arc-only, guard-only, action-only, call-only, uplink-only, target-only}
 use Rattle.rn_inscript.proofs.LinkReading.{target-expr}
-use Rattle.rn_inscript.proofs.OneExpression.{Same, no-go, ends-sign, one-expr, one-listed}
-
-wider : (us : List Token) → Ends 3 us → Ends 4 us
-wider [] h = tt
-wider (u ∷ us) h = omega (arith, h)
+use Rattle.rn_inscript.proofs.OneExpression.{Same, same-end, same-more, same-join, ends-sign, one-expr, one-listed}
 
 no-compare : {t : Token} {us ts r : List Token} {kind : CompareKind} → r ≡ ts → ts ≡ t ∷ us → compare_of t.kind ≡ Some kind → Ends 3 r → ⊥
 no-compare {t = t} {us = us} {kind = kind} a b is ends = let small : strength t.kind < 3 = subst (Ends 3) (a ∙ b) ends in let h : strength t.kind ≡ 3 = compare-strength t.kind kind is in omega (arith, small, h)
@@ -44,7 +24,7 @@ one-end {a = a} x y e f = elim x [
     | inr k ↦
         let same : d.1 ≡ k.1 = let g = d.3 in let h = k.3 in cc in
         let kind : d.2 ≡ k.2 = let g = d.3 in let h = k.3 in let m = d.4 in let n = k.4 in cc in
-        let s = one-expr d.5.2 (subst (λ us. IsExpr us k.5.0 k.5.1) (sym same) k.5.2) (wider _ (subst (Ends 3) d.5.3.1 e)) (wider _ (subst (Ends 3) k.5.3.1 f)) in
+        let s = one-expr d.5.2 (subst (λ us. IsExpr us k.5.0 k.5.1) (sym same) k.5.2) (weaker 3 4 _ (omega arith) (rw d.5.3.1 at e)) (weaker 3 4 _ (omega arith) (rw k.5.3.1 at f)) in
         (d.5.3.0 ∙ ap (λ z. S.Compare z a d.5.0) kind ∙ ap (λ z. S.Compare k.2 a z) s.0 ∙ sym k.5.3.0, d.5.3.1 ∙ s.1 ∙ sym k.5.3.1)
   ]
 ]
@@ -62,36 +42,18 @@ mutual
   one-cond (IsCond.any x) y e f = let p = cond-part y in let s = one-alternatives x p.2 e (subst (Ends 1) p.3.1 f) in (ap any_of s.0 ∙ sym p.3.0, s.1 ∙ sym p.3.1)
 
   one-alternatives : {ts r q : List Token} {a b : List (List PSimple)} → IsAlternatives ts a r → IsAlternatives ts b q → Ends 1 r → Ends 1 q → Same a b r q
-  one-alternatives {q = q} {b = b} (IsAlternatives.alternatives {mid = mid} {b = a} x m) y e f =
-      let p = disjunctions.part y in
-      let s = one-both x p.2 (chain_follow disjunctions.chain (a ∷ []) mid _ _ e m) (chain_follow disjunctions.chain (p.0 ∷ []) p.1 b q f p.3) in
-      one-more-alternatives m (subst (λ us. IsMoreAlternatives (a ∷ []) us b q) (sym s.1) (subst (λ c. IsMoreAlternatives (c ∷ []) p.1 b q) (sym s.0) p.3)) e f
+  one-alternatives (IsAlternatives.alternatives x m) y e f = same-join disjunctions m y e f (λ left d z g h. one-both x z g h) (λ z. one-more-alternatives m z e f)
 
   one-more-alternatives : {a b c : List (List PSimple)} {ts r q : List Token} → IsMoreAlternatives a ts b r → IsMoreAlternatives a ts c q → Ends 1 r → Ends 1 q → Same b c r q
-  one-more-alternatives (IsMoreAlternatives.no_more_alternatives) y e f = elim (disjunctions.chain.split y) [ inl d ↦ (sym d.0, sym d.1) | inr g ↦ absurd (no-go disjunctions.chain g refl e) ]
-  one-more-alternatives {a = a} {c = c} {q = q} (IsMoreAlternatives.more_alternatives {t = t} {ts = ts} {mid = mid} {b = b} is x m) y e f = elim (disjunctions.chain.split y) [
-    | inl d ↦ absurd (let small : Ends 1 (t ∷ ts) = subst (Ends 1) d.1 f in let h : strength t.kind ≡ 1 = ap strength is in omega (arith, small, h))
-    | inr g ↦
-        let same : g.1 ≡ ts = let h = g.3 in cc in
-        let s = one-both x (subst (λ us. IsBoth us g.5.0 g.5.1) same g.5.2) (chain_follow disjunctions.chain (a ++ b ∷ []) mid _ _ e m) (chain_follow disjunctions.chain (a ++ g.5.0 ∷ []) g.5.1 c q f g.5.3) in
-        one-more-alternatives m (subst (λ us. IsMoreAlternatives (a ++ b ∷ []) us c q) (sym s.1) (subst (λ z. IsMoreAlternatives (a ++ z ∷ []) g.5.1 c q) (sym s.0) g.5.3)) e f
-  ]
+  one-more-alternatives (IsMoreAlternatives.no_more_alternatives) y e f = same-end disjunctions.chain y e
+  one-more-alternatives (IsMoreAlternatives.more_alternatives is x m) y e f = same-more disjunctions.chain (sign-some 22 _ is) m y e f (λ left d z g h. one-both x z g h) (λ z. one-more-alternatives m z e f)
 
   one-both : {ts r q : List Token} {a b : List PSimple} → IsBoth ts a r → IsBoth ts b q → Ends 2 r → Ends 2 q → Same a b r q
-  one-both {q = q} {b = b} (IsBoth.both {mid = mid} {s = a} x m) y e f =
-      let p = conjunctions.part y in
-      let s = one-simple x p.2 (chain_follow conjunctions.chain (a ∷ []) mid _ _ e m) (chain_follow conjunctions.chain (p.0 ∷ []) p.1 b q f p.3) in
-      one-more-both m (subst (λ us. IsMoreBoth (a ∷ []) us b q) (sym s.1) (subst (λ c. IsMoreBoth (c ∷ []) p.1 b q) (sym s.0) p.3)) e f
+  one-both (IsBoth.both x m) y e f = same-join conjunctions m y e f (λ left d z g h. one-simple x z g h) (λ z. one-more-both m z e f)
 
   one-more-both : {a b c : List PSimple} {ts r q : List Token} → IsMoreBoth a ts b r → IsMoreBoth a ts c q → Ends 2 r → Ends 2 q → Same b c r q
-  one-more-both (IsMoreBoth.no_more_both) y e f = elim (conjunctions.chain.split y) [ inl d ↦ (sym d.0, sym d.1) | inr g ↦ absurd (no-go conjunctions.chain g refl e) ]
-  one-more-both {a = a} {c = c} {q = q} (IsMoreBoth.more_both {t = t} {ts = ts} {mid = mid} {s = b} is x m) y e f = elim (conjunctions.chain.split y) [
-    | inl d ↦ absurd (let small : Ends 2 (t ∷ ts) = subst (Ends 2) d.1 f in let h : strength t.kind ≡ 2 = ap strength is in omega (arith, small, h))
-    | inr g ↦
-        let same : g.1 ≡ ts = let h = g.3 in cc in
-        let s = one-simple x (subst (λ us. IsSimple us g.5.0 g.5.1) same g.5.2) (chain_follow conjunctions.chain (a ++ b ∷ []) mid _ _ e m) (chain_follow conjunctions.chain (a ++ g.5.0 ∷ []) g.5.1 c q f g.5.3) in
-        one-more-both m (subst (λ us. IsMoreBoth (a ++ b ∷ []) us c q) (sym s.1) (subst (λ z. IsMoreBoth (a ++ z ∷ []) g.5.1 c q) (sym s.0) g.5.3)) e f
-  ]
+  one-more-both (IsMoreBoth.no_more_both) y e f = same-end conjunctions.chain y e
+  one-more-both (IsMoreBoth.more_both is x m) y e f = same-more conjunctions.chain (sign-some 21 _ is) m y e f (λ left d z g h. one-simple x z g h) (λ z. one-more-both m z e f)
 
   one-simple : {ts r q : List Token} {a b : PSimple} → IsSimple ts a r → IsSimple ts b q → Ends 3 r → Ends 3 q → Same a b r q
   one-simple (IsSimple.bare x) y e f = one-plain (_, _, x, inl (refl, refl)) (simple-only (no-not x) y) e f
@@ -167,27 +129,13 @@ one-other (IsInscribed.equality x q y) o z = absurd o
 
 one-form : {ts : List Token} {a b : PInscribed} → IsInscribed ts a [] → IsInscribed ts b [] → a ≡ b
 unfolding no_equality
-one-form (IsInscribed.plain_arc h p) y = one-other (IsInscribed.plain_arc h p) tt y
-one-form (IsInscribed.arc h p c x) y = one-other (IsInscribed.arc h p c x) tt y
-one-form (IsInscribed.guard h x) y = one-other (IsInscribed.guard h x) tt y
-one-form (IsInscribed.print h p x) y = one-other (IsInscribed.print h p x) tt y
-one-form (IsInscribed.set h p q x) y = one-other (IsInscribed.set h p q x) tt y
-one-form (IsInscribed.uplink h x) y = one-other (IsInscribed.uplink h x) tt y
-one-form (IsInscribed.creation h c n w) y = one-other (IsInscribed.creation h c n w) tt y
-one-form (IsInscribed.downlink h c x) y = one-other (IsInscribed.downlink h c x) tt y
-one-form (IsInscribed.equality x q y) (IsInscribed.plain_arc h2 p2) = sym (one-other (IsInscribed.plain_arc h2 p2) tt (IsInscribed.equality x q y))
-one-form (IsInscribed.equality x q y) (IsInscribed.arc h2 p2 c2 x2) = sym (one-other (IsInscribed.arc h2 p2 c2 x2) tt (IsInscribed.equality x q y))
-one-form (IsInscribed.equality x q y) (IsInscribed.guard h2 x2) = sym (one-other (IsInscribed.guard h2 x2) tt (IsInscribed.equality x q y))
-one-form (IsInscribed.equality x q y) (IsInscribed.print h2 p2 x2) = sym (one-other (IsInscribed.print h2 p2 x2) tt (IsInscribed.equality x q y))
-one-form (IsInscribed.equality x q y) (IsInscribed.set h2 p2 q2 x2) = sym (one-other (IsInscribed.set h2 p2 q2 x2) tt (IsInscribed.equality x q y))
-one-form (IsInscribed.equality x q y) (IsInscribed.uplink h2 x2) = sym (one-other (IsInscribed.uplink h2 x2) tt (IsInscribed.equality x q y))
-one-form (IsInscribed.equality x q y) (IsInscribed.creation h2 c2 n2 w2) = sym (one-other (IsInscribed.creation h2 c2 n2 w2) tt (IsInscribed.equality x q y))
-one-form (IsInscribed.equality x q y) (IsInscribed.downlink h2 c2 x2) = sym (one-other (IsInscribed.downlink h2 c2 x2) tt (IsInscribed.equality x q y))
 one-form (IsInscribed.equality {t = t} {us = us} {b = b} x q y) (IsInscribed.equality {t = u} {us = vs} {a = a} {b = c} w k z) =
     let s = one-expr x w (ends-sign 4 9 t us q (omega arith)) (ends-sign 4 9 u vs k (omega arith)) in
     let same : vs ≡ us = let g = s.1 in cc in
     let r = one-expr y (subst (λ l. IsExpr l c []) same z) tt tt in
     ap (λ l. I.Equality l b) s.0 ∙ ap (λ l. I.Equality a l) r.0
+one-form (IsInscribed.equality x q y) z = sym (one-other z tt (IsInscribed.equality x q y))
+one-form x y = one-other x tt y
 
 one-whole : {ts us : List Token} {i j : PInscription} → ts ≡ us → IsInscription ts i → IsInscription us j → i ≡ j
 one-whole is (IsInscription.inscription {t = t} {ts = ts} {form = form} x) (IsInscription.inscription {t = u} {ts = us} {form = other} y) =

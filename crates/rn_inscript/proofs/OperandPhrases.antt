@@ -1,19 +1,6 @@
 -- What the productions of primary expressions say of their first token.
-use Rattle.std.proofs.Common.{◌≡◌, ℕ, ℤ, ◌⊎◌, inl, inr, true, Bool, List, [], ◌∷◌, refl, sym, ap, subst, arith, nat_eq}
-use Rattle.std.specs.Prelude.{codes}
-use Rattle.std.specs.List.{list_any}
-use Rattle.std.proofs.lemmas.Bool.Decides.{nat_tests}
-use Rattle.std.proofs.lemmas.Grind.{common_steps}
-use Rattle.rn_notation.specs.declared.token.Spot.{Spot}
-use Rattle.rn_notation.specs.declared.token.Token.{Token}
-use Rattle.rn_notation.specs.declared.token.TokenKind.{TokenKind}
-use Rattle.rn_notation.specs.declared.token.TokenKind.TheVariants.{Name, Word, Number, Text, Sign}
-use Rattle.rn_inscript.specs.declared.exprs.PExpr.{PExpr}
+use Rattle.rn_inscript.proofs.Names.{◌≡◌, ℕ, ℤ, ◌⊎◌, inl, inr, true, Bool, cond, List, [], ◌∷◌, refl, sym, ap, subst, arith, nat_eq, codes, list_any, nat_tests, common_steps, Spot, Token, TokenKind, Name, Word, Number, Text, Sign, PExpr, minus, open_paren, close_paren, open_bracket, close_bracket, open_brace, close_brace, colon, this_word, IsExpr, IsProduct, IsUnary, IsPrimary, IsListed, IsExprs, at_spot, Phrases, Then, Done, Takes}
 use Rattle.rn_inscript.specs.declared.exprs.PForm.TheVariants as F
-use Rattle.rn_inscript.specs.Signs.{minus, open_paren, close_paren, open_bracket, close_bracket, open_brace, close_brace, colon, this_word}
-use Rattle.rn_inscript.specs.Expressions.{IsExpr, IsProduct, IsUnary, IsPrimary, IsListed, IsExprs, at_spot}
-use Rattle.rn_reading.specs.Phrases.{Phrases, Then, Done}
-use Rattle.rn_inscript.specs.link.Stages.{Takes}
 
 -- whether a token begins a primary expression
 abbrev pub begins_primary : TokenKind → Bool
@@ -34,89 +21,9 @@ primary-begins (IsPrimary.list h l) = ap begins_primary h
 primary-begins (IsPrimary.list_with_tail h x c y d) = ap begins_primary h
 primary-begins (IsPrimary.parentheses h x c) = ap begins_primary h
 
-pub primary-some : {e : PExpr} {rest : List Token} → IsPrimary [] e rest → ⊥
-primary-some p = nothing-first p refl
-  where
-    nothing-first : {ts rest : List Token} {e : PExpr} → IsPrimary ts e rest → ts ≡ [] → ⊥
-    nothing-first (IsPrimary.number h) is = cc
-    nothing-first (IsPrimary.text h) is = cc
-    nothing-first (IsPrimary.name h) is = cc
-    nothing-first (IsPrimary.this h) is = cc
-    nothing-first (IsPrimary.step h u v) is = cc
-    nothing-first (IsPrimary.tuple h l) is = cc
-    nothing-first (IsPrimary.list h l) is = cc
-    nothing-first (IsPrimary.list_with_tail h x c y d) is = cc
-    nothing-first (IsPrimary.parentheses h x c) is = cc
-
-pub number-only : (n : ℤ) {t : Token} {ts rest : List Token} {e : PExpr} → t.kind ≡ Number n → IsPrimary (t ∷ ts) e rest → Done (at_spot t.spot (F.Int n)) ts e rest
-number-only n k (IsPrimary.number h) = (let a = k in let b = h in cc, refl)
-number-only n k (IsPrimary.text h) = absurd (let a = k in let b = h in cc)
-number-only n k (IsPrimary.name h) = absurd (let a = k in let b = h in cc)
-number-only n k (IsPrimary.this h) = absurd (let a = k in let b = h in cc)
-number-only n k (IsPrimary.step h u v) = absurd (let a = k in let b = h in cc)
-number-only n k (IsPrimary.tuple h l) = absurd (let a = k in let b = h in cc)
-number-only n k (IsPrimary.list h l) = absurd (let a = k in let b = h in cc)
-number-only n k (IsPrimary.list_with_tail h x c y d) = absurd (let a = k in let b = h in cc)
-number-only n k (IsPrimary.parentheses h x c) = absurd (let a = k in let b = h in cc)
-
-pub text-only : (s : List ℕ) {t : Token} {ts rest : List Token} {e : PExpr} → t.kind ≡ Text s → IsPrimary (t ∷ ts) e rest → Done (at_spot t.spot (F.Text s)) ts e rest
-text-only s k (IsPrimary.number h) = absurd (let a = k in let b = h in cc)
-text-only s k (IsPrimary.text h) = (let a = k in let b = h in cc, refl)
-text-only s k (IsPrimary.name h) = absurd (let a = k in let b = h in cc)
-text-only s k (IsPrimary.this h) = absurd (let a = k in let b = h in cc)
-text-only s k (IsPrimary.step h u v) = absurd (let a = k in let b = h in cc)
-text-only s k (IsPrimary.tuple h l) = absurd (let a = k in let b = h in cc)
-text-only s k (IsPrimary.list h l) = absurd (let a = k in let b = h in cc)
-text-only s k (IsPrimary.list_with_tail h x c y d) = absurd (let a = k in let b = h in cc)
-text-only s k (IsPrimary.parentheses h x c) = absurd (let a = k in let b = h in cc)
-
-pub this-only : {t : Token} {ts rest : List Token} {e : PExpr} → t.kind ≡ this_word → IsPrimary (t ∷ ts) e rest → Done (at_spot t.spot F.This) ts e rest
-this-only k (IsPrimary.number h) = absurd (let a = k in let b = h in cc)
-this-only k (IsPrimary.text h) = absurd (let a = k in let b = h in cc)
-this-only k (IsPrimary.name h) = absurd (let a = k in let b = h in cc)
-this-only k (IsPrimary.this h) = (refl, refl)
-this-only k (IsPrimary.step h u v) = absurd (let a = k in let b = h in cc)
-this-only k (IsPrimary.tuple h l) = absurd (let a = k in let b = h in cc)
-this-only k (IsPrimary.list h l) = absurd (let a = k in let b = h in cc)
-this-only k (IsPrimary.list_with_tail h x c y d) = absurd (let a = k in let b = h in cc)
-this-only k (IsPrimary.parentheses h x c) = absurd (let a = k in let b = h in cc)
-
 -- the parentheses of `step()`, after its name
 abbrev pub StepEnd : Spot → Phrases PExpr
 StepEnd spot ts e rest = (u : Token) × (us : List Token) × (ts ≡ u ∷ us) × (u.kind ≡ open_paren) × Takes close_paren (at_spot spot F.Step) us e rest
-
-pub name-only : (s : List ℕ) {t : Token} {ts rest : List Token} {e : PExpr} → t.kind ≡ Name s → IsPrimary (t ∷ ts) e rest → Done (at_spot t.spot (F.Name s)) ts e rest ⊎ ((s ≡ codes "step") × StepEnd t.spot ts e rest)
-name-only s k (IsPrimary.number h) = absurd (let a = k in let b = h in cc)
-name-only s k (IsPrimary.text h) = absurd (let a = k in let b = h in cc)
-name-only s k (IsPrimary.name h) = inl (let a = k in let b = h in cc, refl)
-name-only s k (IsPrimary.this h) = absurd (let a = k in let b = h in cc)
-name-only s k (IsPrimary.step h u v) = inr (let a = k in let b = h in cc, (_, _, refl, u, (_, refl, v, refl)))
-name-only s k (IsPrimary.tuple h l) = absurd (let a = k in let b = h in cc)
-name-only s k (IsPrimary.list h l) = absurd (let a = k in let b = h in cc)
-name-only s k (IsPrimary.list_with_tail h x c y d) = absurd (let a = k in let b = h in cc)
-name-only s k (IsPrimary.parentheses h x c) = absurd (let a = k in let b = h in cc)
-
-pub paren-only : {t : Token} {ts rest : List Token} {e : PExpr} → t.kind ≡ open_paren → IsPrimary (t ∷ ts) e rest → Then IsExpr (Takes close_paren) ts e rest
-paren-only k (IsPrimary.number h) = absurd (let a = k in let b = h in cc)
-paren-only k (IsPrimary.text h) = absurd (let a = k in let b = h in cc)
-paren-only k (IsPrimary.name h) = absurd (let a = k in let b = h in cc)
-paren-only k (IsPrimary.this h) = absurd (let a = k in let b = h in cc)
-paren-only k (IsPrimary.step h u v) = absurd (let a = k in let b = h in cc)
-paren-only k (IsPrimary.tuple h l) = absurd (let a = k in let b = h in cc)
-paren-only k (IsPrimary.list h l) = absurd (let a = k in let b = h in cc)
-paren-only k (IsPrimary.list_with_tail h x c y d) = absurd (let a = k in let b = h in cc)
-paren-only k (IsPrimary.parentheses h x c) = (_, _, x, (_, refl, c, refl))
-
-pub bracket-only : {t : Token} {ts rest : List Token} {e : PExpr} → t.kind ≡ open_bracket → IsPrimary (t ∷ ts) e rest → Then (IsListed close_bracket) (λ es. Done (at_spot t.spot (F.Tuple es))) ts e rest
-bracket-only k (IsPrimary.number h) = absurd (let a = k in let b = h in cc)
-bracket-only k (IsPrimary.text h) = absurd (let a = k in let b = h in cc)
-bracket-only k (IsPrimary.name h) = absurd (let a = k in let b = h in cc)
-bracket-only k (IsPrimary.this h) = absurd (let a = k in let b = h in cc)
-bracket-only k (IsPrimary.step h u v) = absurd (let a = k in let b = h in cc)
-bracket-only k (IsPrimary.tuple h l) = (_, _, l, (refl, refl))
-bracket-only k (IsPrimary.list h l) = absurd (let a = k in let b = h in cc)
-bracket-only k (IsPrimary.list_with_tail h x c y d) = absurd (let a = k in let b = h in cc)
-bracket-only k (IsPrimary.parentheses h x c) = absurd (let a = k in let b = h in cc)
 
 -- what can follow the elements of a list
 abbrev pub ListEnd : Spot → List PExpr → Phrases PExpr
@@ -129,20 +36,64 @@ abbrev pub ListInside : Spot → Phrases PExpr
 ListInside spot ts e rest =
     Takes close_brace (at_spot spot (F.List [])) ts e rest ⊎ Then IsExprs (ListEnd spot) ts e rest
 
-pub list-inside : (spot : Spot) {ts rest : List Token} {es : List PExpr} → IsListed close_brace ts es rest → ListInside spot ts (at_spot spot (F.List es)) rest
+-- what can follow the first token of a primary expression, which has this kind
+abbrev pub PrimaryEnd : Spot → TokenKind → Phrases PExpr
+PrimaryEnd spot (Number n) ts e rest = Done (at_spot spot (F.Int n)) ts e rest
+PrimaryEnd spot (Text s) ts e rest = Done (at_spot spot (F.Text s)) ts e rest
+PrimaryEnd spot (Name s) ts e rest = Done (at_spot spot (F.Name s)) ts e rest ⊎ ((s ≡ codes "step") × StepEnd spot ts e rest)
+PrimaryEnd spot (Word k) ts e rest = Done (at_spot spot F.This) ts e rest
+PrimaryEnd spot (Sign k) ts e rest =
+    cond (nat_eq k 0) (ListInside spot ts e rest)
+    (cond (nat_eq k 2) (Then (IsListed close_bracket) (λ es. Done (at_spot spot (F.Tuple es))) ts e rest)
+    (Then IsExpr (Takes close_paren) ts e rest))
+
+-- a primary expression has a first token
+abbrev pub PrimaryParts : Phrases PExpr
+PrimaryParts [] e rest = ⊥
+PrimaryParts (t ∷ ts) e rest = PrimaryEnd t.spot t.kind ts e rest
+
+list-inside : (spot : Spot) {ts rest : List Token} {es : List PExpr} → IsListed close_brace ts es rest → ListInside spot ts (at_spot spot (F.List es)) rest
 list-inside spot (IsListed.nothing c) = inl (_, refl, c, refl)
 list-inside spot (IsListed.some x c) = inr (_, _, x, inl (_, refl, c, refl))
 
+primary-parts : {ts rest : List Token} {e : PExpr} → IsPrimary ts e rest → PrimaryParts ts e rest
+primary-parts (IsPrimary.number h) = rw h (refl, refl)
+primary-parts (IsPrimary.text h) = rw h (refl, refl)
+primary-parts (IsPrimary.name h) = rw h (inl (refl, refl))
+primary-parts (IsPrimary.this h) = rw h (refl, refl)
+primary-parts (IsPrimary.step h u v) = rw h (inr (refl, (_, _, refl, u, (_, refl, v, refl))))
+primary-parts (IsPrimary.tuple h l) = rw h (_, _, l, (refl, refl))
+primary-parts (IsPrimary.list h l) = rw h (list-inside _ l)
+primary-parts (IsPrimary.list_with_tail h x c y d) = rw h (inr (_, _, x, inr (_, _, refl, c, (_, _, y, (_, refl, d, refl)))))
+primary-parts (IsPrimary.parentheses h x c) = rw h (_, _, x, (_, refl, c, refl))
+
+pub primary-some : {e : PExpr} {rest : List Token} → IsPrimary [] e rest → ⊥
+primary-some x = primary-parts x
+
+-- what follows a first token of a kind
+pub primary-only : {t : Token} {kind : TokenKind} {ts rest : List Token} {e : PExpr} → t.kind ≡ kind → IsPrimary (t ∷ ts) e rest → PrimaryEnd t.spot kind ts e rest
+primary-only {t = t} {ts = ts} {rest = rest} {e = e} h x = subst (λ k. PrimaryEnd t.spot k ts e rest) h (primary-parts x)
+
+pub number-only : (n : ℤ) {t : Token} {ts rest : List Token} {e : PExpr} → t.kind ≡ Number n → IsPrimary (t ∷ ts) e rest → Done (at_spot t.spot (F.Int n)) ts e rest
+number-only n k x = primary-only k x
+
+pub text-only : (s : List ℕ) {t : Token} {ts rest : List Token} {e : PExpr} → t.kind ≡ Text s → IsPrimary (t ∷ ts) e rest → Done (at_spot t.spot (F.Text s)) ts e rest
+text-only s k x = primary-only k x
+
+pub this-only : {t : Token} {ts rest : List Token} {e : PExpr} → t.kind ≡ this_word → IsPrimary (t ∷ ts) e rest → Done (at_spot t.spot F.This) ts e rest
+this-only k x = primary-only k x
+
+pub name-only : (s : List ℕ) {t : Token} {ts rest : List Token} {e : PExpr} → t.kind ≡ Name s → IsPrimary (t ∷ ts) e rest → Done (at_spot t.spot (F.Name s)) ts e rest ⊎ ((s ≡ codes "step") × StepEnd t.spot ts e rest)
+name-only s k x = primary-only k x
+
+pub paren-only : {t : Token} {ts rest : List Token} {e : PExpr} → t.kind ≡ open_paren → IsPrimary (t ∷ ts) e rest → Then IsExpr (Takes close_paren) ts e rest
+paren-only k x = primary-only k x
+
+pub bracket-only : {t : Token} {ts rest : List Token} {e : PExpr} → t.kind ≡ open_bracket → IsPrimary (t ∷ ts) e rest → Then (IsListed close_bracket) (λ es. Done (at_spot t.spot (F.Tuple es))) ts e rest
+bracket-only k x = primary-only k x
+
 pub brace-only : {t : Token} {ts rest : List Token} {e : PExpr} → t.kind ≡ open_brace → IsPrimary (t ∷ ts) e rest → ListInside t.spot ts e rest
-brace-only k (IsPrimary.number h) = absurd (let a = k in let b = h in cc)
-brace-only k (IsPrimary.text h) = absurd (let a = k in let b = h in cc)
-brace-only k (IsPrimary.name h) = absurd (let a = k in let b = h in cc)
-brace-only k (IsPrimary.this h) = absurd (let a = k in let b = h in cc)
-brace-only k (IsPrimary.step h u v) = absurd (let a = k in let b = h in cc)
-brace-only k (IsPrimary.tuple h l) = absurd (let a = k in let b = h in cc)
-brace-only k (IsPrimary.list h l) = list-inside _ l
-brace-only k (IsPrimary.list_with_tail h x c y d) = inr (_, _, x, inr (_, _, refl, c, (_, _, y, (_, refl, d, refl))))
-brace-only k (IsPrimary.parentheses h x c) = absurd (let a = k in let b = h in cc)
+brace-only k x = primary-only k x
 
 -- what can follow a bracket, apart from the last one
 abbrev pub ListedInside : TokenKind → Phrases (List PExpr)
@@ -170,21 +121,18 @@ wider (Number n) h = h
 wider (Text s) h = h
 wider (Word k) h = h
 
-pub unary-begins : {t : Token} {ts rest : List Token} {e : PExpr} → IsUnary (t ∷ ts) e rest → begins_expr t.kind ≡ true
+unary-begins : {t : Token} {ts rest : List Token} {e : PExpr} → IsUnary (t ∷ ts) e rest → begins_expr t.kind ≡ true
 unary-begins (IsUnary.negative h x) = ap begins_expr h
 unary-begins {t = t} (IsUnary.primary x) = wider t.kind (primary-begins x)
 
-pub product-begins : {t : Token} {ts rest : List Token} {e : PExpr} → IsProduct (t ∷ ts) e rest → begins_expr t.kind ≡ true
-product-begins (IsProduct.product x y) = unary-begins x
-
 pub expr-begins : {t : Token} {ts rest : List Token} {e : PExpr} → IsExpr (t ∷ ts) e rest → begins_expr t.kind ≡ true
-expr-begins (IsExpr.sum x y) = product-begins x
+expr-begins (IsExpr.sum (IsProduct.product x y) z) = unary-begins x
 
 pub exprs-begin : {t : Token} {ts rest : List Token} {es : List PExpr} → IsExprs (t ∷ ts) es rest → begins_expr t.kind ≡ true
 exprs-begin (IsExprs.exprs x y) = expr-begins x
 
 -- an expression isn't empty
-pub unary-some : {ts rest : List Token} {e : PExpr} → IsUnary ts e rest → ts ≡ [] → ⊥
+unary-some : {ts rest : List Token} {e : PExpr} → IsUnary ts e rest → ts ≡ [] → ⊥
 unary-some (IsUnary.negative h x) is = cc
 unary-some {rest = rest} {e = e} (IsUnary.primary x) is = primary-some (subst (λ us. IsPrimary us e rest) is x)
 

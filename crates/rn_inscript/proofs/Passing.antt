@@ -1,14 +1,6 @@
 -- A token is passed, or can't be.
-use Rattle.std.proofs.Common.{◌≡◌, ℕ, ◌+◌, ◌≤◌, true, false, List, ◌∷◌, length, drop, sym, ◌∙◌, ap, subst}
-use Rattle.rn_notation.specs.declared.token.Token.{Token}
-use Rattle.rn_notation.specs.declared.token.TokenKind.{TokenKind}
-use Rattle.rn_notation.specs.declared.token.TokenKind.TheVariants.{Sign}
+use Rattle.rn_inscript.proofs.Names.{◌≡◌, ℕ, ◌+◌, ◌≤◌, true, false, List, [], ◌∷◌, length, drop, sym, ◌∙◌, ap, subst, Token, TokenKind, Sign, Count, inscript_counting, after_token, goes_too_far, Phrases, BeginAlike, CanEnd, IsNext, Takes, Ends, Stage, Fails, IsNotNextSign, alike-cons, take, stuck, too_far}
 use Rattle.rn_reading.specs.declared.fault.ReadFault.TheVariants as Fault
-use Rattle.rn_inscript.specs.Levels.{Count, inscript_counting, after_token, goes_too_far}
-use Rattle.rn_reading.specs.Phrases.{Phrases}
-use Rattle.rn_reading.specs.link.Stages.{BeginAlike, CanEnd, IsNext}
-use Rattle.rn_inscript.specs.link.Stages.{Takes, Ends, Stage, Fails, IsNotNextSign}
-use Rattle.rn_reading.proofs.Steps.{alike-cons, take, stuck, too_far}
 
 -- the next token is of this kind, and is taken
 pub pass : {A : Type 0} {n : ℕ} {X Y : Phrases A} {start : List Token} {first now : Count} (tokens : List Token) (at : ℕ) {t : Token} (kind : TokenKind) (then : Count) →
@@ -34,12 +26,20 @@ pub stuck_next : {A : Type 0} {n : ℕ} {X Y : Phrases A} {start : List Token} {
     Fails n X start first (length tokens) (Fault.Stopped at)
 stuck_next {n = n} tokens at s inside end none = stuck inscript_counting (Ends n) tokens at s inside end none
 
+-- a sign isn't next
+pub not_sign : {A : Type 0} {a : A} (tokens : List Token) (at k : ℕ) → IsNotNextSign tokens at k →
+    (ts : List Token) (e : A) (rest : List Token) → BeginAlike (drop at tokens) ts → Takes (Sign k) a ts e rest → ⊥
+not_sign tokens at k other ts e rest alike y = let next = alike-cons (drop at tokens) y.0 rest (rw y.1 at alike) in other y.0 next.0 next.1 y.2
+
 -- a sign has to come that isn't next
 pub stuck_sign : {A : Type 0} {n : ℕ} {X : Phrases A} {a : A} {start : List Token} {first now : Count} (tokens : List Token) (at k : ℕ) →
     Stage n X start first (Takes (Sign k) a) (drop at tokens) now → at ≤ length tokens → CanEnd (Takes (Sign k) a) →
-    IsNotNextSign tokens at k →
-    Fails n X start first (length tokens) (Fault.Stopped at)
-stuck_sign tokens at k s inside end other =
-    stuck_next tokens at s inside end (λ ts e rest alike y.
-    let next = alike-cons (drop at tokens) y.0 rest (subst (λ us. BeginAlike (drop at tokens) us) y.1 alike) in
-    other y.0 next.0 next.1 y.2)
+    IsNotNextSign tokens at k → Fails n X start first (length tokens) (Fault.Stopped at)
+stuck_sign tokens at k s inside end other = stuck_next tokens at s inside end (not_sign tokens at k other)
+
+-- phrases none of which is empty, or begins with the next token
+pub not_alike : {A : Type 0} {left : List Token} (Y : Phrases A) → ((e : A) (rest : List Token) → Y [] e rest → ⊥) →
+    ((u : Token) (us others : List Token) (e : A) (rest : List Token) → left ≡ u ∷ others → Y (u ∷ us) e rest → ⊥) →
+    (ts : List Token) (e : A) (rest : List Token) → BeginAlike left ts → Y ts e rest → ⊥
+not_alike Y empty first [] e rest alike x = empty e rest x
+not_alike {left = left} Y empty first (u ∷ us) e rest alike x = let next = alike-cons left u us alike in first u us next.0 e rest next.1 x

@@ -1,23 +1,9 @@
 -- From the stages of a reading to the longest reading, and that there is one answer.
-use Rattle.std.proofs.Common.{◌≡◌, ℕ, ◌+◌, ◌<◌, ◌≤◌, true, List, [], ◌∷◌, ◌++◌, length, drop, refl, sym, ◌∙◌, ap, subst, append_assoc, arith, ◌⊎◌, inl, inr, zero, suc}
+use Rattle.rn_inscript.proofs.Names.{◌≡◌, ℕ, ◌+◌, ◌<◌, ◌≤◌, List, [], ◌∷◌, ◌++◌, length, drop, refl, sym, ◌∙◌, ap, subst, append_assoc, arith, inl, inr, Result, Ok, Err, length-append, Token, Seen, InscriptFault, ReadFault, IsWithin, inscript_counting, at_first, Phrases, Done, BeginAlike, Fails, IsSoFar, ready, Wholes, IsPrefix, IsLongest, IsReading, IsStopped, IsDeep, IsRefusal, IsAnswer, Answers, index-of}
 use Rattle.std.proofs.lemmas.List.{append-nil}
-use Rattle.std.specs.Prelude.{Result, Ok, Err, IfOk, IfErr}
-use Rattle.std.specs.Result.{IsErrAnd}
-use Rattle.std.proofs.lemmas.Result.{err_from_is_err_and}
-use Rattle.std.proofs.Math.ListN.{length-append}
-use Rattle.rn_notation.specs.declared.token.Token.{Token}
-use Rattle.rn_inscript.specs.declared.cursor.Seen.{Seen}
-use Rattle.rn_inscript.specs.declared.fault.InscriptFault.{InscriptFault}
 use Rattle.rn_inscript.specs.declared.fault.InscriptFault.TheVariants as Fault
-use Rattle.rn_reading.specs.declared.fault.ReadFault.{ReadFault}
 use Rattle.rn_reading.specs.declared.fault.ReadFault.TheVariants as Read
 use Rattle.rn_inscript.specs.link.Faults.{inscript_fault}
-use Rattle.rn_inscript.specs.Levels.{Count, IsWithin, inscript_counting, at_first, count_after, goes_too_far}
-use Rattle.rn_reading.specs.Phrases.{Phrases, Done}
-use Rattle.rn_reading.specs.link.Stages.{BeginAlike}
-use Rattle.rn_inscript.specs.link.Stages.{Fails, IsSoFar, ready}
-use Rattle.rn_inscript.specs.Readings.{Wholes, IsPrefix, IsLongest, IsReading, IsStopped, IsDeep, IsRefusal, IsAnswer, Answers}
-use Rattle.rn_reading.proofs.Steps.{index-of}
 use Rattle.rn_reading.proofs.Wholes.{split-at, within-at}
 
 -- the phrases of a sort after which nothing comes
@@ -33,16 +19,14 @@ longer taken left others rest e lt = elim (split-at others rest taken left (sym 
 ]
 
 pub same_length : (a x b y : List Token) → a ++ x ≡ b ++ y → length a ≡ length b → a ≡ b
-same_length [] x [] y e h = refl
-same_length [] x (o ∷ os) y e h = absurd (omega (arith, h))
-same_length (t ∷ ts) x [] y e h = absurd (omega (arith, h))
-same_length (t ∷ ts) x (o ∷ os) y e h =
-    let r = same_length ts x os y (let g : ts ++ x ≡ os ++ y = cc in g) (omega (arith, h)) in let f : t ≡ o = cc in ap (λ u. u ∷ ts) f ∙ ap (λ us. o ∷ us) r
-
-pub or_more : (m n : ℕ) → (m ≤ n) ⊎ (n < m)
-or_more zero n = inl (omega arith)
-or_more (suc m) zero = inr (omega arith)
-or_more (suc m) (suc n) = elim (or_more m n) [ inl le ↦ inl (omega (arith, le)) | inr lt ↦ inr (omega (arith, lt)) ]
+same_length a x b y e h = elim (split-at a x b y e) [
+  | inl g ↦ nothing g.0 (omega (arith, h, ap length g.1, length-append a g.0)) g.1
+  | inr g ↦ absurd (omega (arith, h, ap length g.2, length-append b (g.0 ∷ g.1)))
+]
+  where
+    nothing : (m : List Token) → length m ≡ 0 → b ≡ a ++ m → a ≡ b
+    nothing [] none is = sym (is ∙ append-nil a)
+    nothing (t ∷ m) none is = absurd (omega (arith, none))
 
 -- where no longer prefix goes on, the tokens taken are the longest prefix
 longest_of : {A : Type 0} (X : Phrases A) (start taken left : List Token) → start ≡ taken ++ left → IsPrefix (wholes X) taken →
@@ -62,7 +46,7 @@ longest_of X start taken left whole prefix none = record {
         let empty = none (l.0 ∷ (l.1 ++ p.0)) p.1 like more in cc
 
     at_most : (others rest : List Token) → taken ++ left ≡ others ++ rest → IsPrefix (wholes X) others → length others ≤ length taken
-    at_most others rest e p = elim (or_more (length others) (length taken)) [ inl le ↦ le | inr lt ↦ absurd (grown others rest e p lt) ]
+    at_most others rest e p = let shorter = grown others rest e p in omega (arith, shorter)
 
 prefix-nil : {A : Type 0} (X : Phrases A) (taken more : List Token) (a : A) → X (taken ++ (more ++ [])) a [] → IsPrefix (wholes X) taken
 prefix-nil X taken more a x = (more, a, subst (λ us. X (taken ++ us) a []) (append-nil more) x)
@@ -108,37 +92,22 @@ pub one_longest : {A : Type 0} {Whole : Wholes A} {tokens a b : List Token} → 
 one_longest {a = a} {b = b} p q = same_length a p.left b q.left (sym p.parts ∙ q.parts)
     (let x = p.longest b q.left q.parts q.prefix in let y = q.longest a p.left p.parts p.prefix in omega (arith, x, y))
 
--- a token that goes too far is not among tokens that don't
-not_within : (c : Count) (before : List Token) (t : Token) (after : List Token) → IsWithin c (before ++ t ∷ after) → goes_too_far (count_after c before) t.kind ≡ true → ⊥
-not_within c before t after w far = let no = within-at inscript_counting c before t after w in cc
+-- a token that goes too far is none of those that don't
+not_past : {A : Type 0} {Whole : Wholes A} {tokens : List Token} {at k : ℕ} (d : IsDeep Whole tokens at k) (taken left : List Token) → drop at tokens ≡ taken ++ left → IsWithin at_first taken → length d.before < length taken → ⊥
+not_past d taken left parts w lt =
+    let r = longer d.before (d.token ∷ d.left) taken left (sym d.parts ∙ parts) lt in let same : r.0 ≡ d.token = let e = r.3 in cc in
+    let within = within-at inscript_counting at_first d.before d.token r.1 (subst (IsWithin at_first) (r.2 ∙ ap (λ u. d.before ++ u ∷ r.1) same) w) in let far = d.far in cc
 
--- a prefix that goes too far at its last token is no part of tokens that don't
 not_deep : {A : Type 0} {Whole : Wholes A} {tokens taken : List Token} {at k : ℕ} → IsLongest Whole (drop at tokens) taken → IsWithin at_first taken → IsDeep Whole tokens at k → ⊥
 not_deep {taken = taken} l w d =
     let long = l.longest (d.before ++ d.token ∷ []) d.left (d.parts ∙ sym (append_assoc d.before (d.token ∷ []) d.left)) d.prefix in
-    inside (or_more (length taken) (length d.before)) long
-  where
-    whole : d.before ++ (d.token ∷ d.left) ≡ taken ++ l.left
-    whole = sym d.parts ∙ l.parts
-
-    inside : (length taken ≤ length d.before) ⊎ (length d.before < length taken) → length (d.before ++ d.token ∷ []) ≤ length taken → ⊥
-    inside (inl le) long = absurd (omega (arith, le, long, length-append d.before (d.token ∷ [])))
-    inside (inr lt) long = let r = longer d.before (d.token ∷ d.left) taken l.left whole lt in
-        not_within at_first d.before d.token r.1 (subst (IsWithin at_first) (r.2 ∙ ap (λ u. d.before ++ u ∷ r.1) (let h : r.0 ≡ d.token = let e = r.3 in cc in h)) w) d.far
+    not_past d taken l.left l.parts w (omega (arith, long, length-append d.before (d.token ∷ [])))
 
 -- two tokens that go too far first are one
 one_deep : {A : Type 0} {Whole : Wholes A} {tokens : List Token} {at j k : ℕ} → IsDeep Whole tokens at j → IsDeep Whole tokens at k → j ≡ k
-one_deep {j = j} {k = k} d e = between (or_more (length d.before) (length e.before)) (or_more (length e.before) (length d.before))
-  where
-    same : d.before ++ (d.token ∷ d.left) ≡ e.before ++ (e.token ∷ e.left)
-    same = sym d.parts ∙ e.parts
-
-    between : (length d.before ≤ length e.before) ⊎ (length e.before < length d.before) → (length e.before ≤ length d.before) ⊎ (length d.before < length e.before) → j ≡ k
-    between (inl a) (inl b) = let equal : length d.before ≡ length e.before = omega (arith, a, b) in d.stands ∙ omega (arith, equal) ∙ sym e.stands
-    between (inl a) (inr b) = absurd (let r = longer d.before (d.token ∷ d.left) e.before (e.token ∷ e.left) same b in
-        not_within at_first d.before d.token r.1 (subst (IsWithin at_first) (r.2 ∙ ap (λ u. d.before ++ u ∷ r.1) (let h : r.0 ≡ d.token = let x = r.3 in cc in h)) e.within) d.far)
-    between (inr a) b = absurd (let r = longer e.before (e.token ∷ e.left) d.before (d.token ∷ d.left) (sym same) a in
-        not_within at_first e.before e.token r.1 (subst (IsWithin at_first) (r.2 ∙ ap (λ u. e.before ++ u ∷ r.1) (let h : r.0 ≡ e.token = let x = r.3 in cc in h)) d.within) e.far)
+one_deep d e =
+    let not_more = not_past d e.before (e.token ∷ e.left) e.parts e.within in let not_less = not_past e d.before (d.token ∷ d.left) d.parts d.within in
+    omega (arith, not_more, not_less, d.stands, e.stands)
 
 pub answer_reads : {A : Type 0} {Whole : Wholes A} {tokens : List Token} {at : ℕ} (r : Result (A × ℕ) InscriptFault) → IsAnswer Whole tokens at r → (a : A) (end : ℕ) → IsReading Whole tokens at a end → Answers r (Ok (a, end))
 answer_reads {Whole = Whole} (Ok (b, m)) s a end x = let same = one_longest x.longest s.0.longest in
@@ -159,15 +128,5 @@ answer_deep (Err (Fault.P2 j)) s k x = absurd (not_deep s.longest s.within x)
 answer_deep (Err (Fault.P5 j)) s k x = ap (λ i. Err (Fault.P5 i)) (one_deep s x)
 answer_deep (Err (Fault.NoMemory _)) s k x = tt
 
--- what a reader returns where the reader that it calls fails
-pub refused_answer : {A : Type 0} (n : ℕ) (X : Phrases A) (tokens : List Token) (at : ℕ) (r : Result (A × ℕ) InscriptFault) (e : ReadFault) → IsErrAnd r (λ y. y ≡ inscript_fault e) → at ≤ length tokens →
-    Fails n X (drop at tokens) (ready [] 0) (length tokens) e → IsAnswer (wholes X) tokens at r
-refused_answer n X tokens at r e is here f = let p = err_from_is_err_and r is in subst (IsAnswer (wholes X) tokens at) (sym (p.1 ∙ ap Err p.2)) (refusal_fact n X tokens at e here f)
-
-pub answer_read : {A : Type 0} (Whole : Wholes A) (tokens : List Token) (at : ℕ) (r : Result (A × ℕ) InscriptFault) → IsAnswer Whole tokens at r → IfOk r (λ found. IsReading Whole tokens at found.0 found.1)
-answer_read Whole tokens at (Ok (b, m)) s = s.0
-answer_read Whole tokens at (Err fault) s = tt
-
-pub answer_refused : {A : Type 0} (Whole : Wholes A) (tokens : List Token) (at : ℕ) (r : Result (A × ℕ) InscriptFault) → IsAnswer Whole tokens at r → IfErr r (λ fault. IsRefusal Whole tokens at fault)
-answer_refused Whole tokens at (Ok (b, m)) s = tt
-answer_refused Whole tokens at (Err fault) s = s
+-- what a reader returns that returns an answer
+pub ruleset answers = (answer_reads, answer_stops, answer_deep)

@@ -1,12 +1,6 @@
 -- The steps of rn_reading with levels and operators counted.
-use Rattle.std.proofs.Common.{ℕ, List}
-use Rattle.rn_notation.specs.declared.token.Token.{Token}
-use Rattle.rn_reading.specs.declared.fault.ReadFault.{ReadFault}
-use Rattle.rn_reading.specs.Phrases.{Phrases, Then, Done}
-use Rattle.rn_reading.specs.link.Stages.{BeginAlike, CanEnd}
+use Rattle.rn_inscript.proofs.Names.{ℕ, ◌≤◌, ◌⊎◌, inl, inr, List, [], ◌∷◌, drop, refl, arith, Token, ReadFault, Phrases, Then, Done, BeginAlike, CanEnd, Seen, Level, Count, inscript_counting, Ends, Stage, Fails, IsSoFar, ended}
 use Rattle.rn_reading.proofs.Steps as Steps
-use Rattle.rn_inscript.specs.Levels.{Count, inscript_counting}
-use Rattle.rn_inscript.specs.link.Stages.{Ends, Stage, Fails}
 
 -- nothing was taken
 pub begin : {A : Type 0} (n : ℕ) (X : Phrases A) (start : List Token) (first : Count) → Stage n X start first X start first
@@ -35,3 +29,29 @@ pub inner_fails : {A B : Type 0} {n m : ℕ} {X : Phrases A} {Y : A → Phrases 
     ((b : A) → CanEnd (Y b)) →
     Fails m X mid now total e → Fails n Z start first total e
 inner_fails {n = n} {m = m} {Y = Y} total e s follow ends f = Steps.inner_fails inscript_counting (Ends n) (Ends m) Y total e (λ b ts x rest y fit. follow b ts x rest fit y) ends s f
+
+pub inner_read : {A B : Type 0} {n m : ℕ} {X : Phrases A} {Z : Phrases B} {tokens : List Token} {before then after : Seen} {first now : Count} {around : List Level} {a : A} (Y : A → Phrases B) →
+    Stage n Z (drop before.at tokens) first (Then X Y) (drop then.at tokens) now →
+    ((b : A) (ts : List Token) (e : B) (rest : List Token) → Ends n rest → Y b ts e rest → Ends m ts) →
+    IsSoFar m X tokens then now around (Done a) after → IsSoFar n Z tokens before first around (Y a) after
+inner_read Y s follow p = record { open_now = p.open_now; closed = p.closed; stage = inner Y s p.stage follow }
+
+pub so_far : {A : Type 0} {n : ℕ} {X Y : Phrases A} {tokens : List Token} {before now : Seen} {first : Count} {levels : List Level} →
+    Stage n X (drop before.at tokens) first Y (drop now.at tokens) (ended levels now.operators) → IsSoFar n X tokens before first levels Y now
+so_far {levels = levels} s = record { open_now = levels; closed = refl; stage = s }
+
+-- what a stronger sign can't go on with, a weaker one can't
+pub weaker : (n m : ℕ) (ts : List Token) → n ≤ m → Ends n ts → Ends m ts
+weaker n m [] le ends = tt
+weaker n m (t ∷ ts) le ends = omega (arith, le, ends)
+
+-- of two phrases that may be left, the next token rules one out
+pub first_left : {A : Type 0} {n : ℕ} {X Y Z : Phrases A} {start left : List Token} {first now : Count} →
+    Stage n X start first (λ ts e rest. Y ts e rest ⊎ Z ts e rest) left now →
+    ((ts : List Token) (e : A) (rest : List Token) → BeginAlike left ts → Z ts e rest → ⊥) → Stage n X start first Y left now
+first_left {Y = Y} s none = change Y s (λ ts e rest y. inl y) (λ ts e rest alike ends x. elim x [ inl y ↦ y | inr z ↦ absurd (none ts e rest alike z) ])
+
+pub second_left : {A : Type 0} {n : ℕ} {X Y Z : Phrases A} {start left : List Token} {first now : Count} →
+    Stage n X start first (λ ts e rest. Y ts e rest ⊎ Z ts e rest) left now →
+    ((ts : List Token) (e : A) (rest : List Token) → BeginAlike left ts → Y ts e rest → ⊥) → Stage n X start first Z left now
+second_left {Z = Z} s none = change Z s (λ ts e rest z. inr z) (λ ts e rest alike ends x. elim x [ inl y ↦ absurd (none ts e rest alike y) | inr z ↦ z ])

@@ -9,7 +9,7 @@ ghost use Rattle.rn_inscript.specs.link.Stages.{Reads, MovesOn, IsNextSign};
 ghost use Rattle.rn_inscript.specs.link.Stages.{IsNotNextSign, or_strength, and_strength, comparing_strength};
 
 use crate::conds::{PAlts, PCond, PSimple, PSimples};
-use crate::cursor::{Seen, expect_opening, expect_sign, past_sign};
+use crate::cursor::{Read, Seen, expect_opening, expect_sign, past_sign};
 use crate::expressions::expr;
 use rn_items::Items;
 use rn_model::CompareKind;
@@ -18,10 +18,13 @@ use rn_notation::{TokenKind, Tokens, sign};
 use rn_reading::{ReadFault, next};
 use std::alloc::Global;
 
-fn compare_of(kind: &TokenKind) -> Option<CompareKind>
-    ensures { result ≡ compare_of kind.now }
+/// A comparison's sign, where it is next.
+fn next_comparison(tokens: &Tokens, at: usize) -> Option<CompareKind>
+    ensures { MatchOption result
+        (IsNotNext (λ t. compare_of t.kind) tokens.now at)
+        (IsNextOne (λ t. compare_of t.kind) tokens.now at) }
 {
-    match kind {
+    match next(tokens, at)?.kind {
         TokenKind::Sign(sign::SAME) => Some(CompareKind::Same),
         TokenKind::Sign(sign::DIFFERS) => Some(CompareKind::Differs),
         TokenKind::Sign(sign::LESS) => Some(CompareKind::Less),
@@ -32,25 +35,8 @@ fn compare_of(kind: &TokenKind) -> Option<CompareKind>
     }
 }
 
-/// A comparison's sign, where it is next.
-fn next_comparison(tokens: &Tokens, at: usize) -> Option<CompareKind>
-    ensures { MatchOption result
-        (IsNotNext (λ t. compare_of t.kind) tokens.now at)
-        (IsNextOne (λ t. compare_of t.kind) tokens.now at) }
-{
-    match next(tokens, at) {
-        Some(token) => compare_of(token.kind),
-        None => None,
-    }
-}
-
 #[cycle(condition)]
-pub(crate) fn cond(
-    alloc: Global,
-    tokens: &Tokens,
-    seen: Seen,
-    levels: u32,
-) -> Result<(PCond, Seen), ReadFault>
+pub(crate) fn cond(alloc: Global, tokens: &Tokens, seen: Seen, levels: u32) -> Read<PCond>
     requires { seen.at ≤ length tokens.now }
     ensures moved { MovesOn tokens.now seen result }
     ensures reads { (around : List Level) → without_minuses around ≡ around →
@@ -61,12 +47,7 @@ pub(crate) fn cond(
 }
 
 #[cycle(condition)]
-fn alternatives(
-    alloc: Global,
-    tokens: &Tokens,
-    seen: Seen,
-    levels: u32,
-) -> Result<(PAlts, Seen), ReadFault>
+fn alternatives(alloc: Global, tokens: &Tokens, seen: Seen, levels: u32) -> Read<PAlts>
     requires { seen.at ≤ length tokens.now }
     ensures moved { MovesOn tokens.now seen result }
     ensures reads { (around : List Level) → without_minuses around ≡ around →
@@ -87,12 +68,7 @@ fn alternatives(
 }
 
 #[cycle(condition)]
-fn both(
-    alloc: Global,
-    tokens: &Tokens,
-    seen: Seen,
-    levels: u32,
-) -> Result<(PSimples, Seen), ReadFault>
+fn both(alloc: Global, tokens: &Tokens, seen: Seen, levels: u32) -> Read<PSimples>
     requires { seen.at ≤ length tokens.now }
     ensures moved { MovesOn tokens.now seen result }
     ensures reads { (around : List Level) → without_minuses around ≡ around →
@@ -113,12 +89,7 @@ fn both(
 }
 
 #[cycle(condition)]
-fn simple(
-    alloc: Global,
-    tokens: &Tokens,
-    seen: Seen,
-    levels: u32,
-) -> Result<(PSimple, Seen), ReadFault>
+fn simple(alloc: Global, tokens: &Tokens, seen: Seen, levels: u32) -> Read<PSimple>
     requires { seen.at ≤ length tokens.now }
     ensures moved { MovesOn tokens.now seen result }
     ensures reads { (around : List Level) → without_minuses around ≡ around →
@@ -131,12 +102,7 @@ fn simple(
 }
 
 #[cycle(condition)]
-fn negation(
-    alloc: Global,
-    tokens: &Tokens,
-    seen: Seen,
-    levels: u32,
-) -> Result<(PSimple, Seen), ReadFault>
+fn negation(alloc: Global, tokens: &Tokens, seen: Seen, levels: u32) -> Read<PSimple>
     requires { IsNextSign tokens.now seen.at sign.NOT }
     ensures moved { MovesOn tokens.now seen result }
     ensures reads { (around : List Level) → without_minuses around ≡ around →
@@ -150,12 +116,7 @@ fn negation(
 }
 
 /// A comparison, or an expression alone.
-fn comparison(
-    alloc: Global,
-    tokens: &Tokens,
-    seen: Seen,
-    levels: u32,
-) -> Result<(PSimple, Seen), ReadFault>
+fn comparison(alloc: Global, tokens: &Tokens, seen: Seen, levels: u32) -> Read<PSimple>
     requires inside { seen.at ≤ length tokens.now }
     requires other { IsNotNextSign tokens.now seen.at sign.NOT }
     ensures moved { MovesOn tokens.now seen result }

@@ -17,6 +17,9 @@ pub(crate) struct Seen {
     pub operators: u32,
 }
 
+/// What was read, and how far the reader has come then.
+pub(crate) type Read<T> = Result<(T, Seen), ReadFault>;
+
 impl Seen {
     /// Past a token that is no operator.
     pub(crate) fn past(self, tokens: &Tokens) -> Seen
@@ -82,18 +85,9 @@ pub(crate) fn past_sign(tokens: &Tokens, seen: Seen, wanted: u32) -> Option<Seen
         (IsNotNextSign tokens.now seen.at wanted)
         (λ after. IsNextSign tokens.now seen.at wanted × (after ≡ past seen)) }
 {
-    match next(tokens, seen.at) {
-        Some(token) => match token.kind {
-            TokenKind::Sign(other) => {
-                if *other == wanted {
-                    Some(seen.past(tokens))
-                } else {
-                    None
-                }
-            }
-            _ => None,
-        },
-        None => None,
+    match next(tokens, seen.at)?.kind {
+        TokenKind::Sign(other) if *other == wanted => Some(seen.past(tokens)),
+        _ => None,
     }
 }
 

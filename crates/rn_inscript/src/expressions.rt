@@ -1,5 +1,7 @@
 //! Reading expressions. A call goes deeper only where a level opens; sums, products and lists go by
 //! loops.
+#![tactic(auto, using(crate::proofs::ReaderExits::out_of_memory))]
+
 ghost use Rattle.std.specs.Prelude.{◌≡◌, ◌↔◌, ◌+◌, ◌≤◌, List, length, IfOk, IsTrue, MatchOption};
 ghost use Rattle.std.specs.Prelude.{codes, ◌∷◌};
 ghost use Rattle.rn_notation.specs.declared.sign.TheConstants as sign;
@@ -15,7 +17,7 @@ ghost use Rattle.rn_inscript.specs.link.Stages.{Reads, ReadsFrom, MovesOn};
 ghost use Rattle.rn_inscript.specs.link.Stages.{IsClose, IsNotNextSign, ready, comparing_strength};
 ghost use Rattle.rn_inscript.specs.link.Stages.{sum_strength, product_strength, call_strength};
 
-use crate::cursor::{Seen, expect_sign, past_sign};
+use crate::cursor::{Read, Seen, expect_sign, past_sign};
 use crate::exprs::{PExpr, PExprs, PForm};
 use rn_items::{Boxed, Items};
 use rn_model::OpKind;
@@ -25,36 +27,16 @@ use rn_reading::{ReadFault, next};
 use rn_value::{NoMemory, Str, copy_text};
 use std::alloc::Global;
 
-fn plus_of(kind: &TokenKind) -> Option<OpKind>
-    ensures { result ≡ plus_of kind.now }
-{
-    match kind {
-        TokenKind::Sign(sign::PLUS) => Some(OpKind::Add),
-        TokenKind::Sign(sign::MINUS) => Some(OpKind::Sub),
-        _ => None,
-    }
-}
-
-fn times_of(kind: &TokenKind) -> Option<OpKind>
-    ensures { result ≡ times_of kind.now }
-{
-    match kind {
-        TokenKind::Sign(sign::STAR) => Some(OpKind::Mul),
-        TokenKind::Sign(sign::SLASH) => Some(OpKind::Div),
-        TokenKind::Sign(sign::PERCENT) => Some(OpKind::Rem),
-        _ => None,
-    }
-}
-
 /// `+` or `-`, where it is next.
 fn next_plus(tokens: &Tokens, at: usize) -> Option<OpKind>
     ensures { MatchOption result
         (IsNotNext (λ t. plus_of t.kind) tokens.now at)
         (IsNextOne (λ t. plus_of t.kind) tokens.now at) }
 {
-    match next(tokens, at) {
-        Some(token) => plus_of(token.kind),
-        None => None,
+    match next(tokens, at)?.kind {
+        TokenKind::Sign(sign::PLUS) => Some(OpKind::Add),
+        TokenKind::Sign(sign::MINUS) => Some(OpKind::Sub),
+        _ => None,
     }
 }
 
@@ -64,9 +46,11 @@ fn next_times(tokens: &Tokens, at: usize) -> Option<OpKind>
         (IsNotNext (λ t. times_of t.kind) tokens.now at)
         (IsNextOne (λ t. times_of t.kind) tokens.now at) }
 {
-    match next(tokens, at) {
-        Some(token) => times_of(token.kind),
-        None => None,
+    match next(tokens, at)?.kind {
+        TokenKind::Sign(sign::STAR) => Some(OpKind::Mul),
+        TokenKind::Sign(sign::SLASH) => Some(OpKind::Div),
+        TokenKind::Sign(sign::PERCENT) => Some(OpKind::Rem),
+        _ => None,
     }
 }
 
@@ -77,20 +61,15 @@ fn join(alloc: Global, op: OpKind, a: PExpr, b: PExpr) -> Result<PExpr, NoMemory
     let spot = a.spot;
     let left = Boxed::new(alloc, a)?;
     let right = Boxed::new(alloc, b)?;
-    Ok(PExpr {
-        form: PForm::Op(op, left, right),
-        spot,
-    })
+    let form = PForm::Op(op, left, right);
+    Ok(PExpr { form, spot })
 }
 
 fn negate(alloc: Global, spot: Spot, e: PExpr) -> Result<PExpr, NoMemory>
     ensures { IfOk result (λ negative. negative ≡ at_spot spot (PForm.Neg e)) }
 {
-    let operand = Boxed::new(alloc, e)?;
-    Ok(PExpr {
-        form: PForm::Neg(operand),
-        spot,
-    })
+    let form = PForm::Neg(Boxed::new(alloc, e)?);
+    Ok(PExpr { form, spot })
 }
 
 /// A minus, where it is next.
@@ -98,32 +77,25 @@ fn next_minus(tokens: &Tokens, at: usize) -> Option<TokenRef<'_>>
     ensures { MatchOption result (IsNotNextSign tokens.now at sign.MINUS)
         (λ t. IsNext tokens.now at (lent t) × (t.kind.now ≡ minus)) }
 {
-    match next(tokens, at) {
-        Some(token) => match token.kind {
-            TokenKind::Sign(sign::MINUS) => Some(token),
-            _ => None,
-        },
-        None => None,
+    let token = next(tokens, at)?;
+    match token.kind {
+        TokenKind::Sign(sign::MINUS) => Some(token),
+        _ => None,
     }
 }
 
 fn list_at(spot: Spot, elements: PExprs) -> PExpr
     ensures { result ≡ at_spot spot (PForm.List elements) }
 {
-    PExpr {
-        form: PForm::List(elements),
-        spot,
-    }
+    let form = PForm::List(elements);
+    PExpr { form, spot }
 }
 
 fn with_tail(alloc: Global, spot: Spot, elements: PExprs, tail: PExpr) -> Result<PExpr, NoMemory>
     ensures { IfOk result (λ e. e ≡ at_spot spot (PForm.Cons elements tail)) }
 {
-    let tail = Boxed::new(alloc, tail)?;
-    Ok(PExpr {
-        form: PForm::Cons(elements, tail),
-        spot,
-    })
+    let form = PForm::Cons(elements, Boxed::new(alloc, tail)?);
+    Ok(PExpr { form, spot })
 }
 
 fn is_step(name: &Str) -> bool
@@ -140,7 +112,7 @@ fn named(
     levels: u32,
     token: TokenRef<'_>,
     name: &Str,
-) -> Result<(PExpr, Seen), ReadFault>
+) -> Read<PExpr>
     requires next { IsNext tokens.now seen.at (lent token) }
     requires name { token.kind.now ≡ Kind.Name name.now }
     ensures moved { MovesOn tokens.now seen result }
@@ -152,32 +124,17 @@ fn named(
         if let Some(_) = past_sign(tokens, after, sign::LEFT_PAREN) {
             let inside = after.past_opening(tokens, levels)?;
             let end = expect_sign(tokens, inside, sign::RIGHT_PAREN)?;
-            return Ok((
-                PExpr {
-                    form: PForm::Step,
-                    spot: token.spot,
-                },
-                end,
-            ));
+            let (form, spot) = (PForm::Step, token.spot);
+            return Ok((PExpr { form, spot }, end));
         }
     }
     let text = copy_text(alloc, name)?;
-    Ok((
-        PExpr {
-            form: PForm::Name(text),
-            spot: token.spot,
-        },
-        after,
-    ))
+    let (form, spot) = (PForm::Name(text), token.spot);
+    Ok((PExpr { form, spot }, after))
 }
 
 /// `this`, which is the only word that is an expression.
-fn this(
-    tokens: &Tokens,
-    seen: Seen,
-    token: TokenRef<'_>,
-    number: u32,
-) -> Result<(PExpr, Seen), ReadFault>
+fn this(tokens: &Tokens, seen: Seen, token: TokenRef<'_>, number: u32) -> Read<PExpr>
     requires next { IsNext tokens.now seen.at (lent token) }
     requires kind { token.kind.now ≡ Kind.Word number }
     ensures moved { MovesOn tokens.now seen result }
@@ -186,22 +143,12 @@ fn this(
     if number != word::THIS {
         return Err(ReadFault::Stopped(seen.at));
     }
-    Ok((
-        PExpr {
-            form: PForm::This,
-            spot: token.spot,
-        },
-        seen.past(tokens),
-    ))
+    let (form, spot) = (PForm::This, token.spot);
+    Ok((PExpr { form, spot }, seen.past(tokens)))
 }
 
 #[cycle(expression)]
-fn primary(
-    alloc: Global,
-    tokens: &Tokens,
-    seen: Seen,
-    levels: u32,
-) -> Result<(PExpr, Seen), ReadFault>
+fn primary(alloc: Global, tokens: &Tokens, seen: Seen, levels: u32) -> Read<PExpr>
     requires { seen.at ≤ length tokens.now }
     ensures moved { MovesOn tokens.now seen result }
     ensures reads { (around : List Level) → levels + length around ≡ MOST_NESTED →
@@ -209,20 +156,14 @@ fn primary(
 {
     match next(tokens, seen.at) {
         Some(token) => match token.kind {
-            TokenKind::Number(n) => Ok((
-                PExpr {
-                    form: PForm::Int(*n),
-                    spot: token.spot,
-                },
-                seen.past(tokens),
-            )),
-            TokenKind::Text(text) => Ok((
-                PExpr {
-                    form: PForm::Text(copy_text(alloc, text)?),
-                    spot: token.spot,
-                },
-                seen.past(tokens),
-            )),
+            TokenKind::Number(n) => {
+                let (form, spot) = (PForm::Int(*n), token.spot);
+                Ok((PExpr { form, spot }, seen.past(tokens)))
+            }
+            TokenKind::Text(text) => {
+                let (form, spot) = (PForm::Text(copy_text(alloc, text)?), token.spot);
+                Ok((PExpr { form, spot }, seen.past(tokens)))
+            }
             TokenKind::Name(name) => named(alloc, tokens, seen, levels, token, name),
             TokenKind::Word(number) => this(tokens, seen, token, *number),
             TokenKind::Sign(opening) => bracketed(alloc, tokens, seen, levels, token, *opening),
@@ -240,7 +181,7 @@ fn bracketed(
     levels: u32,
     token: TokenRef<'_>,
     opening: u32,
-) -> Result<(PExpr, Seen), ReadFault>
+) -> Read<PExpr>
     requires next { IsNext tokens.now seen.at (lent token) }
     requires kind { token.kind.now ≡ Kind.Sign opening }
     ensures moved { MovesOn tokens.now seen result }
@@ -265,7 +206,7 @@ fn parenthesised(
     seen: Seen,
     levels: u32,
     token: TokenRef<'_>,
-) -> Result<(PExpr, Seen), ReadFault>
+) -> Read<PExpr>
     requires next { IsNext tokens.now seen.at (lent token) }
     requires kind { token.kind.now ≡ open_paren }
     ensures moved { MovesOn tokens.now seen result }
@@ -285,7 +226,7 @@ fn tuple(
     seen: Seen,
     levels: u32,
     token: TokenRef<'_>,
-) -> Result<(PExpr, Seen), ReadFault>
+) -> Read<PExpr>
     requires next { IsNext tokens.now seen.at (lent token) }
     requires kind { token.kind.now ≡ open_bracket }
     ensures moved { MovesOn tokens.now seen result }
@@ -294,23 +235,12 @@ fn tuple(
 {
     let inside = seen.past_opening(tokens, levels)?;
     let (parts, end) = listed(alloc, tokens, inside, levels - 1, sign::RIGHT_BRACKET)?;
-    Ok((
-        PExpr {
-            form: PForm::Tuple(parts),
-            spot: token.spot,
-        },
-        end,
-    ))
+    let (form, spot) = (PForm::Tuple(parts), token.spot);
+    Ok((PExpr { form, spot }, end))
 }
 
 #[cycle(expression)]
-fn list(
-    alloc: Global,
-    tokens: &Tokens,
-    seen: Seen,
-    levels: u32,
-    token: TokenRef<'_>,
-) -> Result<(PExpr, Seen), ReadFault>
+fn list(alloc: Global, tokens: &Tokens, seen: Seen, levels: u32, token: TokenRef<'_>) -> Read<PExpr>
     requires next { IsNext tokens.now seen.at (lent token) }
     requires kind { token.kind.now ≡ open_brace }
     ensures moved { MovesOn tokens.now seen result }
@@ -339,7 +269,7 @@ pub(crate) fn listed(
     seen: Seen,
     levels: u32,
     close: u32,
-) -> Result<(PExprs, Seen), ReadFault>
+) -> Read<PExprs>
     requires inside { seen.at ≤ length tokens.now }
     requires close { IsClose close }
     ensures moved { MovesOn tokens.now seen result }
@@ -356,12 +286,7 @@ pub(crate) fn listed(
 }
 
 #[cycle(expression)]
-fn exprs(
-    alloc: Global,
-    tokens: &Tokens,
-    seen: Seen,
-    levels: u32,
-) -> Result<(PExprs, Seen), ReadFault>
+fn exprs(alloc: Global, tokens: &Tokens, seen: Seen, levels: u32) -> Read<PExprs>
     requires { seen.at ≤ length tokens.now }
     ensures moved { MovesOn tokens.now seen result }
     ensures reads { (around : List Level) → without_minuses around ≡ around → levels + length around ≡ MOST_NESTED →
@@ -387,7 +312,7 @@ fn negative(
     seen: Seen,
     levels: u32,
     token: TokenRef<'_>,
-) -> Result<(PExpr, Seen), ReadFault>
+) -> Read<PExpr>
     requires next { IsNext tokens.now seen.at (lent token) }
     requires kind { token.kind.now ≡ minus }
     ensures moved { MovesOn tokens.now seen result }
@@ -400,12 +325,7 @@ fn negative(
 }
 
 #[cycle(expression)]
-fn unary(
-    alloc: Global,
-    tokens: &Tokens,
-    seen: Seen,
-    levels: u32,
-) -> Result<(PExpr, Seen), ReadFault>
+fn unary(alloc: Global, tokens: &Tokens, seen: Seen, levels: u32) -> Read<PExpr>
     requires { seen.at ≤ length tokens.now }
     ensures moved { MovesOn tokens.now seen result }
     ensures reads { (around : List Level) → levels + length around ≡ MOST_NESTED →
@@ -418,12 +338,7 @@ fn unary(
 }
 
 #[cycle(expression)]
-fn product(
-    alloc: Global,
-    tokens: &Tokens,
-    seen: Seen,
-    levels: u32,
-) -> Result<(PExpr, Seen), ReadFault>
+fn product(alloc: Global, tokens: &Tokens, seen: Seen, levels: u32) -> Read<PExpr>
     requires { seen.at ≤ length tokens.now }
     ensures moved { MovesOn tokens.now seen result }
     ensures reads { (around : List Level) → without_minuses around ≡ around → levels + length around ≡ MOST_NESTED →
@@ -442,12 +357,7 @@ fn product(
 }
 
 #[cycle(expression)]
-pub(crate) fn expr(
-    alloc: Global,
-    tokens: &Tokens,
-    seen: Seen,
-    levels: u32,
-) -> Result<(PExpr, Seen), ReadFault>
+pub(crate) fn expr(alloc: Global, tokens: &Tokens, seen: Seen, levels: u32) -> Read<PExpr>
     requires { seen.at ≤ length tokens.now }
     ensures moved { MovesOn tokens.now seen result }
     ensures reads { (around : List Level) → without_minuses around ≡ around → levels + length around ≡ MOST_NESTED →

@@ -11,7 +11,7 @@ ghost use Rattle.rn_reading.specs.link.Stages.{IsNext};
 ghost use Rattle.rn_inscript.specs.link.Stages.{Reads, MovesOn, or_strength, IsNextKind, past};
 
 use crate::conditions::cond;
-use crate::cursor::{Seen, expect_sign, past_sign};
+use crate::cursor::{Read, Seen, expect_sign, past_sign};
 use crate::expressions::{expr, listed};
 use crate::exprs::{PExpr, PExprs, PForm};
 use crate::inscriptions::{PInscribed, PName};
@@ -29,23 +29,14 @@ fn past_word(tokens: &Tokens, seen: Seen, wanted: u32) -> Option<Seen>
         (IsNotNextKind tokens.now seen.at (Kind.Word wanted))
         (λ after. IsNextKind tokens.now seen.at (Kind.Word wanted) × (after ≡ past seen)) }
 {
-    match next(tokens, seen.at) {
-        Some(token) => match token.kind {
-            TokenKind::Word(other) => {
-                if *other == wanted {
-                    Some(seen.past(tokens))
-                } else {
-                    None
-                }
-            }
-            _ => None,
-        },
-        None => None,
+    match next(tokens, seen.at)?.kind {
+        TokenKind::Word(other) if *other == wanted => Some(seen.past(tokens)),
+        _ => None,
     }
 }
 
 /// A name, which has to be next.
-fn expect_name(alloc: Global, tokens: &Tokens, seen: Seen) -> Result<(PName, Seen), ReadFault>
+fn expect_name(alloc: Global, tokens: &Tokens, seen: Seen) -> Read<PName>
     ensures { MatchResult result
         (λ found. IsNextName tokens.now seen.at found.0 × (found.1 ≡ past seen))
         (λ fault. IsNoName tokens.now seen.at fault) }
@@ -54,13 +45,8 @@ fn expect_name(alloc: Global, tokens: &Tokens, seen: Seen) -> Result<(PName, See
         Some(token) => match token.kind {
             TokenKind::Name(name) => {
                 let text = copy_text(alloc, name)?;
-                Ok((
-                    PName {
-                        text,
-                        spot: token.spot,
-                    },
-                    seen.past(tokens),
-                ))
+                let spot = token.spot;
+                Ok((PName { text, spot }, seen.past(tokens)))
             }
             _ => Err(ReadFault::Stopped(seen.at)),
         },
@@ -104,7 +90,7 @@ fn arc(
     seen: Seen,
     token: TokenRef<'_>,
     kind: ArcKind,
-) -> Result<(PInscribed, Seen), ReadFault>
+) -> Read<PInscribed>
     requires next { IsNext tokens.now seen.at (lent token) }
     requires kind { arc_of token.kind.now ≡ Some kind }
     ensures moved { MovesOn tokens.now seen result }
@@ -138,12 +124,7 @@ fn arc(
 }
 
 /// `guard c`
-fn guard(
-    alloc: Global,
-    tokens: &Tokens,
-    seen: Seen,
-    token: TokenRef<'_>,
-) -> Result<(PInscribed, Seen), ReadFault>
+fn guard(alloc: Global, tokens: &Tokens, seen: Seen, token: TokenRef<'_>) -> Read<PInscribed>
     requires next { IsNext tokens.now seen.at (lent token) }
     requires kind { token.kind.now ≡ guard_word }
     ensures moved { MovesOn tokens.now seen result }
@@ -154,12 +135,7 @@ fn guard(
 }
 
 /// `action print e` or `action v = e`
-fn action(
-    alloc: Global,
-    tokens: &Tokens,
-    seen: Seen,
-    token: TokenRef<'_>,
-) -> Result<(PInscribed, Seen), ReadFault>
+fn action(alloc: Global, tokens: &Tokens, seen: Seen, token: TokenRef<'_>) -> Read<PInscribed>
     requires next { IsNext tokens.now seen.at (lent token) }
     requires kind { token.kind.now ≡ action_word }
     ensures moved { MovesOn tokens.now seen result }
@@ -177,7 +153,7 @@ fn action(
 }
 
 /// `ch(e1,e2)`
-fn call(alloc: Global, tokens: &Tokens, seen: Seen) -> Result<((PName, PExprs), Seen), ReadFault>
+fn call(alloc: Global, tokens: &Tokens, seen: Seen) -> Read<(PName, PExprs)>
     requires { seen.at ≤ length tokens.now }
     ensures moved { MovesOn tokens.now seen result }
     ensures reads { Reads or_strength IsCall tokens.now seen [] result }
@@ -189,12 +165,7 @@ fn call(alloc: Global, tokens: &Tokens, seen: Seen) -> Result<((PName, PExprs), 
 }
 
 /// `:ch(e1,e2)`
-fn uplink(
-    alloc: Global,
-    tokens: &Tokens,
-    seen: Seen,
-    token: TokenRef<'_>,
-) -> Result<(PInscribed, Seen), ReadFault>
+fn uplink(alloc: Global, tokens: &Tokens, seen: Seen, token: TokenRef<'_>) -> Read<PInscribed>
     requires next { IsNext tokens.now seen.at (lent token) }
     requires kind { token.kind.now ≡ colon }
     ensures moved { MovesOn tokens.now seen result }
@@ -211,7 +182,7 @@ fn creation(
     seen: Seen,
     token: TokenRef<'_>,
     name: &Str,
-) -> Result<(PInscribed, Seen), ReadFault>
+) -> Read<PInscribed>
     requires next { IsNext tokens.now seen.at (lent token) }
     requires kind { token.kind.now ≡ Kind.Name name.now }
     requires follows { IsNextKind tokens.now (seen.at + 1) colon }
@@ -221,10 +192,8 @@ fn creation(
 {
     let (net, end) = expect_name(alloc, tokens, seen.past(tokens).past(tokens).past(tokens))?;
     let text = copy_text(alloc, name)?;
-    let var = PName {
-        text,
-        spot: token.spot,
-    };
+    let spot = token.spot;
+    let var = PName { text, spot };
     Ok((PInscribed::New { var, net }, end))
 }
 
@@ -235,7 +204,7 @@ fn downlink(
     seen: Seen,
     token: TokenRef<'_>,
     form: PForm,
-) -> Result<(PInscribed, Seen), ReadFault>
+) -> Read<PInscribed>
     requires next { IsNext tokens.now seen.at (lent token) }
     requires kind { target_of token.kind.now ≡ Some form }
     requires follows { IsNextKind tokens.now (seen.at + 1) colon }
@@ -244,10 +213,8 @@ fn downlink(
     ensures reads { Reads 0 IsInscribed tokens.now seen [] result }
 {
     let ((channel, args), end) = call(alloc, tokens, seen.past(tokens).past(tokens))?;
-    let target = PExpr {
-        form,
-        spot: token.spot,
-    };
+    let spot = token.spot;
+    let target = PExpr { form, spot };
     Ok((
         PInscribed::Downlink {
             target,
@@ -259,7 +226,7 @@ fn downlink(
 }
 
 /// `e1 = e2`
-fn equality(alloc: Global, tokens: &Tokens, seen: Seen) -> Result<(PInscribed, Seen), ReadFault>
+fn equality(alloc: Global, tokens: &Tokens, seen: Seen) -> Read<PInscribed>
     requires { seen.at ≤ length tokens.now }
     ensures moved { MovesOn tokens.now seen result }
     ensures reads { Reads 0 IsEquality tokens.now seen [] result }
@@ -277,50 +244,26 @@ fn by_name(
     seen: Seen,
     token: TokenRef<'_>,
     name: &Str,
-) -> Result<(PInscribed, Seen), ReadFault>
+) -> Read<PInscribed>
     requires next { IsNext tokens.now seen.at (lent token) }
     requires kind { token.kind.now ≡ Kind.Name name.now }
     ensures moved { MovesOn tokens.now seen result }
     ensures reads { Reads 0 IsInscribed tokens.now seen [] result }
 {
     match past_sign(tokens, seen.past(tokens), sign::COLON) {
-        Some(after) => by_link(alloc, tokens, seen, after, token, name),
+        Some(after) => match past_word(tokens, after, word::NEW) {
+            Some(_) => creation(alloc, tokens, seen, token, name),
+            None => {
+                let form = PForm::Name(copy_text(alloc, name)?);
+                downlink(alloc, tokens, seen, token, form)
+            }
+        },
         None => equality(alloc, tokens, seen),
     }
 }
 
-/// A creation or a downlink, of which the name and the colon were seen.
-fn by_link(
-    alloc: Global,
-    tokens: &Tokens,
-    seen: Seen,
-    after: Seen,
-    token: TokenRef<'_>,
-    name: &Str,
-) -> Result<(PInscribed, Seen), ReadFault>
-    requires next { IsNext tokens.now seen.at (lent token) }
-    requires kind { token.kind.now ≡ Kind.Name name.now }
-    requires follows { IsNextKind tokens.now (seen.at + 1) colon }
-    requires after { after ≡ past (past seen) }
-    ensures moved { MovesOn tokens.now seen result }
-    ensures reads { Reads 0 IsInscribed tokens.now seen [] result }
-{
-    match past_word(tokens, after, word::NEW) {
-        Some(_) => creation(alloc, tokens, seen, token, name),
-        None => {
-            let form = PForm::Name(copy_text(alloc, name)?);
-            downlink(alloc, tokens, seen, token, form)
-        }
-    }
-}
-
 /// An inscription that begins with `this`.
-fn by_this(
-    alloc: Global,
-    tokens: &Tokens,
-    seen: Seen,
-    token: TokenRef<'_>,
-) -> Result<(PInscribed, Seen), ReadFault>
+fn by_this(alloc: Global, tokens: &Tokens, seen: Seen, token: TokenRef<'_>) -> Read<PInscribed>
     requires next { IsNext tokens.now seen.at (lent token) }
     requires kind { token.kind.now ≡ this_word }
     ensures moved { MovesOn tokens.now seen result }
@@ -339,7 +282,7 @@ fn by_word(
     seen: Seen,
     token: TokenRef<'_>,
     number: u32,
-) -> Result<(PInscribed, Seen), ReadFault>
+) -> Read<PInscribed>
     requires next { IsNext tokens.now seen.at (lent token) }
     requires kind { token.kind.now ≡ Kind.Word number }
     ensures moved { MovesOn tokens.now seen result }
@@ -358,32 +301,9 @@ fn by_word(
     }
 }
 
-/// An inscription that begins with a sign.
-fn by_sign(
-    alloc: Global,
-    tokens: &Tokens,
-    seen: Seen,
-    token: TokenRef<'_>,
-    number: u32,
-) -> Result<(PInscribed, Seen), ReadFault>
-    requires next { IsNext tokens.now seen.at (lent token) }
-    requires kind { token.kind.now ≡ Kind.Sign number }
-    ensures moved { MovesOn tokens.now seen result }
-    ensures reads { Reads 0 IsInscribed tokens.now seen [] result }
-{
-    if number == sign::COLON {
-        uplink(alloc, tokens, seen, token)
-    } else {
-        equality(alloc, tokens, seen)
-    }
-}
-
 /// The form of an inscription.
-pub(crate) fn inscribed(
-    alloc: Global,
-    tokens: &Tokens,
-    seen: Seen,
-) -> Result<(PInscribed, Seen), ReadFault>
+#[tactic(auto, using(crate::proofs::LinkReading::no_token))]
+pub(crate) fn inscribed(alloc: Global, tokens: &Tokens, seen: Seen) -> Read<PInscribed>
     requires { seen.at ≤ length tokens.now }
     ensures moved { MovesOn tokens.now seen result }
     ensures reads { Reads 0 IsInscribed tokens.now seen [] result }
@@ -392,7 +312,13 @@ pub(crate) fn inscribed(
         Some(token) => match token.kind {
             TokenKind::Name(name) => by_name(alloc, tokens, seen, token, name),
             TokenKind::Word(number) => by_word(alloc, tokens, seen, token, *number),
-            TokenKind::Sign(number) => by_sign(alloc, tokens, seen, token, *number),
+            TokenKind::Sign(number) => {
+                if *number == sign::COLON {
+                    uplink(alloc, tokens, seen, token)
+                } else {
+                    equality(alloc, tokens, seen)
+                }
+            }
             TokenKind::Number(_) => equality(alloc, tokens, seen),
             TokenKind::Text(_) => equality(alloc, tokens, seen),
         },

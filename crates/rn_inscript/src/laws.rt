@@ -4,6 +4,7 @@ ghost use Rattle.rn_inscript.specs.Laws.{OneLongestInscription, NextDecidesExpre
 ghost use Rattle.rn_inscript.specs.Laws.{NextDecidesInscription};
 
 /// What a reader of expressions and inscriptions may rely on: tokens have one reading.
+#[tactic(auto, using(crate::proofs::OneInscription::one_inscription, crate::proofs::OneInscription::one_expression, crate::proofs::LongestLaws::next_decides))]
 pub fn reading_laws()
     ensures one_expression { OneExpression }
     ensures one_inscription { OneInscription }

@@ -60,6 +60,7 @@ fn inscription_at(
 ///
 /// Tokens are taken as long as those taken are a prefix of some expression. It recurses as deep as
 /// levels open, 64 at most.
+#[tactic(auto, using(crate::proofs::ReadingFacts::answers))]
 pub fn read_expr(alloc: Global, tokens: &Tokens, at: usize) -> Result<(PExpr, usize), InscriptFault>
     requires { at ≤ length tokens.now }
     // What is returned is the longest reading, and what is refused is refused for this reason.
@@ -80,6 +81,7 @@ pub fn read_expr(alloc: Global, tokens: &Tokens, at: usize) -> Result<(PExpr, us
 /// `;`, isn't taken.
 ///
 /// Tokens are taken as long as those taken are a prefix of some inscription.
+#[tactic(auto, using(crate::proofs::ReadingFacts::answers))]
 pub fn read_transition_inscription(
     alloc: Global,
     tokens: &Tokens,

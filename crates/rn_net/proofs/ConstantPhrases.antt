@@ -1,26 +1,12 @@
 -- What the productions of constants say of their first token.
-use Rattle.std.proofs.Common.{◌≡◌, ℕ, ℤ, ◌+◌, ◌≤◌, ◌⊎◌, inl, inr, false, List, [], ◌∷◌, ◌++◌, length, drop, refl, sym, ◌∙◌, subst, arith, pos}
-use Rattle.rn_notation.specs.declared.token.Spot.{Spot}
-use Rattle.rn_notation.specs.declared.token.Token.{Token}
-use Rattle.rn_notation.specs.declared.token.TokenKind.{TokenKind}
-use Rattle.rn_notation.specs.declared.token.TokenKind.TheVariants.{Number, Text, Sign}
-use Rattle.rn_reading.specs.Phrases.{Phrases, Then, Done}
-use Rattle.rn_reading.specs.link.Stages.{BeginAlike, Sort, done}
-use Rattle.rn_inscript.specs.Signs.{open_brace, close_brace, open_bracket, close_bracket, comma, minus}
-use Rattle.rn_inscript.specs.link.NextNames.{IsNotNextKind}
+use Rattle.rn_net.proofs.Names.{◌≡◌, ℕ, ◌+◌, ◌≤◌, ◌⊎◌, inl, inr, false, List, [], ◌∷◌, ◌++◌, length, drop, refl, sym, ◌∙◌, subst, arith, pos, Spot, Token, TokenKind, Number, Text, Sign, Phrases, Then, Done, BeginAlike, Sort, done, open_brace, close_brace, open_bracket, close_bracket, comma, minus, IsNotNextKind, PConst, IsConstant, AreConstants, AreMoreConstants, constant_at, Region, is_too_deep, after, declaring, Stage, Fails, HasNext, IsNoNumber, IsNoText, IsEnd, any, and_then, alike-cons, neg_ℤ}
+use Rattle.std.proofs.Common.{ℤ}
 use Rattle.rn_reading.specs.declared.fault.ReadFault.TheVariants as Fault
-use Rattle.rn_net.specs.declared.constants.PConst.{PConst}
 use Rattle.rn_net.specs.declared.constants.PConstForm.{PConstForm}
 use Rattle.rn_net.specs.declared.constants.PConstForm.TheVariants as C
-use Rattle.rn_net.specs.Constants.{IsConstant, AreItems, AreConstants, AreMoreConstants, constant_at}
-use Rattle.rn_net.specs.Levels.{Region, is_too_deep, after}
-use Rattle.rn_net.specs.Levels.Region.{declaring}
-use Rattle.rn_net.specs.link.Progress.{Stage, Fails, HasNext, IsNoNumber, IsNoText, IsEnd}
-use Rattle.rn_reading.proofs.Sorts.{any, and_then}
-use Rattle.rn_reading.proofs.Steps.{alike-cons}
+use Rattle.rn_net.specs.Constants.{AreItems}
 use Rattle.rn_net.proofs.Sorts.{WithKind, kind_then, number_then, kind_read, kind_far, from_done, next_is, tell_apart}
 use Rattle.rn_net.proofs.Steps.{begin, stuck}
-use Rattle.std.specs.Prelude.{neg_ℤ}
 use Rattle.rn_net.proofs.Rows.{Row, row_up_to, opening_small, opening_deep}
 
 -- constants, one of which is `0`

@@ -1,36 +1,8 @@
 -- The productions of declarations, one token after another.
-use Rattle.std.proofs.Common.{◌≡◌, ℕ, ◌+◌, ◌≤◌, ◌⊎◌, inl, inr, List, [], ◌∷◌, ◌++◌, length, drop, refl, sym, ◌∙◌, ap, subst, arith}
-use Rattle.std.specs.Prelude.{map, ℤ, Option, Some, None, Result, Ok, Err, MatchResult}
-use Rattle.rn_notation.specs.declared.token.Spot.{Spot}
-use Rattle.rn_notation.specs.declared.token.Token.{Token}
-use Rattle.rn_notation.specs.declared.token.TokenKind.{TokenKind}
-use Rattle.rn_notation.specs.declared.token.TokenKind.TheVariants.{Name, Number}
-use Rattle.rn_reading.specs.Phrases.{Phrases, Then, Done}
-use Rattle.rn_reading.specs.link.Stages.{BeginAlike, Sort, MovesOn, done}
-use Rattle.rn_inscript.specs.Inscriptions.{name_at}
-use Rattle.rn_inscript.specs.Signs.{open_paren, close_paren, comma, colon, equals}
-use Rattle.rn_inscript.specs.link.Stages.{Takes, IsNextKind}
-use Rattle.rn_inscript.specs.link.NextNames.{IsNotNextKind, IsNextName, IsNoName}
-use Rattle.rn_inscript.specs.declared.inscriptions.PName.{PName}
-use Rattle.rn_reading.specs.declared.fault.ReadFault.{ReadFault}
+use Rattle.rn_net.proofs.Names.{◌≡◌, ℕ, ◌+◌, ◌≤◌, ◌⊎◌, inl, inr, List, [], ◌∷◌, ◌++◌, length, drop, refl, sym, ◌∙◌, ap, subst, arith, Option, Result, Ok, Err, MatchResult, Spot, Token, TokenKind, Name, Number, Phrases, Then, Done, BeginAlike, Sort, MovesOn, done, name_at, open_paren, close_paren, comma, colon, equals, Takes, IsNextKind, IsNotNextKind, IsNextName, IsNoName, PName, ReadFault, PKind, PConst, PChannel, PVar, PPlace, PMax, PlaceEnd, semicolon, channel_word, var_word, place_word, max_name, IsKind, AreListed, kind_at, IsChannel, AreVars, AreMoreNames, IsKindOfPlace, IsCapacity, AreInitial, IsPlace, channel_of, var_of, max_of, place_of, IsPName, AreNames, IsInitialUpTo, IsPlaceEnd, end_of, Region, between, declaring, Stage, Fails, Reads, HasNext, IsNoNumber, any, and_then, alike-cons}
+use Rattle.std.specs.Prelude.{map, ℤ, Some, None}
 use Rattle.rn_reading.specs.declared.fault.ReadFault.TheVariants as Fault
-use Rattle.rn_net.specs.declared.kinds.PKind.{PKind}
 use Rattle.rn_net.specs.declared.kinds.PKindForm.TheVariants as K
-use Rattle.rn_net.specs.declared.constants.PConst.{PConst}
-use Rattle.rn_net.specs.declared.plain.PChannel.{PChannel}
-use Rattle.rn_net.specs.declared.plain.PVar.{PVar}
-use Rattle.rn_net.specs.declared.plain.PPlace.{PPlace}
-use Rattle.rn_net.specs.declared.plain.PMax.{PMax}
-use Rattle.rn_net.specs.declared.part.PlaceEnd.{PlaceEnd}
-use Rattle.rn_net.specs.Words.{semicolon, channel_word, var_word, place_word, max_name}
-use Rattle.rn_net.specs.Kinds.{IsKind, AreListed, kind_at}
-use Rattle.rn_net.specs.Nets.{IsChannel, AreVars, AreMoreNames, IsKindOfPlace, IsCapacity, AreInitial, IsPlace, channel_of, var_of, max_of, place_of}
-use Rattle.rn_net.specs.link.Parts.{IsPName, AreNames, IsInitialUpTo, IsPlaceEnd, end_of}
-use Rattle.rn_net.specs.Levels.{Region}
-use Rattle.rn_net.specs.Levels.Region.{between, declaring}
-use Rattle.rn_net.specs.link.Progress.{Stage, Fails, Reads, HasNext, IsNoNumber}
-use Rattle.rn_reading.proofs.Sorts.{any, and_then}
-use Rattle.rn_reading.proofs.Steps.{alike-cons}
 use Rattle.rn_net.proofs.Sorts.{WithKind, kind_then, name_then, number_then, kind_read, kind_stuck, name_read, name_fails, number_read, number_stuck, from_done, next_is, tell_apart}
 use Rattle.rn_net.proofs.Steps.{begin, change}
 use Rattle.rn_net.proofs.Rows.{Row, row_up_to}

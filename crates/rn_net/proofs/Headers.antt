@@ -1,22 +1,7 @@
 -- What comes before the items of a text: nothing, or `notation 2;`.
-use Rattle.std.proofs.Common.{◌≡◌, ℕ, pos, ◌+◌, false, List, [], ◌∷◌, ◌++◌, drop, refl, sym, ◌∙◌, ap, subst, arith}
-use Rattle.rn_notation.specs.declared.token.Spot.{Spot}
-use Rattle.rn_notation.specs.declared.token.Token.{Token}
-use Rattle.rn_notation.specs.declared.token.TokenKind.{TokenKind}
-use Rattle.rn_notation.specs.declared.token.TokenKind.TheVariants.{Number}
-use Rattle.rn_reading.specs.link.Stages.{BeginAlike}
-use Rattle.rn_inscript.specs.link.NextNames.{IsNotNextKind}
-use Rattle.rn_net.specs.declared.plain.Plain.{Plain}
-use Rattle.rn_net.specs.link.Answers.{Top, Halts, IsBare}
-use Rattle.rn_net.specs.Levels.{IsShallow, after, is_too_deep, region_after}
-use Rattle.rn_net.specs.Levels.Region.{between}
-use Rattle.rn_net.specs.Nets.{AreItems, IsSystem, plain_of}
-use Rattle.rn_net.specs.link.Parts.{with_item}
-use Rattle.rn_net.specs.link.Progress.{HasNext}
-use Rattle.rn_net.specs.Words.{notation_name, semicolon}
+use Rattle.rn_net.proofs.Names.{◌≡◌, ℕ, pos, ◌+◌, false, List, [], ◌∷◌, ◌++◌, drop, refl, sym, ◌∙◌, ap, subst, arith, Spot, Token, TokenKind, Number, BeginAlike, IsNotNextKind, Plain, Top, Halts, IsBare, IsShallow, after, is_too_deep, region_after, between, IsSystem, plain_of, with_item, HasNext, notation_name, semicolon, any, alike-cons}
+use Rattle.rn_net.specs.Nets.{AreItems}
 use Rattle.rn_net.proofs.NetPhrases.{item_sort}
-use Rattle.rn_reading.proofs.Sorts.{any}
-use Rattle.rn_reading.proofs.Steps.{alike-cons}
 use Rattle.rn_net.proofs.Systems.{items-on, no-header, no-item}
 
 as-first : (ts : List Token) (p : Plain) → (ts ≡ [] → ⊥) → AreItems 1 (plain_of 1 [] []) ts p → IsSystem ts p

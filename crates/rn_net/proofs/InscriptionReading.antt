@@ -1,35 +1,9 @@
 -- What the reading of the inscriptions before a semicolon says of a text.
-use Rattle.std.proofs.Common.{◌≡◌, ℕ, ◌+◌, ◌<◌, ◌≤◌, ◌⊎◌, inl, inr, List, [], ◌∷◌, ◌++◌, length, drop, map, refl, sym, ◌∙◌, ap, subst, arith}
-use Rattle.std.specs.Prelude.{Some, Ok, Err}
-use Rattle.rn_notation.specs.declared.token.Spot.{Spot}
-use Rattle.rn_notation.specs.declared.token.Token.{Token}
-use Rattle.rn_notation.specs.declared.token.TokenKind.TheVariants.{Name, Word}
-use Rattle.rn_model.specs.declared.system.ArcKind.{ArcKind}
-use Rattle.rn_reading.specs.Phrases.{Phrases, Then}
-use Rattle.rn_reading.specs.link.Stages.{Sort, done}
-use Rattle.rn_inscript.specs.Signs.{close_brace, colon, comma, arc_of}
-use Rattle.rn_inscript.specs.link.NextNames.{IsNotNextKind}
-use Rattle.rn_inscript.specs.Levels.{Count, at_first, count_after}
-use Rattle.rn_inscript.specs.Readings.{IsWholeExpr, IsReading}
-use Rattle.rn_inscript.specs.Laws.{OneExpression, OneInscription}
-use Rattle.rn_reading.specs.declared.fault.ReadFault.{ReadFault}
-use Rattle.rn_inscript.specs.declared.exprs.PExpr.{PExpr}
-use Rattle.rn_inscript.specs.declared.inscriptions.PName.{PName}
-use Rattle.rn_inscript.specs.declared.inscriptions.PInscribed.{PInscribed}
+use Rattle.rn_net.proofs.Names.{◌≡◌, ℕ, ◌+◌, ◌<◌, ◌≤◌, ◌⊎◌, inl, inr, List, [], ◌∷◌, ◌++◌, length, drop, refl, sym, ◌∙◌, ap, subst, arith, Ok, Err, Spot, Token, Name, Word, ArcKind, Phrases, Then, Sort, done, close_brace, colon, comma, arc_of, IsNotNextKind, Count, at_first, count_after, IsWholeExpr, IsReading, OneExpression, OneInscription, ReadFault, PExpr, PName, PInscribed, PInscription, IsExpr, IsTerms, IsProduct, IsFactors, IsUnary, IsPrimary, IsExprs, IsMoreExprs, IsInscribed, IsInscription, name_at, semicolon, AreInscribed, arc_with, further_arc, AreInscribedUpTo, IsOpen, NotOpen, EndsStatement, Region, between, inscribing, Stage, Fails, HasNext, Refuses, any, and_then, append-nil}
+use Rattle.std.proofs.Common.{map}
+use Rattle.std.specs.Prelude.{Some}
 use Rattle.rn_inscript.specs.declared.inscriptions.PInscribed.TheVariants as I
-use Rattle.rn_inscript.specs.declared.inscriptions.PInscription.{PInscription}
-use Rattle.rn_inscript.specs.Expressions.{IsExpr, IsTerms, IsProduct, IsFactors, IsUnary, IsPrimary, IsExprs, IsMoreExprs}
-use Rattle.rn_inscript.specs.Inscriptions.{IsInscribed, IsInscription, name_at}
-use Rattle.rn_net.specs.Words.{semicolon}
-use Rattle.rn_net.specs.Nets.{AreInscribed, arc_with, further_arc}
-use Rattle.rn_net.specs.link.Lists.{AreInscribedUpTo}
-use Rattle.rn_net.specs.link.Parts.{IsOpen, NotOpen, EndsStatement}
-use Rattle.rn_net.specs.Levels.{Region}
-use Rattle.rn_net.specs.Levels.Region.{between, inscribing}
-use Rattle.rn_net.specs.link.Progress.{Stage, Fails, HasNext, Refuses}
-use Rattle.rn_reading.proofs.Sorts.{any, and_then}
 use Rattle.rn_net.proofs.Sorts.{kind_then, kind_read, kind_stuck, tell_apart}
-use Rattle.rn_reading.proofs.Steps.{append-nil}
 use Rattle.rn_net.proofs.Steps.{begin, change, same_end, then_read, then_fails}
 use Rattle.rn_net.proofs.Rows.{Row, row_on, row_comma_from}
 use Rattle.rn_net.proofs.Fronts.{AreInside, front-expr, front-inscribed}

@@ -1,25 +1,8 @@
 -- What the productions of kinds say of their first token.
-use Rattle.std.proofs.Common.{◌≡◌, ℕ, ◌+◌, ◌≤◌, ◌⊎◌, inl, inr, List, [], ◌∷◌, ◌++◌, length, drop, refl, sym, ◌∙◌, subst, arith}
-use Rattle.rn_notation.specs.declared.token.Spot.{Spot}
-use Rattle.rn_notation.specs.declared.token.Token.{Token}
-use Rattle.rn_notation.specs.declared.token.TokenKind.{TokenKind}
-use Rattle.rn_notation.specs.declared.token.TokenKind.TheVariants.{Sign}
-use Rattle.rn_reading.specs.Phrases.{Phrases, Then, Done}
-use Rattle.rn_reading.specs.link.Stages.{BeginAlike, Sort, done}
-use Rattle.rn_inscript.specs.Signs.{open_brace, close_brace, open_bracket, close_bracket, comma}
-use Rattle.rn_inscript.specs.link.Stages.{IsClose}
-use Rattle.rn_inscript.specs.link.NextNames.{IsNotNextKind}
+use Rattle.rn_net.proofs.Names.{◌≡◌, ℕ, ◌+◌, ◌≤◌, ◌⊎◌, inl, inr, List, [], ◌∷◌, ◌++◌, length, drop, refl, sym, ◌∙◌, subst, arith, Spot, Token, TokenKind, Sign, Phrases, Then, Done, BeginAlike, Sort, done, open_brace, close_brace, open_bracket, close_bracket, comma, IsClose, IsNotNextKind, PKind, int_word, text_word, net_word, IsKind, AreListed, AreKinds, AreMoreKinds, kind_at, Region, declaring, Stage, Fails, HasNext, any, and_then, alike-cons}
 use Rattle.rn_reading.specs.declared.fault.ReadFault.TheVariants as Fault
-use Rattle.rn_net.specs.declared.kinds.PKind.{PKind}
 use Rattle.rn_net.specs.declared.kinds.PKindForm.{PKindForm}
 use Rattle.rn_net.specs.declared.kinds.PKindForm.TheVariants as K
-use Rattle.rn_net.specs.Words.{int_word, text_word, net_word}
-use Rattle.rn_net.specs.Kinds.{IsKind, AreListed, AreKinds, AreMoreKinds, kind_at}
-use Rattle.rn_net.specs.Levels.{Region}
-use Rattle.rn_net.specs.Levels.Region.{declaring}
-use Rattle.rn_net.specs.link.Progress.{Stage, Fails, HasNext}
-use Rattle.rn_reading.proofs.Sorts.{any, and_then}
-use Rattle.rn_reading.proofs.Steps.{alike-cons}
 use Rattle.rn_net.proofs.Sorts.{WithKind, kind_then, kind_read, kind_far, from_done, next_is, tell_apart}
 use Rattle.rn_net.proofs.Steps.{begin, stuck}
 use Rattle.rn_net.proofs.Rows.{Row, row_up_to, opening_small, opening_deep, close_small, close_after}

@@ -1,3 +1,4 @@
+pub mod Names
 mod Steps
 mod Sorts
 mod Rows

@@ -1,40 +1,8 @@
 -- The productions of transitions and nets, one after another, and the items of a text.
-use Rattle.std.proofs.Common.{◌≡◌, ℕ, ◌+◌, ◌≤◌, ◌⊎◌, inl, inr, true, false, Bool, not, List, [], ◌∷◌, ◌++◌, length, drop, refl, sym, ◌∙◌, ap, subst, arith, nat_eq}
-use Rattle.rn_notation.specs.declared.token.Spot.{Spot}
-use Rattle.rn_notation.specs.declared.token.Token.{Token}
-use Rattle.rn_notation.specs.declared.token.TokenKind.{TokenKind}
-use Rattle.rn_notation.specs.declared.token.TokenKind.TheVariants.{Name, Word, Number, Text, Sign}
+use Rattle.rn_net.proofs.Names.{◌≡◌, ℕ, ◌+◌, ◌≤◌, ◌⊎◌, inl, inr, true, false, Bool, not, List, [], ◌∷◌, ◌++◌, length, drop, refl, sym, ◌∙◌, ap, subst, arith, nat_eq, Spot, Token, TokenKind, Name, Word, Number, Text, Sign, ArcKind, Phrases, Then, Done, BeginAlike, Sort, done, PForm, PExpr, PInscribed, IsExpr, IsProduct, IsUnary, IsPrimary, IsInscribed, name_at, open_brace, close_brace, arc_of, target_of, Takes, IsNextKind, IsNotNextKind, IsNextName, PName, PInscription, PNet, PVar, PPlace, PChannel, Part, Item, net_word, trans_word, var_word, place_word, channel_word, AreInscribedUpTo, IsChannel, AreVars, IsPlace, IsTransition, AreInscribed, AreInscriptions, AreParts, IsNet, plain_net_of, transition_of, IsNetPart, IsItem, with_part, Region, is_too_deep, after, between, heading, Stage, Fails, HasNext, any, and_then, alike-cons}
 use Rattle.std.specs.Prelude.{Some}
-use Rattle.rn_model.specs.declared.system.ArcKind.{ArcKind}
-use Rattle.rn_reading.specs.Phrases.{Phrases, Then, Done}
-use Rattle.rn_reading.specs.link.Stages.{BeginAlike, Sort, done}
-use Rattle.rn_inscript.specs.declared.exprs.PForm.{PForm}
-use Rattle.rn_inscript.specs.declared.exprs.PExpr.{PExpr}
-use Rattle.rn_inscript.specs.declared.inscriptions.PInscribed.{PInscribed}
-use Rattle.rn_inscript.specs.Expressions.{IsExpr, IsProduct, IsUnary, IsPrimary}
-use Rattle.rn_inscript.specs.Inscriptions.{IsInscribed, name_at}
-use Rattle.rn_inscript.specs.Signs.{open_brace, close_brace, arc_of, target_of}
-use Rattle.rn_inscript.specs.link.Stages.{Takes, IsNextKind}
-use Rattle.rn_inscript.specs.link.NextNames.{IsNotNextKind, IsNextName}
-use Rattle.rn_inscript.specs.declared.inscriptions.PName.{PName}
-use Rattle.rn_inscript.specs.declared.inscriptions.PInscription.{PInscription}
 use Rattle.rn_reading.specs.declared.fault.ReadFault.TheVariants as Fault
-use Rattle.rn_net.specs.declared.plain.PNet.{PNet}
-use Rattle.rn_net.specs.declared.plain.PVar.{PVar}
-use Rattle.rn_net.specs.declared.plain.PPlace.{PPlace}
-use Rattle.rn_net.specs.declared.plain.PChannel.{PChannel}
 use Rattle.rn_net.specs.declared.plain.PTransition.{PTransition}
-use Rattle.rn_net.specs.declared.part.Part.{Part}
-use Rattle.rn_net.specs.declared.part.Item.{Item}
-use Rattle.rn_net.specs.Words.{net_word, trans_word, var_word, place_word, channel_word}
-use Rattle.rn_net.specs.link.Lists.{AreInscribedUpTo}
-use Rattle.rn_net.specs.Nets.{IsChannel, AreVars, IsPlace, IsTransition, AreInscribed, AreInscriptions, AreParts, IsNet, plain_net_of, transition_of}
-use Rattle.rn_net.specs.link.Parts.{IsNetPart, IsItem, with_part}
-use Rattle.rn_net.specs.Levels.{Region, is_too_deep, after}
-use Rattle.rn_net.specs.Levels.Region.{between, heading}
-use Rattle.rn_net.specs.link.Progress.{Stage, Fails, HasNext}
-use Rattle.rn_reading.proofs.Sorts.{any, and_then}
-use Rattle.rn_reading.proofs.Steps.{alike-cons}
 use Rattle.rn_net.proofs.Sorts.{WithKind, kind_then, name_then, kind_read, name_read, from_done, next_is, tell_apart}
 use Rattle.rn_net.proofs.Steps.{begin, change, stuck}
 use Rattle.rn_net.proofs.InscriptionReading.{statement_sort}

@@ -1,10 +1,6 @@
 -- The notation of a system is one of two.
-use Rattle.std.proofs.Common.{◌≡◌, ℕ, List, inl, inr, refl}
-use Rattle.rn_notation.specs.declared.token.Token.{Token}
-use Rattle.rn_net.specs.declared.plain.Plain.{Plain}
-use Rattle.rn_net.specs.Laws.{SpelledInNotation}
-use Rattle.rn_net.specs.Nets.{AreItems, IsSystem}
-use Rattle.rn_net.specs.Texts.{IsNotation}
+use Rattle.rn_net.proofs.Names.{◌≡◌, ℕ, List, inl, inr, refl, Token, Plain, SpelledInNotation, IsSystem, IsNotation}
+use Rattle.rn_net.specs.Nets.{AreItems}
 
 -- items don't change it
 of_items : {notation : ℕ} {before plain : Plain} {ts : List Token} → AreItems notation before ts plain →

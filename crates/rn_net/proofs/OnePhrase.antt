@@ -1,24 +1,12 @@
 -- Tokens begin with one phrase of a sort at most: what phrases are put together from, kinds and
 -- constants.
-use Rattle.std.proofs.Common.{◌≡◌, ℤ, true, false, Bool, ◌||◌, List, [], ◌∷◌, ◌++◌, refl, sym, ◌∙◌, ap, subst, nat_eq, arith}
-use Rattle.std.specs.Prelude.{neg_ℤ}
+use Rattle.rn_net.proofs.Names.{◌≡◌, true, false, Bool, ◌||◌, List, [], ◌∷◌, ◌++◌, refl, sym, ◌∙◌, ap, subst, nat_eq, arith, neg_ℤ, Spot, Token, TokenKind, Word, Number, Text, Sign, Phrases, Then, Done, comma, name_at, Takes, PName, PKind, PConst, IsKind, AreListed, AreKinds, AreMoreKinds, kind_at, IsConstant, AreConstants, AreMoreConstants, constant_at}
+use Rattle.std.proofs.Common.{ℤ}
 use Rattle.rn_notation.specs.declared.sign.TheConstants as sign
 use Rattle.rn_notation.specs.declared.word.TheConstants as word
-use Rattle.rn_notation.specs.declared.token.Spot.{Spot}
-use Rattle.rn_notation.specs.declared.token.Token.{Token}
-use Rattle.rn_notation.specs.declared.token.TokenKind.{TokenKind}
-use Rattle.rn_notation.specs.declared.token.TokenKind.TheVariants.{Word, Number, Text, Sign}
-use Rattle.rn_reading.specs.Phrases.{Phrases, Then, Done}
-use Rattle.rn_inscript.specs.Signs.{comma}
-use Rattle.rn_inscript.specs.Inscriptions.{name_at}
-use Rattle.rn_inscript.specs.link.Stages.{Takes}
-use Rattle.rn_inscript.specs.declared.inscriptions.PName.{PName}
-use Rattle.rn_net.specs.declared.kinds.PKind.{PKind}
 use Rattle.rn_net.specs.declared.kinds.PKindForm.TheVariants as K
-use Rattle.rn_net.specs.declared.constants.PConst.{PConst}
 use Rattle.rn_net.specs.declared.constants.PConstForm.TheVariants as C
-use Rattle.rn_net.specs.Kinds.{IsKind, AreListed, AreKinds, AreMoreKinds, kind_at}
-use Rattle.rn_net.specs.Constants.{IsConstant, AreItems, AreConstants, AreMoreConstants, constant_at}
+use Rattle.rn_net.specs.Constants.{AreItems}
 use Rattle.rn_net.proofs.Sorts.{WithKind, WithName, WithNumber, tell}
 
 -- both phrases are one, and the same comes after them

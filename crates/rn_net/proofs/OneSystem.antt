@@ -1,29 +1,8 @@
 -- Tokens are one system at most, and a text spells one at most.
-use Rattle.std.proofs.Common.{◌≡◌, ℕ, inl, inr, List, [], ◌∷◌, ◌++◌, refl, sym, ◌∙◌, ap, subst, arith}
-use Rattle.std.specs.Prelude.{Option, Some, None}
-use Rattle.rn_notation.specs.declared.token.Token.{Token}
-use Rattle.rn_notation.specs.declared.token.TokenKind.{TokenKind}
-use Rattle.rn_notation.specs.Laws.{OneReading}
-use Rattle.rn_inscript.specs.Laws.{OneExpression, OneInscription}
-use Rattle.rn_inscript.specs.Signs.{close_brace, open_brace, open_paren, close_paren, colon, equals}
-use Rattle.rn_inscript.specs.Inscriptions.{name_at}
-use Rattle.rn_inscript.specs.declared.inscriptions.PName.{PName}
-use Rattle.rn_inscript.specs.declared.inscriptions.PInscription.{PInscription}
-use Rattle.rn_net.specs.declared.constants.PConst.{PConst}
-use Rattle.rn_net.specs.declared.kinds.PKind.{PKind}
+use Rattle.rn_net.proofs.Names.{◌≡◌, ℕ, inl, inr, List, [], ◌∷◌, ◌++◌, refl, sym, ◌∙◌, ap, subst, arith, Option, Token, TokenKind, OneReading, OneExpression, OneInscription, close_brace, open_brace, open_paren, close_paren, colon, equals, name_at, PName, PInscription, PConst, PKind, Plain, PNet, Part, Item, PlaceEnd, PMax, semicolon, net_word, trans_word, var_word, place_word, channel_word, max_name, IsKind, AreListed, kind_at, IsChannel, AreMoreNames, AreVars, AreInitial, IsPlace, AreInscriptions, AreParts, IsSystem, max_of, AreInscribedUpTo, IsNetPart, IsItem, IsInitialUpTo, IsPlaceEnd, AreNames, with_part, with_item, OneSystem, OneSpelled}
+use Rattle.std.specs.Prelude.{Some, None}
 use Rattle.rn_net.specs.declared.kinds.PKindForm.TheVariants as K
-use Rattle.rn_net.specs.declared.plain.Plain.{Plain}
-use Rattle.rn_net.specs.declared.plain.PNet.{PNet}
-use Rattle.rn_net.specs.declared.part.Part.{Part}
-use Rattle.rn_net.specs.declared.part.Item.{Item}
-use Rattle.rn_net.specs.declared.part.PlaceEnd.{PlaceEnd}
-use Rattle.rn_net.specs.declared.plain.PMax.{PMax}
-use Rattle.rn_net.specs.Words.{semicolon, net_word, trans_word, var_word, place_word, channel_word, max_name}
-use Rattle.rn_net.specs.Kinds.{IsKind, AreListed, kind_at}
-use Rattle.rn_net.specs.Nets.{IsChannel, AreMoreNames, AreVars, AreInitial, IsPlace, AreInscriptions, AreParts, AreItems, IsSystem, max_of}
-use Rattle.rn_net.specs.link.Lists.{AreInscribedUpTo}
-use Rattle.rn_net.specs.link.Parts.{IsNetPart, IsItem, IsInitialUpTo, IsPlaceEnd, AreNames, with_part, with_item}
-use Rattle.rn_net.specs.Laws.{OneSystem, OneSpelled}
+use Rattle.rn_net.specs.Nets.{AreItems}
 use Rattle.rn_net.proofs.Sorts.{tell}
 use Rattle.rn_net.proofs.Rows.{row_up_to}
 use Rattle.rn_net.proofs.DeclarationPhrases.{channel_sort, channel_open, channel_kinds, channel_end, channel-only, name_row, vars_sort, vars_names, vars_kind, vars_end, vars-only, rest_with, max_number, EndForms, end-split, PlaceOn, place_on, place_kind, place_end, place_sort, place-only}

@@ -1,74 +1,15 @@
 -- Phrases that begin with a whole expression or inscription, which ends where a comma or a semicolon
 -- comes next, and how they are read.
-use Rattle.std.proofs.Common.{◌≡◌, ℕ, ◌+◌, ◌≤◌, ◌⊎◌, inl, inr, true, false, Bool, ◌&&◌, ◌||◌, List, [], ◌∷◌, ◌++◌, length, drop, refl, sym, ◌∙◌, ap, subst, append_assoc, arith, nat_eq}
-use Rattle.std.specs.Prelude.{if◌then◌else◌}
-use Rattle.std.proofs.lemmas.List.{length-append, length-drop, drop-drop}
-use Rattle.std.proofs.Math.Seq.{drop-append_seam}
-use Rattle.std.proofs.lemmas.Bool.Decides.{nat_tests}
-use Rattle.std.proofs.lemmas.Grind.{common_steps}
-use Rattle.rn_notation.specs.declared.token.Token.{Token}
-use Rattle.rn_notation.specs.declared.token.TokenKind.{TokenKind}
-use Rattle.rn_notation.specs.declared.token.TokenKind.TheVariants.{Name, Word, Number, Text, Sign}
-use Rattle.rn_reading.specs.Phrases.{Phrases}
-use Rattle.rn_reading.specs.link.Stages.{BeginAlike, CanEnd, Sort}
-use Rattle.rn_inscript.specs.Signs.{close_brace, comma}
-use Rattle.rn_inscript.specs.link.NextNames.{IsNotNextKind}
-use Rattle.rn_inscript.specs.Levels.{Count, IsWithin, at_first, after_token, count_after, goes_too_far, opens_level, is_operator}
-use Rattle.rn_inscript.specs.Readings.{Wholes, IsPrefix, IsLongest, IsReading}
-use Rattle.rn_reading.specs.declared.fault.ReadFault.{ReadFault}
+use Rattle.rn_net.proofs.Names.{◌≡◌, ℕ, ◌+◌, ◌≤◌, ◌⊎◌, inl, inr, true, false, ◌&&◌, List, [], ◌∷◌, ◌++◌, length, drop, refl, sym, ◌∙◌, ap, subst, append_assoc, arith, nat_eq, if◌then◌else◌, length-append, length-drop, drop-drop, drop-append_seam, nat_tests, common_steps, Token, TokenKind, Name, Word, Number, Text, Sign, Phrases, BeginAlike, CanEnd, Sort, close_brace, comma, IsNotNextKind, Count, IsWithin, at_first, after_token, count_after, goes_too_far, Wholes, IsPrefix, IsLongest, IsReading, ReadFault, semicolon, Region, is_too_deep, after, begun_by, inscribed_from, is_semicolon, is_comma, open_after, region_after, IsShallow, net_counting, between, inscribing, Stage, Fails, Refuses, Anything, Progress, append-nil, alike-cons, too_far, split-at}
 use Rattle.rn_reading.specs.declared.fault.ReadFault.TheVariants as Fault
-use Rattle.rn_net.specs.Words.{semicolon}
-use Rattle.rn_net.specs.Levels.{Region, is_too_deep, after, begun_by, inscribed_from, is_semicolon, is_comma, open_after, region_after, IsShallow, net_counting}
-use Rattle.rn_net.specs.Levels.Region.{between, inscribing}
-use Rattle.rn_net.specs.link.Progress.{Stage, Fails, Refuses}
-use Rattle.rn_reading.specs.link.Stages.{Anything, Progress, IsStuck, IsTooFar}
-use Rattle.rn_reading.proofs.Steps.{append-nil, alike-cons, alike-append, count-append, within-append}
-use Rattle.rn_reading.proofs.Wholes.{split-at}
+use Rattle.rn_reading.proofs.Steps.{take, change, stuck}
 use Rattle.rn_net.proofs.Fronts.{is_inside, Passes, AreInside}
 
 -- some tokens are taken at once
-take_all : {A : Type 0} {X Y : Phrases A} {start mid left : List Token} {first now last : Region} (Z : Sort A) (some : List Token) →
-    Progress net_counting Anything X start first Y mid now → mid ≡ some ++ left → IsShallow now some → region_after now some ≡ last →
-    ((ts : List Token) (e : A) (rest : List Token) → Z.is ts e rest → Y (some ++ ts) e rest) →
-    ((ts : List Token) (e : A) (rest : List Token) → BeginAlike left ts → Y (some ++ ts) e rest → Z.is ts e rest) →
-    Stage X start first Z left last
-take_all {X = X} {left = left} {first = first} Z some s parts small there on only = record {
-  taken = s.taken ++ some;
-  whole = s.whole ∙ ap (λ us. s.taken ++ us) parts ∙ sym (append_assoc s.taken some left);
-  on = λ ts e rest z. subst (λ us. X us e rest) (sym (append_assoc s.taken some ts)) (s.on (some ++ ts) e rest (on ts e rest z));
-  only = λ ts e rest alike follows x. only ts e rest alike (s.only (some ++ ts) e rest (subst (λ us. BeginAlike us (some ++ ts)) (sym parts) (alike-append some left ts alike)) follows (subst (λ us. X us e rest) (append_assoc s.taken some ts) x));
-  within = within-append net_counting first s.taken some s.within (subst (λ r. IsShallow r some) (sym s.count) small);
-  count = count-append net_counting first s.taken some ∙ ap (λ r. region_after r some) s.count ∙ there;
-}
-
--- some tokens begin what is left, and with the next they don't
-stuck_all : {A : Type 0} {X Y : Phrases A} {start mid left : List Token} {first now : Region} (some : List Token) →
-    Progress net_counting Anything X start first Y mid now → mid ≡ some ++ left → IsShallow now some → CanEnd (λ ts. Y (some ++ ts)) →
-    ((ts : List Token) (e : A) (rest : List Token) → BeginAlike left ts → Y (some ++ ts) e rest → ⊥) →
-    IsStuck net_counting Anything X start first left
-stuck_all {X = X} {left = left} {first = first} some s parts small end none = record {
-  taken = s.taken ++ some;
-  whole = s.whole ∙ ap (λ us. s.taken ++ us) parts ∙ sym (append_assoc s.taken some left);
-  begins = (end.0, end.1, λ rest. subst (λ us. X us end.1 rest) (sym (append_assoc s.taken some (end.0 ++ rest))) (s.on (some ++ (end.0 ++ rest)) end.1 rest (end.2 rest)));
-  none = λ ts e rest alike follows x. none ts e rest alike (s.only (some ++ ts) e rest (subst (λ us. BeginAlike us (some ++ ts)) (sym parts) (alike-append some left ts alike)) follows (subst (λ us. X us e rest) (append_assoc s.taken some ts) x));
-  within = within-append net_counting first s.taken some s.within (subst (λ r. IsShallow r some) (sym s.count) small);
-}
-
--- some tokens begin what is left, and the next can follow and is too deep
-far_all : {A : Type 0} {X Y : Phrases A} {start mid others : List Token} {first now : Region} {t : Token} (some : List Token) →
-    Progress net_counting Anything X start first Y mid now → mid ≡ some ++ t ∷ others → IsShallow now some → CanEnd (λ ts. Y (some ++ t ∷ ts)) →
-    is_too_deep (region_after now some) t.kind ≡ true →
-    IsTooFar net_counting X start first (t ∷ others)
-far_all {X = X} {others = others} {first = first} {t = t} some s parts small end far = record {
-  taken = s.taken ++ some;
-  token = t;
-  others = others;
-  next = refl;
-  whole = s.whole ∙ ap (λ us. s.taken ++ us) parts ∙ sym (append_assoc s.taken some (t ∷ others));
-  begins = (end.0, end.1, λ rest. subst (λ us. X us end.1 rest) (sym (append_assoc s.taken some (t ∷ (end.0 ++ rest)))) (s.on (some ++ t ∷ (end.0 ++ rest)) end.1 rest (end.2 rest)));
-  within = within-append net_counting first s.taken some s.within (subst (λ r. IsShallow r some) (sym s.count) small);
-  far = subst (λ r. is_too_deep r t.kind ≡ true) (ap (λ r. region_after r some) (sym s.count) ∙ sym (count-append net_counting first s.taken some)) far;
-}
+taken : {A : Type 0} {X : Phrases A} {start left : List Token} {first : Region} (Y : Phrases A) (some : List Token) (now : Region) →
+    Progress net_counting Anything X start first Y (some ++ left) now → IsShallow now some → Progress net_counting Anything X start first (λ ts. Y (some ++ ts)) left (region_after now some)
+taken Y [] now s small = s
+taken Y (t ∷ some) now s small = taken (λ ts. Y (t ∷ ts)) some (after now t.kind) (take net_counting Anything s small.0) small.1
 
 -- a comma or a semicolon
 abbrev pub IsOut : TokenKind → Type 0
@@ -147,14 +88,8 @@ fresh_first j ts h = record {
   region = λ some. region-inside 0 j at_first ts h;
 }
 
-and-none : (a b : Bool) → ((a && false) || (b && false)) ≡ true → ⊥
-and-none true true h = cc
-and-none true false h = cc
-and-none false true h = cc
-and-none false false h = cc
-
 first-small : (kind : TokenKind) → goes_too_far at_first kind ≡ true → ⊥
-first-small kind h = and-none (opens_level at_first kind) (is_operator kind) h
+first-small kind h = grind (arith, nat_tests, common_steps)
 
 -- the first of some tokens isn't a closing brace
 abbrev pub OpensNone : List Token → Type 0
@@ -176,12 +111,18 @@ pub opens_none : (tokens : List Token) (at : ℕ) (taken left : List Token) → 
 opens_none tokens at taken left is other t us here h = other t (us ++ left) (is ∙ ap (λ vs. vs ++ left) here) h
 
 -- where the tokens taken end
-pub left-is : (tokens : List Token) (at : ℕ) (taken left : List Token) → drop at tokens ≡ taken ++ left → left ≡ drop (at + length taken) tokens
-left-is tokens at taken left is = sym (drop-append_seam taken left) ∙ ap (drop (length taken)) (sym is) ∙ drop-drop (length taken) at tokens
+left-is : (tokens : List Token) (at k : ℕ) (taken left : List Token) → drop at tokens ≡ taken ++ left → k ≡ at + length taken → left ≡ drop k tokens
+left-is tokens at k taken left is there = sym (drop-append_seam taken left) ∙ ap (drop (length taken)) (sym is) ∙ drop-drop (length taken) at tokens ∙ ap (λ n. drop n tokens) (sym there)
 
 index-is : (tokens : List Token) (at k : ℕ) (taken left : List Token) → at ≤ length tokens → drop at tokens ≡ taken ++ left → k ≡ at + length taken → k + length left ≡ length tokens
 index-is tokens at k taken left inside is there =
     let a = length-drop at tokens in let b = length-append taken left in let c : length (drop at tokens) ≡ length (taken ++ left) = ap length is in omega (arith, a, b, c, there, inside)
+
+-- they are taken up to an index
+onward : {A : Type 0} {X Y : Phrases A} {start : List Token} {first now : Region} (tokens : List Token) (at k : ℕ) (some left : List Token) → Progress net_counting Anything X start first Y (drop at tokens) now →
+    drop at tokens ≡ some ++ left → left ≡ drop k tokens → IsShallow now some → Progress net_counting Anything X start first (λ ts. Y (some ++ ts)) (drop k tokens) (region_after now some)
+onward {X = X} {Y = Y} {start = start} {first = first} {now = now} tokens at k some left s parts there small =
+    taken Y some now (subst (λ us. Progress net_counting Anything X start first Y us now) (parts ∙ ap (λ us. some ++ us) there) s) small
 
 pub moved : {A : Type 0} {Whole : Wholes A} {a : A} (tokens : List Token) (at end : ℕ) → at ≤ length tokens → IsReading Whole tokens at a end → (at ≤ end) × (end ≤ length tokens)
 moved tokens at end inside r = let x = index-is tokens at end r.taken r.longest.left inside r.longest.parts r.ends in (omega (arith, r.ends), omega (arith, x))
@@ -230,18 +171,18 @@ cut_at {A = A} {Whole = Whole} o tokens taken ts b rest l alike c = by (split-at
 -- the whole phrase is read
 pub opening_read : {A B : Type 0} {Whole : Wholes A} {W : Sort B} {Z : Phrases B} {Next : List Token → A → Sort B} {start : List Token} {first now : Region} {a : A} (o : Opening Whole W Next) (tokens : List Token) (at end : ℕ) →
     Stage Z start first W (drop at tokens) now → (r : IsReading Whole tokens at a end) → Fresh now 0 r.taken → Stage Z start first (Next r.taken a) (drop end tokens) (inscribing 0 (count_after at_first r.taken))
-opening_read {Whole = Whole} {Next = Next} {a = a} o tokens at end s r f = take_all (Next r.taken a) r.taken s
-    (r.longest.parts ∙ ap (λ us. r.taken ++ us) left)
-    (f.shallow r.within) (f.region (o.some r.taken a r.whole))
+opening_read {Whole = Whole} {W = W} {Z = Z} {Next = Next} {start = start} {first = first} {a = a} o tokens at end s r f =
+    change net_counting Anything (Next r.taken a).is
+    (subst (λ c. Progress net_counting Anything Z start first (λ ts. W.is (r.taken ++ ts)) (drop end tokens) c) (f.region (o.some r.taken a r.whole)) (onward tokens at end r.taken r.longest.left s r.longest.parts left (f.shallow r.within)))
     (λ ts b rest y. o.join r.taken ts a b rest r.whole y)
-    (λ ts b rest alike w.
+    (λ ts b rest alike follows w.
     let c = o.split (r.taken ++ ts) b rest w in
     let same = cut_at o (drop at tokens) r.taken ts b rest r.longest (subst (λ us. BeginAlike us ts) (sym left) alike) c in
     let item : c.item ≡ a = o.one r.taken c.item a (subst (λ us. Whole us c.item) same.0 c.whole) r.whole in
     subst (λ us. (Next r.taken a).is us b rest) same.1 (subst (λ x. (Next r.taken x).is (c.end ∷ c.others) b rest) item (subst (λ us. (Next us c.item).is (c.end ∷ c.others) b rest) same.0 c.goes)))
   where
     left : r.longest.left ≡ drop end tokens
-    left = left-is tokens at r.taken r.longest.left r.longest.parts ∙ ap (λ n. drop n tokens) (sym r.ends)
+    left = left-is tokens at end r.taken r.longest.left r.longest.parts r.ends
 
 -- some tokens of the whole phrase begin what is left
 opening-begins : {A B : Type 0} {Whole : Wholes A} {W : Sort B} {Next : List Token → A → Sort B} (o : Opening Whole W Next) (taken : List Token) → IsPrefix Whole taken → CanEnd (λ ts. W.is (taken ++ ts))
@@ -254,23 +195,23 @@ opening-begins {W = W} {Next = Next} o taken p = let y = (Next (taken ++ p.0) p.
 -- it isn't read
 pub opening_fails : {A B : Type 0} {Whole : Wholes A} {W : Sort B} {Z : Phrases B} {Next : List Token → A → Sort B} {start : List Token} {first now : Region} (o : Opening Whole W Next) (tokens : List Token) (at : ℕ) (e : ReadFault) → at ≤ length tokens →
     Stage Z start first W (drop at tokens) now → ((j : ℕ) (ts left : List Token) → drop at tokens ≡ ts ++ left → AreInside 0 j ts → Fresh now j ts) → Refuses Whole tokens at e → Fails Z start first (length tokens) e
-opening_fails {Whole = Whole} o tokens at (Fault.Stopped k) inside s fresh x =
+opening_fails {Whole = Whole} {W = W} o tokens at (Fault.Stopped k) inside s fresh x =
     let d = prefix-inside o x.taken x.longest.prefix in
-    let f = fresh d.0 x.taken x.longest.left x.longest.parts d.1 in (
-      x.longest.left,
-      stuck_all x.taken s x.longest.parts (f.shallow x.within) (opening-begins o x.taken x.longest.prefix) (λ ts b rest alike w.
-          let c = o.split (x.taken ++ ts) b rest w in
-          let same = cut_at o (drop at tokens) x.taken ts b rest x.longest alike c in
-          x.not_whole c.item (subst (λ us. Whole us c.item) same.0 c.whole)),
-      index-is tokens at k x.taken x.longest.left inside x.longest.parts x.stops,
-    )
+    let f = fresh d.0 x.taken x.longest.left x.longest.parts d.1 in
+    let left = left-is tokens at k x.taken x.longest.left x.longest.parts x.stops in
+    stuck net_counting Anything tokens k (onward tokens at k x.taken x.longest.left s x.longest.parts left (f.shallow x.within))
+    (omega (arith, index-is tokens at k x.taken x.longest.left inside x.longest.parts x.stops)) (opening-begins o x.taken x.longest.prefix)
+    (λ ts b rest alike w.
+    let c = o.split (x.taken ++ ts) b rest w in
+    let same = cut_at o (drop at tokens) x.taken ts b rest x.longest (subst (λ us. BeginAlike us ts) (sym left) alike) c in
+    x.not_whole c.item (subst (λ us. Whole us c.item) same.0 c.whole))
 opening_fails {W = W} o tokens at (Fault.TooFar k) inside s fresh x =
     let d = prefix-inside o (x.before ++ x.token ∷ []) x.prefix in
     let g = inside-front 0 d.0 x.before (x.token ∷ []) d.1 in
     let f = fresh g.0 x.before (x.token ∷ x.left) x.parts g.1 in
-    let b = opening-begins o (x.before ++ x.token ∷ []) x.prefix in (
-      x.token ∷ x.left,
-      far_all x.before s x.parts (f.shallow x.within) (b.0, b.1, λ rest. subst (λ us. W.is us b.1 rest) (append_assoc x.before (x.token ∷ []) (b.0 ++ rest)) (b.2 rest)) (f.deep x.token.kind x.far),
-      index-is tokens at k x.before (x.token ∷ x.left) inside x.parts x.stands,
-    )
+    let b = opening-begins o (x.before ++ x.token ∷ []) x.prefix in
+    let left = left-is tokens at k x.before (x.token ∷ x.left) x.parts x.stands in
+    too_far net_counting Anything tokens k (onward tokens at k x.before (x.token ∷ x.left) s x.parts left (f.shallow x.within))
+    (sym left ∙ ap (λ us. x.token ∷ us) (ap (drop 1) left ∙ drop-drop 1 k tokens), omega (arith, index-is tokens at k x.before (x.token ∷ x.left) inside x.parts x.stands))
+    (b.0, b.1, λ rest. subst (λ us. W.is us b.1 rest) (append_assoc x.before (x.token ∷ []) (b.0 ++ rest)) (b.2 rest)) (f.deep x.token.kind x.far)
 opening_fails o tokens at (Fault.NoMemory _) inside s fresh x = tt

@@ -1,23 +1,8 @@
 -- A text is refused for one reason.
-use Rattle.std.proofs.Common.{◌≡◌, ℕ, ◌<◌, inl, inr, List, length, refl, sym, ◌∙◌, ap, subst, arith}
-use Rattle.std.specs.Prelude.{Result, Ok, Err, Option, Some, None, IfSome, IfNone}
-use Rattle.rn_notation.specs.Limits.{longest_net_text}
-use Rattle.rn_notation.specs.Laws.{OneReading, OneFault, NoFaultInTokens}
-use Rattle.rn_notation.specs.Reading.{Tokens, FirstFault}
-use Rattle.rn_notation.specs.declared.token.Token.{Token}
-use Rattle.rn_notation.specs.declared.token.LexFault.{LexFault}
-use Rattle.rn_notation.specs.declared.token.Lexed.{Lexed}
-use Rattle.rn_reading.specs.declared.fault.TextFault.{TextFault}
+use Rattle.rn_net.proofs.Names.{◌≡◌, ℕ, ◌<◌, inl, inr, List, length, refl, sym, ◌∙◌, ap, subst, arith, Result, Ok, Err, Option, IfSome, IfNone, longest_net_text, OneReading, OneFault, NoFaultInTokens, Tokens, FirstFault, Token, LexFault, Lexed, TextFault, IsTold, one_reason, same_tokens, Plain, Refusal, net_counting, between, IsSystem, IsText, IsStopped, IsDeep, AreFine, IsRefused, Answers, report, answer_of}
+use Rattle.std.specs.Prelude.{Some, None}
 use Rattle.rn_reading.specs.declared.fault.TextFault.TheVariants as Why
-use Rattle.rn_reading.proofs.Wholes.{IsTold, one_reason, same_tokens}
-use Rattle.rn_net.specs.declared.plain.Plain.{Plain}
-use Rattle.rn_net.specs.declared.refusal.Refusal.{Refusal}
 use Rattle.rn_net.specs.declared.refusal.Refusal.TheVariants as R
-use Rattle.rn_net.specs.Levels.{net_counting}
-use Rattle.rn_net.specs.Levels.Region.{between}
-use Rattle.rn_net.specs.Nets.{IsSystem}
-use Rattle.rn_net.specs.Refusals.{IsText, IsStopped, IsDeep, AreFine, IsRefused, Answers}
-use Rattle.rn_net.specs.link.Answers.{report, answer_of}
 use Rattle.rn_net.proofs.Settling.{Explains, Settles, LexedOf, tokens_of, spelled-alone, text_read}
 
 -- why a text is refused, said of what was lexed of it

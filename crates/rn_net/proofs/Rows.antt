@@ -1,20 +1,5 @@
 -- Phrases between which commas stand, up to a closing token, the first having been taken.
-use Rattle.std.proofs.Common.{◌≡◌, ℕ, ◌+◌, ◌-◌, ◌<◌, ◌≤◌, ◌⊎◌, inl, inr, true, false, List, [], ◌∷◌, ◌++◌, drop, refl, sym, ◌∙◌, ap, subst, append_assoc, arith, nat_le}
-use Rattle.std.proofs.lemmas.Bool.Decides.{nat_tests}
-use Rattle.rn_notation.specs.declared.token.Spot.{Spot}
-use Rattle.rn_notation.specs.declared.token.Token.{Token}
-use Rattle.rn_notation.specs.declared.token.TokenKind.{TokenKind}
-use Rattle.rn_notation.specs.declared.token.TokenKind.TheVariants.{Sign}
-use Rattle.rn_reading.specs.Phrases.{Phrases, Then, Done}
-use Rattle.rn_reading.specs.link.Stages.{BeginAlike, Sort, done}
-use Rattle.rn_inscript.specs.Signs.{comma}
-use Rattle.rn_inscript.specs.link.Stages.{Takes, IsClose}
-use Rattle.rn_inscript.specs.link.NextNames.{IsNotNextKind}
-use Rattle.rn_net.specs.Levels.{Region, is_too_deep, after}
-use Rattle.rn_net.specs.Levels.Region.{declaring}
-use Rattle.rn_net.specs.link.Progress.{Stage, HasNext}
-use Rattle.rn_reading.proofs.Sorts.{any, and_then}
-use Rattle.rn_reading.proofs.Steps.{alike-cons}
+use Rattle.rn_net.proofs.Names.{◌≡◌, ℕ, ◌+◌, ◌-◌, ◌<◌, ◌≤◌, ◌⊎◌, inl, inr, true, false, List, [], ◌∷◌, ◌++◌, drop, refl, sym, ◌∙◌, ap, subst, append_assoc, arith, nat_le, nat_tests, Spot, Token, TokenKind, Sign, Phrases, Then, Done, BeginAlike, Sort, done, comma, Takes, IsClose, IsNotNextKind, Region, is_too_deep, after, declaring, Stage, HasNext, any, and_then, alike-cons}
 use Rattle.rn_net.proofs.Sorts.{WithKind, kind_then, kind_read, next_is}
 use Rattle.rn_net.proofs.Steps.{begin, change}
 

@@ -1,39 +1,15 @@
 -- From the items of a text to its answer.
-use Rattle.std.proofs.Common.{◌≡◌, ℕ, ℤ, pos, zero, suc, ◌+◌, ◌<◌, ◌≤◌, inl, inr, List, [], ◌∷◌, ◌++◌, length, drop, refl, sym, ◌∙◌, ap, subst, append_assoc, arith}
-use Rattle.std.proofs.Math.Seq.{drop-append_seam}
-use Rattle.std.specs.Prelude.{Result, Ok, Err, Option, Some, None, IfOk, IfErr, IfSome, IfNone}
+use Rattle.rn_net.proofs.Names.{◌≡◌, ℕ, pos, zero, suc, ◌+◌, ◌<◌, ◌≤◌, inl, inr, List, [], ◌∷◌, ◌++◌, length, drop, refl, sym, ◌∙◌, ap, subst, append_assoc, arith, drop-append_seam, Result, Ok, Err, Option, IfOk, IfErr, IfSome, IfNone, longest_net_text, OneReading, OneFault, NoFaultInTokens, Tokens, FirstFault, IsSlice, Spot, Token, TokenKind, Number, LexFault, Lexed, ReadFault, TextFault, BeginAlike, IsNext, HasNoNext, IsAlone, AreTokensOf, WholeOf, after_tokens, append-nil, IsTold, stopped-ends, deep-ends, ends-fine, same_tokens, lexed_of, Plain, Refusal, IsShallow, net_counting, between, IsSystem, HaveNaturals, Spells, IsText, IsStopped, IsDeep, AreFine, IsRefused, IsReason, Answers, refusal_of, Top, Halts, Sinks, SystemAnswer, report, answer_of}
+use Rattle.std.proofs.Common.{ℤ}
+use Rattle.std.specs.Prelude.{Some, None}
 use Rattle.std.specs.List.{AllByRecursion}
-use Rattle.rn_notation.specs.Limits.{longest_net_text}
 use Rattle.rn_notation.specs.Spots.{spot_after}
 use Rattle.rn_notation.specs.Tokens.{IsToken}
 use Rattle.rn_notation.specs.Words.{number_of}
-use Rattle.rn_notation.specs.Laws.{OneReading, OneFault, NoFaultInTokens}
-use Rattle.rn_notation.specs.Reading.{Tokens, FirstFault, IsSlice}
-use Rattle.rn_notation.specs.declared.token.Spot.{Spot}
-use Rattle.rn_notation.specs.declared.token.Token.{Token}
-use Rattle.rn_notation.specs.declared.token.TokenKind.{TokenKind}
-use Rattle.rn_notation.specs.declared.token.TokenKind.TheVariants.{Number}
-use Rattle.rn_notation.specs.declared.token.LexFault.{LexFault}
-use Rattle.rn_notation.specs.declared.token.Lexed.{Lexed}
-use Rattle.rn_reading.specs.declared.fault.ReadFault.{ReadFault}
 use Rattle.rn_reading.specs.declared.fault.ReadFault.TheVariants as Fault
-use Rattle.rn_reading.specs.declared.fault.TextFault.{TextFault}
 use Rattle.rn_reading.specs.declared.fault.TextFault.TheVariants as Why
-use Rattle.rn_reading.specs.link.Stages.{BeginAlike, IsNext, HasNoNext}
 use Rattle.rn_reading.specs.Texts as Texts
-use Rattle.rn_reading.specs.Texts.{IsAlone, AreTokensOf, WholeOf, after_tokens}
-use Rattle.rn_reading.proofs.Steps.{append-nil}
-use Rattle.rn_reading.proofs.Wholes.{IsTold, stopped-ends, deep-ends, ends-fine, same_tokens, lexed_of}
-use Rattle.rn_net.specs.declared.plain.Plain.{Plain}
-use Rattle.rn_net.specs.declared.refusal.Refusal.{Refusal}
 use Rattle.rn_net.specs.declared.refusal.Refusal.TheVariants as R
-use Rattle.rn_net.specs.Levels.{IsShallow, net_counting}
-use Rattle.rn_net.specs.Levels.Region.{between}
-use Rattle.rn_net.specs.Nets.{IsSystem}
-use Rattle.rn_net.specs.link.Progress.{HaveNaturals}
-use Rattle.rn_net.specs.Texts.{Spells}
-use Rattle.rn_net.specs.Refusals.{IsText, IsStopped, IsDeep, AreFine, IsRefused, IsReason, Answers, refusal_of}
-use Rattle.rn_net.specs.link.Answers.{Top, Halts, Sinks, SystemAnswer, report, answer_of}
 use Rattle.rn_net.proofs.Systems.{items-split, no-item}
 
 abbrev pub Explains : Lexed → TextFault → Type 0

@@ -1,21 +1,7 @@
 -- Sorts of phrases made of others, and the steps along them.
-use Rattle.std.proofs.Common.{◌≡◌, ℕ, ℤ, ◌+◌, ◌≤◌, true, false, List, [], ◌∷◌, ◌++◌, length, drop, refl, sym, ◌∙◌, ap, subst, pos}
-use Rattle.rn_notation.specs.declared.token.Spot.{Spot}
-use Rattle.rn_notation.specs.declared.token.Token.{Token}
-use Rattle.rn_notation.specs.declared.token.TokenKind.{TokenKind}
-use Rattle.rn_notation.specs.declared.token.TokenKind.TheVariants.{Name, Word, Number, Text, Sign}
-use Rattle.rn_reading.specs.declared.fault.ReadFault.{ReadFault}
+use Rattle.rn_net.proofs.Names.{◌≡◌, ℕ, ◌+◌, ◌≤◌, true, false, List, [], ◌∷◌, ◌++◌, length, drop, refl, sym, ◌∙◌, ap, subst, pos, Spot, Token, TokenKind, Name, Word, Number, Text, Sign, ReadFault, Phrases, Done, BeginAlike, Sort, PName, name_at, IsNotNextKind, IsNextName, IsNoName, Region, is_too_deep, after, net_counting, Stage, Fails, HasNext, IsNoNumber, Anything, alike-cons, too_far, any}
+use Rattle.std.proofs.Common.{ℤ}
 use Rattle.rn_reading.specs.declared.fault.ReadFault.TheVariants as Fault
-use Rattle.rn_reading.specs.Phrases.{Phrases, Done}
-use Rattle.rn_reading.specs.link.Stages.{BeginAlike, Sort}
-use Rattle.rn_inscript.specs.declared.inscriptions.PName.{PName}
-use Rattle.rn_inscript.specs.Inscriptions.{name_at}
-use Rattle.rn_inscript.specs.link.NextNames.{IsNotNextKind, IsNextName, IsNoName}
-use Rattle.rn_net.specs.Levels.{Region, is_too_deep, after, net_counting}
-use Rattle.rn_net.specs.link.Progress.{Stage, Fails, HasNext, IsNoNumber}
-use Rattle.rn_reading.specs.link.Stages.{Anything}
-use Rattle.rn_reading.proofs.Steps.{alike-cons, too_far}
-use Rattle.rn_reading.proofs.Sorts.{any}
 use Rattle.rn_net.proofs.Steps.{change, take, stuck}
 
 -- phrases that begin with a token of a kind, or with a name

@@ -1,17 +1,9 @@
 -- The steps of rn_reading along phrases of net texts, which anything may follow.
-use Rattle.std.proofs.Common.{◌≡◌, ℕ, ◌≤◌, false, List, ◌∷◌, length, drop, refl, sym, subst}
-use Rattle.std.specs.Prelude.{Result, Ok, Err}
+use Rattle.rn_net.proofs.Names.{◌≡◌, ℕ, ◌≤◌, false, List, ◌∷◌, length, drop, refl, sym, subst, Result, Ok, Err, Token, Phrases, ReadFault, Anything, BeginAlike, Progress, Sort, done, and_then, Region, net_counting, is_too_deep, after, Stage, Fails, Reads}
 use Rattle.std.specs.Result.{IsErrAnd}
-use Rattle.rn_notation.specs.declared.token.Token.{Token}
-use Rattle.rn_reading.specs.Phrases.{Phrases}
-use Rattle.rn_reading.specs.declared.fault.ReadFault.{ReadFault}
 use Rattle.rn_reading.specs.declared.fault.ReadFault.TheVariants as Fault
-use Rattle.rn_reading.specs.link.Stages.{Anything, BeginAlike, Progress, Sort, done}
 use Rattle.rn_reading.proofs.Steps as Steps
 use Rattle.rn_reading.proofs.Sorts as Sorts
-use Rattle.rn_reading.proofs.Sorts.{and_then}
-use Rattle.rn_net.specs.Levels.{Region, net_counting, is_too_deep, after}
-use Rattle.rn_net.specs.link.Progress.{Stage, Fails, Reads}
 
 pub begin : {A : Type 0} {X : Phrases A} (Y : Sort A) (start : List Token) (first : Region) →
     ((ts : List Token) (e : A) (rest : List Token) → Y.is ts e rest → X ts e rest) →

@@ -1,21 +1,7 @@
 -- How the items of a text follow one another.
-use Rattle.std.proofs.Common.{◌≡◌, ℕ, ◌<◌, ◌⊎◌, inl, inr, true, List, [], ◌∷◌, ◌++◌, length, drop, refl, sym, ◌∙◌, ap, subst, append_assoc, arith}
-use Rattle.std.proofs.lemmas.List.{length-append, length-drop}
-use Rattle.rn_notation.specs.declared.token.Token.{Token}
-use Rattle.rn_reading.specs.link.Stages.{BeginAlike, CanEnd, done}
-use Rattle.rn_reading.specs.declared.fault.ReadFault.{ReadFault}
+use Rattle.rn_net.proofs.Names.{◌≡◌, ℕ, ◌<◌, ◌⊎◌, inl, inr, true, List, [], ◌∷◌, ◌++◌, length, drop, refl, sym, ◌∙◌, ap, subst, append_assoc, arith, length-append, length-drop, Token, BeginAlike, CanEnd, done, ReadFault, Plain, Item, IsShallow, region_after, is_too_deep, net_counting, between, IsSystem, IsItem, with_item, Stage, Fails, IsBeginning, Top, Ends, IsBare, notation_name, channel_word, net_word, alike-append, count-append, within-append}
 use Rattle.rn_reading.specs.declared.fault.ReadFault.TheVariants as Fault
-use Rattle.rn_net.specs.declared.plain.Plain.{Plain}
-use Rattle.rn_net.specs.declared.part.Item.{Item}
-use Rattle.rn_net.specs.Levels.{IsShallow, region_after, is_too_deep, net_counting}
-use Rattle.rn_net.specs.Levels.Region.{between}
-use Rattle.rn_net.specs.Nets.{AreItems, IsSystem}
-use Rattle.rn_net.specs.link.Parts.{IsItem, with_item}
-use Rattle.rn_net.specs.link.Progress.{Stage, Fails}
-use Rattle.rn_net.specs.Refusals.{IsBeginning}
-use Rattle.rn_net.specs.link.Answers.{Top, Ends, IsBare}
-use Rattle.rn_net.specs.Words.{notation_name, channel_word, net_word}
-use Rattle.rn_reading.proofs.Steps.{alike-append, count-append, within-append}
+use Rattle.rn_net.specs.Nets.{AreItems}
 use Rattle.rn_net.proofs.Sorts.{tell_apart}
 use Rattle.rn_net.proofs.NetPhrases.{item-begins}
 

@@ -1,15 +1,7 @@
 -- Characters at the start of bytes.
-use Rattle.std.proofs.Common.{◌≡◌, ◌<◌, ◌≤◌, ◌+◌, ℕ, List, ◌∷◌, ◌++◌, length, take, Bool, true, false, cond, nat_eq, refl, sym, ap, ◌∙◌, subst, arith}
-use Rattle.std.specs.Prelude.{encode_utf8, ◌⊎◌, IsUtf8}
-use Rattle.std.specs.Char.{IsScalar}
-use Rattle.std.specs.List.{AllByRecursion}
-use Rattle.std.specs.Str.{StartsWithNoChar, IsValidUpTo}
-use Rattle.std.proofs.Math.Dec.{T, eqb→eq}
-use Rattle.std.proofs.lemmas.Str.{encode_same, encode_ascii, length-encode, len_utf8_bounds, IsUtf8-encode}
-use Rattle.std.proofs.lemmas.List.{length-append, take-take, take_at}
-use lib.Utf8.{low_scalar, encode}
+use Rattle.rn_notation.proofs.Names.{◌≡◌, ◌<◌, ◌≤◌, ◌+◌, ℕ, List, ◌∷◌, ◌++◌, length, take, Bool, true, false, cond, nat_eq, refl, sym, ap, ◌∙◌, subst, arith, encode_utf8, ◌⊎◌, IsUtf8, IsScalar, AllByRecursion, StartsWithNoChar, IsValidUpTo, nat_tests, encode_same, encode_ascii, length-encode, len_utf8_bounds, IsUtf8-encode, length-append, take-take, take_at, low_scalar, inl, inr}
+use lib.Utf8.{encode}
 use lib.Dec.{ltb}
-use mathlib.Core.Logic.{inl, inr}
 
 pub heads : (a b : ℕ) (r t : List ℕ) → a ∷ r ≡ b ∷ t → a ≡ b
 heads a b r t e = cc
@@ -19,11 +11,7 @@ tails a b r t e = cc
 
 -- different numbers
 pub other_number : (a b : ℕ) → ¬ (a ≡ b) → nat_eq a b ≡ false
-other_number a b h = by (nat_eq a b) refl
-  where
-    by : (t : Bool) → nat_eq a b ≡ t → nat_eq a b ≡ false
-    by true e = absurd (h (eqb→eq a b (subst T (sym e) tt)))
-    by false e = e
+other_number a b h = grind (arith, nat_tests)
 
 -- a low byte is a character
 pub ascii_scalar : (c : ℕ) → c < 128 → IsScalar c
@@ -59,7 +47,8 @@ none_at_fault text prefix most n m four e short long valid zero c rest scalar wh
     let bounds = len_utf8_bounds c in
     let longer : length text ≡ length (encode_utf8 c) + length rest = ap length whole ∙ length-append (encode_utf8 c) rest in
     let within : length (encode_utf8 c) ≤ n = within (length text) n (length (encode_utf8 c)) most four short long (omega arith) (omega arith) in
-    let same : take (length (encode_utf8 c)) prefix ≡ encode_utf8 c = ap (take (length (encode_utf8 c))) e ∙ take-take (length (encode_utf8 c)) n text within ∙ ap (take (length (encode_utf8 c))) whole ∙ take_at (encode_utf8 c) rest (length (encode_utf8 c)) refl in
+    let same : take (length (encode_utf8 c)) prefix ≡ encode_utf8 c =
+    ap (take (length (encode_utf8 c))) e ∙ take-take (length (encode_utf8 c)) n text within ∙ ap (take (length (encode_utf8 c))) whole ∙ take_at (encode_utf8 c) rest (length (encode_utf8 c)) refl in
     valid.longest (length (encode_utf8 c)) (omega arith) (subst IsUtf8 (sym same) (IsUtf8-encode c scalar))
 
 -- each byte of a character is high, or is the character

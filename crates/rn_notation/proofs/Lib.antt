@@ -1,9 +1,8 @@
+pub mod Names
 pub mod Characters
 pub mod Classes
-pub mod CommentLemmas
 pub mod NumberLemmas
 pub mod OneReading
-pub mod BlankLemmas
 pub mod Parts
 pub mod ReadingLemmas
 pub mod Runs

@@ -1,214 +1,137 @@
 -- A text, as it is read piece by piece.
-use Rattle.std.proofs.Common.{◌≡◌, ◌<◌, ◌≤◌, ◌+◌, ◌-◌, ◌^◌, ℕ, List, [], ◌∷◌, ◌++◌, length, take, drop, reverse, Bool, true, false, cond, not, refl, sym, ap, ◌∙◌, subst, arith, true≢false, append_assoc}
-use Rattle.std.specs.Prelude.{count_by}
-use Rattle.std.specs.List.{flat_map, prefix_len}
-use Rattle.std.proofs.lemmas.List.{append-nil, length-append, reverse-append, length-reverse, take_at, drop_at, length-take-le, take-append-drop}
-use Rattle.std.proofs.lemmas.List.Sums.{prefix_len-le-length, sum_by-append, count_by-le-length}
-use Rattle.rn_notation.specs.Spots.{is_line_end, spot_after}
-use Rattle.rn_notation.specs.Tokens.{IsGap, IsToken}
-use Rattle.rn_notation.specs.Reading.{Piece, gap, token, bytes_of, StandsBefore, ArePieces, tokens_after, token_after, BeginsWith, Tokens, FirstFault, fault_at}
-use Rattle.rn_notation.specs.link.Scanning.{Cuts, spot_on, next_spot}
+use Rattle.rn_notation.proofs.Names.{◌≡◌, ◌<◌, ◌≤◌, ◌+◌, ◌-◌, ◌^◌, ℕ, List, [], ◌∷◌, ◌++◌, length, take, drop, reverse, Bool, true, false, cond, not, refl, sym, ap, ◌∙◌, subst, arith, append_assoc, if◌then◌else◌, ◌&&◌, count_by, flat_map, prefix_len, append-nil, length-append, reverse-append, length-reverse, take_at, drop_at, prefix_len-le-length, sum_by-append, count_by-le-length, is_line_end, spot_after, IsGap, IsToken, bytes_of, StandsBefore, ArePieces, tokens_after, BeginsWith, Tokens, FirstFault, fault_at, is_letter, is_digit, begins_with, CutsInto, spot_on, next_spot, Read, Token, TokenKind, Cause, is_blank}
+use Rattle.rn_notation.specs.Reading.{Piece, gap, token}
 use Rattle.rn_notation.specs.link.Scanning as step
-use Rattle.rn_notation.specs.declared.piece.Piece.{Piece as Read}
 use Rattle.rn_notation.specs.declared.token.Spot.{Spot}
-use Rattle.rn_notation.specs.declared.token.Token.{Token}
-use Rattle.rn_notation.specs.declared.token.TokenKind.{TokenKind}
-use Rattle.rn_notation.specs.declared.token.Cause.{Cause}
 use Rattle.rn_notation.proofs.WordLemmas.{sign_not_empty}
-use Rattle.rn_notation.specs.Words.{is_blank}
-use Rattle.rn_notation.proofs.BlankLemmas.{blank_stands}
-
-count_more : (c : ℕ) (xs : List ℕ) → count_by is_line_end (xs ++ c ∷ []) ≡ count_by is_line_end xs + cond (is_line_end c) 1 0
-count_more c xs = sum_by-append (λ x. cond (is_line_end x) 1 0) xs (c ∷ []) ∙ ap (λ n. count_by is_line_end xs + n) (zero_plus (cond (is_line_end c) 1 0))
-  where
-    zero_plus : (n : ℕ) → 0 + n ≡ n
-    zero_plus n = omega arith
 
 spot_more : (before : List ℕ) (c : ℕ) → next_spot (spot_after before) c ≡ spot_after (before ++ c ∷ [])
-spot_more before c = by (is_line_end c) refl (reverse-append before (c ∷ [])) (count_more c before)
+spot_more before c =
+    let lines = sum_by-append (λ x. cond (is_line_end x) 1 0) before (c ∷ []) in
+    let row = ap (prefix_len (λ c. not (is_line_end c))) (reverse-append before (c ∷ [])) in
+    by (is_line_end c) (count_by is_line_end before) (prefix_len (λ c. not (is_line_end c)) (reverse before)) _ _ lines row
   where
-    by : (b : Bool) → is_line_end c ≡ b → reverse (before ++ c ∷ []) ≡ c ∷ reverse before → count_by is_line_end (before ++ c ∷ []) ≡ count_by is_line_end before + cond (is_line_end c) 1 0 →
-        next_spot (spot_after before) c ≡ spot_after (before ++ c ∷ [])
-    by true e r n =
-        let line : count_by is_line_end (before ++ c ∷ []) ≡ count_by is_line_end before + 1 = n ∙ ap (λ b. count_by is_line_end before + cond b 1 0) e in
-        let row : prefix_len (λ c. not (is_line_end c)) (reverse (before ++ c ∷ [])) ≡ 0 = ap (prefix_len (λ c. not (is_line_end c))) r ∙ rw e refl in
-        rw (line, row, e) refl
-    by false e r n =
-        let line : count_by is_line_end (before ++ c ∷ []) ≡ count_by is_line_end before = n ∙ ap (λ b. count_by is_line_end before + cond b 1 0) e ∙ omega arith in
-        let row : prefix_len (λ c. not (is_line_end c)) (reverse (before ++ c ∷ [])) ≡ prefix_len (λ c. not (is_line_end c)) (reverse before) + 1 = ap (prefix_len (λ c. not (is_line_end c))) r ∙ rw e (omega arith) in
-        rw (line, row, e) refl
+    by : (b : Bool) (n p m q : ℕ) → m ≡ n + (0 + cond b 1 0) → q ≡ cond (not b) (1 + p) 0 →
+        ◌≡◌ {A = Spot} (if b then record { line = n + 1 + 1; column = 1 } else record { line = n + 1; column = p + 1 + 1 }) record { line = m + 1; column = q + 1 }
+    by true n p m q e f = rw (e, f) refl
+    by false n p m q e f = let line : m ≡ n = omega (arith, e) in let row : q ≡ p + 1 = omega (arith, f) in rw (line, row) refl
 
 pub spot_on_after : (before text : List ℕ) → spot_on (spot_after before) text ≡ spot_after (before ++ text)
 spot_on_after before [] = ap spot_after (sym (append-nil before))
 spot_on_after before (c ∷ text) = ap (λ spot. spot_on spot text) (spot_more before c) ∙ spot_on_after (before ++ c ∷ []) text ∙ ap spot_after (append_assoc before (c ∷ []) text)
 
-count_le : (xs : List ℕ) → count_by is_line_end xs ≤ length xs
-count_le xs = count_by-le-length is_line_end xs
-
-pub spot_bounds : (before : List ℕ) → ((spot_after before).line ≤ length before + 1) × ((spot_after before).column ≤ length before + 1)
-spot_bounds before =
-    let few = count_le before in
-    let short = prefix_len-le-length (λ c. not (is_line_end c)) (reverse before) in
-    let long = length-reverse before in
-    (omega (arith, few), omega (arith, short, long))
-
--- the text begins with these tokens, up to this spot and rest
-pub record SoFar (text : List ℕ) (tokens : List Token) (spot : Spot) (rest : List ℕ) : Type 0 where
+-- the spot is the one before this rest of the text
+pub record At (text : List ℕ) (spot : Spot) (rest : List ℕ) : Type 0 where
   pub before : List ℕ
-  pub begins : BeginsWith text tokens before rest
   pub whole : text ≡ before ++ rest
-  pub at : spot ≡ spot_after before
+  pub is : spot ≡ spot_after before
 
-pieces_more : (text : List ℕ) (ps : List Piece) (p : Piece) (rest after : List ℕ) → ArePieces text ps rest → rest ≡ bytes_of p ++ after → StandsBefore p after → ArePieces text (ps ++ p ∷ []) after
-pieces_more text [] p rest after same e fits = (after, same ∙ e, fits, refl)
-pieces_more text (q ∷ ps) p rest after (next, whole, first, others) e fits = (next, whole, first, pieces_more next ps p rest after others e fits)
-
-bytes_more : (ps : List Piece) (p : Piece) → flat_map bytes_of (ps ++ p ∷ []) ≡ flat_map bytes_of ps ++ bytes_of p
-bytes_more [] p = append-nil (bytes_of p)
-bytes_more (q ∷ ps) p = ap (λ t. bytes_of q ++ t) (bytes_more ps p) ∙ sym (append_assoc (bytes_of q) (flat_map bytes_of ps) (bytes_of p))
-
-tokens_more : (before : List ℕ) (ps : List Piece) (p : Piece) → tokens_after before (ps ++ p ∷ []) ≡ tokens_after before ps ++ tokens_after (before ++ flat_map bytes_of ps) (p ∷ [])
-tokens_more before [] p = ap (λ before. tokens_after before (p ∷ [])) (sym (append-nil before))
-tokens_more before (gap prefix ∷ ps) p = tokens_more (before ++ prefix) ps p ∙ ap (λ b. tokens_after (before ++ prefix) ps ++ tokens_after b (p ∷ [])) (append_assoc before prefix (flat_map bytes_of ps))
-tokens_more before (token kind prefix ∷ ps) p = ap (λ t. token_after before kind prefix ∷ t)
-    (tokens_more (before ++ prefix) ps p ∙ ap (λ b. tokens_after (before ++ prefix) ps ++ tokens_after b (p ∷ [])) (append_assoc before prefix (flat_map bytes_of ps)))
-
-more : (text rest after : List ℕ) (tokens grown : List Token) (spot next : Spot) (p : Piece) → (so : SoFar text tokens spot rest) → rest ≡ bytes_of p ++ after → StandsBefore p after →
-    next ≡ spot_on spot (bytes_of p) → grown ≡ tokens ++ tokens_after so.before (p ∷ []) → SoFar text grown next after
-more text rest after tokens grown spot next p so e fits at new = record {
-  before = so.before ++ bytes_of p;
-  begins = record {
-    pieces = so.begins.pieces ++ p ∷ [];
-    stand = pieces_more text so.begins.pieces p rest after so.begins.stand e fits;
-    cover = ap (λ b. b ++ bytes_of p) so.begins.cover ∙ sym (bytes_more so.begins.pieces p);
-    among = new ∙ ap (λ t. t ++ tokens_after so.before (p ∷ [])) so.begins.among ∙ ap (λ b. tokens_after [] so.begins.pieces ++ tokens_after b (p ∷ [])) so.begins.cover
-        ∙ sym (tokens_more [] so.begins.pieces p);
-  };
-  whole = so.whole ∙ ap (λ rest. so.before ++ rest) e ∙ sym (append_assoc so.before (bytes_of p) after);
-  at = at ∙ ap (λ spot. spot_on spot (bytes_of p)) so.at ∙ spot_on_after so.before (bytes_of p);
+abbrev pub moved : {text rest after : List ℕ} {spot next : Spot} (prefix : List ℕ) → At text spot rest → rest ≡ prefix ++ after → next ≡ spot_on spot prefix → At text next after
+moved {after = after} prefix at whole on = record {
+  before = at.before ++ prefix;
+  whole = at.whole ∙ ap (λ rest. at.before ++ rest) whole ∙ sym (append_assoc at.before prefix after);
+  is = on ∙ ap (λ spot. spot_on spot prefix) at.is ∙ spot_on_after at.before prefix;
 }
+
+pub room : {text rest : List ℕ} {spot : Spot} (prefix after : List ℕ) → length text ≤ 67108864 → At text spot rest → rest ≡ prefix ++ after → (spot.line + length prefix < 2 ^ 32) × (spot.column + length prefix < 2 ^ 32)
+room {rest = rest} prefix after few at whole =
+    let long = ap length at.whole ∙ length-append at.before rest in
+    let within = ap length whole ∙ length-append prefix after in
+    let lines = ap (λ (s : Spot). s.line) at.is in
+    let columns = ap (λ (s : Spot). s.column) at.is in
+    let line = count_by-le-length is_line_end at.before in
+    let row = prefix_len-le-length (λ c. not (is_line_end c)) (reverse at.before) in
+    let back = length-reverse at.before in
+    (omega (arith, long, within, lines, line), omega (arith, long, within, columns, row, back))
+
+pub ends : {text after : List ℕ} {spot end : Spot} → At text spot after → end ≡ spot_on spot after → end ≡ spot_after text
+ends {after = after} at on = on ∙ ap (λ s. spot_on s after) at.is ∙ spot_on_after at.before after ∙ ap spot_after (sym at.whole)
+
+-- The text begins with these tokens, up to this spot and rest: pieces that follow come after them.
+pub record SoFar (text : List ℕ) (tokens : List Token) (spot : Spot) (rest : List ℕ) : Type 0 where
+  pub at : At text spot rest
+  pub begins : (ps : List Piece) (end : List ℕ) → ArePieces rest ps end → BeginsWith text (tokens ++ tokens_after at.before ps) (at.before ++ flat_map bytes_of ps) end
 
 pub starts : (text : List ℕ) (spot : Spot) → spot ≡ spot_after [] → SoFar text [] spot text
-starts text spot e = record { before = []; begins = record { pieces = []; stand = refl; cover = refl; among = refl }; whole = refl; at = e }
+starts text spot e = record { at = record { before = []; whole = refl; is = e }; begins = λ ps end stand. record { pieces = ps; stand = stand; cover = refl; among = refl } }
 
-pub gap_read : (text rest prefix after : List ℕ) (tokens : List Token) (spot next : Spot) (n : ℕ) → SoFar text tokens spot rest → Cuts rest n step.gap → prefix ≡ take n rest → after ≡ drop n rest →
-    next ≡ spot_on spot prefix → SoFar text tokens next after
-gap_read text rest prefix after tokens spot next n so cut f a at =
-    let same = f ∙ ap (take n) cut.whole ∙ take_at cut.prefix cut.rest n (sym cut.size) in
-    let others = a ∙ ap (drop n) cut.whole ∙ drop_at cut.prefix cut.rest n (sym cut.size) in
-    subst (SoFar text tokens next) (sym others)
-    (more text rest cut.rest tokens tokens spot next (gap cut.prefix) so cut.whole cut.stands (at ∙ ap (spot_on spot) same) (sym (append-nil tokens)))
+-- nothing follows
+pub begun : {text rest : List ℕ} {tokens : List Token} {spot : Spot} → (so : SoFar text tokens spot rest) → BeginsWith text tokens so.at.before rest
+begun {rest = rest} {tokens = tokens} so = rw (append-nil tokens, append-nil so.at.before) at (so.begins [] rest refl)
 
-pub token_read : (text rest prefix after : List ℕ) (tokens grown : List Token) (kind : TokenKind) (spot next : Spot) (n : ℕ) → (so : SoFar text tokens spot rest) → Cuts rest n (step.token kind) → prefix ≡ take n rest → after ≡ drop n rest →
-    next ≡ spot_on spot prefix → grown ≡ tokens ++ record { kind = kind; start = length text - length rest; end = length text - length rest + n; spot = spot } ∷ [] → SoFar text grown next after
-token_read text rest prefix after tokens grown kind spot next n so cut f a at new =
-    let same = f ∙ ap (take n) cut.whole ∙ take_at cut.prefix cut.rest n (sym cut.size) in
-    let others = a ∙ ap (drop n) cut.whole ∙ drop_at cut.prefix cut.rest n (sym cut.size) in
-    let long = ap length so.whole ∙ length-append so.before rest in
-    let begin : length text - length rest ≡ length so.before = omega (arith, long) in
-    let made : record { kind = kind; start = length text - length rest; end = length text - length rest + n; spot = spot } ≡ token_after so.before kind cut.prefix = rw (begin, cut.size, so.at) refl in
-    subst (SoFar text grown next) (sym others)
-    (more text rest cut.rest tokens grown spot next (token kind cut.prefix) so cut.whole cut.stands (at ∙ ap (spot_on spot) same) (new ∙ ap (λ t. tokens ++ t ∷ []) made))
+first_token : (before : List ℕ) (p : Piece) (ps : List Piece) → tokens_after before (p ∷ ps) ≡ tokens_after before (p ∷ []) ++ tokens_after (before ++ bytes_of p) ps
+first_token before (gap prefix) ps = refl
+first_token before (token kind prefix) ps = refl
 
-pub fault_read : (text rest prefix : List ℕ) (tokens : List Token) (cause : Cause) (spot next : Spot) (n : ℕ) → SoFar text tokens spot rest → Cuts rest n (step.fault cause) → prefix ≡ take n rest →
-    next ≡ spot_on spot prefix → FirstFault text tokens (fault_at cause next)
-fault_read text rest prefix tokens cause spot next n so cut f at = record {
-  before = so.before;
-  inside = cut.prefix;
-  rest = cut.rest;
-  cause = cause;
-  begins = subst (BeginsWith text tokens so.before) cut.whole so.begins;
-  fails = cut.stands;
-  reported = ap (fault_at cause) (at ∙ ap (spot_on spot) (f ∙ ap (take n) cut.whole ∙ take_at cut.prefix cut.rest n (sym cut.size)) ∙ ap (λ spot. spot_on spot cut.prefix) so.at ∙ spot_on_after so.before cut.prefix);
+more : {text rest after : List ℕ} {tokens grown : List Token} {spot next : Spot} (p : Piece) → (so : SoFar text tokens spot rest) → rest ≡ bytes_of p ++ after → StandsBefore p after →
+    next ≡ spot_on spot (bytes_of p) → grown ≡ tokens ++ tokens_after so.at.before (p ∷ []) → SoFar text grown next after
+more {text = text} {after = after} {tokens = tokens} p so e fits on new = record {
+  at = moved (bytes_of p) so.at e on;
+  begins = λ ps end stand.
+      let tokens_are = ap (λ t. t ++ tokens_after (so.at.before ++ bytes_of p) ps) new ∙ append_assoc tokens _ _ ∙ ap (λ t. tokens ++ t) (sym (first_token so.at.before p ps)) in
+      rw (tokens_are, append_assoc so.at.before (bytes_of p) (flat_map bytes_of ps)) (so.begins (p ∷ ps) end (after, e, fits, stand));
 }
 
-pub whole_read : (text rest : List ℕ) (tokens : List Token) (spot : Spot) → SoFar text tokens spot rest → rest ≡ [] → Tokens text tokens × (spot ≡ spot_after text)
-whole_read text rest tokens spot so e =
-    let whole = so.whole ∙ ap (λ rest. so.before ++ rest) e ∙ append-nil so.before in
-    (subst (λ before. BeginsWith text tokens before []) (sym whole) (subst (BeginsWith text tokens so.before) e so.begins), so.at ∙ ap spot_after (sym whole))
+-- the piece that was found, as it is told apart
+pub stands_as : {piece : Read} {text prefix after : List ℕ} (other : Read) → CutsInto piece text prefix after → piece ≡ other → step.IsSpelledBy (step.found_of other) prefix after
+stands_as {prefix = prefix} {after = after} other cut is = subst (λ piece. step.IsSpelledBy (step.found_of piece) prefix after) is cut.stands
 
-pub gap_some : (prefix rest : List ℕ) → IsGap prefix rest → 0 < length prefix
-gap_some prefix rest (IsGap.blank h) = omega arith
-gap_some prefix rest (IsGap.comment cs all h) = omega arith
+pub gap_read : {text rest prefix after : List ℕ} {tokens : List Token} {spot next : Spot} {piece : Read} {n : ℕ} → SoFar text tokens spot rest → CutsInto piece rest prefix after → piece ≡ Read.Gap n →
+    next ≡ spot_on spot prefix → SoFar text tokens next after
+gap_read {prefix = prefix} {tokens = tokens} so cut is on = more (gap prefix) so cut.whole (stands_as (Read.Gap _) cut is) on (sym (append-nil tokens))
 
-pub token_some : (kind : TokenKind) (prefix rest : List ℕ) → IsToken kind prefix rest → 0 < length prefix
-token_some kind [] rest (IsToken.name is stops none) = absurd (true≢false (sym is))
-token_some kind (c ∷ prefix) rest (IsToken.name is stops none) = omega arith
-token_some kind [] rest (IsToken.word is stops at) = absurd (true≢false (sym is))
-token_some kind (c ∷ prefix) rest (IsToken.word is stops at) = omega arith
-token_some kind [] rest (IsToken.number is stops low) = absurd (true≢false (sym is))
-token_some kind (c ∷ prefix) rest (IsToken.number is stops low) = omega arith
-token_some kind prefix rest (IsToken.text parts are) = omega arith
-token_some kind prefix rest (IsToken.sign {k = k} at longest code) = sign_not_empty prefix k at
+pub token_read : {text rest prefix after : List ℕ} {tokens grown : List Token} {spot next : Spot} {piece : Read} {kind : TokenKind} {n : ℕ} → SoFar text tokens spot rest → CutsInto piece rest prefix after → piece ≡ Read.Token kind n →
+    next ≡ spot_on spot prefix → grown ≡ tokens ++ record { kind = kind; start = length text - length rest; end = length text - length rest + length prefix; spot = spot } ∷ [] → SoFar text grown next after
+token_read {text = text} {rest = rest} {prefix = prefix} {kind = kind} so cut is on new =
+    let long = ap length so.at.whole ∙ length-append so.at.before rest in
+    let begin : length text - length rest ≡ length so.at.before = omega (arith, long) in
+    more (token kind prefix) so cut.whole (stands_as (Read.Token kind _) cut is) on (rw (begin, so.at.is) at new)
 
-pub gap_shortens : (rest : List ℕ) (n : ℕ) → Cuts rest n step.gap → 0 < n
-gap_shortens rest n cut = let some = gap_some cut.prefix cut.rest cut.stands in let size = cut.size in omega (arith, some, size)
+pub fault_read : {text rest prefix after : List ℕ} {tokens : List Token} {spot next : Spot} {piece : Read} {cause : Cause} {n : ℕ} → SoFar text tokens spot rest → CutsInto piece rest prefix after → piece ≡ Read.Fault cause n →
+    next ≡ spot_on spot prefix → FirstFault text tokens (fault_at cause next)
+fault_read {text = text} {prefix = prefix} {after = after} {tokens = tokens} {cause = cause} so cut is on = record {
+  before = so.at.before;
+  inside = prefix;
+  rest = after;
+  cause = cause;
+  begins = subst (BeginsWith text tokens so.at.before) cut.whole (begun so);
+  fails = stands_as (Read.Fault cause _) cut is;
+  reported = ap (fault_at cause) (moved prefix so.at cut.whole on).is;
+}
 
-pub token_shortens : (rest : List ℕ) (n : ℕ) (kind : TokenKind) → Cuts rest n (step.token kind) → 0 < n
-token_shortens rest n kind cut = let some = token_some kind cut.prefix cut.rest cut.stands in let size = cut.size in omega (arith, some, size)
+pub whole_read : {text rest : List ℕ} {tokens : List Token} {spot : Spot} → SoFar text tokens spot rest → rest ≡ [] → Tokens text tokens × (spot ≡ spot_after text)
+whole_read {text = text} {tokens = tokens} so e =
+    let whole = so.at.whole ∙ ap (λ rest. so.at.before ++ rest) e ∙ append-nil so.at.before in
+    (subst (λ before. BeginsWith text tokens before []) (sym whole) (subst (BeginsWith text tokens so.at.before) e (begun so)), so.at.is ∙ ap spot_after (sym whole))
 
-pub cut_within : (rest : List ℕ) (n : ℕ) (found : step.Found) → Cuts rest n found → n ≤ length rest
-cut_within rest n found cut = let long = ap length cut.whole ∙ length-append cut.prefix cut.rest in let size = cut.size in omega (arith, long, size)
+pub some_first : (test : ℕ → Bool) (word : List ℕ) (b : Bool) → (begins_with test word && b) ≡ true → 0 < length word
+some_first test [] b h = cc
+some_first test (c ∷ word) b h = omega arith
 
-pub room : (text rest prefix : List ℕ) (tokens : List Token) (spot : Spot) (n : ℕ) → length text ≤ 67108864 → SoFar text tokens spot rest → prefix ≡ take n rest → n ≤ length rest →
-    (spot.line + length prefix < 2 ^ 32) × (spot.column + length prefix < 2 ^ 32)
-room text rest prefix tokens spot n few so f within =
-    let long = ap length so.whole ∙ length-append so.before rest in
-    let short = ap length f ∙ length-take-le n rest within in
-    let bounds = spot_bounds so.before in
-    let line : spot.line ≡ (spot_after so.before).line = ap (λ s. s.line) so.at in
-    let column : spot.column ≡ (spot_after so.before).column = ap (λ s. s.column) so.at in (
-      small spot.line (length so.before) (length prefix) (length rest) (length text) few long (omega (arith, short)) (omega (arith, line, bounds.0)),
-      small spot.column (length so.before) (length prefix) (length rest) (length text) few long (omega (arith, short)) (omega (arith, column, bounds.1)),
-    )
-  where
-    small : (a b f r t : ℕ) → t ≤ 67108864 → t ≡ b + r → f ≤ r → a ≤ b + 1 → a + f < 2 ^ 32
-    small a b f r t few long short bound = omega arith
+-- a piece has a byte at least
+pub piece_some : (p : Piece) (after : List ℕ) → StandsBefore p after → 0 < length (bytes_of p)
+piece_some (gap prefix) after (IsGap.blank h) = omega arith
+piece_some (gap prefix) after (IsGap.comment cs all h) = omega arith
+piece_some (token kind prefix) after (IsToken.name is stops none) = some_first is_letter prefix _ is
+piece_some (token kind prefix) after (IsToken.word is stops at) = some_first is_letter prefix _ is
+piece_some (token kind prefix) after (IsToken.number is stops low) = some_first is_digit prefix _ is
+piece_some (token kind prefix) after (IsToken.text parts are) = omega arith
+piece_some (token kind prefix) after (IsToken.sign {k = k} at longest code) = sign_not_empty prefix k at
 
--- the spot after the prefix, and the bytes after it
-pub one_fits : (text rest others : List ℕ) (c : ℕ) (tokens : List Token) (spot : Spot) → length text ≤ 67108864 → SoFar text tokens spot rest → rest ≡ c ∷ others → spot.column + 1 < 2 ^ 32
-one_fits text rest others c tokens spot few so e =
-    let long = ap length e in
-    (room text rest (c ∷ []) tokens spot 1 few so (sym (ap (take 1) e)) (omega (arith, long))).1
+pub blank_read : {text rest others : List ℕ} {tokens : List Token} {spot next : Spot} (c : ℕ) → SoFar text tokens spot rest → rest ≡ c ∷ others → is_blank c ≡ true → next ≡ next_spot spot c → SoFar text tokens next others
+blank_read {tokens = tokens} c so e is on = more (gap (c ∷ [])) so e (IsGap.blank is) on (sym (append-nil tokens))
 
-pub blank_read : (text rest others : List ℕ) (c : ℕ) (tokens : List Token) (spot next : Spot) → SoFar text tokens spot rest → rest ≡ c ∷ others → is_blank c ≡ true → next ≡ next_spot spot c → SoFar text tokens next others
-blank_read text rest others c tokens spot next so e is at =
-    gap_read text rest (c ∷ []) others tokens spot next 1 so (blank_stands c rest others e is) (sym (ap (take 1) e)) (sym (ap (drop 1) e)) at
+-- what follows a piece is shorter
+pub shorter : (p : Piece) (rest after : List ℕ) → rest ≡ bytes_of p ++ after → StandsBefore p after → length after < length rest
+shorter p rest after e fits = let some = piece_some p after fits in let long = ap length e ∙ length-append (bytes_of p) after in omega (arith, some, long)
 
-pub room_after : (text rest prefix after : List ℕ) (tokens : List Token) (spot next : Spot) (n : ℕ) → length text ≤ 67108864 → SoFar text tokens spot rest → prefix ≡ take n rest → after ≡ drop n rest →
-    next ≡ spot_on spot prefix → (next.line + length after < 2 ^ 32) × (next.column + length after < 2 ^ 32)
-room_after text rest prefix after tokens spot next n few so f a at =
-    let whole : rest ≡ prefix ++ after = sym (take-append-drop n rest) ∙ ap (λ x. x ++ drop n rest) (sym f) ∙ ap (λ x. prefix ++ x) (sym a) in
-    let here : next ≡ spot_after (so.before ++ prefix) = at ∙ ap (λ spot. spot_on spot prefix) so.at ∙ spot_on_after so.before prefix in
-    let long = ap length so.whole ∙ length-append so.before rest in
-    let parts = ap length whole ∙ length-append prefix after in
-    let before = length-append so.before prefix in
-    let bounds = spot_bounds (so.before ++ prefix) in
-    let line : next.line ≡ (spot_after (so.before ++ prefix)).line = ap (λ s. s.line) here in
-    let column : next.column ≡ (spot_after (so.before ++ prefix)).column = ap (λ s. s.column) here in (
-      small next.line (length so.before) (length prefix) (length after) (length text) few (omega (arith, long, parts)) (omega (arith, line, bounds.0, before)),
-      small next.column (length so.before) (length prefix) (length after) (length text) few (omega (arith, long, parts)) (omega (arith, column, bounds.1, before)),
-    )
-  where
-    small : (x b f a t : ℕ) → t ≤ 67108864 → t ≡ b + f + a → x ≤ b + f + 1 → x + a < 2 ^ 32
-    small x b f a t few long bound = omega arith
+pub cut_into : (piece : Read) (text prefix after : List ℕ) (n : ℕ) → step.IsFirstPiece text piece → n ≡ step.size_of piece → prefix ≡ take n text → after ≡ drop n text → CutsInto piece text prefix after
+cut_into piece text prefix after n cut e f a =
+    let same = f ∙ ap (take n) cut.whole ∙ take_at cut.prefix cut.rest n (sym (e ∙ cut.size)) in
+    let others = a ∙ ap (drop n) cut.whole ∙ drop_at cut.prefix cut.rest n (sym (e ∙ cut.size)) in
+    rw (same, others) record { whole = cut.whole; stands = cut.stands }
 
-pub end_after : (text rest prefix after : List ℕ) (tokens : List Token) (spot next end : Spot) (n : ℕ) → SoFar text tokens spot rest → prefix ≡ take n rest → after ≡ drop n rest →
-    next ≡ spot_on spot prefix → end ≡ spot_on next after → end ≡ spot_after text
-end_after text rest prefix after tokens spot next end n so f a at e =
-    let whole : rest ≡ prefix ++ after = sym (take-append-drop n rest) ∙ ap (λ x. x ++ drop n rest) (sym f) ∙ ap (λ x. prefix ++ x) (sym a) in
-    let here : next ≡ spot_after (so.before ++ prefix) = at ∙ ap (λ spot. spot_on spot prefix) so.at ∙ spot_on_after so.before prefix in
-    e ∙ ap (λ s. spot_on s after) here ∙ spot_on_after (so.before ++ prefix) after
-    ∙ ap spot_after (append_assoc so.before prefix after ∙ ap (λ rest. so.before ++ rest) (sym whole) ∙ sym so.whole)
+pub cut_within : (piece : Read) (text : List ℕ) (n : ℕ) → step.IsFirstPiece text piece → n ≡ step.size_of piece → n ≤ length text
+cut_within piece text n cut e = let long = ap length cut.whole ∙ length-append cut.prefix cut.rest in let size = cut.size in omega (arith, long, size)
 
-pub as_gap : (rest : List ℕ) (piece : Read) (n m : ℕ) → step.IsFirstPiece rest piece → n ≡ step.size_of piece → piece ≡ Read.Gap m → Cuts rest n step.gap
-as_gap rest piece n m cut e is = subst (λ n. Cuts rest n step.gap) (sym e) (subst (λ f. Cuts rest (step.size_of piece) f) (ap step.found_of is) cut)
-
-pub as_token : (rest : List ℕ) (piece : Read) (n m : ℕ) (kind : TokenKind) → step.IsFirstPiece rest piece → n ≡ step.size_of piece → piece ≡ Read.Token kind m → Cuts rest n (step.token kind)
-as_token rest piece n m kind cut e is = subst (λ n. Cuts rest n (step.token kind)) (sym e) (subst (λ f. Cuts rest (step.size_of piece) f) (ap step.found_of is) cut)
-
-pub as_fault : (rest : List ℕ) (piece : Read) (n m : ℕ) (cause : Cause) → step.IsFirstPiece rest piece → n ≡ step.size_of piece → piece ≡ Read.Fault cause m → Cuts rest n (step.fault cause)
-as_fault rest piece n m cause cut e is = subst (λ n. Cuts rest n (step.fault cause)) (sym e) (subst (λ f. Cuts rest (step.size_of piece) f) (ap step.found_of is) cut)
-
-pub as_any : (rest : List ℕ) (piece : Read) (n : ℕ) → step.IsFirstPiece rest piece → n ≡ step.size_of piece → n ≤ length rest
-as_any rest piece n cut e = let within = cut_within rest (step.size_of piece) (step.found_of piece) cut in omega (arith, within, e)
+pub ruleset cutting = (cut_into, cut_within)

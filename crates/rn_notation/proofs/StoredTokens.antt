@@ -1,12 +1,7 @@
 -- Kept tokens, to which one more comes.
-use Rattle.std.proofs.Common.{◌≡◌, List, [], ◌∷◌, ◌++◌, length, map, get_or, Some, slice_get, ap, ◌∙◌}
-use Rattle.std.specs.List.{AllByRecursion}
+use Rattle.rn_notation.proofs.Names.{◌≡◌, List, [], ◌∷◌, ◌++◌, length, map, get_or, Some, slice_get, ap, ◌∙◌, AllByRecursion, token_stored, IsStored, IsPrefixOf, Token, TokenKind, Word}
 use Rattle.std.proofs.lemmas.Option.{get_or_from_slice_get}
 use Rattle.std.proofs.Math.ListN.{get_or-append}
-use Rattle.rn_notation.specs.StoredTokens.{token_stored, IsStored, IsPrefixOf}
-use Rattle.rn_notation.specs.declared.token.Token.{Token}
-use Rattle.rn_notation.specs.declared.token.TokenKind.{TokenKind}
-use Rattle.rn_notation.specs.declared.token.TokenKind.TheVariants.{Word}
 use Rattle.rn_notation.specs.declared.tokens.Stored.{Stored}
 
 abbrev pub of_kind : Stored → TokenKind → Token

@@ -1,113 +1,96 @@
--- Texts, as they are read.
-use Rattle.std.proofs.Common.{◌≡◌, ◌<◌, ◌+◌, ◌-◌, ℕ, List, [], ◌∷◌, ◌++◌, length, drop, Bool, true, false, nat_eq, refl, sym, ap, ◌∙◌, subst, arith, true≢false, append_assoc, if◌then◌else◌}
-use Rattle.std.specs.Prelude.{encode_utf8, encode_utf8_all, map}
-use Rattle.std.specs.List.{flat_map, AllByRecursion}
-use Rattle.std.proofs.lemmas.List.{append-nil, length-append}
-use Rattle.std.proofs.lemmas.List.Concat.{flat_map-append}
-use Rattle.std.proofs.lemmas.Bool.{eqb-true}
-use Rattle.rn_value.specs.Words.{begins_with}
-use Rattle.rn_notation.specs.Texts.{Part, itself, escape, IsPart, AreParts, spelled, meaning, written, meant, is_closed, IsBroken, IsNoEscape}
-use Rattle.rn_notation.specs.Tokens.{IsToken}
-use Rattle.rn_notation.specs.Faults.{IsFault}
-use Rattle.rn_notation.specs.link.Scanning.{Cuts, IsFirstPiece, HasPart, token, fault, IsRun}
-use Rattle.rn_notation.specs.link.Inside.{fault_in_text}
-use Rattle.rn_notation.specs.declared.token.TokenKind.TheVariants.{Text}
-use Rattle.rn_notation.specs.declared.token.Cause.{Cause}
-use Rattle.rn_notation.specs.declared.token.Cause.TheVariants.{P1, P4, P7}
+-- What stands in quotes and in comments, and what begins no token, as they are read.
+use Rattle.rn_notation.proofs.Names.{◌≡◌, ◌<◌, ◌-◌, ◌+◌, ℕ, List, [], ◌∷◌, ◌++◌, length, drop, Bool, true, false, nat_eq, refl, sym, ap, ◌∙◌, subst, arith, append_assoc, if◌then◌else◌, not, encode_utf8, encode_utf8_all, nat_tests, length-append, IsScalar, StartsWithNoChar, begins_with, Part, itself, escape, IsPart, AreParts, spelled, meaning, written, meant, is_closed, IsBroken, IsInComment, IsToken, IsGap, IsFault, begins_plainly, begins_something, Cuts, IsFirstPiece, HasParts, fault, IsRun, fault_in_text, GoesOn, opens_comment, begins_with_sign, Text, Cause, P1, P4, P7}
+use Rattle.rn_notation.specs.link.Scanning.{token, gap}
 use Rattle.rn_notation.specs.declared.piece.Piece.{Piece}
-use Rattle.rn_notation.proofs.CommentLemmas.{size_of_prefix, all_more}
+use Rattle.rn_notation.proofs.Runs.{goes_on, taken_as, cuts_before, fault_here, one_item}
 use Rattle.rn_notation.proofs.Parts.{closed_parts}
-use Rattle.rn_notation.proofs.Characters.{some_bytes}
+use Rattle.rn_notation.proofs.Characters.{some_bytes, ascii_prefix}
 
--- the source is a quote, parts that stand for these bytes, and then this rest
+-- a text goes on with characters of a comment
+abbrev pub Commented : List ℕ → List ℕ → Type 0
+Commented text rest = (bytes : List ℕ) × GoesOn IsInComment encode_utf8 encode_utf8 text bytes rest
+
+pub run_commented : {text run rest : List ℕ} → IsRun text run rest → Commented text rest
+run_commented {run = run} is = (run, taken_as (λ c. c) IsInComment encode_utf8 encode_utf8 (λ c is. (is.0, grind (arith, nat_tests, is.1))) is)
+
+pub comment_goes_on : {text rest after : List ℕ} → Commented text rest → Commented rest after → Commented text after
+comment_goes_on a b = (a.0 ++ b.0, goes_on a.1 b.1 refl)
+
+-- a character isn't the line feed where its first byte isn't
+no_line_feed : (first c : ℕ) (others rest : List ℕ) → first ∷ others ≡ encode_utf8 c ++ rest → ¬ (first ≡ 10) → nat_eq c 10 ≡ false
+no_line_feed first c others rest e h =
+    let same = λ (low : c < 128). ap (begins_with (λ d. nat_eq d 10)) (ascii_prefix c rest low ∙ sym e) in grind (arith, nat_tests, same)
+
+pub char_commented : (rest more others : List ℕ) (first c : ℕ) → rest ≡ first ∷ others → ¬ (first ≡ 10) → IsScalar c → rest ≡ encode_utf8 c ++ more → Commented rest more
+char_commented rest more others first c e h scalar whole = (encode_utf8 c, one_item c (scalar, no_line_feed first c others more (sym e ∙ whole) h) whole refl)
+
+slashes : (text : List ℕ) → opens_comment text ≡ true → text ≡ 47 ∷ 47 ∷ drop 2 text
+slashes [] h = cc
+slashes (a ∷ []) h = absurd (grind arith)
+slashes (a ∷ b ∷ text) h = grind (arith, nat_tests)
+
+pub comment_ends : (text rest : List ℕ) (n : ℕ) → opens_comment text ≡ true → Commented (drop 2 text) rest → begins_with (λ c. not (nat_eq c 10)) rest ≡ false → n ≡ length text - length rest → Cuts text n gap
+comment_ends text rest n opens so h e = cuts_before text (47 ∷ 47 ∷ encode_utf8_all so.1.items) rest n gap (slashes text opens ∙ ap (λ t. 47 ∷ 47 ∷ t) so.1.whole) e (IsGap.comment so.1.items so.1.are h)
+
+pub comment_breaks : (text rest others : List ℕ) (first : ℕ) → opens_comment text ≡ true → Commented (drop 2 text) rest → rest ≡ first ∷ others → StartsWithNoChar rest → Cuts text (length text - length rest) (fault P4)
+comment_breaks text rest others first opens so e h = cuts_before text (47 ∷ 47 ∷ encode_utf8_all so.1.items) rest _ (fault P4) (slashes text opens ∙ ap (λ t. 47 ∷ 47 ∷ t) so.1.whole) refl
+    (IsFault.broken_comment so.1.items so.1.are (subst IsBroken (sym e) (subst StartsWithNoChar e h)))
+
+pub stray_stands : (text : List ℕ) (c : ℕ) (after : List ℕ) → IsScalar c → text ≡ encode_utf8 c ++ after → begins_plainly text ≡ false → begins_with_sign text ≡ false → Cuts text 0 (fault P1)
+stray_stands text c after scalar e plain none =
+    let strange : begins_something text ≡ false = rw (plain, none) refl in
+    fault_here text P1 (subst (IsFault P1 []) (sym e) (IsFault.stray c after scalar (ap begins_something (sym e) ∙ strange)))
+
+pub broken_stands : (text : List ℕ) → 0 < length text → StartsWithNoChar text → Cuts text 0 (fault P4)
+broken_stands (c ∷ text) some h = fault_here (c ∷ text) P4 (IsFault.broken h)
+broken_stands [] some h = absurd (omega arith)
+
+pub ruleset stray_rules = (stray_stands, broken_stands)
+
+-- the source is a quote and parts that stand for these bytes, and then this rest
 pub record ReadText (source rest bytes : List ℕ) : Type 0 where
-  pub parts : List Part
-  pub are : AreParts parts
-  pub whole : source ≡ 34 ∷ written parts ++ rest
-  pub means : bytes ≡ meant parts
+  pub quoted : source ≡ 34 ∷ drop 1 source
+  pub parts : HasParts (drop 1 source) bytes rest
 
 pub text_starts : (source rest bytes : List ℕ) → begins_with (nat_eq 34) source ≡ true → rest ≡ drop 1 source → bytes ≡ [] → ReadText source rest bytes
-text_starts [] rest bytes h e f = absurd (true≢false (sym h))
-text_starts (c ∷ source) rest bytes h e f = record { parts = []; are = tt; whole = ap (λ c. c ∷ source) (sym (eqb-true 34 c h)) ∙ ap (λ t. 34 ∷ t) (sym e); means = f }
+text_starts [] rest bytes h e f = cc
+text_starts (c ∷ source) rest bytes h e f = let quote : c ≡ 34 = grind (arith, nat_tests) in record { quoted = ap (λ c. c ∷ source) quote; parts = record { items = []; are = tt; whole = sym e; means = f } }
 
-one_more : (f : Part → List ℕ) (ps : List Part) (p : Part) → flat_map f (ps ++ p ∷ []) ≡ flat_map f ps ++ f p
-one_more f ps p = flat_map-append f ps (p ∷ []) ∙ ap (λ t. flat_map f ps ++ t) (append-nil (f p))
+pub text_goes_on : {source rest more bytes part longer : List ℕ} → ReadText source rest bytes → HasParts rest part more → longer ≡ bytes ++ part → ReadText source more longer
+text_goes_on so has e = record { quoted = so.quoted; parts = goes_on so.parts has e }
 
-pub text_goes_on : (source rest more bytes longer : List ℕ) (c : ℕ) → ReadText source rest bytes → HasPart rest c more → longer ≡ bytes ++ encode_utf8 c → ReadText source more longer
-text_goes_on source rest more bytes longer c so has e = record {
-  parts = so.parts ++ has.part ∷ [];
-  are = all_more IsPart so.parts (has.part ∷ []) so.are (has.is, tt);
-  whole = so.whole ∙ ap (λ t. 34 ∷ written so.parts ++ t) has.whole ∙ ap (λ t. 34 ∷ t) (sym (append_assoc (written so.parts) (spelled has.part) more))
-      ∙ ap (λ t. 34 ∷ t ++ more) (sym (one_more spelled so.parts has.part));
-  means = e ∙ ap (λ t. t ++ encode_utf8 c) so.means ∙ ap (λ t. meant so.parts ++ t) (sym has.means) ∙ sym (one_more meaning so.parts has.part);
-}
+pub text_runs_on : {source rest more bytes run longer : List ℕ} → ReadText source rest bytes → IsRun rest run more → longer ≡ bytes ++ run → ReadText source more longer
+text_runs_on so is e = text_goes_on so (taken_as itself IsPart spelled meaning (λ c is. is) is) e
 
--- characters that stand for themselves, as parts
-themselves : (f : Part → List ℕ) → ((c : ℕ) → f (itself c) ≡ encode_utf8 c) → (cs : List ℕ) → flat_map f (map itself cs) ≡ encode_utf8_all cs
-themselves f same [] = refl
-themselves f same (c ∷ cs) = ap (λ t. t ++ flat_map f (map itself cs)) (same c) ∙ ap (λ t. encode_utf8 c ++ t) (themselves f same cs)
+whole_text : {source rest bytes : List ℕ} → (so : ReadText source rest bytes) → source ≡ 34 ∷ written so.parts.items ++ rest
+whole_text so = so.quoted ∙ ap (λ t. 34 ∷ t) so.parts.whole
 
-are_parts : (cs : List ℕ) → AllByRecursion (λ c. IsPart (itself c)) cs → AreParts (map itself cs)
-are_parts [] are = tt
-are_parts (c ∷ cs) are = (are.0, are_parts cs are.1)
+pub text_closes : {source rest bytes : List ℕ} (after : List ℕ) → ReadText source rest bytes → rest ≡ 34 ∷ after → Cuts source (length source - length rest + 1) (token (Text bytes))
+text_closes {source = source} {rest = rest} {bytes = bytes} after so e =
+    let parts = so.parts.items in
+    let whole : source ≡ (34 ∷ written parts ++ 34 ∷ []) ++ after = whole_text so ∙ ap (λ t. 34 ∷ written parts ++ t) e ∙ ap (λ t. 34 ∷ t) (sym (append_assoc (written parts) (34 ∷ []) after)) in
+    let short = ap length e in
+    let long = ap length (whole_text so) ∙ length-append (34 ∷ written parts) rest in
+    cuts_before source (34 ∷ written parts ++ 34 ∷ []) after _ (token (Text bytes)) whole (omega (arith, short, long))
+    (subst (λ bytes. IsToken (Text bytes) (34 ∷ written parts ++ 34 ∷ []) after) (sym so.parts.means) (IsToken.text parts so.parts.are))
 
-more_parts : (f : Part → List ℕ) → ((c : ℕ) → f (itself c) ≡ encode_utf8 c) → (ps : List Part) (cs run : List ℕ) → run ≡ encode_utf8_all cs → flat_map f ps ++ run ≡ flat_map f (ps ++ map itself cs)
-more_parts f same ps cs run e = ap (λ t. flat_map f ps ++ t) (e ∙ sym (themselves f same cs)) ∙ sym (flat_map-append f ps (map itself cs))
+pub text_is_open : {source rest bytes : List ℕ} → ReadText source rest bytes → is_closed rest ≡ false → Cuts source 0 (fault P7)
+text_is_open {source = source} {rest = rest} so h = fault_here source P7 (subst (IsFault P7 []) (sym (whole_text so)) (IsFault.not_closed (closed_parts so.parts.items rest so.parts.are ∙ h)))
 
-pub text_runs_on : (source rest run more bytes longer : List ℕ) → ReadText source rest bytes → IsRun rest run more → longer ≡ bytes ++ run → ReadText source more longer
-text_runs_on source rest run more bytes longer so is e = record {
-  parts = so.parts ++ map itself is.cs;
-  are = all_more IsPart so.parts (map itself is.cs) so.are (are_parts is.cs is.are);
-  whole = so.whole ∙ ap (λ t. 34 ∷ written so.parts ++ t) is.whole ∙ ap (λ t. 34 ∷ t) (sym (append_assoc (written so.parts) run more))
-      ∙ ap (λ t. 34 ∷ t ++ more) (more_parts spelled (λ c. refl) so.parts is.cs run is.spells);
-  means = e ∙ ap (λ t. t ++ run) so.means ∙ more_parts meaning (λ c. refl) so.parts is.cs run is.spells;
-}
-
-pub text_closes : (source rest after bytes : List ℕ) (n : ℕ) → ReadText source rest bytes → rest ≡ 34 ∷ after → n ≡ length source - length rest + 1 → Cuts source n (token (Text bytes))
-text_closes source rest after bytes n so e f = record {
-  prefix = 34 ∷ written so.parts ++ 34 ∷ [];
-  rest = after;
-  whole = so.whole ∙ ap (λ t. 34 ∷ written so.parts ++ t) e ∙ ap (λ t. 34 ∷ t) (sym (append_assoc (written so.parts) (34 ∷ []) after));
-  size = let size = size_of_prefix source (34 ∷ written so.parts) rest so.whole in let long = length-append (written so.parts) (34 ∷ []) in f ∙ ap (λ n. n + 1) size ∙ omega (arith, long);
-  stands = subst (λ bytes. IsToken (Text bytes) (34 ∷ written so.parts ++ 34 ∷ []) after) (sym so.means) (IsToken.text so.parts so.are);
-}
-
-pub text_is_open : (source rest bytes : List ℕ) → ReadText source rest bytes → is_closed rest ≡ false → Cuts source 0 (fault P7)
-text_is_open source rest bytes so h = record {
-  prefix = [];
-  rest = source;
-  whole = refl;
-  size = refl;
-  stands = subst (λ source. IsFault P7 [] source) (sym so.whole) (IsFault.not_closed (closed_parts so.parts rest so.are ∙ h));
-}
-
-text_fails : (source rest bytes : List ℕ) (cause : Cause) → ReadText source rest bytes → (is_closed rest ≡ true → (parts : List Part) → AreParts parts → is_closed (written parts ++ rest) ≡ true → IsFault cause (34 ∷ written parts) rest) →
+pub text_fails : {source rest bytes : List ℕ} (cause : Cause) → ReadText source rest bytes → ((parts : List Part) → AreParts parts → is_closed (written parts ++ rest) ≡ true → IsFault cause (34 ∷ written parts) rest) →
     (piece : Piece) → piece ≡ fault_in_text source cause rest → IsFirstPiece source piece
-text_fails source rest bytes cause so fails piece e = subst (IsFirstPiece source) (sym e) (by (is_closed rest) refl)
+text_fails {source = source} {rest = rest} cause so fails piece e = subst (IsFirstPiece source) (sym e) (by (is_closed rest) refl)
   where
     by : (b : Bool) → is_closed rest ≡ b → IsFirstPiece source (if b then Piece.Fault cause (length source - length rest) else Piece.Fault P7 0)
-    by true shut = record {
-      prefix = 34 ∷ written so.parts;
-      rest = rest;
-      whole = so.whole;
-      size = size_of_prefix source (34 ∷ written so.parts) rest so.whole;
-      stands = fails shut so.parts so.are (closed_parts so.parts rest so.are ∙ shut);
-    }
-    by false shut = text_is_open source rest bytes so shut
+    by true shut = cuts_before source (34 ∷ written so.parts.items) rest _ (fault cause) (whole_text so) refl (fails so.parts.items so.parts.are (closed_parts so.parts.items rest so.parts.are ∙ shut))
+    by false shut = text_is_open so shut
 
-pub text_no_escape : (source rest bytes : List ℕ) → ReadText source rest bytes → IsNoEscape rest → (piece : Piece) → piece ≡ fault_in_text source P1 rest → IsFirstPiece source piece
-text_no_escape source rest bytes so none = text_fails source rest bytes P1 so (λ closed parts are all. IsFault.no_escape parts are none all)
-
-pub text_broken : (source rest bytes : List ℕ) → ReadText source rest bytes → IsBroken rest → (piece : Piece) → piece ≡ fault_in_text source P4 rest → IsFirstPiece source piece
-text_broken source rest bytes so none = text_fails source rest bytes P4 so (λ closed parts are all. IsFault.broken_text parts are none all)
-
-some_part : (p : Part) → 0 < length (spelled p)
-some_part (itself c) = some_bytes c
-some_part (escape c) = omega arith
-
-pub part_shortens : (rest more : List ℕ) (c : ℕ) → HasPart rest c more → length more < length rest
-part_shortens rest more c has = let long = ap length has.whole ∙ length-append (spelled has.part) more in let some = some_part has.part in omega (arith, long, some)
-
-pub closed_nothing : (rest : List ℕ) → length rest ≡ 0 → is_closed rest ≡ false
-closed_nothing [] h = refl
-closed_nothing (c ∷ rest) h = absurd (omega (arith, h))
+-- a character takes a byte at least
+pub part_shortens : {rest more : List ℕ} (c : ℕ) → HasParts rest (encode_utf8 c) more → length more < length rest
+part_shortens {rest = rest} {more = more} c has = by has.items has.whole has.means
+  where
+    by : (parts : List Part) → rest ≡ written parts ++ more → encode_utf8 c ≡ meant parts → length more < length rest
+    by [] whole means = let some = some_bytes c in let none = ap length means in absurd (omega (arith, some, none))
+    by (itself d ∷ parts) whole means =
+        let some = some_bytes d in let first = length-append (encode_utf8 d) (written parts) in let long = ap length whole ∙ length-append (encode_utf8 d ++ written parts) more in omega (arith, some, first, long)
+    by (escape d ∷ parts) whole means = let long = ap length whole ∙ length-append (92 ∷ d ∷ written parts) more in omega (arith, long)

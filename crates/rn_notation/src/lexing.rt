@@ -44,16 +44,16 @@ fn read(alloc: Global, bytes: &[u8]) -> Result<Lexed, NoMemory>
             continue;
         }
         let piece = first_piece(alloc, rest)?;
-        let start = bytes.len() - rest.len();
-        let (prefix, after) = rest.split_at(piece.size());
+        let (prefix, after) = piece.cut(rest);
         let next = spot_on(spot, prefix);
         match piece {
             Piece::Gap(_) => {
                 spot = next;
                 rest = after;
             }
-            Piece::Token(kind, length) => {
-                let end = start + length;
+            Piece::Token(kind, _) => {
+                let start = bytes.len() - rest.len();
+                let end = start + prefix.len();
                 tokens.push(&mut recent, kind, (start, end), spot)?;
                 spot = next;
                 rest = after;

@@ -1,6 +1,6 @@
 //! What stands first in a text.
 ghost use Rattle.std.specs.Prelude.{◌≡◌};
-ghost use Rattle.rn_notation.specs.link.Scanning.{size_of};
+ghost use Rattle.rn_notation.specs.link.Scanning.{IsFirstPiece, CutsInto, size_of};
 
 use crate::token::{Cause, TokenKind};
 
@@ -14,11 +14,20 @@ pub(crate) enum Piece {
 }
 
 impl Piece {
-    pub(crate) fn size(&self) -> usize
+    fn size(&self) -> usize
         ensures { result ≡ size_of self.now }
     {
         match self {
             Piece::Gap(size) | Piece::Token(_, size) | Piece::Fault(_, size) => *size,
         }
+    }
+
+    /// The bytes of the piece that stands first in a text, and those after it.
+    #[tactic(auto, using(crate::proofs::ReadingLemmas::cutting))]
+    pub(crate) fn cut<'a>(&self, text: &'a [u8]) -> (&'a [u8], &'a [u8])
+        requires { IsFirstPiece text.now self.now }
+        ensures { CutsInto self.now text.now result.0.now result.1.now }
+    {
+        text.split_at(self.size())
     }
 }

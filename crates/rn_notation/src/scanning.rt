@@ -1,5 +1,7 @@
 //! The scanner: which piece stands first in a text.
 ghost use Rattle.std.specs.Prelude.{◌≡◌, ◌<◌, IfOk, length, false};
+ghost use Rattle.rn_value.specs.Words.{begins_with};
+ghost use Rattle.rn_notation.specs.Words.{is_blank};
 ghost use Rattle.rn_notation.specs.Faults.{begins_plainly};
 ghost use Rattle.rn_notation.specs.link.Scanning.{IsFirstPiece};
 
@@ -9,11 +11,12 @@ use crate::numbers::number_piece;
 use crate::piece::Piece;
 use crate::texts::text_piece;
 use crate::token::{Cause, TokenKind};
-use crate::words::{is_blank, sign_at, word_piece};
+use crate::words::{sign_at, word_piece};
 use rn_value::{NoMemory, is_digit, is_letter};
 use std::alloc::Global;
 
 /// What stands at the start of a text that begins with no blank, letter, digit or quote.
+#[tactic(auto, using(crate::proofs::TextLemmas::stray_rules))]
 fn other_piece(text: &[u8]) -> Piece
     requires some { 0 < length text.now }
     requires other { begins_plainly text.now ≡ false }
@@ -31,15 +34,14 @@ fn other_piece(text: &[u8]) -> Piece
     }
 }
 
-/// What stands at the start of a text.
+/// What stands at the start of a text that begins with no blank.
 pub(crate) fn first_piece(alloc: Global, text: &[u8]) -> Result<Piece, NoMemory>
-    requires { 0 < length text.now }
+    requires some { 0 < length text.now }
+    requires solid { begins_with is_blank text.now ≡ false }
     ensures { IfOk result (λ piece. IsFirstPiece text.now piece) }
 {
     let first = text[0];
-    if is_blank(first) {
-        Ok(Piece::Gap(1))
-    } else if is_letter(first) {
+    if is_letter(first) {
         word_piece(alloc, text)
     } else if is_digit(first) {
         Ok(number_piece(text))

@@ -1,11 +1,11 @@
 //! Texts in quotes.
 ghost use Rattle.std.specs.Prelude.{◌≡◌, ◌∷◌, true, false, IsTrue, IfOk};
 ghost use Rattle.std.specs.Prelude.{length, nat_eq, ◌≤◌};
-ghost use Rattle.rn_notation.specs.Bytes.{quote, backslash};
+ghost use Rattle.rn_notation.specs.Bytes.{quote};
 ghost use Rattle.rn_value.specs.Words.{begins_with};
 ghost use Rattle.rn_notation.specs.Texts.{escaped_byte, is_closed};
 ghost use Rattle.rn_notation.specs.link.Scanning.{IsFirstPiece};
-ghost use Rattle.rn_notation.specs.link.Inside.{GoesOnWith, fault_in_text};
+ghost use Rattle.rn_notation.specs.link.Scanning.{GoesOnWith, fault_in_text};
 
 use crate::chars::{first_char, plain_run};
 use crate::piece::Piece;
@@ -44,19 +44,6 @@ fn escaped_char(byte: u8) -> Option<char>
     }
 }
 
-fn escape_at<'a>(text: &[u8], others: &'a [u8]) -> Inside<'a>
-    requires { text.now ≡ backslash ∷ others.now }
-    ensures { GoesOnWith text.now result }
-{
-    let Some((byte, rest)) = others.split_first() else {
-        return Inside::Open;
-    };
-    match escaped_char(*byte) {
-        Some(c) => Inside::Part(c, rest),
-        None => Inside::NoEscape,
-    }
-}
-
 fn look_inside(text: &[u8]) -> Inside<'_>
     ensures { GoesOnWith text.now result }
 {
@@ -66,7 +53,15 @@ fn look_inside(text: &[u8]) -> Inside<'_>
     match *first {
         b'"' => Inside::Quote,
         b'\n' => Inside::Open,
-        b'\\' => escape_at(text, others),
+        b'\\' => {
+            let Some((byte, rest)) = others.split_first() else {
+                return Inside::Open;
+            };
+            match escaped_char(*byte) {
+                Some(c) => Inside::Part(c, rest),
+                None => Inside::NoEscape,
+            }
+        }
         _ => match first_char(text) {
             Some((c, rest)) => Inside::Part(c, rest),
             None => Inside::Broken,

@@ -34,7 +34,7 @@ fn word_length(text: &[u8]) -> usize
     text.len()
 }
 
-/// The sign that a byte is. Most bytes of a text are signs, so they aren't looked up in a list.
+/// The sign that a byte is by itself, found without a look through the list.
 #[tactic(auto, unfolding(crate::specs::Words::signs))]
 fn lone_sign(byte: u8) -> Option<u32>
     ensures { result ≡ index_of signs (byte ∷ []) }
@@ -62,41 +62,19 @@ fn lone_sign(byte: u8) -> Option<u32>
     }
 }
 
-/// The sign that two bytes are.
+/// The sign that a byte and the first of others are.
 #[tactic(auto, unfolding(crate::specs::Words::signs))]
-fn pair_sign(first: u8, second: u8) -> Option<u32>
-    ensures { result ≡ index_of signs (first ∷ second ∷ []) }
+fn long_sign(first: u8, others: &[u8]) -> Option<u32>
+    ensures { result ≡ long_sign first others.now }
 {
-    match (first, second) {
-        (b'=', b'=') => Some(sign::SAME),
-        (b'!', b'=') => Some(sign::DIFFERS),
-        (b'<', b'=') => Some(sign::AT_MOST),
-        (b'>', b'=') => Some(sign::AT_LEAST),
-        (b'&', b'&') => Some(sign::AND),
-        (b'|', b'|') => Some(sign::OR),
+    match (first, others) {
+        (b'=', [b'=', ..]) => Some(sign::SAME),
+        (b'!', [b'=', ..]) => Some(sign::DIFFERS),
+        (b'<', [b'=', ..]) => Some(sign::AT_MOST),
+        (b'>', [b'=', ..]) => Some(sign::AT_LEAST),
+        (b'&', [b'&', ..]) => Some(sign::AND),
+        (b'|', [b'|', ..]) => Some(sign::OR),
         _ => None,
-    }
-}
-
-/// The sign that a text is.
-#[tactic(auto, unfolding(crate::specs::Words::signs))]
-fn sign_index(sign: &[u8]) -> Option<u32>
-    ensures { result ≡ index_of signs sign.now }
-{
-    match sign {
-        [byte] => lone_sign(*byte),
-        [first, second] => pair_sign(*first, *second),
-        _ => None,
-    }
-}
-
-/// Whether a word ends in a letter, as each reserved word does.
-fn ends_in_letter(word: &[u8]) -> bool
-    ensures { result ≡ ends_in_letter word.now }
-{
-    match word.last() {
-        Some(byte) => is_letter(*byte),
-        None => false,
     }
 }
 
@@ -105,10 +83,9 @@ fn ends_in_letter(word: &[u8]) -> bool
 fn reserved_at(word: &[u8]) -> Option<u32>
     ensures { result ≡ index_of reserved_words word.now }
 {
-    if ends_in_letter(word) {
-        reserved_word(word)
-    } else {
-        None
+    match word.last() {
+        Some(byte) if is_letter(*byte) => reserved_word(word),
+        _ => None,
     }
 }
 
@@ -125,29 +102,19 @@ pub(crate) fn word_piece(alloc: Global, text: &[u8]) -> Result<Piece, NoMemory>
     Ok(Piece::Token(TokenKind::Name(ascii_text(alloc, word)?), length))
 }
 
-/// The sign that the first two bytes are.
-fn long_sign(text: &[u8]) -> Option<u32>
-    ensures { result ≡ long_sign text.now }
-{
-    if text.len() < 2 {
-        return None;
-    }
-    let (prefix, _) = text.split_at(2);
-    sign_index(prefix)
-}
-
 /// The sign at the start of a text, and how many bytes it takes.
+#[tactic(auto, using(crate::proofs::WordLemmas::sign_rules))]
 pub(crate) fn sign_at(text: &[u8]) -> Option<(u32, usize)>
     requires some { 0 < length text.now }
     requires code { opens_comment text.now ≡ false }
     ensures found { IfSome result (λ found. Cuts text.now found.1 (a_token (SignToken found.0))) }
     ensures none { IfNone result (begins_with_sign text.now ≡ false) }
 {
-    if let Some(index) = long_sign(text) {
+    let (first, others) = text.split_first()?;
+    if let Some(index) = long_sign(*first, others) {
         return Some((index, 2));
     }
-    let (prefix, _) = text.split_at(1);
-    match sign_index(prefix) {
+    match lone_sign(*first) {
         Some(index) => Some((index, 1)),
         None => None,
     }

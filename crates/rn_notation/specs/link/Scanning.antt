@@ -1,12 +1,14 @@
 -- What stands first in a text: a blank or comment, a token, or a fault.
-use Rattle.std.specs.Prelude.{◌≡◌, ℕ, ◌+◌, List, [], ◌∷◌, ◌++◌, length, nat_lt, encode_utf8}
-use Rattle.std.specs.Prelude.{encode_utf8_all, if◌then◌else◌, take, Option, None, Some}
+use Rattle.std.specs.Prelude.{◌≡◌, ℕ, ◌+◌, List, [], ◌∷◌, ◌++◌, length, encode_utf8}
+use Rattle.std.specs.Prelude.{if◌then◌else◌, Option, None, Some}
 use Rattle.std.specs.Prelude.{◌-◌, Bool, false, slice_get}
-use Rattle.std.specs.List.{AllByRecursion}
+use Rattle.std.specs.List.{AllByRecursion, flat_map}
 use Rattle.rn_value.specs.Characters.{is_letter}
 use Rattle.rn_value.specs.Words.{index_of}
 use Rattle.rn_notation.specs.Words.{signs}
-use Rattle.rn_notation.specs.Texts.{Part, itself, IsPart, spelled, meaning}
+use Rattle.rn_notation.specs.Bytes.{quote}
+use Rattle.rn_notation.specs.Texts.{itself, IsPart, spelled, meaning, is_closed, IsNoEscape}
+use Rattle.rn_notation.specs.Texts.{IsBroken}
 use Rattle.rn_notation.specs.Tokens.{IsGap, IsToken}
 use Rattle.rn_notation.specs.Faults.{IsFault}
 use Rattle.rn_notation.specs.Spots.{is_line_end}
@@ -14,6 +16,7 @@ use Rattle.rn_notation.specs.declared.token.Spot.{Spot}
 use Rattle.rn_notation.specs.declared.token.TokenKind.{TokenKind}
 use Rattle.rn_notation.specs.declared.token.Cause.{Cause}
 use Rattle.rn_notation.specs.declared.piece.Piece.{Piece}
+use Rattle.rn_notation.specs.declared.texts.Inside.{Inside}
 
 -- what may be found: a blank or comment, a token of some kind, or a fault
 pub data Found : Type 0 where
@@ -52,6 +55,11 @@ size_of (Piece.Fault cause n) = n
 abbrev pub IsFirstPiece : List ℕ → Piece → Type 0
 IsFirstPiece text piece = Cuts text (size_of piece) (found_of piece)
 
+-- the text is the bytes of the piece that stands first, and those after it
+pub record CutsInto (piece : Piece) (text prefix after : List ℕ) : Type 0 where
+  pub whole : text ≡ prefix ++ after
+  pub stands : IsSpelledBy (found_of piece) prefix after
+
 -- the spot after one more byte
 abbrev pub next_spot : Spot → ℕ → Spot
 next_spot spot c =
@@ -63,20 +71,23 @@ abbrev pub spot_on : Spot → List ℕ → Spot
 spot_on spot [] = spot
 spot_on spot (c ∷ text) = spot_on (next_spot spot c) text
 
--- a part of a text, of which this character is what it stands for
-pub record HasPart (text : List ℕ) (c : ℕ) (rest : List ℕ) : Type 0 where
-  pub part : Part
-  pub is : IsPart part
-  pub whole : text ≡ spelled part ++ rest
-  pub means : meaning part ≡ encode_utf8 c
+-- A text goes on with items as they are spelled, which stand for these bytes, and then with the
+-- rest.
+pub record GoesOn {X : Type 0} (Is : X → Type 0) (spelled meaning : X → List ℕ)
+    (text bytes rest : List ℕ) : Type 0 where
+  pub items : List X
+  pub are : AllByRecursion Is items
+  pub whole : text ≡ flat_map spelled items ++ rest
+  pub means : bytes ≡ flat_map meaning items
+
+-- parts of a text, what they stand for, and the bytes after them
+abbrev pub HasParts : List ℕ → List ℕ → List ℕ → Type 0
+HasParts text bytes rest = GoesOn IsPart spelled meaning text bytes rest
 
 -- characters that stand for themselves in a text, spelled one after another, and the bytes after
 -- them
-pub record IsRun (text run rest : List ℕ) : Type 0 where
-  pub cs : List ℕ
-  pub are : AllByRecursion (λ c. IsPart (itself c)) cs
-  pub spells : run ≡ encode_utf8_all cs
-  pub whole : text ≡ run ++ rest
+abbrev pub IsRun : List ℕ → List ℕ → List ℕ → Type 0
+IsRun text run rest = GoesOn (λ c. IsPart (itself c)) encode_utf8 encode_utf8 text run rest
 
 -- whether a byte is there and is a letter
 abbrev pub is_some_letter : Option ℕ → Bool
@@ -87,6 +98,22 @@ is_some_letter (Some c) = is_letter c
 abbrev pub ends_in_letter : List ℕ → Bool
 ends_in_letter text = is_some_letter (slice_get text (length text - 1))
 
--- the sign that the first two bytes are
-abbrev pub long_sign : List ℕ → Option ℕ
-long_sign text = if nat_lt (length text) 2 then None else index_of signs (take 2 text)
+-- the sign that a byte and the first of others are
+abbrev pub long_sign : ℕ → List ℕ → Option ℕ
+long_sign a [] = None
+long_sign a (b ∷ others) = index_of signs (a ∷ b ∷ [])
+
+-- what a text goes on with
+abbrev pub GoesOnWith : List ℕ → Inside → Type 0
+GoesOnWith text (Inside.Part c rest) = HasParts text (encode_utf8 c) rest.now
+GoesOnWith text Inside.Quote = (rest : List ℕ) × (text ≡ quote ∷ rest)
+GoesOnWith text Inside.Open = is_closed text ≡ false
+GoesOnWith text Inside.NoEscape = IsNoEscape text
+GoesOnWith text Inside.Broken = IsBroken text
+
+-- A fault at the rest of a text that began at the start of the source. It counts only where the
+-- text is closed.
+abbrev pub fault_in_text : List ℕ → Cause → List ℕ → Piece
+fault_in_text source cause rest =
+    if is_closed rest then Piece.Fault cause (length source - length rest)
+    else Piece.Fault Cause.P7 0

@@ -1,7 +1,4 @@
-use Rattle.std.proofs.Common.{◌≡◌, ◌+◌, ◌*◌, ◌-◌, List, length}
-use Rattle.rn_inscript.specs.Conditions.{IsAlternatives, IsMoreAlternatives, IsBoth, IsMoreBoth}
-use Rattle.rn_inscript.specs.Levels.{Level, without_minuses}
-use Rattle.rn_inscript.specs.link.Stages.{IsSoFar, HasMoved, ready}
+use Rattle.rn_inscript.proofs.Names.{◌≡◌, ◌+◌, ◌*◌, ◌-◌, List, length, IsAlternatives, IsMoreAlternatives, IsBoth, IsMoreBoth, Level, without_minuses, IsSoFar, HasMoved, ready}
 use Rattle.rn_inscript.proofs.conditions.+condition.Given as goal
 
 abbrev pub decreases-cond : goal.decreases-cond

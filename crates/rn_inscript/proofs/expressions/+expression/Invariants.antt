@@ -1,7 +1,4 @@
-use Rattle.std.proofs.Common.{◌≡◌, ◌+◌, ◌*◌, ◌-◌, List, length}
-use Rattle.rn_inscript.specs.Expressions.{IsExpr, IsTerms, IsProduct, IsFactors, IsExprs, IsMoreExprs}
-use Rattle.rn_inscript.specs.Levels.{Level, without_minuses}
-use Rattle.rn_inscript.specs.link.Stages.{IsSoFar, HasMoved, ready}
+use Rattle.rn_inscript.proofs.Names.{◌≡◌, ◌+◌, ◌*◌, ◌-◌, List, length, IsExpr, IsTerms, IsProduct, IsFactors, IsExprs, IsMoreExprs, Level, without_minuses, IsSoFar, HasMoved, ready}
 use Rattle.rn_inscript.proofs.expressions.+expression.Given as goal
 
 abbrev pub decreases-listed : goal.decreases-listed

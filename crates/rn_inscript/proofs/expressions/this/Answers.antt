@@ -1,9 +1,6 @@
-use Rattle.std.proofs.Common.{◌≡◌, false, arith, ◌∙◌, ap, refl}
-use Rattle.std.proofs.lemmas.Bool.Decides.{nat_tests}
+use Rattle.rn_inscript.proofs.Names.{◌≡◌, false, arith, ◌∙◌, ap, refl, nat_tests, IsPrimary, at_spot, this_word}
 use Rattle.rn_notation.specs.declared.token.TokenKind.TheVariants as Kind
 use Rattle.rn_inscript.specs.declared.exprs.PForm.TheVariants as F
-use Rattle.rn_inscript.specs.Expressions.{IsPrimary, at_spot}
-use Rattle.rn_inscript.specs.Signs.{this_word}
 use Rattle.rn_inscript.proofs.OperandPhrases.{begins_primary, this-only}
 use Rattle.rn_inscript.proofs.OperandReading.{none_begins, leaf_read}
 use Rattle.rn_inscript.proofs.ReaderExits.{ended_at}

@@ -1,9 +1,5 @@
-use Rattle.std.proofs.Common.{◌≡◌, false, sym, ◌∙◌, ap, arith}
-use Rattle.std.specs.Prelude.{None}
-use Rattle.std.proofs.lemmas.Bool.Decides.{nat_tests}
-use Rattle.std.proofs.lemmas.Grind.{common_steps}
+use Rattle.rn_inscript.proofs.Names.{◌≡◌, false, sym, ◌∙◌, ap, arith, None, nat_tests, common_steps, arc_of}
 use Rattle.rn_notation.specs.declared.token.TokenKind.TheVariants as Kind
-use Rattle.rn_inscript.specs.Signs.{arc_of}
 use Rattle.rn_inscript.proofs.LinkReading.{no_word}
 use Rattle.rn_inscript.proofs.InscriptionPhrases.{leads}
 use Rattle.rn_inscript.proofs.forms.by_word.Goals as goal

@@ -1,8 +1,5 @@
-use Rattle.std.proofs.Common.{◌≡◌, ◌+◌, ◌≤◌, ◌*◌, ◌-◌, length, ℕ, drop}
+use Rattle.rn_net.proofs.Names.{◌≡◌, ◌+◌, ◌≤◌, ◌*◌, ◌-◌, length, ℕ, drop, declaring, Stage, AreConstantsUpTo}
 use Rattle.rn_notation.specs.declared.token.TokenKind.TheVariants as Kind
-use Rattle.rn_net.specs.Levels.Region.{declaring}
-use Rattle.rn_net.specs.link.Progress.{Stage}
-use Rattle.rn_net.specs.link.Lists.{AreConstantsUpTo}
 use Rattle.rn_net.proofs.Rows.{row_on}
 use Rattle.rn_net.proofs.ConstantPhrases.{constant_row}
 use Rattle.rn_net.proofs.constant_reader.+constant.Given as goal

@@ -1,10 +1,6 @@
-use Rattle.std.proofs.Common.{rules, refl, sym, subst, arith, pos}
+use Rattle.rn_net.proofs.Names.{rules, refl, sym, subst, arith, pos, ◌≤ℤ◌, neg_ℤ, done, constant_at, declaring}
 use Rattle.std.proofs.lemmas.Int.{ints}
-use Rattle.std.specs.Prelude.{◌≤ℤ◌, neg_ℤ}
-use Rattle.rn_reading.specs.link.Stages.{done}
 use Rattle.rn_net.specs.declared.constants.PConstForm.TheVariants as C
-use Rattle.rn_net.specs.Constants.{constant_at}
-use Rattle.rn_net.specs.Levels.Region.{declaring}
 use Rattle.rn_net.proofs.Sorts.{number_read, number_stuck}
 use Rattle.rn_net.proofs.Steps.{same_end}
 use Rattle.rn_net.proofs.ConstantPhrases.{negative_open}

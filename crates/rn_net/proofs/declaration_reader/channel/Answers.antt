@@ -1,12 +1,8 @@
-use Rattle.std.proofs.Common.{length, refl, arith}
+use Rattle.rn_net.proofs.Names.{length, refl, arith, done, close_paren, between, IsChannel, channel_of}
 use Rattle.rn_reading.specs.declared.fault.ReadFault.TheVariants as Fault
-use Rattle.rn_reading.specs.link.Stages.{done}
-use Rattle.rn_inscript.specs.Signs.{close_paren}
-use Rattle.rn_net.specs.Levels.Region.{between}
 use Rattle.rn_net.proofs.Sorts.{kind_read, kind_stuck, name_fails}
 use Rattle.rn_net.proofs.Steps.{failed, failed_as, then_read, then_fails}
 use Rattle.rn_net.proofs.KindPhrases as KP
-use Rattle.rn_net.specs.Nets.{IsChannel, channel_of}
 use Rattle.rn_net.proofs.DeclarationPhrases.{channel_begun, channel_named, channel_inside, channel_open, channel_kinds, channel_end}
 use Rattle.rn_net.proofs.declaration_reader.channel.Goals as goal
 

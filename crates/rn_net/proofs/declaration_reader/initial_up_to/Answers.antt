@@ -1,9 +1,6 @@
-use Rattle.std.proofs.Common.{refl}
+use Rattle.rn_net.proofs.Names.{refl, semicolon, between, declaring, IsInitialUpTo}
 use Rattle.rn_reading.specs.declared.fault.ReadFault.TheVariants as Fault
-use Rattle.rn_net.specs.Words.{semicolon}
-use Rattle.rn_net.specs.Levels.Region.{between, declaring}
 use Rattle.rn_net.proofs.Steps.{failed_as, same_end, whole_reads}
-use Rattle.rn_net.specs.link.Parts.{IsInitialUpTo}
 use Rattle.rn_net.proofs.Rows.{row_up_to}
 use Rattle.rn_net.proofs.ConstantPhrases.{constant_row}
 use Rattle.rn_net.proofs.DeclarationPhrases.{initial_none, initial_stuck, initial_open}

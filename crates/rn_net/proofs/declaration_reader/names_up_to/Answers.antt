@@ -1,12 +1,7 @@
-use Rattle.std.proofs.Common.{rules, ◌≡◌, length, drop, [], ◌∷◌, ◌++◌, refl, sym, subst, arith}
+use Rattle.rn_net.proofs.Names.{rules, ◌≡◌, length, drop, [], ◌∷◌, ◌++◌, refl, sym, subst, arith, done, comma, colon, declaring, Stage, AreNamesUpTo}
 use Rattle.rn_reading.specs.declared.fault.ReadFault.TheVariants as Fault
-use Rattle.rn_reading.specs.link.Stages.{done}
-use Rattle.rn_inscript.specs.Signs.{comma, colon}
-use Rattle.rn_net.specs.Levels.Region.{declaring}
-use Rattle.rn_net.specs.link.Progress.{Stage}
 use Rattle.rn_net.proofs.Sorts.{kind_read, kind_stuck, tell_apart}
 use Rattle.rn_net.proofs.Steps.{failed, failed_as, same_end, then_read, then_fails}
-use Rattle.rn_net.specs.link.Parts.{AreNamesUpTo}
 use Rattle.rn_net.proofs.Rows.{row_on, row_first, row_comma, row_close}
 use Rattle.rn_net.proofs.DeclarationPhrases.{names, name_row}
 use Rattle.rn_net.proofs.declaration_reader.names_up_to.Goals as goal

@@ -1,8 +1,4 @@
-use Rattle.std.proofs.Common.{◌≤◌, ◌-◌, length, drop}
-use Rattle.rn_inscript.specs.Signs.{colon}
-use Rattle.rn_net.specs.Levels.Region.{declaring}
-use Rattle.rn_net.specs.link.Progress.{Stage}
-use Rattle.rn_net.specs.link.Parts.{AreNamesUpTo}
+use Rattle.rn_net.proofs.Names.{◌≤◌, ◌-◌, length, drop, colon, declaring, Stage, AreNamesUpTo}
 use Rattle.rn_net.proofs.Rows.{row_on}
 use Rattle.rn_net.proofs.DeclarationPhrases.{name_row}
 use Rattle.rn_net.proofs.declaration_reader.names_up_to.Given as goal

@@ -1,12 +1,8 @@
-use Rattle.std.proofs.Common.{rules, length, [], refl, arith}
-use Rattle.rn_reading.specs.link.Stages.{done}
-use Rattle.rn_net.specs.Levels.Region.{between}
+use Rattle.rn_net.proofs.Names.{rules, length, [], refl, arith, done, between, kind_at, IsPlace, place_of}
 use Rattle.rn_net.proofs.Sorts.{name_fails}
 use Rattle.rn_net.proofs.Steps.{failed, same_end, then_read, then_fails}
 use Rattle.rn_net.proofs.KindPhrases as KP
 use Rattle.rn_net.specs.declared.kinds.PKindForm.TheVariants as K
-use Rattle.rn_net.specs.Kinds.{kind_at}
-use Rattle.rn_net.specs.Nets.{IsPlace, place_of}
 use Rattle.rn_net.proofs.DeclarationPhrases.{place_begun, place_on, place_named, place_colon, place_no_colon, place_end, ends}
 use Rattle.rn_net.proofs.declaration_reader.place.Goals as goal
 

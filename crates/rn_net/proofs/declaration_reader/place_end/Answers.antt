@@ -1,9 +1,6 @@
-use Rattle.std.proofs.Common.{rules, length, Some, None}
+use Rattle.rn_net.proofs.Names.{rules, length, done, between, declaring, max_of, IsPlaceEnd, end_of}
+use Rattle.std.proofs.Common.{Some, None}
 use Rattle.rn_reading.specs.declared.fault.ReadFault.TheVariants as Fault
-use Rattle.rn_reading.specs.link.Stages.{done}
-use Rattle.rn_net.specs.Levels.Region.{between, declaring}
-use Rattle.rn_net.specs.Nets.{max_of}
-use Rattle.rn_net.specs.link.Parts.{IsPlaceEnd, end_of}
 use Rattle.rn_net.proofs.Steps.{failed, failed_as, same_end, then_read, then_fails}
 use Rattle.rn_net.proofs.DeclarationPhrases.{initials, max_given, max_stuck, max_none}
 use Rattle.rn_net.proofs.declaration_reader.place_end.Goals as goal

@@ -1,13 +1,9 @@
-use Rattle.std.proofs.Common.{length, refl}
+use Rattle.rn_net.proofs.Names.{length, refl, done, colon, between, AreVars, var_of}
 use Rattle.rn_reading.specs.declared.fault.ReadFault.TheVariants as Fault
-use Rattle.rn_reading.specs.link.Stages.{done}
-use Rattle.rn_inscript.specs.Signs.{colon}
-use Rattle.rn_net.specs.Levels.Region.{between}
 use Rattle.rn_net.proofs.Sorts.{kind_read, kind_stuck}
 use Rattle.rn_net.proofs.Steps.{failed, failed_as, same_end, then_read, then_fails}
 use Rattle.rn_net.proofs.KindPhrases as KP
 use Rattle.std.specs.Prelude.{map}
-use Rattle.rn_net.specs.Nets.{AreVars, var_of}
 use Rattle.rn_net.proofs.Rows.{row_up_to}
 use Rattle.rn_net.proofs.DeclarationPhrases.{name_row, vars_begun, vars_kind, vars_end}
 use Rattle.rn_net.proofs.declaration_reader.vars.Goals as goal

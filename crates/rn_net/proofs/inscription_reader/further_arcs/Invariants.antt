@@ -1,5 +1,5 @@
-use Rattle.std.proofs.Common.{◌≡◌, map}
-use Rattle.rn_net.specs.Nets.{further_arc}
+use Rattle.rn_net.proofs.Names.{◌≡◌, further_arc}
+use Rattle.std.proofs.Common.{map}
 use Rattle.rn_net.proofs.inscription_reader.further_arcs.Given as goal
 
 abbrev pub invariant-loop-inscription : goal.invariant-loop-inscription

@@ -1,11 +1,5 @@
-use Rattle.std.proofs.Common.{rules, ◌≡◌, [], ◌∷◌, ◌++◌, arith, drop, refl, subst}
-use Rattle.rn_reading.specs.link.Stages.{done}
-use Rattle.rn_inscript.specs.Levels.{at_first, count_after}
+use Rattle.rn_net.proofs.Names.{rules, ◌≡◌, [], ◌∷◌, ◌++◌, arith, drop, refl, subst, done, at_first, count_after, between, inscribing, AreFurtherUpTo, Stage, semicolon}
 use Rattle.rn_reading.specs.declared.fault.ReadFault.TheVariants as Fault
-use Rattle.rn_net.specs.Levels.Region.{between, inscribing}
-use Rattle.rn_net.specs.link.Lists.{AreFurtherUpTo}
-use Rattle.rn_net.specs.link.Progress.{Stage}
-use Rattle.rn_net.specs.Words.{semicolon}
 use Rattle.rn_net.proofs.InscriptionReading.{expr_row, further_on, further_read, further_fails, further_comma}
 use Rattle.rn_net.proofs.Openings.{moved}
 use Rattle.rn_net.proofs.Rows.{row_close}

@@ -1,8 +1,4 @@
-use Rattle.std.proofs.Common.{◌≤◌, ◌-◌, length, drop}
-use Rattle.rn_inscript.specs.Levels.{Count}
-use Rattle.rn_net.specs.Levels.Region.{inscribing}
-use Rattle.rn_net.specs.link.Lists.{AreFurtherUpTo}
-use Rattle.rn_net.specs.link.Progress.{Stage}
+use Rattle.rn_net.proofs.Names.{◌≤◌, ◌-◌, length, drop, Count, inscribing, AreFurtherUpTo, Stage}
 use Rattle.rn_net.proofs.InscriptionReading.{further_on}
 use Rattle.rn_net.proofs.inscription_reader.further_up_to.Given as goal
 

@@ -1,9 +1,4 @@
-use Rattle.std.proofs.Common.{◌≡◌, ℕ, ◌+◌, ◌-◌, ◌<◌, List, [], ◌∷◌, arith, length, refl, subst}
-use Rattle.std.specs.Prelude.{Ok, Err}
-use Rattle.rn_notation.specs.declared.token.Token.{Token}
-use Rattle.rn_net.specs.Levels.Region.{between}
-use Rattle.rn_net.specs.link.Lists.{AreInscribedUpTo}
-use Rattle.rn_net.specs.link.Parts.{EndsStatement}
+use Rattle.rn_net.proofs.Names.{◌≡◌, ℕ, ◌+◌, ◌-◌, ◌<◌, List, [], ◌∷◌, arith, length, refl, subst, Ok, Err, Token, between, AreInscribedUpTo, EndsStatement}
 use Rattle.rn_net.proofs.InscriptionReading.{ends_fail, ends_read, form-some, statement_read, statement_fails}
 use Rattle.rn_net.proofs.Openings.{moved}
 use Rattle.rn_net.proofs.Steps.{failed, same_end}

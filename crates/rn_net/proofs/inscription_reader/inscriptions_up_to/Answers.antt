@@ -1,7 +1,4 @@
-use Rattle.std.proofs.Common.{rules, ◌≡◌, [], ◌∙◌, arith, drop, length, refl, subst}
-use Rattle.rn_net.specs.Levels.Region.{between}
-use Rattle.rn_net.specs.link.Parts.{AreInscriptionsUpTo}
-use Rattle.rn_net.specs.link.Progress.{Stage}
+use Rattle.rn_net.proofs.Names.{rules, ◌≡◌, [], ◌∙◌, arith, drop, length, refl, subst, between, AreInscriptionsUpTo, Stage}
 use Rattle.rn_net.proofs.InscriptionReading.{statement_sort}
 use Rattle.rn_net.proofs.NetPhrases.{inscriptions, many_on, many_next, many_close, with_more}
 use Rattle.rn_net.proofs.Steps.{then_read, then_fails, begin, failed, same_end}

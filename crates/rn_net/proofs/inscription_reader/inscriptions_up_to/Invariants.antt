@@ -1,7 +1,4 @@
-use Rattle.std.proofs.Common.{◌≤◌, ◌-◌, length, drop}
-use Rattle.rn_net.specs.Levels.Region.{between}
-use Rattle.rn_net.specs.link.Progress.{Stage}
-use Rattle.rn_net.specs.link.Parts.{AreInscriptionsUpTo}
+use Rattle.rn_net.proofs.Names.{◌≤◌, ◌-◌, length, drop, between, Stage, AreInscriptionsUpTo}
 use Rattle.rn_net.proofs.NetPhrases.{inscriptions, many_on}
 use Rattle.rn_net.proofs.inscription_reader.inscriptions_up_to.Given as goal
 

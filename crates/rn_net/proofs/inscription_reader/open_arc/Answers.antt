@@ -1,4 +1,4 @@
-use Rattle.std.proofs.Common.{rules, ◌≡◌, arith}
+use Rattle.rn_net.proofs.Names.{rules, ◌≡◌, arith}
 use Rattle.std.specs.Prelude.{Some}
 use Rattle.rn_inscript.specs.declared.inscriptions.PInscribed.TheVariants as I
 use Rattle.rn_net.proofs.inscription_reader.open_arc.Goals as goal

@@ -1,7 +1,4 @@
-use Rattle.std.proofs.Common.{◌-◌, ◌∙◌, ap, arith, inl, inr, subst, sym}
-use Rattle.std.specs.Prelude.{Err}
-use Rattle.std.proofs.lemmas.Result.{err_from_is_err_and}
-use Rattle.rn_net.specs.link.Parts.{EndsStatement}
+use Rattle.rn_net.proofs.Names.{◌-◌, ◌∙◌, ap, arith, inl, inr, subst, sym, Err, err_from_is_err_and, EndsStatement}
 use Rattle.rn_net.proofs.inscription_reader.others_up_to.Goals as goal
 
 pub returns-in_err-more-clause-reads : goal.returns-in_err-more-clause-reads

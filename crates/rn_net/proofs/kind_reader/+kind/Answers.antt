@@ -1,13 +1,7 @@
-use Rattle.std.proofs.Common.{rules, ◌≡◌, ◌+◌, length, drop, [], ◌∷◌, ◌++◌, refl, sym, subst, arith}
+use Rattle.rn_net.proofs.Names.{rules, ◌≡◌, ◌+◌, length, drop, [], ◌∷◌, ◌++◌, refl, sym, subst, arith, done, close_bracket, IsKind, kind_at, declaring, Stage, AreKindsUpTo}
 use Rattle.rn_notation.specs.declared.token.TokenKind.TheVariants as Kind
 use Rattle.rn_reading.specs.declared.fault.ReadFault.TheVariants as Fault
-use Rattle.rn_reading.specs.link.Stages.{done}
-use Rattle.rn_inscript.specs.Signs.{close_bracket}
 use Rattle.rn_net.specs.declared.kinds.PKindForm.TheVariants as K
-use Rattle.rn_net.specs.Kinds.{IsKind, kind_at}
-use Rattle.rn_net.specs.Levels.Region.{declaring}
-use Rattle.rn_net.specs.link.Progress.{Stage}
-use Rattle.rn_net.specs.link.Lists.{AreKindsUpTo}
 use Rattle.rn_net.proofs.Sorts.{kind_read, kind_stuck}
 use Rattle.rn_net.proofs.Steps.{failed, failed_as, same_end, whole_reads, then_read, then_fails}
 use Rattle.rn_net.proofs.Rows.{row_on, row_first, row_comma, row_close, close_small, close_after, close-comma, one-less, row_up_to}

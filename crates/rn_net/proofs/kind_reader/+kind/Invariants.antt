@@ -1,8 +1,5 @@
-use Rattle.std.proofs.Common.{◌≡◌, ◌+◌, ◌≤◌, ◌*◌, ◌-◌, length, ℕ, drop}
+use Rattle.rn_net.proofs.Names.{◌≡◌, ◌+◌, ◌≤◌, ◌*◌, ◌-◌, length, ℕ, drop, declaring, Stage, AreKindsUpTo}
 use Rattle.rn_notation.specs.declared.token.TokenKind.TheVariants as Kind
-use Rattle.rn_net.specs.Levels.Region.{declaring}
-use Rattle.rn_net.specs.link.Progress.{Stage}
-use Rattle.rn_net.specs.link.Lists.{AreKindsUpTo}
 use Rattle.rn_net.proofs.Rows.{row_on}
 use Rattle.rn_net.proofs.KindPhrases.{kind_row}
 use Rattle.rn_net.proofs.kind_reader.+kind.Given as goal

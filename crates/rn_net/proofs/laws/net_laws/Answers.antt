@@ -1,5 +1,5 @@
 -- The laws are lemmas, from those of tokens and inscriptions.
-use Rattle.rn_inscript.specs.Laws.{OneExpression, OneInscription}
+use Rattle.rn_net.proofs.Names.{OneExpression, OneInscription}
 use Rattle.rn_net.proofs.Notations.{spelled_in_notation}
 use Rattle.rn_net.proofs.OneSystem.{one_system, one_text}
 use Rattle.rn_net.proofs.Settling.{spelled-alone}

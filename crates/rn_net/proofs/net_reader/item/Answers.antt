@@ -1,9 +1,5 @@
-use Rattle.std.proofs.Common.{length}
-use Rattle.rn_reading.specs.link.Stages.{done}
-use Rattle.rn_net.specs.Levels.Region.{between}
+use Rattle.rn_net.proofs.Names.{length, done, between, Item, IsItem}
 use Rattle.rn_net.proofs.Steps.{failed, then_read, then_fails}
-use Rattle.rn_net.specs.declared.part.Item.{Item}
-use Rattle.rn_net.specs.link.Parts.{IsItem}
 use Rattle.rn_net.proofs.NetPhrases.{one_channel, one_net, item_channel, item_net, item_none}
 use Rattle.rn_net.proofs.net_reader.item.Goals as goal
 

@@ -1,9 +1,7 @@
-use Rattle.std.proofs.Common.{refl, arith}
+use Rattle.rn_net.proofs.Names.{refl, arith, between, IsNet}
 use Rattle.rn_reading.specs.declared.fault.ReadFault.TheVariants as Fault
-use Rattle.rn_net.specs.Levels.Region.{between}
 use Rattle.rn_net.proofs.Sorts.{kind_read, kind_stuck, name_fails}
 use Rattle.rn_net.proofs.Steps.{failed, failed_as, whole_reads}
-use Rattle.rn_net.specs.Nets.{IsNet}
 use Rattle.rn_net.proofs.NetPhrases.{net_begun, net_open, net_named, net_inside}
 use Rattle.rn_net.proofs.net_reader.net.Goals as goal
 

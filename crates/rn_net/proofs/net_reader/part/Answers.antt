@@ -1,9 +1,5 @@
-use Rattle.std.proofs.Common.{length}
-use Rattle.rn_reading.specs.link.Stages.{done}
-use Rattle.rn_net.specs.Levels.Region.{between}
+use Rattle.rn_net.proofs.Names.{length, done, between, Part, IsNetPart}
 use Rattle.rn_net.proofs.Steps.{failed, then_read, then_fails}
-use Rattle.rn_net.specs.declared.part.Part.{Part}
-use Rattle.rn_net.specs.link.Parts.{IsNetPart}
 use Rattle.rn_net.proofs.NetPhrases.{many_vars, one_place, one_transition, part_vars, part_place, part_transition, part_none}
 use Rattle.rn_net.proofs.net_reader.part.Goals as goal
 

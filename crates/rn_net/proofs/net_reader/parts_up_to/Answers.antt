@@ -1,9 +1,5 @@
-use Rattle.std.proofs.Common.{◌≡◌, length, drop, [], refl, sym, subst, arith}
-use Rattle.rn_net.specs.Levels.Region.{between}
-use Rattle.rn_net.specs.link.Progress.{Stage}
+use Rattle.rn_net.proofs.Names.{◌≡◌, length, drop, [], refl, sym, subst, arith, between, Stage, ArePartsUpTo, with_part, plain_net_of}
 use Rattle.rn_net.proofs.Steps.{failed, then_read, then_fails, begin}
-use Rattle.rn_net.specs.link.Parts.{ArePartsUpTo, with_part}
-use Rattle.rn_net.specs.Nets.{plain_net_of}
 use Rattle.rn_net.proofs.NetPhrases.{parts, part_sort, many_on, many_next, many_close}
 use Rattle.rn_net.proofs.net_reader.parts_up_to.Goals as goal
 

@@ -1,7 +1,4 @@
-use Rattle.std.proofs.Common.{◌≤◌, ◌-◌, length, drop}
-use Rattle.rn_net.specs.Levels.Region.{between}
-use Rattle.rn_net.specs.link.Progress.{Stage}
-use Rattle.rn_net.specs.link.Parts.{ArePartsUpTo}
+use Rattle.rn_net.proofs.Names.{◌≤◌, ◌-◌, length, drop, between, Stage, ArePartsUpTo}
 use Rattle.rn_net.proofs.NetPhrases.{parts, many_on}
 use Rattle.rn_net.proofs.net_reader.parts_up_to.Given as goal
 

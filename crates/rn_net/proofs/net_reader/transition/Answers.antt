@@ -1,10 +1,7 @@
-use Rattle.std.proofs.Common.{length, refl, arith}
+use Rattle.rn_net.proofs.Names.{length, refl, arith, done, between, IsTransition, transition_of}
 use Rattle.rn_reading.specs.declared.fault.ReadFault.TheVariants as Fault
-use Rattle.rn_reading.specs.link.Stages.{done}
-use Rattle.rn_net.specs.Levels.Region.{between}
 use Rattle.rn_net.proofs.Sorts.{kind_read, kind_stuck, name_fails}
 use Rattle.rn_net.proofs.Steps.{failed, failed_as, then_read, then_fails}
-use Rattle.rn_net.specs.Nets.{IsTransition, transition_of}
 use Rattle.rn_net.proofs.NetPhrases.{inscriptions_sort, transition_begun, transition_open, transition_named, transition_inside}
 use Rattle.rn_net.proofs.net_reader.transition.Goals as goal
 

@@ -1,7 +1,4 @@
-use Rattle.std.proofs.Common.{sym, subst, arith}
-use Rattle.std.specs.Prelude.{Ok, Err, IfOk, IfErr}
-use Rattle.rn_net.specs.Refusals.{IsRefused, IsReason, Answers}
-use Rattle.rn_net.specs.Texts.{Spells}
+use Rattle.rn_net.proofs.Names.{sym, subst, arith, Ok, Err, IfOk, IfErr, IsRefused, IsReason, Answers, Spells}
 use Rattle.rn_net.proofs.Settling.{naturals, text_settles, text_refused, text_read, text_reads, long_reads}
 use Rattle.rn_net.proofs.Refusing.{text_refuses, long_refuses}
 use Rattle.rn_net.proofs.reading.read_system.Goals as goal

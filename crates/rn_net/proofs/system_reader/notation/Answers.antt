@@ -1,7 +1,4 @@
-use Rattle.std.proofs.Common.{◌∙◌, ap, subst, sym}
-use Rattle.std.specs.Prelude.{Err}
-use Rattle.std.proofs.lemmas.Result.{err_from_is_err_and}
-use Rattle.rn_net.specs.link.Answers.{HeaderAnswer}
+use Rattle.rn_net.proofs.Names.{◌∙◌, ap, subst, sym, Err, err_from_is_err_and, HeaderAnswer}
 use Rattle.rn_net.proofs.Headers.{header_given, header_none, header_open, header_unclosed}
 use Rattle.rn_net.proofs.system_reader.notation.Goals as goal
 

@@ -1,12 +1,4 @@
-use Rattle.std.proofs.Common.{◌≡◌, [], ◌∙◌, ap, arith, drop, length, refl, subst, sym}
-use Rattle.std.specs.Prelude.{Ok, Err}
-use Rattle.std.proofs.lemmas.Result.{err_from_is_err_and}
-use Rattle.rn_reading.specs.link.Stages.{done}
-use Rattle.rn_net.specs.link.Answers.{Top, SystemAnswer}
-use Rattle.rn_net.specs.Levels.Region.{between}
-use Rattle.rn_net.specs.Nets.{plain_of}
-use Rattle.rn_net.specs.link.Parts.{IsItem}
-use Rattle.rn_net.specs.link.Progress.{Fails, Stage}
+use Rattle.rn_net.proofs.Names.{◌≡◌, [], ◌∙◌, ap, arith, drop, length, refl, subst, sym, Ok, Err, err_from_is_err_and, done, Top, SystemAnswer, between, plain_of, IsItem, Fails, Stage}
 use Rattle.rn_net.proofs.Systems.{at_end, not_bare, same_notation, top_fails, top_last, top_read}
 use Rattle.rn_net.proofs.system_reader.system.Goals as goal
 

@@ -1,5 +1,4 @@
-use Rattle.std.proofs.Common.{◌≡◌, ◌≤◌, ◌-◌, length, drop}
-use Rattle.rn_net.specs.link.Answers.{Top, IsBare}
+use Rattle.rn_net.proofs.Names.{◌≡◌, ◌≤◌, ◌-◌, length, drop, Top, IsBare}
 use Rattle.rn_net.proofs.system_reader.system.Given as goal
 
 abbrev pub invariant-items : goal.invariant-items

@@ -1,10 +1,10 @@
-use Rattle.std.proofs.Common.{length, sym, ap, ◌∙◌, subst, arith}
-use Rattle.std.specs.Str.{IsValidUpTo}
+use Rattle.rn_notation.proofs.Names.{length, sym, ap, ◌∙◌, subst, arith, IsValidUpTo}
 use Rattle.rn_notation.proofs.Characters.{none_at_empty, none_at_fault}
 use Rattle.rn_notation.proofs.chars.valid_prefix.Goals as goal
 
 pub returns-in-Ok-clause-none : goal.returns-in-Ok-clause-none
-returns-in-Ok-clause-none c four none = none_at_empty c.args.text.now c.split_at.result.0.now c.min-length.result c.split_at.ensures.front c.split_at.ensures.front_len (λ some. omega (arith, c.min-length.ensures, some, four)) (sym (ap length (c.in-Ok.ensures.cases.0)) ∙ none)
+returns-in-Ok-clause-none c four none = none_at_empty c.args.text.now c.split_at.result.0.now c.min-length.result c.split_at.ensures.front c.split_at.ensures.front_len
+    (λ some. omega (arith, c.min-length.ensures, some, four)) (sym (ap length (c.in-Ok.ensures.cases.0)) ∙ none)
 
 pub returns-in-Ok-from_utf8-clause-none : goal.returns-in-Ok-from_utf8-clause-none
 returns-in-Ok-from_utf8-clause-none c four none = none_at_fault c.args.text.now c.split_at.result.0.now c.args.most c.min-length.result c.valid_up_to.result four c.split_at.ensures.front

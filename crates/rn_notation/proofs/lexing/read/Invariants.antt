@@ -1,4 +1,4 @@
-use Rattle.std.proofs.Common.{length}
+use Rattle.rn_notation.proofs.Names.{length}
 use Rattle.rn_notation.proofs.ReadingLemmas.{SoFar}
 use Rattle.rn_notation.proofs.lexing.read.Given as goal
 

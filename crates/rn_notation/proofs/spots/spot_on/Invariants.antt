@@ -1,5 +1,4 @@
-use Rattle.std.proofs.Common.{◌≡◌, ◌+◌, ◌<◌, ◌^◌, drop, length}
-use Rattle.rn_notation.specs.link.Scanning.{spot_on}
+use Rattle.rn_notation.proofs.Names.{◌≡◌, ◌+◌, ◌<◌, ◌^◌, drop, length, spot_on}
 use Rattle.rn_notation.proofs.spots.spot_on.Given as goal
 
 abbrev pub invariant-loop-byte : goal.invariant-loop-byte

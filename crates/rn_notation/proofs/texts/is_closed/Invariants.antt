@@ -1,5 +1,4 @@
-use Rattle.std.proofs.Common.{◌≡◌, length}
-use Rattle.rn_notation.specs.Texts.{is_closed}
+use Rattle.rn_notation.proofs.Names.{◌≡◌, length, is_closed}
 use Rattle.rn_notation.proofs.texts.is_closed.Given as goal
 
 abbrev pub invariant-loop-first : goal.invariant-loop-first

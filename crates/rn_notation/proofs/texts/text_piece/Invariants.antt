@@ -1,5 +1,4 @@
-use Rattle.std.proofs.Common.{length}
-use Rattle.std.specs.Prelude.{string_bytes}
+use Rattle.rn_notation.proofs.Names.{length, string_bytes}
 use Rattle.rn_notation.proofs.TextLemmas.{ReadText}
 use Rattle.rn_notation.proofs.texts.text_piece.Given as goal
 

@@ -1,6 +1,4 @@
-use Rattle.std.proofs.Common.{◌≡◌, ◌+◌, drop}
-use Rattle.std.specs.List.{prefix_len}
-use Rattle.rn_value.specs.Characters.{is_name_byte}
+use Rattle.rn_notation.proofs.Names.{◌≡◌, ◌+◌, drop, prefix_len, is_name_byte}
 use Rattle.rn_notation.proofs.words.word_length.Given as goal
 
 abbrev pub invariant-loop-i : goal.invariant-loop-i

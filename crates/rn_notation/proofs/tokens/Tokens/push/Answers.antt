@@ -1,5 +1,4 @@
-use Rattle.std.proofs.Common.{◌++◌, ◌∷◌, [], map, ap, ◌∙◌}
-use Rattle.rn_notation.specs.StoredTokens.{token_stored}
+use Rattle.rn_notation.proofs.Names.{◌++◌, ◌∷◌, [], map, ap, ◌∙◌, token_stored}
 use Rattle.rn_notation.proofs.StoredTokens.{one_more}
 use Rattle.rn_notation.proofs.tokens.Tokens.push.Goals as goal
 
